@@ -9,10 +9,15 @@ between the lines `<!-- claims, by tools/claims.py -->` and `<!-- end of claims 
 The first page has the crates that the commands and the library for C stand on; the second one the others, and the objects for tests. A claim that begins a sentence
 with `Status N of` has a row for each such sentence and what follows it. One that stands word for word above several clauses has one row, which
 names the others.
+
+Where a clause leaves it to a record of `specs` to say what it says, the comments of the record and of its fields are claims too: no comment stands
+above the clause, or its term begins with a definition that has the record. They stand once, behind the first function that says the record;
+its first row names all that do.
 """
 
 import re
 import sys
+from functools import cache
 from itertools import groupby
 from pathlib import Path
 from typing import NamedTuple
@@ -28,12 +33,87 @@ USED = {"timeweave", "timeweave_c"}
 FOR_TESTS = re.compile(r"(Mem[A-Z]\w*|Weak)::")
 STATUS = re.compile(r"(?<=[.:]) (?=Status \d of )")
 
+# An import of definitions; a record with the comment above it, and its fields, each with the comment above it and the name that its type begins with.
+IMPORT = re.compile(r"use Rattle\.(\w+)\.specs\.([\w.]+)\.\{([^}]*)\}")
+RECORD = re.compile(r"((?:^ *--.*\n)*)^( *)pub record ([\w'-]+).*\n((?:^\2 +\S.*\n)*)", re.M)
+FIELD = re.compile(r"((?:^ *--.*\n)*)^ *pub ([\w'-]+) : ([\w'-]*)", re.M)
+
 
 class Row(NamedTuple):
     """A claim, and the other places, each a crate and a claim, at which it stands word for word."""
 
     claim: declared.Claim
     others: list
+
+
+class Record(NamedTuple):
+    """A record of `specs`: its name, its claims, and the records that its fields are of."""
+
+    name: str
+    claims: list
+    inner: list
+
+
+@cache
+def records(path):
+    """The records of a file of `specs`, by name. Those that fields are of stand before them in the same file."""
+    known = {}
+    for above, _, name, fields in RECORD.findall(path.read_text()):
+        known[name] = Record(name, list(told(path, name, above, fields)), [known[of] for _, _, of in FIELD.findall(fields) if of in known])
+    return known
+
+
+def told(path, name, above, fields):
+    """The claims of a record: that of its own comment, and those of its fields'. A comment is of the fields below it up to the next one."""
+    groups = [(above, [])]
+    for comment, field, _ in FIELD.findall(fields):
+        groups += [(comment, [])] * bool(comment)
+        groups[-1][1].append(field)
+    for comment, names in groups:
+        words = " ".join(line.strip(" -") for line in comment.splitlines())
+        yield declared.Claim(path, name, ", ".join(names), f"{words[:1].upper()}{words[1:]}.")
+
+
+def said(clause):
+    """The records with comments of fields that a clause says: the one that its term begins with, or those that stand in the definition that it
+    begins with."""
+    for crate, module, names in IMPORT.findall(clause.file.read_text()):
+        path = TOP / "crates" / crate / "specs" / f"{module.replace('.', '/')}.antt"
+        if clause.begins in names.split(", ") and path.exists():
+            known = records(path)
+            lines = re.findall(rf"^ *{clause.begins} .*", path.read_text(), re.M)
+            words = [clause.begins] if clause.begins in known else re.findall(r"[\w'-]+", " ".join(lines))
+            return [known[word] for word in words if word in known and len(known[word].claims) > 1]
+    return []
+
+
+def is_short(clause):
+    """Whether a clause leaves it to its records to say what it says: no comment stands above it, or its term begins with no record."""
+    return not clause.words or all(record.name != clause.begins for record in said(clause))
+
+
+def with_records(clauses):
+    """The claims of clauses, each with those of the records that it says, where some clause leaves it to them."""
+    users = {}
+    for clause in clauses:
+        for record in said(clause):
+            users.setdefault(record.name, []).append(clause)
+
+    def of_record(record):
+        known = users.pop(record.name, [])
+        for other in record.inner:
+            yield from of_record(other)
+        names = ", ".join(f"`{clause.function}`" for clause in known)
+        first = record.claims[0]
+        yield first._replace(words=f"{first.words} *Said by* {names}." if known else first.words)
+        yield from record.claims[1:]
+
+    for _, group in groupby(clauses, lambda clause: (clause.file, clause.function)):
+        of_function = list(group)
+        yield from (clause for clause in of_function if clause.words)
+        for record in (record for clause in of_function for record in said(clause)):
+            if any(map(is_short, users.get(record.name, []))):
+                yield from of_record(record)
 
 
 def heading(name):
@@ -51,10 +131,10 @@ def place(row, crate, claim):
 
 def cells(row):
     """The cells of a claim's rows: the clause's name, which stands in the first one, and the words."""
-    parts, clause = STATUS.split(row.claim.words), f"`{row.claim.clause}`" if row.claim.clause else ""
+    sentences, clause = STATUS.split(row.claim.words), ", ".join(f"`{name}`" for name in row.claim.clause.split(", ") if name)
     if row.others:
-        parts[-1] += f" *So too at* {', '.join(place(row, *other) for other in row.others)}."
-    yield from ((clause if number == 0 else "", words) for number, words in enumerate(parts))
+        sentences[-1] += f" *So too at* {', '.join(place(row, *other) for other in row.others)}."
+    yield from ((clause if number == 0 else "", words) for number, words in enumerate(sentences))
 
 
 def table(rows):
@@ -74,9 +154,8 @@ def claims(is_rest):
     known = pictures.crates()
     reached = {name for user in USED & known.keys() for name in {user} | pictures.below_all(user, known)}
     for name in sorted(known, key=lambda name: (-pictures.height(name, known), name)):
-        for claim in declared.crates()[name].claims:
-            if is_rest == (name not in reached or bool(FOR_TESTS.match(claim.function))):
-                yield name, claim
+        of_page = [clause for clause in declared.crates()[name].clauses if is_rest == (name not in reached or bool(FOR_TESTS.match(clause.function)))]
+        yield from ((name, claim) for claim in with_records(of_page))
 
 
 def rows(is_rest):

@@ -1,5 +1,6 @@
 """What the sources of a crate declare: its public functions with their clauses and claims, and the definitions of each module of its
-`specs`. A claim is the plain comment right above a clause of a public function, and says in words what the clause says."""
+`specs`. A claim is the plain comment right above a clause of a public function, and says in words what the clause says; the record of which
+a clause may be has its comments where it is defined."""
 
 import re
 from functools import cache
@@ -11,19 +12,21 @@ TOP = Path(__file__).resolve().parent.parent
 # A function with its contract, whose comments may end as its head does; a clause with the comment above it; the head of a block of methods,
 # with the type that they are of; a definition, constructor or field.
 FUNCTION = re.compile(r"^ *(pub )?(?:extern \"C\" )?fn (\w+)((?:^ *//[^\n]*\n|(?!^ *//).)*?)(?:^ *\{|[{;]$)", re.M | re.S)
-CLAUSE = re.compile(r"((?:^ *//.*\n)*)^ *ensures\*? (?:(\w+) )?\{", re.M)
+CLAUSE = re.compile(r"((?:^ *//.*\n)*)^ *ensures\*? (?:(\w+) )?\{\s*([\w'-]*)", re.M)
 BLOCK = re.compile(r"^(?:impl(?:<[^\n]*?>)? (?:(\w+)[^\n]* for )?|pub trait ())(\w+).*?^\}", re.M | re.S)
 DEFINITION = re.compile(r"^( *)(?:(?:pub|abbrev|unfoldable) )*(?:(?:data|record) ([\w'-]+)|([\w'-]+)(?:, [\w'-]+)* :)", re.M)
 ITEM = re.compile(r"\b(?:fn|struct|enum|trait|ghost|const) (\w+)|^ {4}([A-Z]\w*)(?:\(.*\)| \{)?,?", re.M)
 
 
 class Claim(NamedTuple):
-    """What a clause of a public function says, in words; the clause has no name where it is the function's only one."""
+    """What a clause of a public function says, in words, if any; the clause has no name where it is the function's only one. Its term begins
+    with a name, where it does."""
 
     file: Path
     function: str
     clause: str
     words: str
+    begins: str = ""
 
 
 class Crate:
@@ -34,7 +37,7 @@ class Crate:
         files = sorted(folder.glob("src/**/*.rt"))
         sources = [path.read_text() for path in files]
         self.handed_out = set(re.findall(r"\w+", " ".join(re.findall(r"^pub use (.*?);", (folder / root).read_text(), re.M | re.S))))
-        self.functions, self.claims = {}, []
+        self.functions, self.clauses = {}, []
         for path, text in zip(files, sources):
             self.add_functions(path, text)
         self.modules = {path.stem: definitions(path.read_text()) for path in sorted(folder.glob("specs/**/*.antt"))}
@@ -42,7 +45,7 @@ class Crate:
 
     def add_functions(self, path, text):
         """Adds what others may call: the functions that the root hands out, and methods that are public or of a trait, each by its name
-        and, behind its type's, once more; and the claims of all that the root hands out."""
+        and, behind its type's, once more; and the clauses of all that the root hands out."""
         blocks = list(BLOCK.finditer(text))
         for match in FUNCTION.finditer(text):
             block = next((block for block in blocks if block.start() < match.start() < block.end()), None)
@@ -52,9 +55,9 @@ class Crate:
             names = [match[2], f"{block[3]}::{match[2]}"] if block else [match[2]]
             clauses = CLAUSE.findall(match[3])
             for name in names:
-                self.functions.setdefault(name, set()).update(clause for _, clause in clauses if clause)
+                self.functions.setdefault(name, set()).update(clause for _, clause, _ in clauses if clause)
             if not block or block[3] in self.handed_out:
-                self.claims += [Claim(path, names[-1], clause, plain(above)) for above, clause in clauses if above]
+                self.clauses += [Claim(path, names[-1], clause, plain(above), begins) for above, clause, begins in clauses]
 
     def names(self):
         """All names that stand in the crate."""

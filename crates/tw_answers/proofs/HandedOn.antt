@@ -1,8 +1,8 @@
 -- A refusal of what is shown, handed on where a proof is made of it.
-use Rattle.std.proofs.Common.{◌≡◌, ℕ, List, Bool, ap, sym, subst}
+use Rattle.std.proofs.Common.{◌≡◌, ℕ, List, ap, sym, subst}
 use Rattle.std.specs.Prelude.{Result, Ok, Err, IfErr, IsErrAnd}
 use Rattle.tw_disk.specs.Answers.{AnswersOr, FaultSort, RefusesAs, has_failed, is_of_disk}
-use Rattle.tw_disk.specs.Answers.FaultSort.{OfPage, OfDisk, OfMemory, OfCall}
+use Rattle.tw_disk.specs.Answers.FaultSort.{OfPage, OfCall}
 use Rattle.tw_disk.specs.Found.{Found, ◌>>=◌}
 use Rattle.tw_answers.specs.declared.refusal.Refusal.{Refusal}
 use Rattle.tw_answers.specs.Finds.{written}

@@ -1,6 +1,6 @@
 -- The codecs of root records are lawful, and what fits them.
 use Rattle.std.proofs.Common.{◌≡◌, ℕ, ◌+◌, ◌<◌, ◌≤◌, ◌^◌, ◌++◌, List, length, refl, ap, sym, ◌∙◌, subst, arith, Bool, true, false, length-append}
-use Rattle.std.specs.Prelude.{Option, Some, None, IfSome, is_some, ◌==◌, if◌then◌else◌}
+use Rattle.std.specs.Prelude.{Option, Some, None, is_some, ◌==◌, if◌then◌else◌}
 use Rattle.tw_base.specs.declared.kinds.limits.TheConstants.{LAST_STEP}
 use Rattle.tw_base.specs.format.Codecs.{HasBytes, bytes_codec, name_codec, nothing, number_codec, optional, pair, present, seen}
 use Rattle.tw_base.specs.format.Fields.{number_bytes}

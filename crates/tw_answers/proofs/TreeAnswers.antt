@@ -10,8 +10,8 @@ use Rattle.tw_base.specs.declared.history.tree_proof.Ask.{Ask}
 use Rattle.tw_base.specs.declared.history.tree_proof.Ask.TheVariants as ask
 use Rattle.tw_base.specs.declared.history.tree_proof.TreeProof.{TreeProof}
 use Rattle.tw_disk.specs.Answers.{SaysOf, is_of_disk}
-use Rattle.tw_disk.specs.Found.{Found, when, ◌>>=◌}
-use Rattle.tw_disk.specs.Found.Found.{Is, Bad}
+use Rattle.tw_disk.specs.Found.{when}
+use Rattle.tw_disk.specs.Found.Found.{Is}
 use Rattle.tw_disk.specs.Image.{Image}
 use Rattle.tw_disk.proofs.FoundLaws.{bad_ends, is_on}
 use Rattle.tw_rbtree.specs.declared.fault.TreeFault.{TreeFault}

@@ -27,7 +27,7 @@ use Rattle.tw_skiplist.specs.Readings.{found_link, found_path, found_proof}
 use Rattle.tw_answers.specs.declared.refusal.Refusal.{Refusal}
 use Rattle.tw_answers.specs.declared.refusal.Refusal.TheVariants.{NoThread, HasThread}
 use Rattle.tw_answers.specs.declared.showing.EntryShown.{EntryShown}
-use Rattle.tw_answers.specs.Limits.{event_refusal, link_refusal, order_refusal, thread_refusal}
+use Rattle.tw_answers.specs.Limits.{event_refusal}
 use Rattle.tw_answers.specs.Refusals.{refusals}
 
 module _ {X : Type 0} where
@@ -60,10 +60,6 @@ module _ (dig : List ℕ → List ℕ) (pages : Image) (head : Head) where
   -- the path from the last step down to an earlier one
   unfoldable pub path_down : (since : ℕ) → Found (Result Path Refusal)
   path_down since = found_path dig pages head head.step since >>= (λ path. Is (Ok path))
-
-  -- the path of the message that tells the last step, where there is one
-  abbrev pub found_message : (is_broken : Bool) → (since : ℕ) → Found (Result Path Refusal)
-  found_message is_broken since = unless (thread_refusal is_broken head.step since) (path_down since)
 
 -- whether two entries are the same
 abbrev pub same_entry : Entry → Entry → Bool
@@ -116,10 +112,6 @@ module _ (dig : List ℕ → List ℕ) (pages : Image) (name : List ℕ) (head :
   unfoldable pub link_proof : (step top : ℕ) → Found (Result (List ℕ) Refusal)
   link_proof step top = found_link dig pages head top step >>= (λ link. Is (Ok (bytes_of_proof (Linked (link_of name step top link)))))
 
-  -- the proof, where the steps are in their order
-  abbrev pub found_link_proof : (is_broken : Bool) → (step top : ℕ) → Found (Result (List ℕ) Refusal)
-  found_link_proof is_broken step top = unless (link_refusal is_broken head.step step top) (link_proof step top)
-
   module _ (step index top : ℕ) where
     -- the step under the top is read; where its page tells of an event at the index, so are its events
     unfoldable pub event_proof : Found (Result (List ℕ) Refusal)
@@ -128,10 +120,6 @@ module _ (dig : List ℕ → List ℕ) (pages : Image) (name : List ℕ) (head :
         >>= (λ proof. unless (event_refusal proof.info.count index)
         (events_of_info pages proof.info >>= (λ events. Is (Ok (proof_bytes dig name top index proof events)))))
 
-    -- the proof, where the steps are in their order
-    abbrev pub found_event : (is_broken : Bool) → Found (Result (List ℕ) Refusal)
-    found_event is_broken = unless (order_refusal is_broken head.step step top) event_proof
-
   module _ (step : ℕ) (key : Key) (top : ℕ) where
     -- the step under the top is read, then the entry of the key in its archive, and then the way to it, or to its empty place
     unfoldable pub thread_proof : Found (Result (List ℕ) Refusal)
@@ -139,10 +127,3 @@ module _ (dig : List ℕ → List ℕ) (pages : Image) (name : List ℕ) (head :
 
     unfoldable pub absence_proof : Found (Result (List ℕ) Refusal)
     absence_proof = found_proof dig pages head top step >>= (λ proof. found_absence_of dig pages proof.info.archive key >>= written (absence_bytes name key top proof))
-
-    -- the proofs, where the steps are in their order
-    abbrev pub found_thread_proof : (is_broken : Bool) → Found (Result (List ℕ) Refusal)
-    found_thread_proof is_broken = unless (order_refusal is_broken head.step step top) thread_proof
-
-    abbrev pub found_absence : (is_broken : Bool) → Found (Result (List ℕ) Refusal)
-    found_absence is_broken = unless (order_refusal is_broken head.step step top) absence_proof

@@ -215,11 +215,11 @@ pub fn top_refusal(is_broken: bool, last: u64, top: u64) -> Option<Refusal>
 
 /// The refusal of an index that isn't below the count of events.
 #[tactic(auto, unfolding(crate::specs::Limits::event_refusal))]
-pub fn event_refusal(count: u32, index: u32) -> Option<Refusal>
+pub fn event_refusal(count: u32, index: u64) -> Option<Refusal>
     ensures answer { result ≡ event_refusal_of count index }
     ensures below { IsNone result → index < count }
 {
-    if index < count {
+    if index < count as u64 {
         return None;
     }
     Some(Refusal::NoEvent { count })

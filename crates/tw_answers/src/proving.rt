@@ -39,7 +39,7 @@ fn write_event<H: Hasher>(
     alloc: Global,
     name: &Name,
     top: u64,
-    index: u32,
+    index: u64,
     proof: StepProof,
     events: &EventList,
 ) -> Result<Bytes, NoMemory>
@@ -48,9 +48,18 @@ fn write_event<H: Hasher>(
     requires limits { MayRecord events.now }
     ensures bytes { IfOk result (λ bytes. bytes ≡ proof_bytes H.dig name.now top index proof events.now) }
 {
+    let index = index_below(index, proof.info.count);
     let event = event_part::<H>(alloc, events.as_slice(), index)?;
     let at = part_under(name, top, proof);
     write_existence(alloc, &ExistenceProof { at, event })
+}
+
+/// An index below a count, in 32 bits.
+fn index_below(index: u64, count: u32) -> u32
+    requires { index < count }
+    ensures { result ≡ index }
+{
+    index as u32
 }
 
 /// The proof of the event at that index of a step, under that top.
@@ -61,7 +70,7 @@ pub fn make_proof<P: Pages, H: Hasher>(
     name: &Name,
     head: &Head,
     step: u64,
-    index: u32,
+    index: u64,
     top: u64,
 ) -> Result<Bytes, Refusal>
     requires short { head.now.step ≤ LAST_STEP }

@@ -49,7 +49,7 @@ fn put_digest(text: &mut ArrayVec<u8, 120>, digest: &Digest)
 }
 
 /// Puts a time at the record's end, where there is one.
-#[tactic(auto, unfolding(tw_base::specs::format::Codecs::nothing, tw_base::specs::format::Codecs::number_codec, tw_base::specs::format::Codecs::present))]
+#[tactic(auto, unfolding(tw_base::specs::format::Seen::codecs))]
 fn put_time(text: &mut ArrayVec<u8, 120>, time: Option<u64>)
     requires { array_vec_len text.old ≤ 112 }
     ensures bytes { text.new.items ≡ text.old.items ++ (optional (is_some time) time_codec).write time }
@@ -61,7 +61,7 @@ fn put_time(text: &mut ArrayVec<u8, 120>, time: Option<u64>)
 }
 
 /// The bytes of a root record.
-#[tactic(auto, unfolding(crate::specs::Roots::root_codec, tw_base::specs::format::Codecs::bytes_codec, tw_base::specs::format::Codecs::name_codec, tw_base::specs::format::Codecs::number_codec, tw_base::specs::format::Codecs::pair, tw_base::specs::format::Codecs::seen))]
+#[tactic(auto, unfolding(crate::specs::Roots::root_codec, tw_base::specs::format::Seen::codecs))]
 pub fn root_record(root: &RootRecord) -> ArrayVec<u8, 120>
     ensures bytes { result.items ≡ root_bytes root.now }
     ensures size { length result.items ≤ TIMED_ROOT_BYTES }
@@ -95,7 +95,7 @@ fn take_time(bytes: &[u8], at: &mut u64, is_timed: bool) -> Result<Option<u64>, 
 }
 
 /// Takes a root record, with a time or without.
-#[tactic(auto, unfolding(crate::specs::Roots::root_codec, tw_base::specs::format::Codecs::pair, tw_base::specs::format::Codecs::seen))]
+#[tactic(auto, unfolding(crate::specs::Roots::root_codec, tw_base::specs::format::Seen::records))]
 fn take_root(bytes: &[u8], at: &mut u64, is_timed: bool) -> Result<RootRecord, ReadFault>
     requires { at.old ≤ length bytes.now }
     ensures takes { Takes (root_codec is_timed) (λ r. r) bytes.now at.old at.new result }

@@ -5,7 +5,7 @@ use Rattle.tw_disk.specs.Disk.{DiskView}
 use Rattle.tw_outside.specs.TakenBytes.{Appends}
 use Rattle.tw_words.specs.CommandLine.{command_of}
 use Rattle.tw_words.specs.declared.command.Command.{Command}
-use Rattle.tw_words.specs.declared.command.Command.TheVariants.{Accuse, Adopt, Append, Atlas, Audit, CheckFork, CheckMap, Export, Generate, Heads, Init, Join, Offer, ProveAbsent, ProveEvent, ProveLink, ProveThread, MapLow, MapHigh, Receive, Replay, Show, Strict, Thread, VerifyFile, VerifyOne, Watch}
+use Rattle.tw_words.specs.declared.command.Command.TheVariants.{Accuse, Adopt, Audit, CheckFork, CheckMap, Join, Strict, VerifyFile, VerifyOne}
 use Rattle.tw_text.specs.declared.fault.CommandFault.{CommandFault}
 use Rattle.tw_text.specs.Faults.{fault_status}
 use Rattle.tw_audit.specs.declared.finding.Finding.TheVariants.{Clash, NotAccepted, Stands}
@@ -66,24 +66,6 @@ low_taken (Fault fault) is = omega (arith, is)
 -- no other command comes to an answer of this status
 asks_audit : {D : Type 0} (view : D → DiskView) (o : Outside D) (c : Command) (text : List ℕ) → (work view o c).answers 10 text → AsksAudit c
 asks_audit view o (Audit proof anchors histories) text has = tt
-asks_audit view o (Init name) text has = absurd (let is = has.2 in omega (arith, is))
-asks_audit view o (Append file time) text has = absurd (let is = has.2 in omega (arith, is))
-asks_audit view o (Thread since) text has = absurd (let is = has.2 in omega (arith, is))
-asks_audit view o (ProveEvent step index top) text has = absurd (let is = has.2 in omega (arith, is))
-asks_audit view o (Receive file time) text has = absurd (let is = has.2 in omega (arith, is))
-asks_audit view o (ProveThread step peer k top) text has = absurd (let is = has.2 in omega (arith, is))
-asks_audit view o (ProveAbsent step peer k top) text has = absurd (let is = has.2 in omega (arith, is))
-asks_audit view o (ProveLink step top) text has = absurd (let is = has.2 in omega (arith, is))
-asks_audit view o (Watch name) text has = absurd (let is = has.2 in omega (arith, is))
-asks_audit view o (Offer file) text has = absurd (let is = has.2 in omega (arith, is))
-asks_audit view o Heads text has = absurd (let is = has.2 in omega (arith, is))
-asks_audit view o (MapLow step peer top) text has = absurd (let is = has.2 in omega (arith, is))
-asks_audit view o (MapHigh pos peer top) text has = absurd (let is = has.2 in omega (arith, is))
-asks_audit view o Export text has = absurd (let is = has.2 in omega (arith, is))
-asks_audit view o (Show history step index) text has = absurd (let is = has.2 in omega (arith, is))
-asks_audit view o (Replay file) text has = absurd (let is = has.2 in omega (arith, is))
-asks_audit view o (Generate number rounds) text has = absurd (let is = has.2 in omega (arith, is))
-asks_audit view o (Atlas name pos files) text has = absurd (let is = has.2 in omega (arith, is))
 asks_audit view o (Join files) text has = absurd (not_joined has.0 10 (λ k. omega arith) (λ k. omega arith) (sym has.2))
 asks_audit view o (VerifyFile proof anchors) text has = absurd (not_verdict has.0 10 (λ k. omega arith) (λ k. omega arith) (sym has.2))
 asks_audit view o (VerifyOne proof anchor) text has = absurd (not_verdict has.0 10 (λ k. omega arith) (λ k. omega arith) (sym has.2))
@@ -92,6 +74,7 @@ asks_audit view o (Accuse first second link) text has = absurd (low_accused has.
 asks_audit view o (Adopt history anchors proof more) text has = absurd (low_taken has.0 has.2)
 asks_audit view o (CheckFork file anchors) text has = absurd (low_fork has.0 has.2)
 asks_audit view o (CheckMap low high anchors) text has = absurd (low_map has.0 has.2)
+asks_audit view o _ text has = absurd (let is = has.2 in omega (arith, is))
 
 module _ {D : Type 0} (view : D → DiskView) (a : Around D) (status : ℕ) (run : Ends view a status) where
   abbrev outcome : Outcome

@@ -1,6 +1,7 @@
 -- What is known of each command's work.
-use Rattle.std.proofs.Common.{◌≡◌, ◌∙◌, ℕ, false, List, [], ◌∷◌, refl, ap, sym, subst, arith, inl, inr, ◌⊎◌}
-use Rattle.std.specs.Prelude.{Option, Some, None, MatchOption, Result, Ok, Err}
+use Rattle.std.proofs.Common.{◌≡◌, ◌∙◌, ℕ, false, true, List, [], ◌∷◌, refl, ap, sym, subst, arith, inl, inr, ◌⊎◌}
+use Rattle.std.specs.Prelude.{Option, Some, None, IsSome, MatchOption, Result, Ok, Err}
+use Rattle.tw_base.specs.declared.history.question.Question.{Question}
 use Rattle.tw_base.specs.declared.history.thread.Thread.{Thread}
 use Rattle.tw_base.specs.kinds.Faults.{Rose}
 use Rattle.tw_base.specs.history.History.{History}
@@ -10,8 +11,7 @@ use Rattle.tw_outside.specs.Asked.{Asked}
 use Rattle.tw_outside.specs.Files.{Files}
 use Rattle.tw_words.specs.CommandLine.{command_of}
 use Rattle.tw_words.specs.declared.command.Command.{Command}
-use Rattle.tw_words.specs.declared.command.Command.TheVariants.{Accuse, Adopt, Append, Atlas, Audit, CheckFork, CheckMap, Init, Join, ProveEvent, ProveThread, ProveAbsent, ProveLink, MapLow, MapHigh, Export, Receive, Show, VerifyFile, VerifyOne, Strict, Watch, Offer, Heads, Replay, Generate}
-use Rattle.tw_words.specs.declared.command.Command.TheVariants as command
+use Rattle.tw_words.specs.declared.command.Command.TheVariants.{Accuse, Adopt, Append, Atlas, Audit, CheckFork, CheckMap, Init, Join, Receive, Show, VerifyFile, VerifyOne, Strict, Watch, Offer, Heads, Replay, Generate}
 use Rattle.tw_text.specs.declared.fault.CommandFault.{CommandFault}
 use Rattle.tw_text.specs.declared.fault.CommandFault.TheVariants.{InputFault, DiskFault, NoMemory, Unserved}
 use Rattle.tw_text.specs.declared.refusal.StoreCause.{StoreCause}
@@ -22,11 +22,12 @@ use Rattle.tw_filecmd.specs.declared.joining.Joined.TheVariants.{Unfit}
 use Rattle.tw_filecmd.specs.Joining.{JoinComes}
 use Rattle.tw_filecmd.specs.Showing.{ShowComes}
 use Rattle.tw_filecmd.specs.Verifying.{HasAnchors, IsJudged, VerifyFileComes, VerifyOneComes}
+use Rattle.tw_diskcmd.specs.Asking.{AskComes}
 use Rattle.tw_diskcmd.specs.Disks.{IsLeft, Keeps, ReadLeaves, ReadsAs}
 use Rattle.tw_diskcmd.specs.Receiving.{ReceiveComes, ReceiveLeaves, ReceiveSafe}
 use Rattle.tw_diskcmd.specs.WorkSteps.{WritesNothing}
 use Rattle.tw_diskcmd.proofs.AtRest.{left_keeps, untouched_left}
-use Rattle.tw_diskcmd.proofs.CommandLaws.{HasCauses, IsSafe, absence_causes, append_causes, append_is_safe, export_causes, init_causes, init_is_safe, link_causes, map_high_causes, map_low_causes, prove_causes, reading_is_safe, receive_causes, receive_is_safe, thread_causes, thread_proof_causes}
+use Rattle.tw_diskcmd.proofs.CommandLaws.{HasCauses, IsSafe, append_causes, append_is_safe, ask_causes, init_causes, init_is_safe, reading_is_safe, receive_causes, receive_is_safe}
 use Rattle.tw_followcmd.specs.Disks.{ReadsAs as ReadsAsList}
 use Rattle.tw_followcmd.specs.Listing.{HeadsComes, HeadsLeaves, HeadsSafe}
 use Rattle.tw_followcmd.specs.Offering.{OfferComes, OfferLeaves, OfferSafe}
@@ -47,11 +48,11 @@ use Rattle.tw_reachcmd.specs.Planning.{AtlasComes}
 use Rattle.tw_app.specs.declared.store.StoreAccess.{StoreAccess}
 use Rattle.tw_app.specs.declared.store.StoreAccess.TheVariants.{Read, Write}
 use Rattle.tw_app.specs.Around.{Outside, found_of}
-use Rattle.tw_app.specs.Commands.{IsOfFollower, IsSomeFile, NamesFile}
+use Rattle.tw_app.specs.Commands.{IsOfFollower, IsSomeFile, NamesFile, question_of}
 use Rattle.tw_app.specs.Outcomes.{TakesMemory, outcome_by, status_of, text_of}
 use Rattle.tw_app.specs.Generating.{GenerateComes}
 use Rattle.tw_app.specs.Replaying.{ReplayComes}
-use Rattle.tw_app.specs.Running.{IsAnswerBy, IsDoneBy, IsOutcomeOf, IsUntouched, UsesDisk, Work, by_results, over_files, reading, work, writing}
+use Rattle.tw_app.specs.Running.{IsAnswerBy, IsDoneBy, IsOutcomeOf, IsUntouched, UsesDisk, Work, asking, by_results, over_files, work, writing}
 use Rattle.tw_app.specs.Statuses.{AreOf, GivesAnchors, IsVerify, is_strict, proof_file}
 
 pub of_option : (P : Command → Type 0) (words : List (List ℕ)) (c : Command) → command_of words ≡ Some c → P c → AreOf P words
@@ -285,7 +286,7 @@ module _ {D : Type 0} (view : D → DiskView)
       row c of tells Comes (λ r. IsUntouched view o) (IsUntouched view o × Keeps view o.disk.before o.disk.after) None (of_service c causes)
       (λ r takes same. same) (λ is. is) (λ r zeroth fifth same. same_left same) (λ r same. same_safe same) judging joining
 
-  -- one that makes a service or a step, and one that reads a proof from a disk
+  -- one that makes a service or a step, and one that asks a service a question
   made_row : {Comes Leaves : Result Thread CommandFault → Type 0} {Safe : Type 0} → (c : Command)
       → HasCauses o.inputs (found_of view o) (NamesFile c) (Unit {0}) Comes → IsSafe view o.disk.before o.disk.after Leaves Safe → Row c (writing view o Made Comes Leaves Safe)
   made_row {Comes} {Leaves} {Safe} c causes is_safe = disk_row c Made made_tells Comes Leaves Safe (Some Write) (of_service c causes) made_of_disk is_safe
@@ -297,10 +298,12 @@ module _ {D : Type 0} (view : D → DiskView)
       (of_service (Receive file time) (receive_causes o.inputs (found_of view o) file time)) received_of_disk
       (receive_is_safe view o.disk.before o.disk.after only_now as_it_reads o.inputs.told file time)
 
-  written_row : {Comes : Result (List ℕ) CommandFault → Type 0} → (c : Command)
-      → HasCauses o.inputs (found_of view o) (NamesFile c) (Unit {0}) Comes → Row c (reading view o Written Comes)
-  written_row {Comes} c causes =
-      disk_row c Written written_tells Comes (ReadLeaves view o.disk.before o.disk.after) (Left × Keeps view o.disk.before o.disk.after) (Some Read) (of_service c causes)
+  asked_row : (c : Command) (asked : Option Question) → IsSome asked → Row c (asking view o asked)
+  asked_row c None some = absurd (let none : false ≡ true = some in cc)
+  asked_row c (Some q) some =
+      let causes = ask_causes o.inputs (found_of view o) q in
+      disk_row c Written written_tells (AskComes (found_of view o) q) (ReadLeaves view o.disk.before o.disk.after) (Left × Keeps view o.disk.before o.disk.after) (Some Read)
+      (record { input = λ came. absurd (causes.input came).0; disk = causes.disk; serves = λ other. causes.serves; memory = causes.memory })
       written_of_disk (reading_is_safe view o.disk.before o.disk.after)
 
   show_row : (history : List ℕ) (step index : ℕ) → Row (Show history step index) (work view o (Show history step index))
@@ -407,21 +410,6 @@ module _ {D : Type 0} (view : D → DiskView)
       made_row (Append file time) (append_causes o.inputs (found_of view o) file time)
       (append_is_safe view o.disk.before o.disk.after only_now as_it_reads o.inputs.told file time)
   rows (Receive file time) = received_row file time
-  rows (command.Thread since) = written_row (command.Thread since) (thread_causes o.inputs (found_of view o) since)
-  rows (ProveEvent step index top) =
-      written_row (ProveEvent step index top) (prove_causes o.inputs (found_of view o) step index top)
-  rows (ProveThread step peer k top) =
-      written_row (ProveThread step peer k top)
-      (thread_proof_causes o.inputs (found_of view o) step (record { from = peer; step = k }) top)
-  rows (ProveAbsent step peer k top) =
-      written_row (ProveAbsent step peer k top)
-      (absence_causes o.inputs (found_of view o) step (record { from = peer; step = k }) top)
-  rows (ProveLink step top) = written_row (ProveLink step top) (link_causes o.inputs (found_of view o) step top)
-  rows (MapLow step peer top) =
-      written_row (MapLow step peer top) (map_low_causes o.inputs (found_of view o) step peer top)
-  rows (MapHigh pos peer top) =
-      written_row (MapHigh pos peer top) (map_high_causes o.inputs (found_of view o) pos peer top)
-  rows Export = written_row Export (export_causes o.inputs (found_of view o))
   rows (Show history step index) = show_row history step index
   rows (Replay file) = replay_row file
   rows (Generate number rounds) = generate_row number rounds
@@ -452,6 +440,7 @@ module _ {D : Type 0} (view : D → DiskView)
       (HeadsLeaves view o.disk.before o.disk.after) (HeadsSafe view o.disk.before o.disk.after) (Some Read)
       (of_follower Heads tt (heads_causes o.inputs (view o.disk.before).content (view o.disk.before).faults (view o.disk.after).faults))
       written_of_disk (safe_list (heads_is_safe view o.disk.before o.disk.after))
+  rows c = asked_row c (question_of c) refl
 
   -- a disk that reads as a list of heads serves each command of a follower
   pub serves_list : (c : Command) → IsOfFollower c → (k : Kept) → ReadsAsList (view o.disk.before).content k → (why : StoreCause) → (work view o c).undone (Unserved why) → ⊥

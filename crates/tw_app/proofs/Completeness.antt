@@ -1,6 +1,7 @@
 -- A run that has all that its command needs ends with an answer: no file of its kind is told to be bad, and a disk that serves the command isn't refused.
 use Rattle.std.proofs.Common.{◌≡◌, ◌∙◌, ℕ, false, true, List, [], ◌∷◌, sym, subst, arith, inl, inr}
 use Rattle.std.specs.Prelude.{Option, Some, None, MatchOption, Err}
+use Rattle.tw_base.specs.declared.history.question.Question.{Question}
 use Rattle.tw_base.specs.declared.kinds.limits.TheConstants.{MOST_HISTORY_BYTES}
 use Rattle.tw_base.specs.format.Formats.{Format, IsPlace, SpellsNothing}
 use Rattle.tw_base.specs.kinds.Lists.{Each}
@@ -10,8 +11,7 @@ use Rattle.tw_outside.specs.Asked.{Asked}
 use Rattle.tw_outside.specs.Files.{Files, Tells}
 use Rattle.tw_words.specs.CommandLine.{IsFirstBad, command_of}
 use Rattle.tw_words.specs.declared.command.Command.{Command}
-use Rattle.tw_words.specs.declared.command.Command.TheVariants.{Append, Receive, ProveEvent, ProveThread, ProveAbsent, ProveLink, MapLow, MapHigh, Export, Show, Join, VerifyFile, Strict, CheckMap, Audit, Adopt, Atlas, Accuse, CheckFork, Offer, Heads, Replay}
-use Rattle.tw_words.specs.declared.command.Command.TheVariants as command
+use Rattle.tw_words.specs.declared.command.Command.TheVariants.{Append, Receive, Show, Join, VerifyFile, Strict, CheckMap, Audit, Adopt, Atlas, Accuse, CheckFork, Offer, Heads, Replay}
 use Rattle.tw_text.specs.declared.fault.CommandFault.TheVariants.{Unreadable, Unserved}
 use Rattle.tw_text.specs.declared.refusal.BadInput.{BadInput}
 use Rattle.tw_text.specs.declared.refusal.BadInput.TheVariants.{BadByte, BadLine, Unsound}
@@ -25,14 +25,10 @@ use Rattle.tw_filecmd.specs.Joining.{HasBadPart, JoinComes}
 use Rattle.tw_filecmd.specs.Showing.{ShowComes}
 use Rattle.tw_filecmd.specs.Verifying.{VerifyFileComes}
 use Rattle.tw_diskcmd.specs.Appending.{AppendComes, IsBadEventsByte}
+use Rattle.tw_diskcmd.specs.Asking.{AskComes}
 use Rattle.tw_diskcmd.specs.Disks.{FoundDisk}
-use Rattle.tw_diskcmd.specs.Exporting.{ExportComes}
-use Rattle.tw_diskcmd.specs.Linking.{LinkComes}
-use Rattle.tw_diskcmd.specs.Mapping.{MapHighComes, MapLowComes}
-use Rattle.tw_diskcmd.specs.Proving.{ProveComes}
 use Rattle.tw_diskcmd.specs.Receiving.{ReceiveComes}
-use Rattle.tw_diskcmd.specs.Telling.{ThreadComes}
-use Rattle.tw_diskcmd.specs.ThreadProofs.{AbsenceComes, ThreadProofComes}
+use Rattle.tw_diskcmd.proofs.CommandLaws.{ask_causes}
 use Rattle.tw_followcmd.specs.Offering.{OfferComes}
 use Rattle.tw_reachcmd.specs.Accusing.{AccuseComes}
 use Rattle.tw_reachcmd.specs.Adopting.{AdoptComes}
@@ -41,7 +37,8 @@ use Rattle.tw_reachcmd.specs.Forks.{CheckForkComes}
 use Rattle.tw_reachcmd.specs.Maps.{CheckMapComes}
 use Rattle.tw_reachcmd.specs.Planning.{AtlasComes}
 use Rattle.tw_app.specs.Around.{Around, Outside, found_of}
-use Rattle.tw_app.specs.Complete.{HasAll, HasFile, HasFiles, HasItsDisk, HasLinkFile, HasValidFiles, AreHistoryFiles, AreReceiptFiles, IsAnchorsFile, IsAnswered, IsEventsFile, IsHistoryFile, IsScriptFile, IsWord}
+use Rattle.tw_app.specs.Commands.{question_of}
+use Rattle.tw_app.specs.Complete.{HasAll, HasFile, HasFiles, HasHistory, HasItsDisk, HasLinkFile, HasValidFiles, AreHistoryFiles, AreReceiptFiles, IsAnchorsFile, IsAnswered, IsEventsFile, IsHistoryFile, IsScriptFile, IsWord}
 use Rattle.tw_app.specs.Replaying.{IsBadLine, ReplayComes}
 use Rattle.tw_app.specs.Running.{Ends, work}
 use Rattle.tw_app.specs.Statuses.{IsStatus}
@@ -173,7 +170,7 @@ module _ (a : Asked) where
 module _ {D : Type 0} (view : D → DiskView) (o : Outside D) where
   -- none tells a bad file of valid ones
   reads : (c : Command) → HasValidFiles o.inputs.told c → (bad : BadInput) → (work view o c).undone (Unreadable bad) → ⊥
-  unfolding ThreadComes ProveComes ThreadProofComes AbsenceComes LinkComes MapLowComes MapHighComes ExportComes
+  unfolding AskComes
   reads (Append file time) valid bad came = append_reads o.inputs (found_of view o) file time bad valid came.0
   reads (Receive file time) valid bad came = receive_reads o.inputs (found_of view o) file time bad valid came.0
   reads (Show history step index) valid bad came = show_reads o.inputs history step index bad valid came.0
@@ -190,24 +187,22 @@ module _ {D : Type 0} (view : D → DiskView) (o : Outside D) where
   reads (Replay file) valid bad came = replay_reads o.inputs file bad valid came.0
   reads _ valid bad came = came.0
 
+  -- a question, where one is asked, isn't refused by a disk that reads as a history; one that isn't asked comes to nothing
+  asked_serves : (asked : Option Question) → MatchOption asked (Unit {0}) (λ (q : Question). HasHistory (view o.disk.before).content) → (why : StoreCause)
+      → MatchOption asked ⊥ (λ (q : Question). AskComes (found_of view o) q (Err (Unserved why))) → ⊥
+  asked_serves None has why came = came
+  asked_serves (Some q) has why came = (ask_causes o.inputs (found_of view o) q).serves has.0 has.1 why came
+
   module _ (only_now : (d : D) (image : Image) → (view d).left_since (view d).moment image → (view d).may_leave image)
       (as_it_reads : (d : D) (image : Image) → (view d).content ≡ Some image → (view d).may_leave image) where
     -- none refuses a disk that serves it
     serves : (c : Command) → HasItsDisk (view o.disk.before).content c → (why : StoreCause) → (work view o c).undone (Unserved why) → ⊥
     serves (Append file time) has why came = (rows view only_now as_it_reads o (Append file time)).serves (λ other. other) has.0 has.1 why came
-    serves (command.Thread since) has why came = (rows view only_now as_it_reads o (command.Thread since)).serves (λ other. other) has.0 has.1 why came
     serves (Receive file time) has why came = (rows view only_now as_it_reads o (Receive file time)).serves (λ other. other) has.0 has.1 why came
-    serves (ProveEvent step index top) has why came = (rows view only_now as_it_reads o (ProveEvent step index top)).serves (λ other. other) has.0 has.1 why came
-    serves (ProveThread step peer k top) has why came = (rows view only_now as_it_reads o (ProveThread step peer k top)).serves (λ other. other) has.0 has.1 why came
-    serves (ProveAbsent step peer k top) has why came = (rows view only_now as_it_reads o (ProveAbsent step peer k top)).serves (λ other. other) has.0 has.1 why came
-    serves (ProveLink step top) has why came = (rows view only_now as_it_reads o (ProveLink step top)).serves (λ other. other) has.0 has.1 why came
-    serves (MapLow step peer top) has why came = (rows view only_now as_it_reads o (MapLow step peer top)).serves (λ other. other) has.0 has.1 why came
-    serves (MapHigh pos peer top) has why came = (rows view only_now as_it_reads o (MapHigh pos peer top)).serves (λ other. other) has.0 has.1 why came
-    serves Export has why came = (rows view only_now as_it_reads o Export).serves (λ other. other) has.0 has.1 why came
     serves (Offer file) has why came = serves_list view only_now as_it_reads o (Offer file) tt has.0 has.1 why came
     serves Heads has why came = serves_list view only_now as_it_reads o Heads tt has.0 has.1 why came
     serves (Audit proof anchors histories) has why came = came.0.2
-    serves _ has why came = came.0
+    serves c has why came = asked_serves (question_of c) has why came.0
 
 -- ---- the run
 

@@ -1,7 +1,10 @@
--- Which files the commands name.
-use Rattle.std.specs.Prelude.{ℕ, List, [], ◌∷◌, Some, None}
+-- Which files the commands name, and what they ask a service.
+use Rattle.std.specs.Prelude.{ℕ, List, [], ◌∷◌, Option, Some, None}
+use Rattle.tw_base.specs.declared.history.question.Question.{Question}
+use Rattle.tw_base.specs.declared.history.question.Question.TheVariants as ask
 use Rattle.tw_words.specs.declared.command.Command.{Command}
-use Rattle.tw_words.specs.declared.command.Command.TheVariants.{Append, Receive, Show, Join, VerifyFile, VerifyOne, Strict, CheckMap, Audit, Atlas, Accuse, CheckFork, Adopt, Watch, Offer, Heads, Replay}
+use Rattle.tw_words.specs.declared.command.Command.TheVariants.{Append, Thread, Receive, MapLow, MapHigh, Export, Show, Join, VerifyFile, VerifyOne, Strict, CheckMap, Audit, Atlas, Accuse, CheckFork, Adopt, Watch, Offer, Heads, Replay}
+use Rattle.tw_script.specs.AskedWords.{asked_of}
 
 -- the files that a command's words name, in their order; a directory is none
 abbrev pub files_of : Command → List (List ℕ)
@@ -22,6 +25,14 @@ files_of (Adopt history anchors proof more) = history ∷ anchors ∷ proof ∷ 
 files_of (Offer file) = file ∷ []
 files_of (Replay file) = file ∷ []
 files_of _ = []
+
+-- what the command asks a service; most ask nothing, and those that make a proof what `asked_of` says
+abbrev pub question_of : Command → Option Question
+question_of (Thread since) = Some (ask.ThreadOut since)
+question_of (MapLow step peer top) = Some (ask.Low step peer top)
+question_of (MapHigh pos peer top) = Some (ask.High pos peer top)
+question_of Export = Some ask.Export
+question_of command = asked_of command
 
 -- the command works on the disk of a follower
 abbrev pub IsOfFollower : Command → Type 0

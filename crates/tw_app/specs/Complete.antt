@@ -1,5 +1,6 @@
 -- Runs that have all that their command needs: files of their grammars, a disk that serves it, and nothing outside that fails.
-use Rattle.std.specs.Prelude.{◌≡◌, ◌⊎◌, ℕ, ◌≤◌, List, [], length, Option, Some, None, Ok}
+use Rattle.std.specs.Prelude.{◌≡◌, ◌⊎◌, ℕ, ◌≤◌, List, [], length, Option, Some, None, Ok, MatchOption}
+use Rattle.tw_base.specs.declared.history.question.Question.{Question}
 use Rattle.tw_base.specs.declared.history.report.Hop.{Hop}
 use Rattle.tw_base.specs.declared.kinds.limits.TheConstants.{MOST_HISTORY_BYTES}
 use Rattle.tw_base.specs.format.Formats.{Format, Spells}
@@ -9,7 +10,7 @@ use Rattle.tw_disk.specs.Disk.{DiskView}
 use Rattle.tw_disk.specs.Image.{Image}
 use Rattle.tw_outside.specs.Files.{Files, Tells}
 use Rattle.tw_words.specs.declared.command.Command.{Command}
-use Rattle.tw_words.specs.declared.command.Command.TheVariants.{Append, Thread, Receive, ProveEvent, ProveThread, ProveAbsent, ProveLink, MapLow, MapHigh, Export, Show, Join, VerifyFile, Strict, CheckMap, Audit, Adopt, Atlas, Accuse, CheckFork, Offer, Heads, Replay}
+use Rattle.tw_words.specs.declared.command.Command.TheVariants.{Append, Receive, Show, Join, VerifyFile, Strict, CheckMap, Audit, Adopt, Atlas, Accuse, CheckFork, Offer, Heads, Replay}
 use Rattle.tw_text.specs.Lines.{no_memory_text}
 use Rattle.tw_text.specs.declared.fault.CommandFault.TheVariants.{Refused}
 use Rattle.tw_text.specs.declared.refusal.Refusal.{Refusal}
@@ -30,6 +31,7 @@ use Rattle.tw_reachcmd.specs.Held.{TellAll}
 use Rattle.tw_reachcmd.specs.Histories.{AreHistories}
 use Rattle.tw_reachcmd.specs.Planning.{AreHops}
 use Rattle.tw_app.specs.Around.{Around, Writes}
+use Rattle.tw_app.specs.Commands.{question_of}
 use Rattle.tw_app.specs.Judging.{NoneFailed}
 use Rattle.tw_app.specs.Statuses.{AreOf, DiskFailed, IsAnsweredRun, IsDoneRun, IsGapRun, IsRejectedRun, IsUndoneRun}
 
@@ -113,18 +115,10 @@ HasList found = (k : Kept) × ReadsAsList found k
 -- the disk serves the command: it read as a history, or as a list of heads; `init` and `watch` may meet any
 abbrev pub HasItsDisk : (found : Option Image) → Command → Type 0
 HasItsDisk found (Append file time) = HasHistory found
-HasItsDisk found (Thread since) = HasHistory found
 HasItsDisk found (Receive file time) = HasHistory found
-HasItsDisk found (ProveEvent step index top) = HasHistory found
-HasItsDisk found (ProveThread step peer k top) = HasHistory found
-HasItsDisk found (ProveAbsent step peer k top) = HasHistory found
-HasItsDisk found (ProveLink step top) = HasHistory found
-HasItsDisk found (MapLow step peer top) = HasHistory found
-HasItsDisk found (MapHigh pos peer top) = HasHistory found
-HasItsDisk found Export = HasHistory found
 HasItsDisk found (Offer file) = HasList found
 HasItsDisk found Heads = HasList found
-HasItsDisk found _ = Unit {0}
+HasItsDisk found command = MatchOption (question_of command) (Unit {0}) (λ (q : Question). HasHistory found)
 
 -- ---- the run
 

@@ -1,5 +1,6 @@
 -- What each command does, what a run of the program comes to, and how it ends.
 use Rattle.std.specs.Prelude.{◌≡◌, ◌⊎◌, ℕ, List, ◌∷◌, true, false, Option, Some, None, Result, Ok, Err, MatchOption}
+use Rattle.tw_base.specs.declared.history.question.Question.{Question}
 use Rattle.tw_base.specs.kinds.Faults.{Rose}
 use Rattle.tw_disk.specs.Disk.{DiskView}
 use Rattle.tw_outside.specs.TakenBytes.{Appends, AppendsPart}
@@ -7,20 +8,15 @@ use Rattle.tw_words.specs.CommandLine.{IsFirstBad, command_of}
 use Rattle.tw_words.specs.declared.command.Command.{Command}
 use Rattle.tw_text.specs.declared.fault.CommandFault.{CommandFault}
 use Rattle.tw_text.specs.declared.fault.CommandFault.TheVariants.{NoMemory}
-use Rattle.tw_words.specs.declared.command.Command.TheVariants.{Init, Append, Thread, Receive, ProveEvent, ProveThread, ProveAbsent, ProveLink, MapLow, MapHigh, Export, Show, Join, VerifyFile, VerifyOne, Strict, CheckMap, Audit, Adopt, Atlas, Accuse, CheckFork, Watch, Offer, Heads, Replay, Generate}
+use Rattle.tw_words.specs.declared.command.Command.TheVariants.{Init, Append, Receive, Show, Join, VerifyFile, VerifyOne, Strict, CheckMap, Audit, Adopt, Atlas, Accuse, CheckFork, Watch, Offer, Heads, Replay, Generate}
 use Rattle.tw_filecmd.specs.Joining.{JoinComes}
 use Rattle.tw_filecmd.specs.Showing.{ShowComes}
 use Rattle.tw_filecmd.specs.Verifying.{VerifyFileComes, VerifyOneComes}
 use Rattle.tw_diskcmd.specs.Appending.{AppendComes, AppendLeaves, AppendSafe}
+use Rattle.tw_diskcmd.specs.Asking.{AskComes}
 use Rattle.tw_diskcmd.specs.Disks.{IsLeft, Keeps, ReadLeaves}
-use Rattle.tw_diskcmd.specs.Exporting.{ExportComes}
-use Rattle.tw_diskcmd.specs.Linking.{LinkComes}
 use Rattle.tw_diskcmd.specs.Making.{InitComes, InitLeaves, InitSafe}
-use Rattle.tw_diskcmd.specs.Mapping.{MapHighComes, MapLowComes}
-use Rattle.tw_diskcmd.specs.Proving.{ProveComes}
 use Rattle.tw_diskcmd.specs.Receiving.{ReceiveComes, ReceiveLeaves, ReceiveSafe}
-use Rattle.tw_diskcmd.specs.Telling.{ThreadComes}
-use Rattle.tw_diskcmd.specs.ThreadProofs.{AbsenceComes, ThreadProofComes}
 use Rattle.tw_followcmd.specs.Listing.{HeadsComes, HeadsLeaves, HeadsSafe}
 use Rattle.tw_followcmd.specs.Offering.{OfferComes, OfferLeaves, OfferSafe}
 use Rattle.tw_followcmd.specs.Watching.{WatchComes, WatchLeaves, WatchSafe}
@@ -35,6 +31,7 @@ use Rattle.tw_app.specs.declared.outcome.Outcome.TheVariants.{Judged, Written, J
 use Rattle.tw_app.specs.declared.store.StoreAccess.{StoreAccess}
 use Rattle.tw_app.specs.declared.store.StoreAccess.TheVariants.{Read, Write}
 use Rattle.tw_app.specs.Around.{Around, Outside, Span, found_of}
+use Rattle.tw_app.specs.Commands.{question_of}
 use Rattle.tw_app.specs.Generating.{GenerateComes}
 use Rattle.tw_app.specs.Replaying.{ReplayComes}
 use Rattle.tw_app.specs.Outcomes.{of_accused, of_audited, of_fork, of_mapped, of_planned, of_taken, outcome_by, status_of, text_of}
@@ -102,28 +99,24 @@ module _ {D : Type 0} (view : D → DiskView) (o : Outside D) where
       by_results of (λ result. Comes result × ReadLeaves view o.disk.before o.disk.after result)
       (IsLeft view o.disk.before o.disk.after × Keeps view o.disk.before o.disk.after) (Some Read)
 
+  -- one that asks the service of that disk this
+  abbrev pub asking : Option Question → Work
+  asking asked = reading Written (λ result. MatchOption asked ⊥ (λ q. AskComes (found_of view o) q result))
+
   -- one that writes it
   abbrev pub writing : {X : Type 0} → (of : X → Outcome) → (Comes Leaves : Result X CommandFault → Type 0) → (Safe : Type 0) → Work
   writing of Comes Leaves Safe = by_results of (λ result. Comes result × Leaves result) Safe (Some Write)
 
-  -- what each command does
+  -- what each command does; those that aren't listed ask a service a question
   abbrev pub work : Command → Work
   work (Init name) =
       writing Made (InitComes (found_of view o) name) (InitLeaves view o.disk.before o.disk.after name) (InitSafe view o.disk.before o.disk.after name)
   work (Append file time) =
       writing Made (AppendComes o.inputs (found_of view o) file time) (AppendLeaves view o.disk.before o.disk.after o.inputs.told file time)
       (AppendSafe view o.disk.before o.disk.after o.inputs.told file time)
-  work (Thread since) = reading Written (ThreadComes (found_of view o) since)
   work (Receive file time) =
       writing Received (ReceiveComes o.inputs (found_of view o) file time) (ReceiveLeaves view o.disk.before o.disk.after o.inputs.told file time)
       (ReceiveSafe view o.disk.before o.disk.after o.inputs.told file time)
-  work (ProveEvent step index top) = reading Written (ProveComes (found_of view o) step index top)
-  work (ProveThread step peer k top) = reading Written (ThreadProofComes step (record { from = peer; step = k }) top (found_of view o))
-  work (ProveAbsent step peer k top) = reading Written (AbsenceComes step (record { from = peer; step = k }) top (found_of view o))
-  work (ProveLink step top) = reading Written (LinkComes (found_of view o) step top)
-  work (MapLow step peer top) = reading Written (MapLowComes step peer top (found_of view o))
-  work (MapHigh pos peer top) = reading Written (MapHighComes pos peer top (found_of view o))
-  work Export = reading Written (ExportComes (found_of view o))
   work (Show history step index) = over_files Written (ShowComes o.inputs history step index)
   work (Join files) = over_files Joined (JoinComes o.inputs files)
   work (VerifyFile proof anchors) = over_files Judged (VerifyFileComes o.inputs proof anchors false)
@@ -147,6 +140,7 @@ module _ {D : Type 0} (view : D → DiskView) (o : Outside D) where
       by_results Written
       (λ result. HeadsComes (view o.disk.before).content (view o.disk.before).faults (view o.disk.after).faults result × HeadsLeaves view o.disk.before o.disk.after result)
       (HeadsSafe view o.disk.before o.disk.after) (Some Read)
+  work command = asking (question_of command)
 
 -- ---- what words come to
 

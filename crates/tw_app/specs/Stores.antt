@@ -1,30 +1,24 @@
 -- Which store words ask for.
 use Rattle.std.specs.Prelude.{◌≡◌, ℕ, List, [], Option, Some, None, MatchOption, slice_index_or}
 use Rattle.std.specs.Option.{option_map}
+use Rattle.tw_base.specs.declared.history.question.Question.{Question}
 use Rattle.tw_words.specs.CommandLine.{command_of}
 use Rattle.tw_words.specs.declared.command.Command.{Command}
-use Rattle.tw_words.specs.declared.command.Command.TheVariants.{Init, Append, Thread, Receive, ProveEvent, ProveThread, ProveAbsent, ProveLink, MapLow, MapHigh, Export, Watch, Offer, Heads}
+use Rattle.tw_words.specs.declared.command.Command.TheVariants.{Init, Append, Receive, Watch, Offer, Heads}
+use Rattle.tw_app.specs.Commands.{question_of}
 use Rattle.tw_app.specs.declared.store.Store.{Store}
 use Rattle.tw_app.specs.declared.store.StoreAccess.{StoreAccess}
 use Rattle.tw_app.specs.declared.store.StoreAccess.TheVariants.{Read, Write}
 
--- what a command does with the store of its folder
+-- what a command does with the store of its folder: one that asks a service a question reads it
 abbrev pub access_of : Command → Option StoreAccess
 access_of (Init name) = Some Write
 access_of (Append file time) = Some Write
-access_of (Thread since) = Some Read
 access_of (Receive file time) = Some Write
-access_of (ProveEvent step index top) = Some Read
-access_of (ProveThread step peer k top) = Some Read
-access_of (ProveAbsent step peer k top) = Some Read
-access_of (ProveLink step top) = Some Read
-access_of (MapLow step peer top) = Some Read
-access_of (MapHigh pos peer top) = Some Read
-access_of Export = Some Read
 access_of (Watch name) = Some Write
 access_of (Offer file) = Some Write
 access_of Heads = Some Read
-access_of _ = None
+access_of command = option_map (λ (q : Question). Read) (question_of command)
 
 -- the store that the words ask for: that of their command, in the folder that the second word names
 abbrev pub IsStoreOf : (words : List (List ℕ)) → Option Store → Type 0

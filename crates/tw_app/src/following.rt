@@ -18,12 +18,9 @@ use crate::outcome::{
 };
 use crate::replaying::play_file;
 use std::alloc::Global;
-use tw_base::{Bytes, Key, Name, Thread};
+use tw_base::{Bytes, Key, Name, Question, Thread};
 use tw_disk::Disk;
-use tw_diskcmd::{
-    Worked, append, export, make, map_high, map_low, prove, prove_absent, prove_link, prove_thread,
-    receive, tell,
-};
+use tw_diskcmd::{Worked, append, ask, make, receive};
 use tw_filecmd::{join_files, show, verify_file, verify_one};
 use tw_followcmd::{Worked as FollowWorked, list_heads, offer, watch};
 use tw_msg::Receipt;
@@ -82,27 +79,35 @@ fn follow<D: Disk, I: Inputs>(
         Command::Append { file, time } => {
             with_thread(append(alloc, disk, inputs, file.as_str(), *time))
         }
-        Command::Thread { since } => with_bytes(tell(alloc, disk, *since)),
+        &Command::Thread { since } => {
+            with_bytes(ask(alloc, disk, &Question::ThreadOut { since }))
+        }
         Command::Receive { file, time } => {
             with_receipt(receive(alloc, disk, inputs, file.as_str(), *time))
         }
-        Command::ProveEvent { step, index, top } => {
-            with_bytes(prove(alloc, disk, *step, *index, *top))
+        &Command::ProveEvent { step, index, top } => {
+            with_bytes(ask(alloc, disk, &Question::Event { step, index, top }))
         }
-        Command::ProveThread { step, peer, k, top } => {
-            with_bytes(prove_thread(alloc, disk, *step, &key_of(*peer, *k), *top))
+        &Command::ProveThread { step, peer, k, top } => {
+            let key = key_of(peer, k);
+            with_bytes(ask(alloc, disk, &Question::Thread { step, key, top }))
         }
-        Command::ProveAbsent { step, peer, k, top } => {
-            with_bytes(prove_absent(alloc, disk, *step, &key_of(*peer, *k), *top))
+        &Command::ProveAbsent { step, peer, k, top } => {
+            let key = key_of(peer, k);
+            with_bytes(ask(alloc, disk, &Question::Absent { step, key, top }))
         }
-        Command::ProveLink { step, top } => with_bytes(prove_link(alloc, disk, *step, *top)),
-        Command::MapLow { step, peer, top } => {
-            with_bytes(map_low(alloc, disk, *step, *peer, *top))
+        &Command::ProveLink { step, top } => {
+            with_bytes(ask(alloc, disk, &Question::Link { step, top }))
         }
-        Command::MapHigh { pos, peer, top } => {
-            with_bytes(map_high(alloc, disk, *pos, *peer, *top))
+        &Command::MapLow { step, peer, top } => {
+            with_bytes(ask(alloc, disk, &Question::Low { step, peer, top }))
         }
-        Command::Export => with_bytes(export(alloc, disk)),
+        &Command::MapHigh {
+            pos: step,
+            peer,
+            top,
+        } => with_bytes(ask(alloc, disk, &Question::High { step, peer, top })),
+        Command::Export => with_bytes(ask(alloc, disk, &Question::Export)),
         Command::Show {
             history,
             step,

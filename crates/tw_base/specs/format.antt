@@ -2,5 +2,6 @@
 pub mod Formats
 pub mod Fields
 pub mod Codecs
+pub mod Seen
 pub mod Taking
 pub mod PageBytes

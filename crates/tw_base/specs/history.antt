@@ -1,6 +1,7 @@
 -- Histories: steps, archives and their trees, authenticators, families of histories, and what is claimed of them.
 pub mod Entries
 pub mod Asking
+pub mod Questions
 pub mod WithLeaf
 pub mod Holding
 pub mod History
@@ -17,3 +18,4 @@ pub mod Reasons
 pub mod Anchors
 pub mod HistoryCodec
 pub mod EntryCodec
+pub mod Seen

@@ -6,6 +6,7 @@ pub(crate) mod content;
 pub(crate) mod content_taking;
 pub(crate) mod history_laws;
 pub(crate) mod labels;
+pub(crate) mod question;
 pub(crate) mod received_thread;
 pub(crate) mod report;
 pub(crate) mod root;

@@ -63,6 +63,7 @@ pub use history::labels::no_events;
 pub use history::labels::step_datum;
 pub use history::labels::timed_datum;
 pub use history::labels::tree_node;
+pub use history::question::Question;
 pub use history::received_thread::ReceivedThread;
 pub use history::report::Claim;
 pub use history::report::Hop;

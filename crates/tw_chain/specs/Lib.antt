@@ -8,3 +8,4 @@ pub mod Services
 pub mod OwnProofs
 pub mod Reasons
 pub mod Binding
+pub mod Seen

@@ -1,5 +1,5 @@
 // Reading proofs from event to event.
-#![tactic(auto, unfolding(crate::specs::Proofs::behind_codec, crate::specs::Proofs::hop_codec, crate::specs::Proofs::hops_codec, crate::specs::Proofs::tail_codec, tw_base::specs::format::Codecs::pair, tw_base::specs::format::Codecs::seen))]
+#![tactic(auto, unfolding(crate::specs::Seen::hops))]
 
 ghost use Rattle.std.specs.Prelude.{◌≡◌, ◌-◌, ◌≤◌, length, nat_lt};
 ghost use Rattle.tw_base.specs.declared.kinds.limits.TheConstants.{LAST_STEP};

@@ -1,5 +1,5 @@
 // Writing proofs from event to event.
-#![tactic(auto, unfolding(crate::specs::Proofs::hop_bytes, tw_base::specs::format::Codecs::number_codec, tw_base::specs::format::Codecs::pair, tw_base::specs::format::Codecs::seen))]
+#![tactic(auto, unfolding(crate::specs::Proofs::hop_bytes, tw_base::specs::format::Seen::codecs))]
 
 ghost use Rattle.std.specs.Prelude.{◌≡◌, [], ◌++◌, flat_map, OnOk};
 ghost use Rattle.std.specs.Option.{option_map_or};
@@ -23,7 +23,7 @@ fn put_optional(into: &mut Bytes, opening: &Option<Opening>) -> Result<(), NoMem
 }
 
 /// Appends the opening where there is to be one.
-#[tactic(auto, unfolding(tw_base::specs::format::Codecs::nothing, tw_base::specs::format::Codecs::present, tw_skipproof::specs::Codecs::opening_bytes))]
+#[tactic(auto, unfolding(tw_skipproof::specs::Codecs::opening_bytes, tw_base::specs::format::Seen::codecs))]
 fn put_before(into: &mut Bytes, there: bool, before: &Option<Opening>) -> Result<(), NoMemory>
     ensures { OnOk result (into.new ≡ into.old ++ (optional there (opening_codec 0 0)).write before.now) }
 {
@@ -57,7 +57,7 @@ fn put_hops(into: &mut Bytes, hops: &[HopPart]) -> Result<(), NoMemory>
 }
 
 /// Appends the first event, under its step.
-#[tactic(auto, unfolding(crate::specs::Proofs::tail_codec, tw_base::specs::format::Codecs::by_kind, tw_base::specs::format::Codecs::each, tw_base::specs::format::Codecs::labels_codec, tw_base::specs::format::Codecs::many, tw_base::specs::format::Codecs::number_codec, tw_base::specs::format::Codecs::pair, tw_base::specs::format::Codecs::seen, tw_base::specs::format::Codecs::written, tw_skipproof::specs::Codecs::count_codec, tw_skipproof::specs::Codecs::event_codec, tw_skipproof::specs::Codecs::opening_bytes, tw_skipproof::specs::Codecs::opening_codec, tw_skipproof::specs::Codecs::path_bytes, tw_skipproof::specs::Codecs::path_codec))]
+#[tactic(auto, unfolding(crate::specs::Seen::tails))]
 fn put_tail(into: &mut Bytes, tail: &Tail) -> Result<(), NoMemory>
     ensures { OnOk result (into.new ≡ into.old ++ (tail_codec 0).write tail.now) }
 {

@@ -1,5 +1,5 @@
 // Reading proofs.
-#![tactic(auto, unfolding(crate::specs::Proofs::absence_body, crate::specs::Proofs::key_codec, crate::specs::Proofs::link_body, crate::specs::Proofs::thread_body, tw_base::specs::format::Codecs::pair, tw_base::specs::format::Codecs::seen))]
+#![tactic(auto, unfolding(crate::specs::Seen::bodies))]
 
 ghost use Rattle.std.specs.Prelude.{◌≡◌, ◌≤◌, length, IfOk};
 ghost use Rattle.tw_base.specs.format.Formats.{ReadsAs, ReadsFrontAs};

@@ -1,5 +1,5 @@
 // Writing proofs.
-#![tactic(auto, unfolding(crate::specs::Proofs::absence_body, crate::specs::Proofs::key_codec, crate::specs::Proofs::link_body, crate::specs::Proofs::thread_body, tw_base::specs::format::Codecs::bytes_codec, tw_base::specs::format::Codecs::each, tw_base::specs::format::Codecs::name_codec, tw_base::specs::format::Codecs::number_codec, tw_base::specs::format::Codecs::pair, tw_base::specs::format::Codecs::seen, tw_skipproof::specs::Codecs::part_bytes, tw_skipproof::specs::Codecs::path_bytes, tw_skipproof::specs::Codecs::path_codec))]
+#![tactic(auto, unfolding(crate::specs::Seen::bodies_written))]
 
 ghost use Rattle.std.specs.Prelude.{◌≡◌, [], ◌∷◌, ◌++◌, IfOk, OnOk};
 ghost use Rattle.tw_base.specs.format.Formats.{Spells};
@@ -82,7 +82,7 @@ fn put_body(into: &mut Bytes, proof: &Proof) -> Result<(), NoMemory>
 }
 
 /// Appends the proof: the magic, its kind, and what the kind has.
-#[tactic(auto, unfolding(crate::specs::Proofs::kinds_codec, crate::specs::Proofs::proof_codec, tw_base::specs::format::Codecs::behind, tw_base::specs::format::Codecs::by_kind, tw_base::specs::format::Codecs::number_codec, tw_base::specs::format::Codecs::text_codec))]
+#[tactic(auto, unfolding(crate::specs::Proofs::kinds_codec, crate::specs::Proofs::proof_codec, tw_base::specs::format::Seen::codecs))]
 fn put_proof(into: &mut Bytes, proof: &Proof) -> Result<(), NoMemory>
     ensures { OnOk result (into.new ≡ into.old ++ proof_bytes proof.now) }
 {

@@ -16,27 +16,13 @@ use Rattle.tw_service.specs.Machine.{Answers, Call, Reply}
 use Rattle.tw_answers.specs.Refusals.{IsFault}
 use Rattle.tw_answers.proofs.TableAnswers.{Of}
 use Rattle.tw_text.specs.declared.fault.CommandFault.{CommandFault}
-use Rattle.tw_diskcmd.specs.Answers.{ComesTo, IsOpened, MachineAnswers, TableAnswers, TableAnswersOr}
+use Rattle.tw_diskcmd.specs.Answers.{ComesTo, IsOpened, MachineAnswers, TableAnswersOr}
 use Rattle.tw_diskcmd.specs.Disks.{FoundDisk, ReadsAs}
 use Rattle.tw_diskcmd.specs.Faults.{fault_of_service}
-use Rattle.tw_diskcmd.proofs.Results.{CanCome, IsByTable, Table, by_table, by_table_or, done, fault_can, machine_refuses, no_never, refused, same_err}
+use Rattle.tw_diskcmd.proofs.Results.{CanCome, IsByTable, by_table_or, done, fault_can, machine_refuses, no_never, refused, same_err}
 
 module _ {X : Type 0} (finds : RootRecord → Image → Found (Result X Refusal)) (table : (last : ℕ) → Option Refusal) (call : History → Call) (Makes : X → History → Type 0)
     (t : FoundDisk) (root : RootRecord) (pages : Option Image) (opens : IsOpened t.found root pages) where
-  abbrev Comes : Result X CommandFault → Type 0
-  Comes result = ComesTo finds (TableAnswers table) (MachineAnswers call Makes) t result
-
-  pub asked_done : (x : X) → table root.head.step ≡ None → ((ps : Image) → pages ≡ Some ps → finds root ps ≡ Is (Ok x)) → ((h : History) → ReadsAs t.found h → Makes x h) → Comes (Ok x)
-  asked_done x allows is makes = done finds (TableAnswers table) (MachineAnswers call Makes) t root pages opens x is (root.head.step, allows) makes
-
-  pub asked_refused : (T : Type 0) (reply : T → Reply) (NewServes : History → Type 0) (r : Refusal) (came : CommandFault) → came ≡ fault_of_service r → Of CanCome (table root.head.step)
-      → Table {X = T} (table root.head.step) (Err r) → ((h : History) → ReadsAs t.found h → Answers sha256 h (call h) reply (Err r) NewServes)
-      → (r ≡ service.DiskFault → Rose t.before t.after) → ((ps : Image) → pages ≡ Some ps → IsRefusalOf r (finds root ps)) → Comes (Err came)
-  asked_refused T reply NewServes r came is can by machine rose found =
-      refused finds (TableAnswers table) (MachineAnswers call Makes) t root pages opens r came is (no_never T IsFault (table root.head.step) can fault_can r by)
-      (λ same. rose (sym (same_err {X = X} r service.DiskFault same))) found (λ tells. by_table T table root.head.step (table root.head.step) refl r tells by)
-      (λ tells h reads. machine_refuses h (call h) reply NewServes r tells (machine h reads))
-
   -- of a call that has refusals besides, which it finds
   module _ (Further : Refusal → Type 0) (further_can : (q : Refusal) → Further q → CanCome q) where
     abbrev ComesOr : Result X CommandFault → Type 0

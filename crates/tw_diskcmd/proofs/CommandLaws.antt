@@ -2,7 +2,6 @@
 use Rattle.std.proofs.Common.{◌≡◌, ◌∙◌, ℕ, List, ap, inl, inr}
 use Rattle.std.specs.Prelude.{Option, Some, Result, Ok, Err}
 use Rattle.sha2.specs.Sha256.{sha256}
-use Rattle.tw_base.specs.declared.history.thread.Key.{Key}
 use Rattle.tw_base.specs.declared.history.thread.Thread.{Thread}
 use Rattle.tw_base.specs.kinds.Faults.{Rose}
 use Rattle.tw_base.specs.history.History.{History}
@@ -12,21 +11,17 @@ use Rattle.tw_msg.specs.declared.message.Message.{Message}
 use Rattle.tw_msg.specs.declared.receipt.Receipt.{Receipt}
 use Rattle.tw_outside.specs.Asked.{Asked}
 use Rattle.tw_outside.specs.Files.{Files}
+use Rattle.tw_base.specs.declared.history.question.Question.{Question}
 use Rattle.tw_service.specs.Machine.{Call, NextOf}
 use Rattle.tw_service.specs.Machine.Call.{Append, Receive}
 use Rattle.tw_text.specs.declared.refusal.StoreCause.{StoreCause}
 use Rattle.tw_text.specs.declared.fault.CommandFault.{CommandFault}
 use Rattle.tw_text.specs.declared.fault.CommandFault.TheVariants.{Refused, Unserved, Unreadable, InputFault, DiskFault, NoMemory}
 use Rattle.tw_diskcmd.specs.Appending.{AppendComes, AppendLeaves, AppendSafe, AreEventsOf}
+use Rattle.tw_diskcmd.specs.Asking.{AskComes}
 use Rattle.tw_diskcmd.specs.Disks.{AddsSafe, FoundDisk, IsLeft, Keeps, ReadLeaves, ReadsAs}
-use Rattle.tw_diskcmd.specs.Exporting.{ExportComes}
-use Rattle.tw_diskcmd.specs.Linking.{LinkComes}
 use Rattle.tw_diskcmd.specs.Making.{InitComes, InitLeaves, InitSafe}
-use Rattle.tw_diskcmd.specs.Mapping.{MapHighComes, MapLowComes}
-use Rattle.tw_diskcmd.specs.Proving.{ProveComes}
 use Rattle.tw_diskcmd.specs.Receiving.{IsMessageIn, ReceiveComes, ReceiveLeaves, ReceiveSafe}
-use Rattle.tw_diskcmd.specs.Telling.{ThreadComes}
-use Rattle.tw_diskcmd.specs.ThreadProofs.{AbsenceComes, ThreadProofComes}
 use Rattle.tw_diskcmd.specs.WorkSteps.{WritesNothing}
 use Rattle.tw_diskcmd.proofs.AtRest.{left_begins, left_keeps, reads_as, rests_reads, untouched_left}
 
@@ -60,72 +55,9 @@ module _ (a : Asked) (t : FoundDisk) where
     memory = tt;
   }
 
-  pub thread_proof_causes : (step : ℕ) (key : Key) (top : Option ℕ) → HasCauses a t ⊥ (Unit {0}) (ThreadProofComes step key top t)
-  unfolding ThreadProofComes
-  thread_proof_causes step key top = record {
-    input = λ came. absurd came;
-    disk = λ rose. (tt, rose);
-    serves = λ h reads why came. came.machine h reads;
-    memory = tt;
-  }
-
-  pub absence_causes : (step : ℕ) (key : Key) (top : Option ℕ) → HasCauses a t ⊥ (Unit {0}) (AbsenceComes step key top t)
-  unfolding AbsenceComes
-  absence_causes step key top = record {
-    input = λ came. absurd came;
-    disk = λ rose. (tt, rose);
-    serves = λ h reads why came. came.machine h reads;
-    memory = tt;
-  }
-
-  pub prove_causes : (step index : ℕ) (top : Option ℕ) → HasCauses a t ⊥ (Unit {0}) (ProveComes t step index top)
-  unfolding ProveComes
-  prove_causes step index top = record {
-    input = λ came. absurd came;
-    disk = λ rose. (tt, rose);
-    serves = λ h reads why came. came.machine h reads;
-    memory = tt;
-  }
-
-  pub link_causes : (step : ℕ) (top : Option ℕ) → HasCauses a t ⊥ (Unit {0}) (LinkComes t step top)
-  unfolding LinkComes
-  link_causes step top = record {
-    input = λ came. absurd came;
-    disk = λ rose. (tt, rose);
-    serves = λ h reads why came. came.machine h reads;
-    memory = tt;
-  }
-
-  pub map_low_causes : (step : ℕ) (peer : List ℕ) (top : Option ℕ) → HasCauses a t ⊥ (Unit {0}) (MapLowComes step peer top t)
-  unfolding MapLowComes
-  map_low_causes step peer top = record {
-    input = λ came. absurd came;
-    disk = λ rose. (tt, rose);
-    serves = λ h reads why came. came.machine h reads;
-    memory = tt;
-  }
-
-  pub map_high_causes : (step : ℕ) (peer : List ℕ) (top : Option ℕ) → HasCauses a t ⊥ (Unit {0}) (MapHighComes step peer top t)
-  unfolding MapHighComes
-  map_high_causes step peer top = record {
-    input = λ came. absurd came;
-    disk = λ rose. (tt, rose);
-    serves = λ h reads why came. came.machine h reads;
-    memory = tt;
-  }
-
-  pub export_causes : HasCauses a t ⊥ (Unit {0}) (ExportComes t)
-  unfolding ExportComes
-  export_causes = record {
-    input = λ came. absurd came;
-    disk = λ rose. (tt, rose);
-    serves = λ h reads why came. came.machine h reads;
-    memory = tt;
-  }
-
-  pub thread_causes : (since : ℕ) → HasCauses a t ⊥ (Unit {0}) (ThreadComes t since)
-  unfolding ThreadComes
-  thread_causes since = record {
+  pub ask_causes : (q : Question) → HasCauses a t ⊥ (Unit {0}) (AskComes t q)
+  unfolding AskComes
+  ask_causes q = record {
     input = λ came. absurd came;
     disk = λ rose. (tt, rose);
     serves = λ h reads why came. came.machine h reads;

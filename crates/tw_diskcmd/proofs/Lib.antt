@@ -2,16 +2,11 @@ pub mod EventFiles
 pub mod AtRest
 pub mod Results
 pub mod Steps
-pub mod EventProofs
 pub mod Landings
 pub mod CommandLaws
 pub mod AskedCalls
-pub mod LinkAnswers
-pub mod ThreadAnswers
 pub mod Appendings
 pub mod Tables
-pub mod ThreadProofAnswers
-pub mod MapAnswers
-pub mod ExportAnswers
 pub mod MessageFiles
 pub mod Received
+pub mod QuestionAnswers

@@ -3,12 +3,6 @@ pub mod Disks
 pub mod Answers
 pub mod Making
 pub mod Receiving
-pub mod Proofs
 pub mod Appending
-pub mod Proving
-pub mod Linking
-pub mod ThreadProofs
-pub mod Mapping
-pub mod Exporting
-pub mod Telling
 pub mod WorkSteps
+pub mod Asking

@@ -1,29 +1,23 @@
 // The laws of what commands come to over a disk that tells its content, and of what they leave.
 
 ghost use Rattle.std.specs.Prelude.{◌≡◌, ℕ, List, Option, Some, Result};
-ghost use Rattle.tw_base.specs.declared.history.thread.Key.{Key};
 ghost use Rattle.tw_base.specs.declared.history.thread.Thread.{Thread};
 ghost use Rattle.tw_disk.specs.Image.{Image};
 ghost use Rattle.tw_outside.specs.Asked.{Asked};
 ghost use Rattle.tw_outside.specs.Files.{Tells};
+ghost use Rattle.tw_base.specs.declared.history.question.Question.{Question};
 ghost use Rattle.tw_text.specs.declared.fault.CommandFault.{CommandFault};
 ghost use Rattle.tw_diskcmd.specs.Answers.{TellsContent};
 ghost use Rattle.tw_diskcmd.specs.Appending.{AppendComes, StepComes, TellsOfFile};
+ghost use Rattle.tw_diskcmd.specs.Asking.{AskComes};
 ghost use Rattle.tw_diskcmd.specs.Disks.{IsLeft, Keeps, found_disk};
-ghost use Rattle.tw_diskcmd.specs.Exporting.{ExportComes};
-ghost use Rattle.tw_diskcmd.specs.Linking.{LinkComes};
-ghost use Rattle.tw_diskcmd.specs.Mapping.{MapHighComes, MapLowComes};
-ghost use Rattle.tw_diskcmd.specs.Proving.{ProveComes};
-ghost use Rattle.tw_diskcmd.specs.Telling.{ThreadComes};
-ghost use Rattle.tw_diskcmd.specs.ThreadProofs.{AbsenceComes, ThreadProofComes};
 
 use tw_disk::Disk;
 
 /// Over a disk that tells its content, all that the adding of these events may come to is one thing:
 /// the thread of one step, one refusal, or one reason why nothing is served. Where the inputs tell theirs
-/// too, so is it with `append` as a whole, and its file's first bad byte. So is it with the proofs of an
-/// event, of a link, of a thread and of an absence, with map files, the history's file and the message of the
-/// last step, of which the bytes are one. A fault of the disk and want of memory are excepted.
+/// too, so is it with `append` as a whole, and its file's first bad byte. So is it with questions, of which the
+/// bytes are one. A fault of the disk and want of memory are excepted.
 pub fn told_laws()
     // Over a disk that tells its content, what `append` comes to once its file was read is one thing: one thread, one
     // refusal with its number, or one reason of status 8 with its slot or page. So each of these comes exactly where it
@@ -36,32 +30,11 @@ pub fn told_laws()
         (one other : Result Thread CommandFault) → Tells a.told file bytes → TellsOfFile one → TellsOfFile other →
         AppendComes a (found_disk (Some image) before after) file time one
         → AppendComes a (found_disk (Some image) before after) file time other → one ≡ other }
-    // Over a disk that tells its content, what `prove` comes to is one thing: a proof of the same bytes, one refusal
-    // with its number, or one reason of status 8 with its slot or page. So each of these comes exactly where it stands,
-    // but for a disk fault, want of memory and status 4.
-    ensures proving { (image : Image) (step index : ℕ) (top : Option ℕ) (before after : ℕ) (one other : Result (List ℕ) CommandFault) → TellsContent one → TellsContent other →
-        ProveComes (found_disk (Some image) before after) step index top one → ProveComes (found_disk (Some image) before after) step index top other → one ≡ other }
-    // So is what `prove thread` comes to: a proof of the same bytes, one refusal, or one reason of status 8.
-    ensures threads { (image : Image) (step : ℕ) (key : Key) (top : Option ℕ) (before after : ℕ) (one other : Result (List ℕ) CommandFault) → TellsContent one → TellsContent other →
-        ThreadProofComes step key top (found_disk (Some image) before after) one → ThreadProofComes step key top (found_disk (Some image) before after) other → one ≡ other }
-    // So is what `prove absent` comes to: a proof of the same bytes, one refusal, or one reason of status 8.
-    ensures absences { (image : Image) (step : ℕ) (key : Key) (top : Option ℕ) (before after : ℕ) (one other : Result (List ℕ) CommandFault) → TellsContent one → TellsContent other →
-        AbsenceComes step key top (found_disk (Some image) before after) one → AbsenceComes step key top (found_disk (Some image) before after) other → one ≡ other }
-    // So is what `prove link` comes to: a proof of the same bytes, one refusal, or one reason of status 8.
-    ensures linking { (image : Image) (step : ℕ) (top : Option ℕ) (before after : ℕ) (one other : Result (List ℕ) CommandFault) → TellsContent one → TellsContent other →
-        LinkComes (found_disk (Some image) before after) step top one → LinkComes (found_disk (Some image) before after) step top other → one ≡ other }
-    // So is what `map low` comes to, and what `map high` does: a file of the same bytes, one refusal, or one reason of
-    // status 8.
-    ensures lows { (image : Image) (step : ℕ) (peer : List ℕ) (top : Option ℕ) (before after : ℕ) (one other : Result (List ℕ) CommandFault) → TellsContent one → TellsContent other →
-        MapLowComes step peer top (found_disk (Some image) before after) one → MapLowComes step peer top (found_disk (Some image) before after) other → one ≡ other }
-    ensures highs { (image : Image) (step : ℕ) (peer : List ℕ) (top : Option ℕ) (before after : ℕ) (one other : Result (List ℕ) CommandFault) → TellsContent one → TellsContent other →
-        MapHighComes step peer top (found_disk (Some image) before after) one → MapHighComes step peer top (found_disk (Some image) before after) other → one ≡ other }
-    // So is what `export` comes to: a file of the same bytes, one refusal with its number, or one reason of status 8.
-    ensures exports { (image : Image) (before after : ℕ) (one other : Result (List ℕ) CommandFault) → TellsContent one → TellsContent other →
-        ExportComes (found_disk (Some image) before after) one → ExportComes (found_disk (Some image) before after) other → one ≡ other }
-    // So is what `thread` comes to: a message of the same bytes, one refusal, or one reason of status 8.
-    ensures telling { (image : Image) (since before after : ℕ) (one other : Result (List ℕ) CommandFault) → TellsContent one → TellsContent other →
-        ThreadComes (found_disk (Some image) before after) since one → ThreadComes (found_disk (Some image) before after) since other → one ≡ other }
+    // Over a disk that tells its content, what asking a question comes to is one thing: the same bytes, one refusal with its
+    // number, or one reason of status 8 with its slot or page. So each of these comes exactly where it stands, but for a disk
+    // fault, want of memory and status 4.
+    ensures asking { (image : Image) (q : Question) (before after : ℕ) (one other : Result (List ℕ) CommandFault) → TellsContent one → TellsContent other →
+        AskComes (found_disk (Some image) before after) q one → AskComes (found_disk (Some image) before after) q other → one ≡ other }
 {}
 
 /// A disk that is left as it was keeps the history that it stands for.

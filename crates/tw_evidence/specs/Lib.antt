@@ -3,3 +3,4 @@ pub mod Forks
 pub mod Binding
 pub mod Accusing
 pub mod Texts
+pub mod Seen

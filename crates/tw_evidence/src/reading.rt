@@ -1,5 +1,5 @@
 // Reading evidence of a fork, and the proofs of which it is made.
-#![tactic(auto, unfolding(crate::specs::Evidence::evidence_codec, crate::specs::Evidence::link_proof_codec, crate::specs::Evidence::thread_proof_codec, tw_base::specs::format::Codecs::behind, tw_base::specs::format::Codecs::pair, tw_base::specs::format::Codecs::seen, tw_chain::specs::Proofs::link_body, tw_chain::specs::Proofs::thread_body))]
+#![tactic(auto, unfolding(crate::specs::Seen::reading))]
 
 ghost use Rattle.std.specs.Prelude.{◌≡◌, ◌≤◌, length};
 ghost use Rattle.tw_base.specs.format.Formats.{ReadsAs};

@@ -1,5 +1,5 @@
 // Writing evidence of a fork.
-#![tactic(auto, unfolding(crate::specs::Evidence::evidence_codec, crate::specs::Evidence::thread_proof_codec, tw_base::specs::format::Codecs::behind, tw_base::specs::format::Codecs::bytes_codec, tw_base::specs::format::Codecs::each, tw_base::specs::format::Codecs::name_codec, tw_base::specs::format::Codecs::number_codec, tw_base::specs::format::Codecs::pair, tw_base::specs::format::Codecs::seen, tw_base::specs::format::Codecs::text_codec, tw_chain::specs::Proofs::thread_body, tw_skipproof::specs::Codecs::part_bytes, tw_skipproof::specs::Codecs::path_bytes, tw_skipproof::specs::Codecs::path_codec))]
+#![tactic(auto, unfolding(crate::specs::Seen::writing))]
 
 ghost use Rattle.std.specs.Prelude.{◌≡◌, ◌++◌, IfOk, OnOk};
 ghost use Rattle.tw_base.specs.format.Formats.{Spells};

@@ -1,5 +1,5 @@
 // The bytes of a history's file, step by step.
-#![tactic(auto, unfolding(tw_base::specs::format::Codecs::bytes_codec, tw_base::specs::format::Codecs::name_codec, tw_base::specs::format::Codecs::text_codec))]
+#![tactic(auto, unfolding(tw_base::specs::format::Seen::fields))]
 
 ghost use Rattle.std.specs.Prelude.{◌≡◌, ◌++◌, ℕ, IfOk, List, OnOk, drop, length, take, true};
 ghost use Rattle.tw_export.specs.Copied.{file_before};

@@ -22,7 +22,7 @@ pub(crate) struct HeadPage {
 }
 
 /// The page of a head.
-#[tactic(auto, unfolding(crate::specs::HeadPages::head_codec, tw_base::specs::format::Codecs::behind, tw_base::specs::format::Codecs::bytes_codec, tw_base::specs::format::Codecs::number_codec, tw_base::specs::format::Codecs::pair, tw_base::specs::format::Codecs::seen))]
+#[tactic(auto, unfolding(crate::specs::HeadPages::head_codec, tw_base::specs::format::Seen::codecs))]
 pub(crate) fn head_page(head: &HeadPage) -> Page
     ensures { result ≡ head_page_bytes head.now }
 {
@@ -35,7 +35,7 @@ pub(crate) fn head_page(head: &HeadPage) -> Page
 }
 
 /// Takes what a head page has.
-#[tactic(auto, unfolding(crate::specs::HeadPages::head_codec, tw_base::specs::format::Codecs::behind, tw_base::specs::format::Codecs::pair, tw_base::specs::format::Codecs::seen))]
+#[tactic(auto, unfolding(crate::specs::HeadPages::head_codec, tw_base::specs::format::Seen::records))]
 fn take_head(bytes: &[u8], at: &mut u64) -> Result<HeadPage, ReadFault>
     requires { at.old ≤ length bytes.now }
     ensures takes { Takes head_codec (λ p. p) bytes.now at.old at.new result }

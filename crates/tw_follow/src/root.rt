@@ -44,7 +44,7 @@ fn put_digest(text: &mut ArrayVec<u8, 64>, digest: &Digest)
 }
 
 /// The bytes of a root record.
-#[tactic(auto, unfolding(crate::specs::Roots::root_codec, tw_base::specs::format::Codecs::bytes_codec, tw_base::specs::format::Codecs::name_codec, tw_base::specs::format::Codecs::number_codec, tw_base::specs::format::Codecs::pair, tw_base::specs::format::Codecs::seen))]
+#[tactic(auto, unfolding(crate::specs::Roots::root_codec, tw_base::specs::format::Seen::codecs))]
 pub(crate) fn root_record(root: &RootRecord) -> ArrayVec<u8, 64>
     ensures bytes { result.items ≡ root_bytes root.now }
     ensures size { length result.items ≤ ROOT_BYTES }
@@ -59,7 +59,7 @@ pub(crate) fn root_record(root: &RootRecord) -> ArrayVec<u8, 64>
 }
 
 /// Takes a root record.
-#[tactic(auto, unfolding(crate::specs::Roots::root_codec, tw_base::specs::format::Codecs::pair, tw_base::specs::format::Codecs::seen))]
+#[tactic(auto, unfolding(crate::specs::Roots::root_codec, tw_base::specs::format::Seen::records))]
 fn take_root(bytes: &[u8], at: &mut u64) -> Result<RootRecord, ReadFault>
     requires { at.old ≤ length bytes.now }
     ensures takes { Takes root_codec (λ r. r) bytes.now at.old at.new result }

@@ -1,88 +1,49 @@
 -- No service refuses what is asked of it for the proof and the map.
-use Rattle.std.proofs.Common.{◌≡◌, ℕ, suc, zero, ◌+◌, ◌-◌, ◌≤◌, ◌<◌, List, [], ◌∷◌, ◌++◌, length, false, ap, sym, ◌∙◌, subst, inl, inr, arith}
-use Rattle.std.specs.Prelude.{◌&&◌, Some, None, nat_le, if◌then◌else◌}
-use Rattle.std.proofs.lemmas.Bool.{and_from, le-leb, lt-ltb}
+use Rattle.std.proofs.Common.{◌≡◌, ℕ, suc, zero, ◌+◌, ◌-◌, ◌≤◌, ◌<◌, List, [], ◌∷◌, ◌++◌, length, ap, refl, sym, ◌∙◌, subst, inl, inr, arith}
+use Rattle.std.specs.Prelude.{Some, None}
 use Rattle.std.proofs.lemmas.List.{length_push}
-use Rattle.tw_answers.specs.Limits.{event_refusal, link_refusal, no_thread, or_else, order_refusal, proof_refusal, thread_proof_refusal, top_refusal}
-use Rattle.tw_answers.specs.declared.refusal.Refusal.TheVariants.{NoEvent, NoStep}
+use Rattle.tw_answers.specs.Limits.{no_thread}
+use Rattle.tw_answers.proofs.TableAnswers.{has_event}
+use Rattle.tw_base.specs.declared.history.question.Question.{Question}
+use Rattle.tw_base.specs.declared.history.question.Question.TheVariants as ask
 use Rattle.tw_base.specs.declared.history.thread.Entry.{Entry}
 use Rattle.tw_base.specs.history.Entries.{key_of}
 use Rattle.tw_base.specs.history.History.{History, Step, entry_at, events_at, events_of, plus, root_of, step_at}
-use Rattle.tw_base.specs.history.Asking.{entry_with}
 use Rattle.tw_base.specs.history.Sound.{IsSound}
-use Rattle.tw_base.specs.history.Tree.{entries, tree}
 use Rattle.tw_base.proofs.lemmas.history.Plus.{step_at-new}
 use Rattle.tw_chain.proofs.ArchiveAnswers.{received-is_so}
 use Rattle.tw_chain.proofs.Completeness.{from_1_of_entry}
 use Rattle.tw_service.specs.EventSteps.{event_step, with_events}
-use Rattle.tw_service.specs.Machine.{Call}
-use Rattle.tw_service.specs.Machine.Call.{ProveEvent, ProveHigh, ProveLink, ProveLow, ProveThread}
+use Rattle.tw_service.specs.Machine.Call.{Ask}
+use Rattle.tw_service.specs.Questions.{pages_refusal}
 use Rattle.tw_generate.specs.Coming.{IsLedTo, IsNotRefused}
 use Rattle.tw_generate.specs.Draws.{step_events}
 use Rattle.tw_generate.specs.Schedules.{Act, LeadTo, Trio, Who, after_rounds, all_append, end_event, history_of as of_who, no_steps, round, rounds_of, with_history}
 use Rattle.tw_generate.specs.Schedules.Act.{Appends}
 use Rattle.tw_generate.specs.Schedules.Who.{Alpha, Beta, Gamma}
 use Rattle.tw_tmap.specs.Bounds.{first_from}
-use Rattle.tw_generate.specs.Summing.{family, last, last_event, received_by}
+use Rattle.tw_generate.specs.Summing.{family, high_side, last, last_event, low_side, received_by}
 use Rattle.tw_generate.proofs.Accepted.{own-had}
 use Rattle.tw_generate.proofs.Acts.{done-moves, played-stands}
 use Rattle.tw_generate.proofs.DrawnEvents.{step-some}
 use Rattle.tw_generate.proofs.Ends.{ended, parts, some-steps}
 use Rattle.tw_generate.proofs.FirstEntries.{first-is, received-at}
 use Rattle.tw_generate.proofs.Leading.{lead-split, rounds-none}
-use Rattle.tw_generate.proofs.NotRefused.{by-table}
+use Rattle.tw_generate.proofs.NotRefused.{question-goes}
 use Rattle.tw_generate.proofs.Onward.{GoesOn, entry-more, none-above}
 use Rattle.tw_generate.proofs.Standing.{AllHad, each-who}
 
--- ---- the tables
-
-in-order : (most step top : ℕ) → 1 ≤ step → step ≤ top → top ≤ most → order_refusal false most step top ≡ None
-unfolding order_refusal
-in-order most step top from_1 order within =
-    ap (λ b. if b then None else Some (NoStep most)) (and_from (nat_le 1 step && nat_le step top) (nat_le top most)
-    (and_from (nat_le 1 step) (nat_le step top) (le-leb 1 step from_1) (le-leb step top order)) (le-leb top most within))
-
-has-event : (count index : ℕ) → index < count → event_refusal count index ≡ None
-unfolding event_refusal
-has-event count index less = ap (λ b. if b then None else Some (NoEvent count)) (lt-ltb index count less)
-
-links : (most step top : ℕ) → step ≤ top → 1 ≤ top → top ≤ most → link_refusal false most step top ≡ None
-unfolding link_refusal
-links most step top order from_1 within =
-    ap (λ b. if b then None else Some (NoStep most)) (and_from (nat_le step top) (nat_le 1 top && nat_le top most) (le-leb step top order)
-    (and_from (nat_le 1 top) (nat_le top most) (le-leb 1 top from_1) (le-leb top most within)))
-
-is-top : (most top : ℕ) → 1 ≤ top → top ≤ most → top_refusal false most top ≡ None
-unfolding top_refusal
-is-top most top from_1 within =
-    ap (λ b. if b then None else Some (NoStep most)) (and_from (nat_le 1 top) (nat_le top most) (le-leb 1 top from_1) (le-leb top most within))
-
 module _ (dig : List ℕ → List ℕ) (h : History) where
-  pub event-goes : (step top : ℕ) → 1 ≤ step → step ≤ top → top ≤ last h → 0 < length (events_at h step) → IsNotRefused dig h (ProveEvent step 0 top)
-  event-goes step top from_1 order within some refusal next is =
-      by-table _ _ (proof_refusal false h step 0 top)
-      (ap (λ o. or_else o (event_refusal (length (events_at h step)) 0)) (in-order (last h) step top from_1 order within) ∙ has-event (length (events_at h step)) 0 some)
-      (λ made. let bad = made.2 in cc) is.1
+  event-goes : (step top : ℕ) → 1 ≤ step → step ≤ top → top ≤ last h → 0 < length (events_at h step) → IsNotRefused dig h (Ask (ask.Event step 0 (Some top)))
+  unfolding pages_refusal
+  event-goes step top from_1 order within some = question-goes dig h (ask.Event step 0 (Some top)) (from_1, order, within) (has_event (length (events_at h step)) 0 some)
 
-  pub thread-goes : (step top : ℕ) (e : Entry) → IsSound h → entry_at h e.archived ≡ Some e → e.archived ≤ step → 1 ≤ step → step ≤ top → top ≤ last h
-      → IsNotRefused dig h (ProveThread step (key_of e) top)
-  thread-goes step top e sound at before from_1 order within refusal next is =
-      by-table _ _ (thread_proof_refusal false h step (key_of e) top)
-      (ap (λ o. or_else o (no_thread (entry_with (entries (tree h step)) (key_of e)))) (in-order (last h) step top from_1 order within)
-      ∙ ap no_thread (received-is_so h step sound (omega (arith, order, within)) e at before))
-      (λ made. let bad = made.2 in cc) is.1
-
-  pub link-goes : (step top : ℕ) → step ≤ top → 1 ≤ top → top ≤ last h → IsNotRefused dig h (ProveLink step top)
-  link-goes step top order from_1 within refusal next is =
-      by-table _ _ (link_refusal false (last h) step top) (links (last h) step top order from_1 within) (λ made. let bad = made.2 in cc) is.1
-
-  pub low-goes : (step : ℕ) (peer : List ℕ) (top : ℕ) → 1 ≤ step → step ≤ top → top ≤ last h → IsNotRefused dig h (ProveLow step peer top)
-  low-goes step peer top from_1 order within refusal next is =
-      by-table _ _ (order_refusal false (last h) step top) (in-order (last h) step top from_1 order within) (λ made. let bad = made.2 in cc) is.1
-
-  pub high-goes : (step : ℕ) (peer : List ℕ) (top : ℕ) → 1 ≤ top → top ≤ last h → IsNotRefused dig h (ProveHigh step peer top)
-  high-goes step peer top from_1 within refusal next is =
-      by-table _ _ (top_refusal false (last h) top) (is-top (last h) top from_1 within) (λ made. let bad = made.2 in cc) is.1
+  thread-goes : (step top : ℕ) (e : Entry) → IsSound h → entry_at h e.archived ≡ Some e → e.archived ≤ step → step ≤ top → top ≤ last h
+      → IsNotRefused dig h (Ask (ask.Thread step (key_of e) (Some top)))
+  unfolding pages_refusal
+  thread-goes step top e sound at before order within =
+      question-goes dig h (ask.Thread step (key_of e) (Some top)) (omega (arith, before, from_1_of_entry h e.archived e at), order, within)
+      (ap no_thread (received-is_so h step sound (omega (arith, order, within)) e at before))
 
 -- ---- the events that are asked for
 
@@ -148,23 +109,25 @@ module _ (dig : List ℕ → List ℕ) where
           | inr new ↦ absurd (cc)
         ]
 
-    abbrev IsAsked : History → Call → Type 0
-    IsAsked = IsNotRefused dig
+    abbrev IsAsked : History → Question → Type 0
+    IsAsked h q = IsNotRefused dig h (Ask q)
 
     -- the last event's proof and the map files
-    pub asked : IsAsked t.gamma (last_event t) × IsAsked t.alpha (ProveLow (last t.alpha) t.gamma.name (last t.alpha)) × IsAsked t.gamma (ProveHigh (last t.alpha) t.alpha.name (last t.gamma))
+    pub asked : IsAsked t.gamma (last_event t) × IsAsked t.alpha (low_side t) × IsAsked t.gamma (high_side t)
+    unfolding pages_refusal
     asked =
         let some = some-steps dig number rounds t led in (
-          event-goes dig t.gamma (last t.gamma) (last t.gamma) (omega (arith, some Gamma)) (omega arith) (omega arith) last-event,
-          low-goes dig t.alpha (last t.alpha) t.gamma.name (last t.alpha) (omega (arith, some Alpha)) (omega arith) (omega arith),
-          high-goes dig t.gamma (last t.alpha) t.alpha.name (last t.gamma) (omega (arith, some Gamma)) (omega arith),
+          event-goes dig t.gamma (last t.gamma) (last t.gamma) (some Gamma) (omega arith) (omega arith) last-event,
+          question-goes dig t.alpha (low_side t) (some Alpha, omega arith, omega arith) refl,
+          question-goes dig t.gamma (high_side t) (some Gamma, omega arith) refl,
         )
 
     -- the parts of the proof over two threads
     pub asked-parts : (of_alpha of_beta : Entry) → first_from t.alpha.name 1 (received_by t.beta) ≡ Some of_alpha → first_from t.beta.name of_alpha.archived (received_by t.gamma) ≡ Some of_beta
-        → IsAsked t.gamma (ProveThread (last t.gamma - 1) (key_of of_beta) (last t.gamma)) × IsAsked t.beta (ProveLink of_beta.thread.step (last t.beta))
-        × IsAsked t.beta (ProveThread of_beta.thread.step (key_of of_alpha) (last t.beta)) × IsAsked t.alpha (ProveLink of_alpha.thread.step (last t.alpha))
-        × IsAsked t.alpha (ProveEvent 1 0 of_alpha.thread.step)
+        → IsAsked t.gamma (ask.Thread (last t.gamma - 1) (key_of of_beta) (Some (last t.gamma))) × IsAsked t.beta (ask.Link of_beta.thread.step (Some (last t.beta)))
+        × IsAsked t.beta (ask.Thread of_beta.thread.step (key_of of_alpha) (Some (last t.beta))) × IsAsked t.alpha (ask.Link of_alpha.thread.step (Some (last t.alpha)))
+        × IsAsked t.alpha (ask.Event 1 0 (Some of_alpha.thread.step))
+    unfolding pages_refusal
     asked-parts of_alpha of_beta first_alpha first_beta =
         let s = played-stands dig number rounds t led.0 led.1 in
         let some = some-steps dig number rounds t led in
@@ -173,13 +136,10 @@ module _ (dig : List ℕ → List ℕ) where
         let alpha_at = received-at t.beta (last t.beta) of_alpha alpha_is.0 in
         let beta_at = received-at t.gamma (last t.gamma) of_beta beta_is.0 in
         let alpha_had = own-had dig Alpha t of_alpha.thread s.names (each-who dig (AllHad dig (family t)) Beta t s.had of_alpha.archived of_alpha alpha_at.0) alpha_is.1 in
-        let beta_had = own-had dig Beta t of_beta.thread s.names (each-who dig (AllHad dig (family t)) Gamma t s.had of_beta.archived of_beta beta_at.0) beta_is.1 in
-        let alpha_from : 0 < of_alpha.archived = from_1_of_entry t.beta of_alpha.archived of_alpha alpha_at.0 in
-        let beta_from : 0 < of_beta.archived = from_1_of_entry t.gamma of_beta.archived of_beta beta_at.0 in
-        let before_last = received-before of_beta beta_at.0 in (
-          thread-goes dig t.gamma (last t.gamma - 1) (last t.gamma) of_beta s.sound.1.1.0 beta_at.0 before_last (omega (arith, before_last, beta_from)) (omega arith) (omega arith),
-          link-goes dig t.beta of_beta.thread.step (last t.beta) beta_had.0 (omega (arith, some Beta)) (omega arith),
-          thread-goes dig t.beta of_beta.thread.step (last t.beta) of_alpha s.sound.1.0 alpha_at.0 beta_is.2 (omega (arith, alpha_from, beta_is.2)) beta_had.0 (omega arith),
-          link-goes dig t.alpha of_alpha.thread.step (last t.alpha) alpha_had.0 (omega (arith, some Alpha)) (omega arith),
+        let beta_had = own-had dig Beta t of_beta.thread s.names (each-who dig (AllHad dig (family t)) Gamma t s.had of_beta.archived of_beta beta_at.0) beta_is.1 in (
+          thread-goes dig t.gamma (last t.gamma - 1) (last t.gamma) of_beta s.sound.1.1.0 beta_at.0 (received-before of_beta beta_at.0) (omega arith) (omega arith),
+          question-goes dig t.beta (ask.Link of_beta.thread.step (Some (last t.beta))) (some Beta, beta_had.0, omega arith) refl,
+          thread-goes dig t.beta of_beta.thread.step (last t.beta) of_alpha s.sound.1.0 alpha_at.0 beta_is.2 beta_had.0 (omega arith),
+          question-goes dig t.alpha (ask.Link of_alpha.thread.step (Some (last t.alpha))) (some Alpha, alpha_had.0, omega arith) refl,
           event-goes dig t.alpha 1 of_alpha.thread.step (omega arith) alpha_is.2 alpha_had.0 (led-begins number rounds t led).1,
         )

@@ -20,7 +20,7 @@ use Rattle.tw_base.specs.history.History.{History, entry_at}
 use Rattle.tw_base.specs.history.Sound.{IsSound}
 use Rattle.tw_base.specs.kinds.Lists.{Each}
 use Rattle.tw_base.proofs.lemmas.kinds.ListLemmas.{Each-parts}
-use Rattle.tw_chain.specs.Accepting.{IsAccepted, carried, held, report_of}
+use Rattle.tw_chain.specs.Accepting.{IsAccepted, carried, report_of}
 use Rattle.tw_chain.specs.Checks.{checks}
 use Rattle.tw_chain.specs.OwnProofs.{IsOwnProof}
 use Rattle.tw_chain.specs.Proofs.{proof_bytes, proof_codec, proof_layout}
@@ -33,16 +33,15 @@ use Rattle.tw_chain.proofs.ProofCodec.{from_existence}
 use Rattle.tw_join.specs.Joining.{joined}
 use Rattle.tw_join.specs.Joining.Taken.{Nothing}
 use Rattle.tw_join.specs.OwnParts.{HopOfPartStands, IsMade, JoinedIsAccepted}
-use Rattle.tw_service.specs.Machine.{last_thread}
-use Rattle.tw_skipproof.specs.HistoryProofs.{MakesExistence}
+use Rattle.tw_service.specs.Machine.{Makes, last_thread}
 use Rattle.tw_tmap.specs.Bounds.{first_from}
 use Rattle.tw_generate.specs.Coming.{IsAuditTold}
 use Rattle.tw_generate.specs.Schedules.{Trio, Who, history_of as of_who}
 use Rattle.tw_generate.specs.Schedules.Who.{Alpha, Beta, Gamma}
-use Rattle.tw_generate.specs.Summing.{AreParts, IsClaimed, IsPrecedence, IsProof, family, heads, last, last_event, received_by}
+use Rattle.tw_generate.specs.Summing.{AreParts, IsAnswered, IsClaimed, IsPrecedence, family, heads, last, last_event, received_by}
 use Rattle.tw_generate.proofs.Accepted.{IsKeyHeld, head-found, held-had, hop-stands, key-held, made-by, own-had}
 use Rattle.tw_generate.proofs.FirstEntries.{first-is, received-at}
-use Rattle.tw_generate.proofs.Parts.{event-part, link-part, proof-made, thread-part}
+use Rattle.tw_generate.proofs.Parts.{event-part, link-part, made-of, thread-part}
 use Rattle.tw_generate.proofs.SixParts.{AllFit, Six, keys, none-carried, parts-join, parts_of, three-named, whole}
 use Rattle.tw_generate.proofs.Standing.{AllHad, Stand, each-who}
 
@@ -193,9 +192,10 @@ module _ (dig : List ℕ → List ℕ) (once : IsUnambiguous proof_codec) where
       module _ (own_law : (h : History) (step top : ℕ) (p : Proof) (anchors : List Thread) (anchor : Thread) →
           IsSound h → step ≤ top → top ≤ length h.steps → IsOwnProof dig h step top p → anchor_of anchors h.name top ≡ Some anchor → anchor.auth ≡ auth dig h top →
           IsAccepted dig anchors p) where
-        existence-accepted : (bytes : List ℕ) → IsProof dig t.gamma (last_event t) bytes → AreAccepted bytes
+        existence-accepted : (bytes : List ℕ) → IsAnswered dig t.gamma (last_event t) bytes → AreAccepted bytes
+        unfolding Makes
         existence-accepted bytes is =
-            let made = proof-made (MakesExistence dig t.gamma (last t.gamma) 0 (last t.gamma)) _ bytes is.1 in
+            let made = made-of dig t.gamma (last_event t) bytes is in
             record {
               proof = Exists made.0;
               spells = from_existence bytes made.0 made.1;
@@ -207,7 +207,7 @@ module _ (dig : List ℕ → List ℕ) (once : IsUnambiguous proof_codec) where
         pub claim-accepted : (rounds : ℕ) (bytes : List ℕ) → IsClaimed dig t rounds bytes → AreAccepted bytes
         claim-accepted rounds bytes is = by (nat_lt rounds 50) is
           where
-            by : (b : Bool) → MatchBool b (IsProof dig t.gamma (last_event t) bytes) (IsPrecedence dig t bytes) → AreAccepted bytes
+            by : (b : Bool) → MatchBool b (IsAnswered dig t.gamma (last_event t) bytes) (IsPrecedence dig t bytes) → AreAccepted bytes
             by true is = existence-accepted bytes is
             by false is = precedence-accepted bytes is
 

@@ -1,5 +1,5 @@
 -- What one draw more makes.
-use Rattle.std.proofs.Common.{◌≡◌, ℕ, suc, ◌+◌, List, [], ◌∷◌, ◌++◌, ap, refl, ◌∙◌, sym, add-one}
+use Rattle.std.proofs.Common.{◌≡◌, ℕ, ◌+◌, [], ◌∷◌, ◌++◌, ap, refl, add-one}
 use Rattle.tw_generate.specs.Draws.{after_draws, drawn, drawn_events, event_of, next_state}
 
 pub drawn-none : (x : ℕ) → drawn_events x 0 ≡ []

@@ -1,6 +1,6 @@
 -- What a history has heard of other services, with one more step.
-use Rattle.std.proofs.Common.{◌≡◌, ◌⊎◌, ℕ, suc, ◌+◌, ◌<◌, List, [], ◌∷◌, ◌++◌, length, Bool, true, false, refl, ap, sym, ◌∙◌, subst, inl, inr, add-one, arith}
-use Rattle.std.specs.Prelude.{IsTrue, Option, Some, None, find, nat_lt, option_and_then, reverse, if◌then◌else◌}
+use Rattle.std.proofs.Common.{◌≡◌, ◌⊎◌, ℕ, suc, List, [], ◌∷◌, ◌++◌, length, Bool, true, false, refl, ap, sym, ◌∙◌, inl, inr, arith}
+use Rattle.std.specs.Prelude.{Option, Some, None, find, nat_lt, reverse, if◌then◌else◌}
 use Rattle.std.specs.Option.{option_map_or, option_to_list}
 use Rattle.std.specs.Str.{bytes_eq}
 use Rattle.std.proofs.lemmas.Bool.{le-ltb, lt-ltb}
@@ -10,10 +10,10 @@ use Rattle.tw_base.specs.declared.history.content.Content.{Content}
 use Rattle.tw_base.specs.declared.history.content.Content.TheVariants.{Received}
 use Rattle.tw_base.specs.declared.history.thread.Entry.{Entry}
 use Rattle.tw_base.specs.declared.history.thread.Thread.{Thread}
-use Rattle.tw_base.specs.history.History.{History, Step, entry_at, plus, received, step_at, thread_of}
-use Rattle.tw_base.proofs.lemmas.history.Plus.{received-plus, step_at-new}
+use Rattle.tw_base.specs.history.History.{History, Step, plus, received, thread_of}
 use Rattle.tw_generate.specs.Playing.{HasHeard}
 use Rattle.tw_generate.specs.Schedules.{last_heard, last_step}
+use Rattle.tw_generate.proofs.Onward.{entry_of, received-more}
 
 last_step-more : (from : List ℕ) (es : List Entry) (e : Entry) → last_step from (es ++ e ∷ []) ≡ (if bytes_eq e.thread.from from then e.thread.step else last_step from es)
 last_step-more from es e =
@@ -25,34 +25,23 @@ last_step-more from es e =
     by false o = refl
 
 module _ (h : History) (s : Step) where
-  abbrev entry_of : Option Thread → Option Entry
-  entry_of o = option_and_then (λ (t : Thread). Some (record { thread = t; archived = suc (length h.steps) })) o
-
-  received-new : received (plus h s) (length (plus h s).steps) ≡ received h (length h.steps) ++ option_to_list (entry_of (thread_of (Some s)))
-  unfolding received
-  received-new =
-      ap (received (plus h s)) (length_push h.steps s ∙ add-one (length h.steps))
-      ∙ ap (λ (es : List Entry). es ++ option_to_list (entry_at (plus h s) (suc (length h.steps)))) (received-plus h s (length h.steps) (omega arith))
-      ∙ ap (λ (o : Option Step). received h (length h.steps) ++ option_to_list (entry_of (thread_of o))) (step_at-new h s)
+  abbrev with_thread : Option Thread → List Entry
+  with_thread o = received h (length h.steps) ++ option_to_list (entry_of (suc (length h.steps)) o)
 
   -- a step that received nothing
   pub heard-nothing : thread_of (Some s) ≡ None → (n : List ℕ) → last_heard (plus h s) n ≡ last_heard h n
   heard-nothing none n =
-      ap (last_step n) (received-new ∙ ap (λ (o : Option Thread). received h (length h.steps) ++ option_to_list (entry_of o)) none ∙ append-nil (received h (length h.steps)))
+      ap (last_step n) (received-more h s ∙ ap with_thread none ∙ append-nil (received h (length h.steps)))
 
   -- a step that received a thread
   pub heard-thread : (t : Thread) → s.content ≡ Received t → (n : List ℕ) → last_heard (plus h s) n ≡ (if bytes_eq t.from n then t.step else last_heard h n)
   heard-thread t is n =
       let some : thread_of (Some s) ≡ Some t = ap (λ (c : Content). thread_of (Some (record { content = c; time = s.time; fresh = s.fresh; root = s.root }))) is in
-      ap (last_step n) (received-new ∙ ap (λ (o : Option Thread). received h (length h.steps) ++ option_to_list (entry_of o)) some)
+      ap (last_step n) (received-more h s ∙ ap with_thread some)
       ∙ last_step-more n (received h (length h.steps)) (record { thread = t; archived = suc (length h.steps) })
 
 pub same-name : (n : List ℕ) → bytes_eq n n ≡ true
-same-name n = by (bytes_eq n n) refl ((bytes_eq-Decides n n).1 refl)
-  where
-    by : (b : Bool) → bytes_eq n n ≡ b → IsTrue (bytes_eq n n) → b ≡ true
-    by true is test = refl
-    by false is test = cc
+same-name n = (bytes_eq-Decides n n).1 refl
 
 not-less : (n : ℕ) → nat_lt n n ≡ false
 not-less n = le-ltb n n (omega arith)

@@ -1,6 +1,6 @@
 -- What beta has heard of alpha, and gamma of beta, from the first messages on.
 use Rattle.std.proofs.Common.{◌≡◌, ℕ, suc, zero, ◌+◌, ◌-◌, ◌≤◌, ◌<◌, List, [], ◌∷◌, length, refl, ap, sym, ◌∙◌, subst, arith}
-use Rattle.std.specs.Prelude.{Option, Some, None, option_and_then}
+use Rattle.std.specs.Prelude.{Option, Some, None}
 use Rattle.tw_base.specs.declared.history.thread.Entry.{Entry}
 use Rattle.tw_base.specs.declared.history.thread.Thread.{Thread}
 use Rattle.tw_base.specs.history.History.{History, entry_at}
@@ -23,10 +23,7 @@ use Rattle.tw_generate.specs.Summing.{last, received_by}
 use Rattle.tw_generate.proofs.Acts.{done-moves}
 use Rattle.tw_generate.proofs.FirstEntries.{first-is, first-stays, first-there, received-at}
 use Rattle.tw_generate.proofs.Leading.{lead-split, rounds-more}
-use Rattle.tw_generate.proofs.Onward.{GoesOn, none-above}
-
-abbrev entry_in : ℕ → Option Thread → Option Entry
-entry_in i o = option_and_then (λ (t : Thread). Some (record { thread = t; archived = i })) o
+use Rattle.tw_generate.proofs.Onward.{GoesOn, entry_of, none-above}
 
 module _ (dig : List ℕ → List ℕ) where
   -- ---- a message that is answered
@@ -43,7 +40,7 @@ module _ (dig : List ℕ → List ℕ) where
       let r : Receipt = hears.receipt in
       let own : IsReceiptOf dig next r.by.step r = own-receipt dig b m None next r hears.receives in
       let e : Entry = record { thread = r.thread; archived = r.by.step } in
-      let at : entry_at next r.by.step ≡ Some e = ap (λ (o : Option Thread). entry_in r.by.step o) own.received in (
+      let at : entry_at next r.by.step ≡ Some e = ap (λ (o : Option Thread). entry_of r.by.step o) own.received in (
         e,
         received-has next (last next) r.by.step e (none-above next r.by.step e at) at,
         receipt-thread b m r next (received_as dig b m None) hears.receives ∙ hears.is_message.thread,

@@ -11,7 +11,6 @@ mod HeardSteps
 mod Hearing
 mod LastHeard
 mod Leading
-mod MapsMade
 mod NotRefused
 mod Onward
 mod Parts

@@ -1,13 +1,15 @@
 -- No call of a schedule is refused.
 use Rattle.std.proofs.Common.{◌≡◌, ◌≢◌, ◌⊎◌, ℕ, suc, zero, ◌+◌, ◌*◌, ◌≤◌, ◌<◌, List, [], ◌∷◌, ◌++◌, length, Bool, true, false, refl, ap, sym, ◌∙◌, subst, inl, inr, arith}
-use Rattle.std.specs.Prelude.{◌%◌, ◌==◌, Option, Some, None, MatchOption, nat_le, nat_lt, if◌then◌else◌}
+use Rattle.std.specs.Prelude.{◌%◌, ◌&&◌, ◌==◌, Option, Some, None, MatchOption, nat_le, nat_lt, if◌then◌else◌}
 use Rattle.std.specs.Str.{bytes_eq}
 use Rattle.std.proofs.lemmas.Bool.{and_from, cases_lt, le-leb, le-ltb, lt-leb, lt-ltb}
 use Rattle.std.proofs.lemmas.Slice.Eq.{bytes_eq-Decides}
-use Rattle.tw_answers.specs.Limits.{append_refusal, archive_refusal, bytes_of, clock_refusal, first_long, full_refusal, length_refusal, limits_refusal, or_else, thread_refusal}
+use Rattle.tw_answers.specs.Limits.{append_refusal, archive_refusal, bytes_of, clock_refusal, first_long, full_refusal, length_refusal, limits_refusal, link_refusal, or_else, order_refusal, thread_refusal, top_refusal}
 use Rattle.tw_answers.specs.declared.refusal.Refusal.{Refusal}
 use Rattle.tw_answers.specs.declared.refusal.Refusal.TheVariants.{Full, NoStep, TooLong, TooMany}
 use Rattle.tw_archive.specs.Judging.{kept_auth, last_of, last_step as step_of}
+use Rattle.tw_base.specs.declared.history.question.Question.{Question}
+use Rattle.tw_base.specs.declared.history.question.Question.TheVariants as ask
 use Rattle.tw_base.specs.declared.history.thread.Entry.{Entry}
 use Rattle.tw_base.specs.declared.history.thread.Thread.{Thread}
 use Rattle.tw_base.specs.declared.kinds.limits.TheConstants.{LAST_STEP, MOST_EVENTS, MOST_EVENT_BYTES, MOST_STEP_BYTES}
@@ -23,9 +25,11 @@ use Rattle.tw_msg.specs.HistoryMessages.{IsMessageOf, thread_at_step}
 use Rattle.tw_msg.specs.declared.message.Message.{Message}
 use Rattle.tw_service.specs.EventSteps.{with_events}
 use Rattle.tw_service.specs.Machine.{RepliesTo, append_table, received_as}
-use Rattle.tw_service.specs.Machine.Call.{Append, Receive, TellThread}
+use Rattle.tw_service.specs.Machine.Call.{Append, Ask, Receive}
 use Rattle.tw_service.specs.Machine.Reply.{Refused}
+use Rattle.tw_service.specs.Questions.{AreInOrder, history_refusal, pages_refusal, question_refusal}
 use Rattle.tw_service.specs.Stands.{greatest_time}
+use Rattle.tw_service.specs.Tops.{top_of}
 use Rattle.tw_service.specs.declared.receiving.Reception.{Reception}
 use Rattle.tw_service.specs.declared.receiving.Reception.TheVariants.{Archive, Known}
 use Rattle.tw_generate.specs.Coming.{AllCanBeDone, CanBeDone, IsNotRefused}
@@ -69,12 +73,30 @@ may-archive : (n : ℕ) (clock : Option ℕ) → n < LAST_STEP → archive_refus
 unfolding archive_refusal
 may-archive n clock room = ap (λ o. or_else o (clock_refusal clock None)) (not-full n room) ∙ no-clock clock
 
-may-tell : (n since : ℕ) → 0 < n → since ≤ n → thread_refusal false n since ≡ None
-unfolding thread_refusal
-may-tell n since some order = ap (λ b. if b then None else Some (NoStep n)) (and_from (nat_lt 0 n) (nat_le since n) (lt-ltb 0 n some) (le-leb since n order))
+-- steps in order are refused by no table of a question
+passes : (a b : Bool) (n : ℕ) → a ≡ true → b ≡ true → (if a && b then None else Some (NoStep n)) ≡ None
+passes a b n one other = ap (λ c. if c then None else Some (NoStep n)) (and_from a b one other)
+
+steps-pass : (n step top : ℕ) → (1 ≤ step) × (step ≤ top) × (top ≤ n) → order_refusal false n step top ≡ None
+unfolding order_refusal
+steps-pass n step top order =
+    passes (nat_le 1 step && nat_le step top) (nat_le top n) n (and_from (nat_le 1 step) (nat_le step top) (le-leb 1 step order.0) (le-leb step top order.1)) (le-leb top n order.2)
+
+in-order : (n : ℕ) (q : Question) → AreInOrder n q → question_refusal false n q ≡ None
+unfolding question_refusal link_refusal thread_refusal top_refusal
+in-order n (ask.Link step top) order =
+    passes (nat_le step (top_of top n)) (nat_le 1 (top_of top n) && nat_le (top_of top n) n) n (le-leb step (top_of top n) order.1)
+    (and_from (nat_le 1 (top_of top n)) (nat_le (top_of top n) n) (le-leb 1 (top_of top n) order.0) (le-leb (top_of top n) n order.2))
+in-order n (ask.High step peer top) order = passes (nat_le 1 (top_of top n)) (nat_le (top_of top n) n) n (le-leb 1 (top_of top n) order.0) (le-leb (top_of top n) n order.1)
+in-order n (ask.ThreadOut since) order = passes (nat_lt 0 n) (nat_le since n) n (lt-ltb 0 n (omega (arith, order.0))) (le-leb since n order.1)
+in-order n ask.Export order = refl
+in-order n (ask.Event step index top) order = steps-pass n step (top_of top n) order
+in-order n (ask.Thread step key top) order = steps-pass n step (top_of top n) order
+in-order n (ask.Absent step key top) order = steps-pass n step (top_of top n) order
+in-order n (ask.Low step peer top) order = steps-pass n step (top_of top n) order
 
 -- where the table has no refusal none is answered
-pub by-table : (P : Type 0) (Q : Refusal → Type 0) (o : Option Refusal) → o ≡ None → (P → ⊥) → MatchOption o P Q → ⊥
+by-table : (P : Type 0) (Q : Refusal → Type 0) (o : Option Refusal) → o ≡ None → (P → ⊥) → MatchOption o P Q → ⊥
 by-table P Q None is never made = never made
 by-table P Q (Some r) is never made = cc
 
@@ -104,9 +126,10 @@ module _ (dig : List ℕ → List ℕ) where
   append-goes h events room may refusal next step =
       by-table _ _ (append_table h events None) (may-append (last h) (greatest_time h) events room may) (λ made. let bad = made.1 in cc) step
 
-  tell-goes : (h : History) (since : ℕ) → 0 < last h → since ≤ last h → IsNotRefused dig h (TellThread since)
-  tell-goes h since some order refusal next step =
-      by-table _ _ (thread_refusal false (last h) since) (may-tell (last h) since some order) (λ made. let bad = made.2 in cc) step.1
+  -- a question whose steps are in order is answered, where pages refuse nothing
+  pub question-goes : (h : History) (q : Question) → AreInOrder (last h) q → pages_refusal h q ≡ None → IsNotRefused dig h (Ask q)
+  question-goes h q order none refusal next step =
+      by-table _ _ (history_refusal h q) (ap (λ o. or_else o (pages_refusal h q)) (in-order (last h) q order) ∙ none) (λ made. let bad = made.2 in cc) step.1
 
   genesis : (h : History) → auth dig h 0 ≡ dig (genesis_text h.name)
   unfolding auth auths
@@ -186,7 +209,8 @@ module _ (dig : List ℕ → List ℕ) where
           ]
 
       tells-go : last b < LAST_STEP → CanBeDone dig (Tells from to) t
-      tells-go room = (tell-goes a (last_heard b a.name) (some from) order, λ m is. receive-goes m is room)
+      unfolding pages_refusal
+      tells-go room = (question-goes a (ask.ThreadOut (last_heard b a.name)) (some from, order) refl, λ m is. receive-goes m is room)
 
     -- ---- all acts
 

@@ -15,7 +15,7 @@ use Rattle.tw_base.proofs.lemmas.history.Plus.{auth-plus, entry_at-plus, receive
 
 -- ---- one more step
 
-abbrev entry_of : ℕ → Option Thread → Option Entry
+abbrev pub entry_of : ℕ → Option Thread → Option Entry
 entry_of i o = option_and_then (λ (t : Thread). Some (record { thread = t; archived = i })) o
 
 pub of-thread : (i : ℕ) (o : Option Thread) (e : Entry) → entry_of i o ≡ Some e → o ≡ Some e.thread

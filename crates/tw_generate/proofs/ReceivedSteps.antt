@@ -1,6 +1,6 @@
 -- What the steps of a table received.
-use Rattle.std.proofs.Common.{◌≡◌, ℕ, suc, zero, ◌+◌, ◌-◌, ◌<◌, ◌≤◌, List, [], ◌∷◌, ◌++◌, length, get_or, refl, ap, sym, ◌∙◌, subst, add-one, arith}
-use Rattle.std.specs.Prelude.{Option, Some, None, find, option_and_then}
+use Rattle.std.proofs.Common.{◌≡◌, ℕ, suc, zero, ◌+◌, ◌-◌, ◌<◌, ◌≤◌, List, [], ◌++◌, length, get_or, refl, ap, sym, ◌∙◌, subst, add-one, arith}
+use Rattle.std.specs.Prelude.{Option, Some, None, option_and_then}
 use Rattle.std.specs.Option.{option_or, option_to_list}
 use Rattle.std.proofs.lemmas.List.{length-append}
 use Rattle.std.proofs.lemmas.List.Folds.{find-append}
@@ -13,6 +13,7 @@ use Rattle.tw_history.specs.declared.step.Node.{Node}
 use Rattle.tw_history.specs.declared.step.Step.{Step}
 use Rattle.tw_history.proofs.TableSteps.{thread_at-table}
 use Rattle.tw_tmap.specs.Bounds.{first_from}
+use Rattle.tw_generate.proofs.FirstEntries.{first-stays as stays}
 
 -- the entry of the thread that a step of a table received
 abbrev pub entry_in : Step → ℕ → Option Entry
@@ -35,27 +36,19 @@ module _ (h : History) (steps : List Step) (nodes : List Node) (is : h.steps ≡
   pub count-step : (i : ℕ) (d : Step) → i < length steps → length (received h (i + 1)) ≡ length (received h i) + length (option_to_list (entry_in (get_or steps i d) (i + 1)))
   count-step i d inside = ap length (received-step i d inside) ∙ length-append (received h i) _
 
-module _ (h : History) (from : List ℕ) (least : ℕ) where
-  or-none : (one other : Option Entry) → one ≡ None → option_or one other ≡ other
-  or-none one other none = rw none
-
-  or-some : (one other : Option Entry) (e : Entry) → one ≡ Some e → option_or one other ≡ Some e
-  or-some one other e some = rw some
-
-  -- where there was none before, the first one is what the next step has
-  pub first-step : (i : ℕ) (o : Option Entry) → received h (i + 1) ≡ received h i ++ option_to_list o → first_from from least (received h i) ≡ None
+  -- where there was no entry of the service before, the first one is what the next step has
+  pub first-step : (from : List ℕ) (least i : ℕ) (s : Step) (o : Option Entry) → i < length steps → s ≡ get_or steps i s → o ≡ entry_in s (i + 1) → first_from from least (received h i) ≡ None
       → first_from from least (received h (i + 1)) ≡ first_from from least (option_to_list o)
-  first-step i o more none =
-      ap (first_from from least) more ∙ find-append _ (received h i) (option_to_list o) ∙ or-none _ _ none
+  first-step from least i s o inside at has none =
+      ap (first_from from least) (received-step i s inside ∙ ap (λ (x : Step). received h i ++ option_to_list (entry_in x (i + 1))) (sym at) ∙ ap (λ (x : Option Entry). received h i ++ option_to_list x) (sym has))
+      ∙ find-append _ (received h i) (option_to_list o) ∙ ap (λ (x : Option Entry). option_or x (first_from from least (option_to_list o))) none
 
+module _ (h : History) (from : List ℕ) (least : ℕ) where
   first-later : (e : Entry) (i d : ℕ) → first_from from least (received h i) ≡ Some e → first_from from least (received h (d + i)) ≡ Some e
   first-later e i zero is = subst (λ n. first_from from least (received h n) ≡ Some e) (omega arith) is
   first-later e i (suc d) is =
       let next : suc d + i ≡ d + i + 1 = omega arith in
-      ap (λ n. first_from from least (received h n)) next
-      ∙ ap (first_from from least) (received-more h (d + i))
-      ∙ find-append _ (received h (d + i)) _
-      ∙ or-some _ _ e (first-later e i d is)
+      ap (λ n. first_from from least (received h n)) next ∙ ap (first_from from least) (received-more h (d + i)) ∙ stays from least (received h (d + i)) _ e (first-later e i d is)
 
   -- and it stays the first one
   pub first-stays : (e : Entry) (i n : ℕ) → i ≤ n → first_from from least (received h i) ≡ Some e → first_from from least (received h n) ≡ Some e

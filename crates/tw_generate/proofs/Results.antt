@@ -1,9 +1,8 @@
 -- What holds of an answer, where another thing did.
-use Rattle.std.proofs.Common.{◌≡◌, ℕ, List, [], ◌∷◌, Bool, true, false, refl, ap, sym, subst}
-use Rattle.std.specs.Prelude.{Result, Ok, Err, IfOk, MatchBool, nat_lt}
+use Rattle.std.proofs.Common.{◌≡◌, ℕ, List, [], ◌∷◌, Bool, true, false, sym, subst}
+use Rattle.std.specs.Prelude.{Result, Ok, Err, IfOk, MatchBool}
 use Rattle.tw_base.specs.history.History.{History}
 use Rattle.tw_disk.specs.Disk.{DiskView, IsAtRest}
-use Rattle.tw_disk.specs.Image.{Image}
 use Rattle.tw_service.specs.Serves.{Serves, name_of}
 use Rattle.tw_service.specs.Stands.{StandsFor}
 use Rattle.tw_service.specs.declared.service.Service.{Service}

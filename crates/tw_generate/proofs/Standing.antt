@@ -1,8 +1,7 @@
 -- What holds of three histories wherever acts lead: they are sound, short, and each thread that one of them received is one of theirs.
-use Rattle.std.proofs.Common.{◌≡◌, ℕ, suc, ◌≤◌, List, [], ◌∷◌, length, Bool, true, false, refl, ap, ◌∙◌, arith}
+use Rattle.std.proofs.Common.{◌≡◌, ℕ, suc, ◌≤◌, List, [], ◌∷◌, length, Bool, false, refl, ap, ◌∙◌, arith}
 use Rattle.std.specs.Prelude.{Option, Some, if◌then◌else◌}
 use Rattle.std.specs.Str.{bytes_eq}
-use Rattle.std.proofs.lemmas.Slice.Eq.{bytes_eq-Decides}
 use Rattle.tw_base.specs.declared.history.thread.Entry.{Entry}
 use Rattle.tw_base.specs.history.Auth.{auth}
 use Rattle.tw_base.specs.history.Family.{AllSound, HasHistory, HasThread, history_of}
@@ -12,6 +11,7 @@ use Rattle.tw_base.specs.kinds.Lists.{Each}
 use Rattle.tw_generate.specs.Schedules.{Trio, Who, alpha_name, beta_name, gamma_name, history_of as of_who, with_history}
 use Rattle.tw_generate.specs.Schedules.Who.{Alpha, Beta, Gamma}
 use Rattle.tw_generate.specs.Summing.{family}
+use Rattle.tw_generate.proofs.HeardSteps.{same-name}
 use Rattle.tw_generate.proofs.Onward.{AllGoOn, GoesOn, on-same, thread-on}
 
 -- ---- their names
@@ -20,9 +20,6 @@ pub record AreNamed (t : Trio) : Type 0 where
   pub alpha : t.alpha.name ≡ alpha_name
   pub beta : t.beta.name ≡ beta_name
   pub gamma : t.gamma.name ≡ gamma_name
-
-same-name : (n : List ℕ) → bytes_eq n n ≡ true
-same-name n = (bytes_eq-Decides n n).1 refl
 
 abbrev first_of : (a : History) (family : List History) (n : List ℕ) → Bool → Option History
 first_of a family n b = if b then Some a else history_of family n

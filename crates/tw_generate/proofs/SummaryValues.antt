@@ -1,5 +1,5 @@
 -- What a summary's value has no part of.
-use Rattle.std.proofs.Common.{◌≡◌, Bool, false, refl}
+use Rattle.std.proofs.Common.{◌≡◌, false, refl}
 use Rattle.std.specs.Prelude.{ℕ, Option, Some, None}
 use Rattle.serde_json.specs.Written.{has_float}
 use Rattle.tw_generate.specs.Line.{summary}

@@ -4,11 +4,12 @@ use Rattle.tw_answers.specs.declared.refusal.Refusal.{Refusal}
 use Rattle.tw_audit.specs.declared.finding.AuditFault.{AuditFault}
 use Rattle.tw_audit.specs.declared.finding.AuditFault.TheVariants.{NoMemory, NotHeld}
 use Rattle.tw_audit.specs.declared.finding.Finding.{Finding}
+use Rattle.tw_base.specs.declared.history.question.Question.TheVariants.{ThreadOut}
 use Rattle.tw_base.specs.history.History.{History}
 use Rattle.tw_msg.specs.HistoryMessages.{IsMessageOf}
 use Rattle.tw_msg.specs.declared.message.Message.{Message}
 use Rattle.tw_service.specs.Machine.{Call, IsStepOf}
-use Rattle.tw_service.specs.Machine.Call.{Append, Receive, TellThread}
+use Rattle.tw_service.specs.Machine.Call.{Append, Ask, Receive}
 use Rattle.tw_service.specs.Machine.Reply.{Refused}
 use Rattle.tw_generate.specs.Schedules.{Act, IsDone, LeadTo, Trio, history_of, last_heard, no_steps, schedule}
 use Rattle.tw_generate.specs.Schedules.Act.{Appends, Tells}
@@ -37,7 +38,7 @@ module _ (dig : List ℕ → List ℕ) where
   CanBeDone (Appends who events) t = IsNotRefused (history_of who t) (Append events None)
   CanBeDone (Tells from to) t =
       let since : ℕ = last_heard (history_of to t) (history_of from t).name in
-      IsNotRefused (history_of from t) (TellThread since) × ((m : Message) → IsMessageOf dig (history_of from t) since m → IsNotRefused (history_of to t) (Receive m None))
+      IsNotRefused (history_of from t) (Ask (ThreadOut since)) × ((m : Message) → IsMessageOf dig (history_of from t) since m → IsNotRefused (history_of to t) (Receive m None))
 
   -- no call of the acts is, wherever those before it led
   unfoldable pub AllCanBeDone : List Act → Trio → Type 0

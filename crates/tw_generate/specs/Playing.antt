@@ -1,5 +1,5 @@
 -- Services that play histories of a schedule.
-use Rattle.std.specs.Prelude.{◌≡◌, ℕ, List, Bool, false}
+use Rattle.std.specs.Prelude.{◌≡◌, ℕ, List, false}
 use Rattle.std.specs.Str.{bytes_eq}
 use Rattle.tw_base.specs.history.History.{History}
 use Rattle.tw_disk.specs.Disk.{DiskView}

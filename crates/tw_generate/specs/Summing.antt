@@ -3,6 +3,8 @@ use Rattle.std.specs.Prelude.{◌≡◌, ℕ, ◌+◌, ◌-◌, List, [], ◌∷
 use Rattle.tw_audit.specs.Auditing.{IsAudit}
 use Rattle.tw_audit.specs.declared.finding.Finding.{Finding}
 use Rattle.tw_audit.specs.declared.finding.Finding.TheVariants.{Stands, Clash, NotAccepted}
+use Rattle.tw_base.specs.declared.history.question.Question.{Question}
+use Rattle.tw_base.specs.declared.history.question.Question.TheVariants as ask
 use Rattle.tw_base.specs.declared.history.report.Report.{Report}
 use Rattle.tw_base.specs.declared.history.thread.Entry.{Entry}
 use Rattle.tw_base.specs.declared.history.thread.Thread.{Thread}
@@ -14,9 +16,9 @@ use Rattle.tw_chain.specs.Reasons.{IsVerdict}
 use Rattle.tw_chain.specs.declared.proof.Proof.{Proof}
 use Rattle.tw_chain.specs.declared.verdict.Verdict.TheVariants.{Yes}
 use Rattle.tw_join.specs.Joining.{Joins}
-use Rattle.tw_service.specs.Machine.{Call, IsStepOf, last_thread}
-use Rattle.tw_service.specs.Machine.Call.{ProveEvent, ProveHigh, ProveLink, ProveLow, ProveThread}
-use Rattle.tw_service.specs.Machine.Reply.{OfFile, OfProof}
+use Rattle.tw_service.specs.Machine.{IsStepOf, last_thread}
+use Rattle.tw_service.specs.Machine.Call.{Ask}
+use Rattle.tw_service.specs.Machine.Reply.{OfBytes}
 use Rattle.tw_tmap.specs.Bounds.{first_from}
 use Rattle.tw_tmap.specs.Checking.{map_verdict}
 use Rattle.tw_tmap.specs.MapFiles.{high_layout, low_layout}
@@ -35,9 +37,15 @@ received_by h = received h (last h)
 abbrev pub family : Trio → List History
 family t = t.alpha ∷ t.beta ∷ t.gamma ∷ []
 
--- the proof of the first event of gamma's last step
-abbrev pub last_event : Trio → Call
-last_event t = ProveEvent (last t.gamma) 0 (last t.gamma)
+-- the question for the first event of gamma's last step, and those for the map of alpha's last step against gamma
+abbrev pub last_event : Trio → Question
+last_event t = ask.Event (last t.gamma) 0 (Some (last t.gamma))
+
+abbrev pub low_side : Trio → Question
+low_side t = ask.Low (last t.alpha) t.gamma.name (Some (last t.alpha))
+
+abbrev pub high_side : Trio → Question
+high_side t = ask.High (last t.alpha) t.alpha.name (Some (last t.gamma))
 
 -- whether the audit tells that the proof stands; else that texts clash
 abbrev pub TellsStands : Finding → Bool → Type 0
@@ -53,12 +61,13 @@ module _ (dig : List ℕ → List ℕ) where
   abbrev pub heads : Trio → List Thread
   heads t = last_thread dig t.alpha ∷ last_thread dig t.beta ∷ last_thread dig t.gamma ∷ []
 
-  -- the history's own proof, by this call of its service
-  abbrev pub IsProof : History → Call → List ℕ → Type 0
-  IsProof h call bytes = IsStepOf dig h call (OfProof bytes) h
+  -- the bytes are the history's answer to the question
+  abbrev pub IsAnswered : History → Question → List ℕ → Type 0
+  IsAnswered h q bytes = IsStepOf dig h (Ask q) (OfBytes bytes) h
 
-  abbrev pub IsPart : History → Call → Proof → Type 0
-  IsPart h call part = (bytes : List ℕ) × IsProof h call bytes × Spells proof_layout bytes part
+  -- the proof is
+  abbrev pub IsPart : History → Question → Proof → Type 0
+  IsPart h q part = (bytes : List ℕ) × IsAnswered h q bytes × Spells proof_layout bytes part
 
   -- the parts of the proof that alpha's first event precedes gamma's last one, by a thread of alpha that beta received and one of beta
   -- that gamma received
@@ -66,15 +75,15 @@ module _ (dig : List ℕ → List ℕ) where
     pub second : Proof
     pub is_second : IsPart t.gamma (last_event t) second
     pub at_gamma : Proof
-    pub is_at_gamma : IsPart t.gamma (ProveThread (last t.gamma - 1) (key_of of_beta) (last t.gamma)) at_gamma
+    pub is_at_gamma : IsPart t.gamma (ask.Thread (last t.gamma - 1) (key_of of_beta) (Some (last t.gamma))) at_gamma
     pub in_beta : Proof
-    pub is_in_beta : IsPart t.beta (ProveLink of_beta.thread.step (last t.beta)) in_beta
+    pub is_in_beta : IsPart t.beta (ask.Link of_beta.thread.step (Some (last t.beta))) in_beta
     pub at_beta : Proof
-    pub is_at_beta : IsPart t.beta (ProveThread of_beta.thread.step (key_of of_alpha) (last t.beta)) at_beta
+    pub is_at_beta : IsPart t.beta (ask.Thread of_beta.thread.step (key_of of_alpha) (Some (last t.beta))) at_beta
     pub in_alpha : Proof
-    pub is_in_alpha : IsPart t.alpha (ProveLink of_alpha.thread.step (last t.alpha)) in_alpha
+    pub is_in_alpha : IsPart t.alpha (ask.Link of_alpha.thread.step (Some (last t.alpha))) in_alpha
     pub first : Proof
-    pub is_first : IsPart t.alpha (ProveEvent 1 0 of_alpha.thread.step) first
+    pub is_first : IsPart t.alpha (ask.Event 1 0 (Some of_alpha.thread.step)) first
     pub parts_are : parts ≡ second ∷ at_gamma ∷ in_beta ∷ at_beta ∷ in_alpha ∷ first ∷ []
 
   -- the proof that alpha's first event precedes gamma's last one, over beta's first thread of alpha and gamma's first thread of beta of
@@ -91,7 +100,7 @@ module _ (dig : List ℕ → List ℕ) where
   -- the proof that is claimed after so many rounds
   abbrev pub IsClaimed : Trio → (rounds : ℕ) → List ℕ → Type 0
   IsClaimed t rounds bytes =
-      MatchBool (nat_lt rounds 50) (IsProof t.gamma (last_event t) bytes) (IsPrecedence t bytes)
+      MatchBool (nat_lt rounds 50) (IsAnswered t.gamma (last_event t) bytes) (IsPrecedence t bytes)
 
   -- the bytes spell map files that tell these bounds under the anchors
   pub record IsFileMap (anchors : List Thread) (low_bytes high_bytes : List ℕ) (low : ℕ) (high : Option ℕ) : Type 0 where
@@ -105,9 +114,9 @@ module _ (dig : List ℕ → List ℕ) where
   -- the map of alpha's last step against gamma, under the heads
   pub record IsMap (t : Trio) (low : ℕ) (high : Option ℕ) : Type 0 where
     pub low_bytes : List ℕ
-    pub low_made : IsStepOf dig t.alpha (ProveLow (last t.alpha) t.gamma.name (last t.alpha)) (OfFile low_bytes) t.alpha
+    pub low_made : IsAnswered t.alpha (low_side t) low_bytes
     pub high_bytes : List ℕ
-    pub high_made : IsStepOf dig t.gamma (ProveHigh (last t.alpha) t.alpha.name (last t.gamma)) (OfFile high_bytes) t.gamma
+    pub high_made : IsAnswered t.gamma (high_side t) high_bytes
     pub files : IsFileMap (heads t) low_bytes high_bytes low high
 
   -- what is told of the histories after so many rounds, under the heads: by the strict verdict on the proof that is claimed, by the map,

@@ -1,22 +1,22 @@
 // The proof that is made of the services' histories.
 
-ghost use Rattle.std.specs.Prelude.{◌≡◌, ◌-◌, [], ◌∷◌, Some, IfOk};
+ghost use Rattle.std.specs.Prelude.{◌≡◌, ◌-◌, ◌++◌, [], ◌∷◌, Some, IfOk, OnOk};
+ghost use Rattle.tw_base.specs.declared.history.question.Question.TheVariants as ask;
 ghost use Rattle.tw_base.specs.format.Formats.{Spells};
 ghost use Rattle.tw_base.specs.history.Entries.{key_of};
 ghost use Rattle.tw_base.specs.history.History.{History as HistoryMeant};
 ghost use Rattle.tw_chain.specs.Proofs.{proof_layout};
-ghost use Rattle.tw_service.specs.Machine.Call.{ProveEvent, ProveLink, ProveThread};
+ghost use Rattle.tw_chain.specs.declared.proof.Proof.{Proof as ProofMeant};
 ghost use Rattle.tw_tmap.specs.Bounds.{first_from};
 ghost use Rattle.tw_generate.specs.Playing.{AllPlay, Plays};
 ghost use Rattle.tw_generate.specs.Schedules.{Trio};
-ghost use Rattle.tw_generate.specs.Summing.{AreParts, IsClaimed, IsJoined, IsPart, IsPrecedence, IsProof, last_event, received_by};
+ghost use Rattle.tw_generate.specs.Summing.{AreParts, IsAnswered, IsClaimed, IsJoined, IsPart, IsPrecedence, last_event, received_by};
 
 use crate::received::first_entry;
 use crate::services::{ROUNDS_BETWEEN, Services};
-use crate::telling::given;
+use crate::telling::answered;
 use std::alloc::Global;
-use tw_base::limits::LAST_STEP;
-use tw_base::{Bytes, Entry, Hasher, Name, NoMemory, Sequence, entry_key};
+use tw_base::{Bytes, Entry, Hasher, Name, NoMemory, Question, Sequence, entry_key};
 use tw_chain::{Proof, read_proof, write_proof};
 use tw_disk::Disk;
 use tw_history::History;
@@ -50,63 +50,51 @@ fn step_before(step: u64) -> u64
     step.saturating_sub(1)
 }
 
-/// The bytes of the proof of the first event of a step, under that top.
-fn event_bytes<D: Disk, H: Hasher>(
-    service: &mut Service<D, H>,
-    step: u64,
-    top: u64,
-) -> Result<Bytes, NoMemory>
-    ensures { (h : HistoryMeant) → Plays H.dig D.view service.old h
-        → IfOk result (λ bytes. Plays H.dig D.view service.new h × IsProof H.dig h (ProveEvent step 0 top) bytes) }
+/// The question for the first event of a step, under that top.
+fn event(step: u64, top: u64) -> Question
+    ensures { result ≡ ask.Event step 0 (Some top) }
 {
-    given(service.prove_event(step, 0, top))
-}
-
-/// The proof of the first event of a step, under that top.
-fn event_part<D: Disk, H: Hasher>(
-    alloc: Global,
-    service: &mut Service<D, H>,
-    step: u64,
-    top: u64,
-) -> Result<Proof, NoMemory>
-    ensures { (h : HistoryMeant) → Plays H.dig D.view service.old h
-        → IfOk result (λ part. Plays H.dig D.view service.new h × IsPart H.dig h (ProveEvent step 0 top) part) }
-{
-    let bytes = event_bytes(service, step, top)?;
-    proof_of(alloc, &bytes)
-}
-
-/// The proof of an entry in the archive of a step, under that top.
-fn thread_part<D: Disk, H: Hasher>(
-    alloc: Global,
-    service: &mut Service<D, H>,
-    step: u64,
-    entry: &Entry,
-    top: u64,
-) -> Result<Proof, NoMemory>
-    ensures { (h : HistoryMeant) → Plays H.dig D.view service.old h
-        → IfOk result (λ part. Plays H.dig D.view service.new h × IsPart H.dig h (ProveThread step (key_of entry.now) top) part) }
-{
-    let key = entry_key(entry);
-    if key.step == 0 || key.step > LAST_STEP {
-        return Err(NoMemory);
+    Question::Event {
+        step,
+        index: 0,
+        top: Some(top),
     }
-    let bytes = given(service.prove_thread(step, &key, top))?;
-    proof_of(alloc, &bytes)
 }
 
-/// The proof of the authenticator of a step, under that top.
-fn link_part<D: Disk, H: Hasher>(
-    alloc: Global,
-    service: &mut Service<D, H>,
-    step: u64,
-    top: u64,
-) -> Result<Proof, NoMemory>
-    ensures { (h : HistoryMeant) → Plays H.dig D.view service.old h
-        → IfOk result (λ part. Plays H.dig D.view service.new h × IsPart H.dig h (ProveLink step top) part) }
+/// The question for an entry in the archive of a step, under that top.
+fn thread(step: u64, entry: &Entry, top: u64) -> Question
+    ensures { result ≡ ask.Thread step (key_of entry.now) (Some top) }
 {
-    let bytes = given(service.prove_link(step, top))?;
-    proof_of(alloc, &bytes)
+    Question::Thread {
+        step,
+        key: entry_key(entry),
+        top: Some(top),
+    }
+}
+
+/// The question for the authenticator of a step, under that top.
+fn link(step: u64, top: u64) -> Question
+    ensures { result ≡ ask.Link step (Some top) }
+{
+    Question::Link {
+        step,
+        top: Some(top),
+    }
+}
+
+/// Adds the proof that answers a question.
+fn add_part<D: Disk, H: Hasher>(
+    alloc: Global,
+    parts: &mut Sequence<Proof>,
+    service: &mut Service<D, H>,
+    question: Question,
+) -> Result<(), NoMemory>
+    ensures { (h : HistoryMeant) → Plays H.dig D.view service.old h → OnOk result (Plays H.dig D.view service.new h
+        × ((part : ProofMeant) × IsPart H.dig h question part × (parts.new ≡ parts.old ++ part ∷ []))) }
+{
+    let bytes = answered(service, &question)?;
+    parts.push(proof_of(alloc, &bytes)?)?;
+    Ok(())
 }
 
 /// The parts of the proof that alpha's first event precedes gamma's last one, by these threads.
@@ -119,40 +107,22 @@ fn parts<D: Disk, H: Hasher>(
     ensures { (t : Trio) → AllPlay H.dig D.view services.old t
         → IfOk result (λ parts. AllPlay H.dig D.view services.new t × AreParts H.dig t of_alpha.now of_beta.now parts) }
 {
-    let last_alpha = services.alpha.steps();
-    let last_beta = services.beta.steps();
-    let last_gamma = services.gamma.steps();
+    let alpha = &mut services.alpha;
+    let beta = &mut services.beta;
+    let gamma = &mut services.gamma;
+    let top = alpha.steps();
+    let last = beta.steps();
+    let end = gamma.steps();
+    let before = step_before(end);
     let between = of_beta.thread.step;
-    let second = event_part(alloc, &mut services.gamma, last_gamma, last_gamma)?;
-    let before = step_before(last_gamma);
-    let at_gamma = thread_part(alloc, &mut services.gamma, before, of_beta, last_gamma)?;
-    let in_beta = link_part(alloc, &mut services.beta, between, last_beta)?;
-    let at_beta = thread_part(alloc, &mut services.beta, between, of_alpha, last_beta)?;
     let under = of_alpha.thread.step;
-    let in_alpha = link_part(alloc, &mut services.alpha, under, last_alpha)?;
-    let first = event_part(alloc, &mut services.alpha, 1, under)?;
-    list_of(alloc, second, at_gamma, in_beta, at_beta, in_alpha, first)
-}
-
-/// The list of these parts.
-fn list_of(
-    alloc: Global,
-    second: Proof,
-    at_gamma: Proof,
-    in_beta: Proof,
-    at_beta: Proof,
-    in_alpha: Proof,
-    first: Proof,
-) -> Result<Sequence<Proof>, NoMemory>
-    ensures { IfOk result (λ parts. parts ≡ second ∷ at_gamma ∷ in_beta ∷ at_beta ∷ in_alpha ∷ first ∷ []) }
-{
     let mut parts = Sequence::new(alloc);
-    parts.push(second)?;
-    parts.push(at_gamma)?;
-    parts.push(in_beta)?;
-    parts.push(at_beta)?;
-    parts.push(in_alpha)?;
-    parts.push(first)?;
+    add_part(alloc, &mut parts, gamma, event(end, end))?;
+    add_part(alloc, &mut parts, gamma, thread(before, of_beta, end))?;
+    add_part(alloc, &mut parts, beta, link(between, last))?;
+    add_part(alloc, &mut parts, beta, thread(between, of_alpha, last))?;
+    add_part(alloc, &mut parts, alpha, link(under, top))?;
+    add_part(alloc, &mut parts, alpha, event(1, under))?;
     Ok(parts)
 }
 
@@ -187,10 +157,10 @@ fn precedence<D: Disk, H: Hasher>(
 /// The proof of the first event of gamma's last step.
 fn existence<D: Disk, H: Hasher>(services: &mut Services<D, H>) -> Result<Bytes, NoMemory>
     ensures { (t : Trio) → AllPlay H.dig D.view services.old t
-        → IfOk result (λ bytes. AllPlay H.dig D.view services.new t × IsProof H.dig t.gamma (last_event t) bytes) }
+        → IfOk result (λ bytes. AllPlay H.dig D.view services.new t × IsAnswered H.dig t.gamma (last_event t) bytes) }
 {
     let last = services.gamma.steps();
-    event_bytes(&mut services.gamma, last, last)
+    answered(&mut services.gamma, &event(last, last))
 }
 
 /// The proof that is claimed after so many rounds.

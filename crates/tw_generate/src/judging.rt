@@ -9,19 +9,15 @@ ghost use Rattle.tw_base.specs.history.History.{History as HistoryMeant};
 ghost use Rattle.tw_chain.specs.Reasons.{IsVerdict};
 ghost use Rattle.tw_chain.specs.declared.verdict.Verdict.TheVariants.{Yes as Accepted};
 ghost use Rattle.tw_history.specs.Refusals.{ReadsHistory};
-ghost use Rattle.tw_service.specs.Machine.{IsStepOf};
-ghost use Rattle.tw_service.specs.Machine.Call.{ProveHigh, ProveLow};
-ghost use Rattle.tw_service.specs.Machine.Reply.{OfFile};
 ghost use Rattle.tw_generate.specs.Playing.{AllPlay, Plays};
 ghost use Rattle.tw_generate.specs.Schedules.{Trio};
 ghost use Rattle.tw_generate.specs.Summing.{IsFileMap, IsMap, TellsStands, heads as heads_of};
 
 use crate::services::Services;
-use crate::telling::given;
+use crate::telling::answered;
 use std::alloc::Global;
 use tw_audit::{Finding, audit};
-use tw_base::limits::LAST_STEP;
-use tw_base::{Bytes, Hasher, Name, NoMemory, Sequence, Threads};
+use tw_base::{Bytes, Hasher, NoMemory, Question, Sequence, Threads};
 use tw_chain::Verdict;
 use tw_disk::Disk;
 use tw_history::{History, HistoryFault, history_laws, read_history};
@@ -79,34 +75,6 @@ pub(crate) fn judge<H: Hasher>(
     }
 }
 
-/// The low map file of a step.
-fn low_file<D: Disk, H: Hasher>(
-    service: &mut Service<D, H>,
-    step: u64,
-    peer: Name,
-) -> Result<Bytes, NoMemory>
-    ensures { (h : HistoryMeant) → Plays H.dig D.view service.old h
-        → IfOk result (λ bytes. Plays H.dig D.view service.new h × IsStepOf H.dig h (ProveLow step peer step) (OfFile bytes) h) }
-{
-    given(service.prove_low(step, peer, step))
-}
-
-/// The high map file of a step of the peer, under that top.
-fn high_file<D: Disk, H: Hasher>(
-    service: &mut Service<D, H>,
-    step: u64,
-    peer: Name,
-    top: u64,
-) -> Result<Bytes, NoMemory>
-    ensures { (h : HistoryMeant) → Plays H.dig D.view service.old h
-        → IfOk result (λ bytes. Plays H.dig D.view service.new h × IsStepOf H.dig h (ProveHigh step peer top) (OfFile bytes) h) }
-{
-    if step == 0 || step > LAST_STEP {
-        return Err(NoMemory);
-    }
-    given(service.prove_high(step, peer, top))
-}
-
 /// What map files tell under the heads.
 fn checked<H: Hasher>(
     alloc: Global,
@@ -141,8 +109,22 @@ pub(crate) fn map<D: Disk, H: Hasher>(
     let top = services.gamma.steps();
     let alpha = services.alpha.name();
     let gamma = services.gamma.name();
-    let low = low_file(&mut services.alpha, step, gamma)?;
-    let high = high_file(&mut services.gamma, step, alpha, top)?;
+    let low = answered(
+        &mut services.alpha,
+        &Question::Low {
+            step,
+            peer: gamma,
+            top: Some(step),
+        },
+    )?;
+    let high = answered(
+        &mut services.gamma,
+        &Question::High {
+            step,
+            peer: alpha,
+            top: Some(top),
+        },
+    )?;
     checked::<H>(alloc, &low, &high, heads)
 }
 
@@ -172,7 +154,7 @@ pub(crate) fn exported<D: Disk, H: Hasher>(
     ensures { (h : HistoryMeant) → Plays H.dig D.view service.old h
         → IfOk result (λ history. Plays H.dig D.view service.new h × (history ≡ h)) }
 {
-    let bytes = given(service.export())?;
+    let bytes = answered(service, &Question::Export)?;
     history_of(alloc, &bytes)
 }
 

@@ -4,6 +4,7 @@ ghost use Rattle.std.specs.Prelude.{◌≡◌, ℕ, ◌≤◌, ◌-◌, List, Re
 ghost use Rattle.tw_audit.specs.Auditing.{IsAudit};
 ghost use Rattle.tw_audit.specs.declared.finding.AuditFault.{AuditFault};
 ghost use Rattle.tw_audit.specs.declared.finding.Finding.{Finding};
+ghost use Rattle.tw_base.specs.declared.history.question.Question.TheVariants as ask;
 ghost use Rattle.tw_base.specs.declared.history.report.Report.{Report};
 ghost use Rattle.tw_base.specs.declared.history.thread.Entry.{Entry};
 ghost use Rattle.tw_base.specs.history.Entries.{key_of};
@@ -15,13 +16,11 @@ ghost use Rattle.tw_chain.specs.declared.proof.Proof.{Proof};
 ghost use Rattle.tw_chain.specs.declared.verdict.Verdict.TheVariants.{Yes};
 ghost use Rattle.tw_join.specs.Joining.{joined};
 ghost use Rattle.tw_join.specs.Joining.Taken.{Nothing};
-ghost use Rattle.tw_service.specs.Machine.{IsStepOf};
-ghost use Rattle.tw_service.specs.Machine.Call.{ProveEvent, ProveHigh, ProveLink, ProveLow, ProveThread};
-ghost use Rattle.tw_service.specs.Machine.Reply.{OfFile};
+ghost use Rattle.tw_service.specs.Machine.Call.{Ask};
 ghost use Rattle.tw_tmap.specs.Bounds.{first_from, high_bound, low_bound};
 ghost use Rattle.tw_generate.specs.Coming.{AllCanBeDone, IsAuditTold, IsLedTo, IsNotRefused};
 ghost use Rattle.tw_generate.specs.Schedules.{Trio, Who, history_of as of_who, no_steps, schedule};
-ghost use Rattle.tw_generate.specs.Summing.{AreParts, IsClaimed, IsFileMap, family, heads, last, last_event, received_by};
+ghost use Rattle.tw_generate.specs.Summing.{AreParts, IsAnswered, IsClaimed, IsFileMap, family, heads, high_side, last, last_event, low_side, received_by};
 
 use tw_archive::judgement_laws;
 use tw_audit::audit_laws;
@@ -44,14 +43,16 @@ pub fn generate_laws<H: Hasher>()
         (of_alpha : Entry) × (of_beta : Entry) × (first_from t.alpha.name 1 (received_by t.beta) ≡ Some of_alpha)
         × (first_from t.beta.name of_alpha.archived (received_by t.gamma) ≡ Some of_beta) }
     // No service refuses what is asked of it for the proof of the last event and for the map.
-    ensures asked { (number rounds : ℕ) (t : Trio) → IsLedTo H.dig number rounds t → IsNotRefused H.dig t.gamma (last_event t)
-        × IsNotRefused H.dig t.alpha (ProveLow (last t.alpha) t.gamma.name (last t.alpha)) × IsNotRefused H.dig t.gamma (ProveHigh (last t.alpha) t.alpha.name (last t.gamma)) }
+    ensures asked { (number rounds : ℕ) (t : Trio) → IsLedTo H.dig number rounds t → IsNotRefused H.dig t.gamma (Ask (last_event t))
+        × IsNotRefused H.dig t.alpha (Ask (low_side t)) × IsNotRefused H.dig t.gamma (Ask (high_side t)) }
     // Nor what is asked of it for the parts of the proof over these threads.
     ensures asked_parts { (number rounds : ℕ) (t : Trio) (of_alpha of_beta : Entry) → IsLedTo H.dig number rounds t →
         first_from t.alpha.name 1 (received_by t.beta) ≡ Some of_alpha → first_from t.beta.name of_alpha.archived (received_by t.gamma) ≡ Some of_beta →
-        IsNotRefused H.dig t.gamma (ProveThread (last t.gamma - 1) (key_of of_beta) (last t.gamma)) × IsNotRefused H.dig t.beta (ProveLink of_beta.thread.step (last t.beta))
-        × IsNotRefused H.dig t.beta (ProveThread of_beta.thread.step (key_of of_alpha) (last t.beta)) × IsNotRefused H.dig t.alpha (ProveLink of_alpha.thread.step (last t.alpha))
-        × IsNotRefused H.dig t.alpha (ProveEvent 1 0 of_alpha.thread.step) }
+        IsNotRefused H.dig t.gamma (Ask (ask.Thread (last t.gamma - 1) (key_of of_beta) (Some (last t.gamma))))
+        × IsNotRefused H.dig t.beta (Ask (ask.Link of_beta.thread.step (Some (last t.beta))))
+        × IsNotRefused H.dig t.beta (Ask (ask.Thread of_beta.thread.step (key_of of_alpha) (Some (last t.beta))))
+        × IsNotRefused H.dig t.alpha (Ask (ask.Link of_alpha.thread.step (Some (last t.alpha))))
+        × IsNotRefused H.dig t.alpha (Ask (ask.Event 1 0 (Some of_alpha.thread.step))) }
     // The parts that the services make of these threads join.
     ensures joined { (number rounds : ℕ) (t : Trio) (of_alpha of_beta : Entry) (parts : List Proof) → IsLedTo H.dig number rounds t →
         first_from t.alpha.name 1 (received_by t.beta) ≡ Some of_alpha → first_from t.beta.name of_alpha.archived (received_by t.gamma) ≡ Some of_beta →
@@ -61,8 +62,7 @@ pub fn generate_laws<H: Hasher>()
         (report : Report) × IsVerdict H.dig (heads H.dig t) true bytes (Yes report) }
     // The map files of alpha's last step against gamma are accepted under the heads, and tell the bounds of the histories.
     ensures mapped { (number rounds : ℕ) (t : Trio) (low_bytes high_bytes : List ℕ) → IsLedTo H.dig number rounds t →
-        IsStepOf H.dig t.alpha (ProveLow (last t.alpha) t.gamma.name (last t.alpha)) (OfFile low_bytes) t.alpha →
-        IsStepOf H.dig t.gamma (ProveHigh (last t.alpha) t.alpha.name (last t.gamma)) (OfFile high_bytes) t.gamma →
+        IsAnswered H.dig t.alpha (low_side t) low_bytes → IsAnswered H.dig t.gamma (high_side t) high_bytes →
         IsFileMap H.dig (heads H.dig t) low_bytes high_bytes (low_bound t.alpha (last t.alpha) t.gamma.name) (high_bound t.gamma t.alpha.name (last t.alpha) (last t.gamma)) }
     // An audit of the proof that is claimed against the histories tells that it stands or that texts clash, or there was no memory.
     ensures audited { (number rounds : ℕ) (t : Trio) (bytes : List ℕ) (result : Result Finding AuditFault) → IsLedTo H.dig number rounds t →

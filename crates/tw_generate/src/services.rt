@@ -93,7 +93,7 @@ impl<D: Disk, H: Hasher> Services<D, H> {
     }
 
     /// Each tells its last step to the two others.
-    fn exchange(&mut self, alloc: Global) -> Result<(), NoMemory>
+    fn exchange(&mut self) -> Result<(), NoMemory>
         ensures { OnOk result (Leads H.dig D.view all_tell self.old self.new) }
     {
         let Services {
@@ -102,21 +102,21 @@ impl<D: Disk, H: Hasher> Services<D, H> {
             gamma,
             heard,
         } = self;
-        tell(alloc, alpha, beta, &mut heard.beta_of_alpha)?;
-        tell(alloc, alpha, gamma, &mut heard.gamma_of_alpha)?;
-        tell(alloc, beta, alpha, &mut heard.alpha_of_beta)?;
-        tell(alloc, beta, gamma, &mut heard.gamma_of_beta)?;
-        tell(alloc, gamma, alpha, &mut heard.alpha_of_gamma)?;
-        tell(alloc, gamma, beta, &mut heard.beta_of_gamma)?;
+        tell(alpha, beta, &mut heard.beta_of_alpha)?;
+        tell(alpha, gamma, &mut heard.gamma_of_alpha)?;
+        tell(beta, alpha, &mut heard.alpha_of_beta)?;
+        tell(beta, gamma, &mut heard.gamma_of_beta)?;
+        tell(gamma, alpha, &mut heard.alpha_of_gamma)?;
+        tell(gamma, beta, &mut heard.beta_of_gamma)?;
         Ok(())
     }
 
     /// The messages of the round of this number.
-    fn exchange_in(&mut self, alloc: Global, number: u64) -> Result<(), NoMemory>
+    fn exchange_in(&mut self, number: u64) -> Result<(), NoMemory>
         ensures { OnOk result (Leads H.dig D.view (if number % 50 == 0 then all_tell else []) self.old self.new) }
     {
         if is_fiftieth(number) {
-            return self.exchange(alloc);
+            return self.exchange();
         }
         Ok(())
     }
@@ -130,7 +130,7 @@ impl<D: Disk, H: Hasher> Services<D, H> {
         let beta = draws.events(alloc)?;
         let gamma = draws.events(alloc)?;
         self.append_all(&alpha, &beta, &gamma)?;
-        self.exchange_in(alloc, number)
+        self.exchange_in(number)
     }
 
     /// So many rounds, whose events are drawn from this number on.

@@ -1,18 +1,21 @@
 // What services on disks do in a schedule.
 
-ghost use Rattle.std.specs.Prelude.{◌≡◌, Some, None, Ok, IfOk, OnOk, nat_lt, if◌then◌else◌};
+ghost use Rattle.std.specs.Prelude.{◌≡◌, Some, None, Ok, IfOk, OnOk, true, nat_lt, if◌then◌else◌};
 ghost use Rattle.tw_base.specs.history.History.{History};
+ghost use Rattle.tw_base.specs.history.Questions.{MayAsk};
 ghost use Rattle.tw_disk.specs.Image.{Image};
+ghost use Rattle.tw_service.specs.Answered.{IsAcceptedFor};
 ghost use Rattle.tw_service.specs.EventSteps.{with_events};
 ghost use Rattle.tw_service.specs.Stands.{no_history};
 ghost use Rattle.tw_generate.specs.Playing.{HasTold, Plays};
 ghost use Rattle.tw_generate.specs.Schedules.{last_heard};
+ghost use Rattle.tw_generate.specs.Summing.{IsAnswered};
 
 use std::alloc::Global;
 use tw_answers::Refusal;
-use tw_base::{EventList, Hasher, Name, NoMemory};
+use tw_base::limits::LAST_STEP;
+use tw_base::{Bytes, EventList, Hasher, Name, NoMemory, Question};
 use tw_disk::Disk;
-use tw_msg::{Message, history_message_laws, write_message};
 use tw_service::Service;
 
 /// The answer of a call that isn't refused.
@@ -23,6 +26,34 @@ pub(crate) fn given<T: Drop>(answer: Result<T, Refusal>) -> Result<T, NoMemory>
         Ok(value) => Ok(value),
         Err(_) => Err(NoMemory),
     }
+}
+
+/// Whether a question may be asked: a peer's step in it is one.
+fn may_ask(question: &Question) -> bool
+    ensures { result ≡ true → MayAsk question.now }
+{
+    match question {
+        Question::Thread { key, .. } | Question::Absent { key, .. } => {
+            0 < key.step && key.step <= LAST_STEP
+        }
+        Question::High { step, .. } => 0 < *step && *step <= LAST_STEP,
+        _ => true,
+    }
+}
+
+/// The answer to a question that isn't refused.
+pub(crate) fn answered<D: Disk, H: Hasher>(
+    service: &mut Service<D, H>,
+    question: &Question,
+) -> Result<Bytes, NoMemory>
+    ensures asked { (h : History) → Plays H.dig D.view service.old h
+        → IfOk result (λ bytes. Plays H.dig D.view service.new h × IsAnswered H.dig h question.now bytes) }
+    ensures accepted { (h : History) → Plays H.dig D.view service.old h → IfOk result (λ bytes. IsAcceptedFor H.dig h question.now bytes) }
+{
+    if !may_ask(question) {
+        return Err(NoMemory);
+    }
+    given(service.ask(question))
 }
 
 /// Makes a service of this name on a blank disk.
@@ -60,7 +91,6 @@ fn heard(before: u64, after: u64, last: u64, step: u64) -> u64
 /// Tells a service's last step to another one, whose last archived step of it is `last`, and is so
 /// afterwards.
 pub(crate) fn tell<D: Disk, H: Hasher>(
-    alloc: Global,
     from: &mut Service<D, H>,
     to: &mut Service<D, H>,
     last: &mut u64,
@@ -68,14 +98,7 @@ pub(crate) fn tell<D: Disk, H: Hasher>(
     ensures { (a b : History) → Plays H.dig D.view from.old a → Plays H.dig D.view to.old b → last.old ≡ last_heard b a.name
         → OnOk result (HasTold H.dig D.view a b from.new to.new last.new) }
 {
-    history_message_laws::<H>();
-    let link = given(from.thread_out(*last))?;
-    let message = Message {
-        thread: from.head(),
-        since: *last,
-        link,
-    };
-    let bytes = write_message(alloc, &message)?;
+    let bytes = answered(from, &Question::ThreadOut { since: *last })?;
     let before = to.steps();
     given(to.receive(bytes.as_slice()))?;
     *last = heard(before, to.steps(), *last, from.steps());

@@ -17,7 +17,7 @@ use tw_base::limits::MOST_HISTORY_BYTES;
 use tw_base::{ReadFault, take_name, take_text, whole_to};
 
 /// Takes a history, sound or not.
-#[tactic(auto, unfolding(tw_base::specs::format::Codecs::behind, tw_base::specs::format::Codecs::pair, tw_base::specs::format::Codecs::seen, tw_base::specs::history::HistoryCodec::history_codec))]
+#[tactic(auto, unfolding(tw_base::specs::history::HistoryCodec::history_codec, tw_base::specs::format::Seen::records))]
 fn take_history(alloc: Global, bytes: &[u8], at: &mut u64) -> Result<History, ReadFault>
     requires { at.old ≤ length bytes.now }
     ensures { Takes history_codec (λ h. h) bytes.now at.old at.new result }

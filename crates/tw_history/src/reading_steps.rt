@@ -24,7 +24,7 @@ pub(crate) struct Table {
 }
 
 /// Takes a node.
-#[tactic(auto, unfolding(tw_base::specs::format::Codecs::number_codec, tw_base::specs::format::Codecs::pair, tw_base::specs::format::Codecs::seen, tw_base::specs::history::HistoryCodec::node_codec))]
+#[tactic(auto, unfolding(tw_base::specs::history::HistoryCodec::node_codec, tw_base::specs::format::Seen::codecs))]
 fn take_node(bytes: &[u8], at: &mut u64) -> Result<Node, ReadFault>
     requires { at.old ≤ length bytes.now }
     ensures takes { Takes node_codec node_of bytes.now at.old at.new result }
@@ -70,7 +70,7 @@ fn take_fresh(bytes: &[u8], at: &mut u64, nodes: &mut Nodes) -> Result<u16, Read
 }
 
 /// Takes a step, and appends its new nodes.
-#[tactic(auto, unfolding(tw_base::specs::format::Codecs::number_codec, tw_base::specs::format::Codecs::pair, tw_base::specs::format::Codecs::seen, tw_base::specs::history::HistoryCodec::step_codec))]
+#[tactic(auto, unfolding(tw_base::specs::history::HistoryCodec::step_codec, tw_base::specs::format::Seen::codecs))]
 fn take_step(
     alloc: Global,
     bytes: &[u8],

@@ -88,7 +88,7 @@ fn put_steps(into: &mut Bytes, steps: &[Step], nodes: &[Node]) -> Result<(), NoM
 }
 
 /// Appends the step with its new nodes.
-#[tactic(auto, unfolding(tw_base::specs::format::Codecs::by_kind, tw_base::specs::format::Codecs::counted, tw_base::specs::format::Codecs::many, tw_base::specs::format::Codecs::number_codec, tw_base::specs::format::Codecs::pair, tw_base::specs::format::Codecs::seen, tw_base::specs::history::HistoryCodec::step_codec))]
+#[tactic(auto, unfolding(tw_base::specs::history::HistoryCodec::step_codec, tw_base::specs::format::Seen::codecs))]
 fn put_step(into: &mut Bytes, step: &Step, fresh: &[Node]) -> Result<(), NoMemory>
     requires counted { length fresh.now ≡ step.now.fresh }
     requires content { IsInRange step.now.content }
@@ -130,7 +130,7 @@ pub fn put_recorded(into: &mut Bytes, time: Option<u64>, content: &Content) -> R
 }
 
 /// Appends the content: the number of events and each of them, or the thread.
-#[tactic(auto, unfolding(tw_base::specs::format::Codecs::by_kind, tw_base::specs::format::Codecs::bytes_codec, tw_base::specs::format::Codecs::variant, tw_base::specs::format::Codecs::counted, tw_base::specs::format::Codecs::many, tw_base::specs::format::Codecs::name_codec, tw_base::specs::format::Codecs::number_codec, tw_base::specs::format::Codecs::pair, tw_base::specs::format::Codecs::seen, tw_base::specs::history::HistoryCodec::content_codec, tw_base::specs::history::HistoryCodec::thread_codec))]
+#[tactic(auto, unfolding(tw_base::specs::format::Seen::codecs, tw_base::specs::history::Seen::contents))]
 fn put_content(into: &mut Bytes, content: &Content) -> Result<(), NoMemory>
     requires { IsInRange content.now }
     ensures { Puts (content_codec (has_events content.now)) content.now into.old into.new result }
@@ -149,7 +149,7 @@ fn put_content(into: &mut Bytes, content: &Content) -> Result<(), NoMemory>
 }
 
 /// Appends the thread.
-#[tactic(auto, unfolding(tw_base::specs::format::Codecs::bytes_codec, tw_base::specs::format::Codecs::name_codec, tw_base::specs::format::Codecs::number_codec, tw_base::specs::format::Codecs::pair, tw_base::specs::format::Codecs::seen, tw_base::specs::history::HistoryCodec::thread_codec))]
+#[tactic(auto, unfolding(tw_base::specs::history::Seen::threads))]
 fn put_thread(into: &mut Bytes, thread: &Thread) -> Result<(), NoMemory>
     requires { (0 < thread.now.step) × (thread.now.step ≤ LAST_STEP) }
     ensures { Puts thread_codec thread.now into.old into.new result }
@@ -192,7 +192,7 @@ fn put_nodes(into: &mut Bytes, nodes: &[Node]) -> Result<(), NoMemory>
 }
 
 /// Appends the node.
-#[tactic(auto, unfolding(tw_base::specs::format::Codecs::number_codec, tw_base::specs::format::Codecs::pair, tw_base::specs::format::Codecs::seen, tw_base::specs::history::HistoryCodec::node_codec))]
+#[tactic(auto, unfolding(tw_base::specs::history::HistoryCodec::node_codec, tw_base::specs::format::Seen::codecs))]
 fn put_node(into: &mut Bytes, node: &Node) -> Result<(), NoMemory>
     requires { node.now.entry < 2 ^ 64 }
     ensures { Puts node_codec (node_of node.now) into.old into.new result }

@@ -8,9 +8,8 @@ ghost use Rattle.tw_base.specs.history.Limits.{IsStep};
 use crate::fickle_disk::FickleDisk;
 use std::alloc::Global;
 use std::test::Fail;
-use tw_base::{Bytes, EventList, Key, Name, NoMemory, Sha};
+use tw_base::{Bytes, EventList, Key, Name, NoMemory, Question, Sha};
 use tw_disk::MemDisk;
-use tw_msg::{Message, write_message};
 use tw_pages::StoreFault;
 use tw_service::{Refusal, Service};
 
@@ -40,27 +39,11 @@ fn service(alloc: Global, name: &[u8]) -> Option<Service<MemDisk, Sha>> {
     }
 }
 
-/// The bytes of the message of the last step, since this one.
-fn message(
-    alloc: Global,
-    service: &mut Service<MemDisk, Sha>,
-    since: u64,
-) -> Result<Bytes, Refusal> {
-    let thread = service.head();
-    let link = service.thread_out(since)?;
-    let message = Message {
-        thread,
-        since,
-        link,
-    };
-    Ok(write_message(alloc, &message)?)
-}
-
 /// A service `beta` with one step more, and the message of it.
 fn told(alloc: Global, beta: &mut Service<MemDisk, Sha>, since: u64) -> Result<Bytes, Refusal> {
     let events = one_event(alloc)?;
     let _ = beta.append(&events)?;
-    message(alloc, beta, since)
+    beta.ask(&Question::ThreadOut { since })
 }
 
 /// A disk with a service whose steps are of one event and of a thread of `beta` in turn, and a message that goes on from the last one.

@@ -4,9 +4,8 @@
 
 use std::alloc::Global;
 use std::test::Fail;
-use tw_base::{Bytes, EventList, Name, NoMemory, Sha};
+use tw_base::{Bytes, EventList, Name, NoMemory, Question, Sha};
 use tw_disk::{Disk, MemDisk};
-use tw_msg::{Message, write_message};
 use tw_pages::StoreFault;
 use tw_service::{Refusal, Service};
 
@@ -268,14 +267,7 @@ fn message(alloc: Global) -> Result<Bytes, Fail> {
     let name = Name::read(b"alpha").ok_or("no name")?;
     let disk = with_step(alloc, name).ok_or("no service")?;
     let mut alpha = open(alloc, disk).ok_or("not opened")?;
-    let thread = alpha.head();
-    let link = alpha.thread_out(0)?;
-    let message = Message {
-        thread,
-        since: 0,
-        link,
-    };
-    Ok(write_message(alloc, &message)?)
+    Ok(alpha.ask(&Question::ThreadOut { since: 0 })?)
 }
 
 /// The disk of a service with one step, with this trouble at the k-th device call of a `receive`.

@@ -40,7 +40,7 @@ pub struct Message {
 }
 
 /// Takes a message. Malformed at the first byte at which no message goes on; then the place is left anywhere.
-#[tactic(auto, unfolding(crate::specs::Messages::message_codec, tw_base::specs::format::Codecs::behind, tw_base::specs::format::Codecs::pair, tw_base::specs::format::Codecs::seen))]
+#[tactic(auto, unfolding(crate::specs::Messages::message_codec, tw_base::specs::format::Seen::records))]
 fn take_message(alloc: Global, bytes: &[u8], at: &mut u64) -> Result<Message, ReadFault>
     requires { at.old ≤ length bytes.now }
     ensures { Takes message_codec (λ m. m) bytes.now at.old at.new result }
@@ -72,7 +72,7 @@ pub fn read_message(alloc: Global, bytes: &[u8]) -> Result<Message, ReadFault>
 }
 
 /// Appends the thread.
-#[tactic(auto, unfolding(tw_base::specs::format::Codecs::bytes_codec, tw_base::specs::format::Codecs::name_codec, tw_base::specs::format::Codecs::number_codec, tw_base::specs::format::Codecs::pair, tw_base::specs::format::Codecs::seen, tw_base::specs::history::HistoryCodec::thread_codec))]
+#[tactic(auto, unfolding(tw_base::specs::history::Seen::threads))]
 fn put_thread(into: &mut Bytes, thread: &Thread) -> Result<(), NoMemory>
     ensures ok { OnOk result (into.new ≡ into.old ++ thread_codec.write thread.now) }
     ensures fits { OnOk result (IsStep thread.now.step → thread_codec.Fits thread.now) }
@@ -84,7 +84,7 @@ fn put_thread(into: &mut Bytes, thread: &Thread) -> Result<(), NoMemory>
 }
 
 /// Appends the message.
-#[tactic(auto, unfolding(crate::specs::Messages::message_codec, tw_base::specs::format::Codecs::behind, tw_base::specs::format::Codecs::each, tw_base::specs::format::Codecs::number_codec, tw_base::specs::format::Codecs::pair, tw_base::specs::format::Codecs::seen, tw_base::specs::format::Codecs::text_codec, tw_skipproof::specs::Codecs::path_bytes, tw_skipproof::specs::Codecs::path_codec))]
+#[tactic(auto, unfolding(crate::specs::Messages::message_codec, tw_skipproof::specs::Seen::paths))]
 fn put_message(into: &mut Bytes, message: &Message) -> Result<(), NoMemory>
     ensures ok { OnOk result (into.new ≡ into.old ++ message_bytes message.now) }
     ensures fits { OnOk result (IsLinked message.now → message_codec.Fits message.now) }

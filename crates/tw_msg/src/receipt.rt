@@ -41,7 +41,7 @@ pub struct Malformed {
 
 /// Takes a receipt, 116 bytes. Malformed at the first byte at which no receipt goes on; then the place is
 /// left anywhere. Takes no memory.
-#[tactic(auto, unfolding(crate::specs::Receipts::receipt_codec, tw_base::specs::format::Codecs::behind, tw_base::specs::format::Codecs::pair, tw_base::specs::format::Codecs::seen))]
+#[tactic(auto, unfolding(crate::specs::Receipts::receipt_codec, tw_base::specs::format::Seen::records))]
 pub fn take_receipt(bytes: &[u8], at: &mut u64) -> Result<Receipt, ReadFault>
     requires { at.old ≤ length bytes.now }
     // A receipt is taken at a place exactly as its codec reads it; else the place of the first bad byte is told.
@@ -74,7 +74,7 @@ pub fn read_receipt(bytes: &[u8]) -> Result<Receipt, Malformed>
 }
 
 /// Puts the thread, 56 bytes, at the end of the bytes of a receipt.
-#[tactic(auto, unfolding(tw_base::specs::format::Codecs::bytes_codec, tw_base::specs::format::Codecs::name_codec, tw_base::specs::format::Codecs::number_codec, tw_base::specs::format::Codecs::pair, tw_base::specs::format::Codecs::seen, tw_base::specs::format::Fields::number_bytes, tw_base::specs::history::HistoryCodec::thread_codec))]
+#[tactic(auto, unfolding(tw_base::specs::format::Fields::number_bytes, tw_base::specs::history::Seen::threads))]
 fn put_thread(into: &mut ArrayVec<u8, RECEIPT_SIZE>, thread: &Thread)
     requires { array_vec_len into.old + 56 ≤ RECEIPT_SIZE }
     ensures items { into.new.items ≡ into.old.items ++ thread_codec.write thread.now }
@@ -88,7 +88,7 @@ fn put_thread(into: &mut ArrayVec<u8, RECEIPT_SIZE>, thread: &Thread)
 }
 
 /// The bytes of the receipt.
-#[tactic(auto, unfolding(crate::specs::Receipts::receipt_codec, tw_base::specs::format::Codecs::behind, tw_base::specs::format::Codecs::pair, tw_base::specs::format::Codecs::seen))]
+#[tactic(auto, unfolding(crate::specs::Receipts::receipt_codec, tw_base::specs::format::Seen::records))]
 fn written(receipt: &Receipt) -> [u8; RECEIPT_SIZE]
     ensures bytes { result ≡ receipt_bytes receipt.now }
     ensures fits { IsStep receipt.now.by.step → IsStep receipt.now.thread.step → receipt_codec.Fits receipt.now }

@@ -1,3 +1,4 @@
 pub mod Resuming
 pub mod Feeding
 pub mod PieceSteps
+pub mod Seen

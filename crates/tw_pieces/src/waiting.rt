@@ -1,6 +1,6 @@
 // How many bytes of a link, an opening or an event that comes in pieces are waited for, as far as the
 // bytes that are held tell.
-#![tactic(auto, unfolding(crate::specs::PieceSteps::roots_codec, crate::specs::PieceSteps::sizes_codec, tw_base::specs::format::Codecs::number_codec, tw_base::specs::format::Codecs::pair))]
+#![tactic(auto, unfolding(crate::specs::Seen::sizes))]
 
 ghost use Rattle.std.specs.Prelude.{◌<◌, ◌≤◌, length, IfOk};
 ghost use Rattle.tw_base.specs.declared.kinds.limits.TheConstants.{LAST_STEP, MOST_EVENTS, MOST_EVENT_BYTES};

@@ -1,49 +1,39 @@
 -- What each command leaves of a disk whose images go on from one history, and that it publishes a thread of the history that is then there.
-use Rattle.std.proofs.Common.{◌≡◌, ◌∙◌, ℕ, List, length, ap, sym, subst, ⊎_elim}
-use Rattle.std.specs.Prelude.{◌≢◌, Option, Some, Result, Ok, Err}
+use Rattle.std.proofs.Common.{◌≡◌, ◌∙◌, ℕ, List, ap, sym, subst, ⊎_elim}
+use Rattle.std.specs.Prelude.{Option, Some, Result, Ok, Err}
 use Rattle.sha2.specs.Sha256.{sha256}
-use Rattle.tw_base.specs.declared.history.thread.Key.{Key}
+use Rattle.tw_base.specs.declared.history.question.Question.{Question}
+use Rattle.tw_base.specs.declared.history.question.Question.TheVariants as ask
 use Rattle.tw_base.specs.declared.history.thread.Thread.{Thread}
-use Rattle.tw_base.specs.format.Formats.{Spells}
 use Rattle.tw_base.specs.history.History.{History}
-use Rattle.tw_base.proofs.lemmas.format.CodecLaws.{unambiguous}
 use Rattle.tw_disk.specs.Disk.{DiskView}
 use Rattle.tw_disk.specs.Image.{Image}
-use Rattle.tw_msg.specs.declared.message.Message.{Message}
 use Rattle.tw_msg.specs.declared.receipt.Receipt.{Receipt}
-use Rattle.tw_msg.specs.Messages.{message_codec}
-use Rattle.tw_msg.proofs.MessageCodec.{message-lawful}
 use Rattle.tw_pages.specs.Slots.{IsTaken}
 use Rattle.tw_service.specs.Machine.{Call, NextOf, last_thread}
-use Rattle.tw_service.specs.Machine.Call.{Append as Appending, Receive as Receiving, ProveEvent as ProvingEvent, ProveThread as ProvingThread, ProveAbsent as ProvingAbsent, ProveLink as ProvingLink, ProveLow, ProveHigh}
-use Rattle.tw_service.specs.Machine.Reply.{OfReceipt, OfProof, OfFile}
+use Rattle.tw_service.specs.Machine.Call.{Append as Appending, Ask, Receive as Receiving}
+use Rattle.tw_service.specs.Machine.Reply.{OfBytes, OfReceipt}
 use Rattle.tw_service.specs.Stands.{StandsFor, StandsForOneOf}
 use Rattle.tw_text.specs.declared.fault.CommandFault.{CommandFault}
-use Rattle.tw_text.specs.declared.fault.CommandFault.TheVariants.{DiskFault, InputFault, Refused, Unreadable}
 use Rattle.tw_diskcmd.specs.Appending.{AppendComes, AppendLeaves, AppendSafe, AreEventsOf}
+use Rattle.tw_diskcmd.specs.Asking.{AskComes}
 use Rattle.tw_diskcmd.specs.Disks.{AddsSafe, FoundDisk, IsLeft, ReadLeaves, ReadsAs, Rests, Stands}
-use Rattle.tw_diskcmd.specs.Exporting.{ExportComes}
-use Rattle.tw_diskcmd.specs.Linking.{LinkComes}
 use Rattle.tw_diskcmd.specs.Making.{InitComes, InitLeaves}
-use Rattle.tw_diskcmd.specs.Mapping.{MapHighComes, MapLowComes}
-use Rattle.tw_diskcmd.specs.Proofs.{top_of}
-use Rattle.tw_diskcmd.specs.Proving.{ProveComes}
 use Rattle.tw_diskcmd.specs.Receiving.{IsMessageIn, ReceiveComes, ReceiveLeaves, ReceiveSafe}
-use Rattle.tw_diskcmd.specs.Telling.{ThreadComes}
-use Rattle.tw_diskcmd.specs.ThreadProofs.{AbsenceComes, ThreadProofComes}
 use Rattle.tw_diskcmd.proofs.AtRest.{own_name, stands_taken, untouched_left}
+use Rattle.tw_diskcmd.proofs.CommandLaws.{reading_is_safe}
 use Rattle.tw_words.specs.declared.command.Command.{Command}
 use Rattle.tw_words.specs.declared.command.Command.TheVariants as command
 use Rattle.tw_app.specs.declared.outcome.Outcome.{Outcome}
 use Rattle.tw_app.specs.declared.outcome.Outcome.TheVariants.{Made, Received, Written, Undone}
 use Rattle.tw_app.specs.Around.{Outside, found_of}
 use Rattle.tw_app.specs.Outcomes.{outcome_by}
-use Rattle.tw_app.specs.Running.{IsOutcomeOf, work}
+use Rattle.tw_app.specs.Running.{asking, work}
 use Rattle.tw_app.proofs.Commands.{rows}
-use Rattle.tw_runs.specs.Published.{IsInFile, IsInHigh, IsInLow, IsInProof, IsThreadOf}
-use Rattle.tw_runs.proofs.Threads.{file_own, last_own, next_has, next_name, told_own}
+use Rattle.tw_runs.specs.Published.{IsInAnswer, IsThreadOf}
+use Rattle.tw_runs.proofs.Threads.{last_own, next_has, next_name, told_own}
 use Rattle.tw_runs.proofs.Wavering.{GoesOnFrom, Has, Wavers, same_has}
-use Rattle.tw_published.specs.Publishing.{IsOfMessage, IsOutBy}
+use Rattle.tw_published.specs.Publishing.{IsOutBy, IsOutByAnswer}
 use Rattle.tw_published.proofs.OtherStores.{stands_closed}
 
 -- ---- what an outcome tells
@@ -54,52 +44,10 @@ same_made t u is = cc
 pub made_undone : (t : Thread) (f : CommandFault) → Made t ≡ Undone f → ⊥
 made_undone t f is = cc
 
--- ---- what the bytes of a history's own message and file publish
-
-message_own : (h : History) (m : Message) (bytes : List ℕ) (t : Thread) → Spells message_codec.format bytes m → m.thread ≡ last_thread sha256 h → IsOfMessage bytes t → IsThreadOf sha256 h t
-message_own h m bytes t spelled own told =
-    let same : told.0 ≡ m = (unambiguous message_codec message-lawful).one_value bytes told.0 m told.1 spelled in
-    let is : t ≡ last_thread sha256 h = told.2 ∙ ap (λ (x : Message). x.thread) same ∙ own in
-    subst (λ (u : Thread). IsThreadOf sha256 h u) (sym is) (last_own sha256 h)
-
-module _ (t : FoundDisk) (h : History) (reads : ReadsAs t.found h) (bytes : List ℕ) (u : Thread) where
-  message_told : (since : ℕ) → ThreadComes t since (Ok bytes) → IsOfMessage bytes u → IsThreadOf sha256 h u
-  unfolding ThreadComes
-  message_told since comes told = let tells = comes.machine h reads in message_own h tells.message bytes u tells.spells tells.own.thread told
-
-  event_told : (step index : ℕ) (top : Option ℕ) → ProveComes t step index top (Ok bytes) → IsInProof bytes u → IsThreadOf sha256 h u
-  unfolding ProveComes
-  event_told step index top comes told =
-      told_own sha256 h reads.stands.sound (ProvingEvent step index (top_of top (length h.steps))) (OfProof bytes) h tt (comes.machine h reads).machine u told
-
-  thread_told : (step : ℕ) (key : Key) (top : Option ℕ) → ThreadProofComes step key top t (Ok bytes) → IsInProof bytes u → IsThreadOf sha256 h u
-  unfolding ThreadProofComes
-  thread_told step key top comes told =
-      told_own sha256 h reads.stands.sound (ProvingThread step key (top_of top (length h.steps))) (OfProof bytes) h tt (comes.machine h reads).machine u told
-
-  absence_told : (step : ℕ) (key : Key) (top : Option ℕ) → AbsenceComes step key top t (Ok bytes) → IsInProof bytes u → IsThreadOf sha256 h u
-  unfolding AbsenceComes
-  absence_told step key top comes told =
-      told_own sha256 h reads.stands.sound (ProvingAbsent step key (top_of top (length h.steps))) (OfProof bytes) h tt (comes.machine h reads).machine u told
-
-  link_told : (step : ℕ) (top : Option ℕ) → LinkComes t step top (Ok bytes) → IsInProof bytes u → IsThreadOf sha256 h u
-  unfolding LinkComes
-  link_told step top comes told =
-      told_own sha256 h reads.stands.sound (ProvingLink step (top_of top (length h.steps))) (OfProof bytes) h tt (comes.machine h reads).machine u told
-
-  low_told : (step : ℕ) (peer : List ℕ) (top : Option ℕ) → MapLowComes step peer top t (Ok bytes) → IsInLow bytes u → IsThreadOf sha256 h u
-  unfolding MapLowComes
-  low_told step peer top comes told =
-      told_own sha256 h reads.stands.sound (ProveLow step peer (top_of top (length h.steps))) (OfFile bytes) h tt (comes.machine h reads).machine u told
-
-  high_told : (step : ℕ) (peer : List ℕ) (top : Option ℕ) → MapHighComes step peer top t (Ok bytes) → IsInHigh bytes u → IsThreadOf sha256 h u
-  unfolding MapHighComes
-  high_told step peer top comes told =
-      told_own sha256 h reads.stands.sound (ProveHigh step peer (top_of top (length h.steps))) (OfFile bytes) h tt (comes.machine h reads).machine u told
-
-  file_told : ExportComes t (Ok bytes) → IsInFile sha256 bytes u → IsThreadOf sha256 h u
-  unfolding ExportComes
-  file_told comes told = file_own sha256 h bytes u (comes.machine h reads).makes.1 told
+-- what the answer of a history to a question publishes
+answer_told : (t : FoundDisk) (h : History) (reads : ReadsAs t.found h) (q : Question) (bytes : List ℕ) (u : Thread) → AskComes t q (Ok bytes) → IsInAnswer sha256 q bytes u → IsThreadOf sha256 h u
+unfolding AskComes
+answer_told t h reads q bytes u comes told = told_own sha256 h reads.stands.sound (Ask q) (OfBytes bytes) h tt (comes.machine h reads).machine u told
 
 module _ {D : Type 0} (view : D → DiskView) (name : List ℕ)
     (only_now : (d : D) (image : Image) → (view d).left_since (view d).moment image → (view d).may_leave image)
@@ -212,17 +160,18 @@ module _ {D : Type 0} (view : D → DiskView) (name : List ℕ)
       abbrev pub By : Command → Outcome → Type 0
       By c outcome = Behind h (IsOutBy c outcome)
 
-      -- one that reads
-      reading : (c : Command) (Comes : Result (List ℕ) CommandFault → Type 0) (outcome : Outcome) → IsLeft view o.disk.before o.disk.after
-          → IsOutcomeOf Written (λ r. Comes r × ReadLeaves view o.disk.before o.disk.after r) outcome
-          → ((f : CommandFault) (t : Thread) → IsOutBy c (Undone f) t → ⊥)
-          → ((bytes : List ℕ) (t : Thread) → Comes (Ok bytes) → IsOutBy c (Written bytes) t → IsThreadOf sha256 read t) → By c outcome
-      reading c Comes outcome left came none own = of_result came.0 came.1 came.2
+      -- one that asks a question
+      asked : (q : Question) (outcome : Outcome) → (asking view o (Some q)).does outcome → Behind h (IsOutByAnswer q outcome)
+      asked q outcome came = of_result came.0 came.1 came.2
         where
-          of_result : (r : Result (List ℕ) CommandFault) → Comes r × ReadLeaves view o.disk.before o.disk.after r → outcome ≡ outcome_by Written r → By c outcome
+          of_result : (r : Result (List ℕ) CommandFault) → AskComes (found_of view o) q r × ReadLeaves view o.disk.before o.disk.after r → outcome ≡ outcome_by Written r
+              → Behind h (IsOutByAnswer q outcome)
           of_result (Ok bytes) may is =
-              subst (λ (x : Outcome). By c x) (sym is) (settled_behind (IsOutBy c (Written bytes)) left (may.1.1 read reads) (λ t told. own bytes t may.0 told))
-          of_result (Err f) may is = subst (λ (x : Outcome). By c x) (sym is) (left_behind (IsOutBy c (Undone f)) left (none f))
+              subst (λ (x : Outcome). Behind h (IsOutByAnswer q x)) (sym is)
+              (settled_behind (IsOutByAnswer q (Written bytes)) may.1.0 (may.1.1 read reads) (λ t told. answer_told (found_of view o) read reads q bytes t may.0 told))
+          of_result (Err f) may is =
+              subst (λ (x : Outcome). Behind h (IsOutByAnswer q x)) (sym is)
+              (left_behind (IsOutByAnswer q (Undone f)) ((reading_is_safe view o.disk.before o.disk.after {X = List ℕ}).safe (Err f) may.1).0 (λ t told. told))
 
       taken : IsTaken waver.0.image
       taken = stands_taken read waver.0.image reads.stands
@@ -286,35 +235,14 @@ module _ {D : Type 0} (view : D → DiskView) (name : List ℕ)
       leaves (command.Init of) outcome came = making of outcome came
       leaves (command.Append file time) outcome came = appending file time outcome came
       leaves (command.Receive file time) outcome came = receiving file time outcome came
-      leaves (command.Thread since) outcome came =
-          reading (command.Thread since) (ThreadComes (found_of view o) since) outcome ((rows view only_now as_it_reads o (command.Thread since)).safe outcome came).0 came
-          (λ f t told. told) (λ bytes t comes told. message_told (found_of view o) read reads bytes t since comes told)
-      leaves (command.ProveEvent step index top) outcome came =
-          reading (command.ProveEvent step index top) (ProveComes (found_of view o) step index top) outcome
-          ((rows view only_now as_it_reads o (command.ProveEvent step index top)).safe outcome came).0 came
-          (λ f t told. told) (λ bytes t comes told. event_told (found_of view o) read reads bytes t step index top comes told)
-      leaves (command.ProveThread step peer k top) outcome came =
-          let key : Key = record { from = peer; step = k } in
-          reading (command.ProveThread step peer k top) (ThreadProofComes step key top (found_of view o)) outcome
-          ((rows view only_now as_it_reads o (command.ProveThread step peer k top)).safe outcome came).0 came
-          (λ f t told. told) (λ bytes t comes told. thread_told (found_of view o) read reads bytes t step key top comes told)
-      leaves (command.ProveAbsent step peer k top) outcome came =
-          let key : Key = record { from = peer; step = k } in
-          reading (command.ProveAbsent step peer k top) (AbsenceComes step key top (found_of view o)) outcome
-          ((rows view only_now as_it_reads o (command.ProveAbsent step peer k top)).safe outcome came).0 came
-          (λ f t told. told) (λ bytes t comes told. absence_told (found_of view o) read reads bytes t step key top comes told)
-      leaves (command.ProveLink step top) outcome came =
-          reading (command.ProveLink step top) (LinkComes (found_of view o) step top) outcome ((rows view only_now as_it_reads o (command.ProveLink step top)).safe outcome came).0 came
-          (λ f t told. told) (λ bytes t comes told. link_told (found_of view o) read reads bytes t step top comes told)
-      leaves (command.MapLow step peer top) outcome came =
-          reading (command.MapLow step peer top) (MapLowComes step peer top (found_of view o)) outcome ((rows view only_now as_it_reads o (command.MapLow step peer top)).safe outcome came).0 came
-          (λ f t told. told) (λ bytes t comes told. low_told (found_of view o) read reads bytes t step peer top comes told)
-      leaves (command.MapHigh step peer top) outcome came =
-          reading (command.MapHigh step peer top) (MapHighComes step peer top (found_of view o)) outcome ((rows view only_now as_it_reads o (command.MapHigh step peer top)).safe outcome came).0 came
-          (λ f t told. told) (λ bytes t comes told. high_told (found_of view o) read reads bytes t step peer top comes told)
-      leaves command.Export outcome came =
-          reading command.Export (ExportComes (found_of view o)) outcome ((rows view only_now as_it_reads o command.Export).safe outcome came).0 came
-          (λ f t told. told) (λ bytes t comes told. file_told (found_of view o) read reads bytes t comes told)
+      leaves (command.Thread since) outcome came = asked (ask.ThreadOut since) outcome came
+      leaves (command.ProveEvent step index top) outcome came = asked (ask.Event step index top) outcome came
+      leaves (command.ProveThread step peer k top) outcome came = asked (ask.Thread step (record { from = peer; step = k }) top) outcome came
+      leaves (command.ProveAbsent step peer k top) outcome came = asked (ask.Absent step (record { from = peer; step = k }) top) outcome came
+      leaves (command.ProveLink step top) outcome came = asked (ask.Link step top) outcome came
+      leaves (command.MapLow step peer top) outcome came = asked (ask.Low step peer top) outcome came
+      leaves (command.MapHigh step peer top) outcome came = asked (ask.High step peer top) outcome came
+      leaves command.Export outcome came = asked ask.Export outcome came
       leaves (command.Watch of) outcome came =
           left_behind (IsOutBy (command.Watch of) outcome) (((rows view only_now as_it_reads o (command.Watch of)).safe outcome came).2 waver.0.image waver.0.told taken) (λ t told. told)
       leaves (command.Offer file) outcome came = left_behind (IsOutBy (command.Offer file) outcome) (offering file outcome came) (λ t told. told)

@@ -1,6 +1,6 @@
 -- No second authenticator over turns on one disk: behind each of them all images go on from one history, of which all is that is published.
 use Rattle.std.proofs.Common.{◌≡◌, ◌⊎◌, ◌∙◌, ℕ, List, [], ◌∷◌, refl, ap, sym, subst, ⊎_elim}
-use Rattle.std.specs.Prelude.{◌≢◌, Option, Some, None, Result, Ok, Err, MatchOption}
+use Rattle.std.specs.Prelude.{Option, Some, None, Result, Ok, Err, MatchOption}
 use Rattle.sha2.specs.Sha256.{sha256}
 use Rattle.tw_base.specs.declared.history.thread.Thread.{Thread}
 use Rattle.tw_base.specs.history.History.{History}
@@ -10,13 +10,12 @@ use Rattle.tw_service.specs.declared.service.Service.{Service}
 use Rattle.tw_service.specs.Machine.{last_thread}
 use Rattle.tw_service.specs.Stands.{no_history}
 use Rattle.tw_text.specs.declared.fault.CommandFault.{CommandFault}
-use Rattle.tw_text.specs.declared.fault.CommandFault.TheVariants.{DiskFault}
 use Rattle.tw_diskcmd.specs.Making.{InitComes, InitLeaves}
 use Rattle.tw_diskcmd.proofs.AtRest.{untouched_left}
 use Rattle.tw_words.specs.CommandLine.{command_of}
 use Rattle.tw_words.specs.declared.command.Command.{Command}
 use Rattle.tw_app.specs.declared.outcome.Outcome.{Outcome}
-use Rattle.tw_app.specs.declared.outcome.Outcome.TheVariants.{Made, Undone}
+use Rattle.tw_app.specs.declared.outcome.Outcome.TheVariants.{Made}
 use Rattle.tw_app.specs.Around.{Around, Outside, found_of}
 use Rattle.tw_app.specs.Outcomes.{outcome_by}
 use Rattle.tw_app.specs.Running.{HaveNoForm, IsOutcomeOf, IsUntouched, work}

@@ -6,3 +6,4 @@ pub mod Children
 pub mod Trees
 pub mod NodeBytes
 pub mod Tests
+pub mod Seen

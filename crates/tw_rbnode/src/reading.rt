@@ -1,5 +1,5 @@
 // Reading a page.
-#![tactic(auto, unfolding(crate::specs::NodeBytes::child_codec, crate::specs::NodeBytes::colour_codec, crate::specs::NodeBytes::node_codec, crate::specs::NodeBytes::slot_codec, tw_base::specs::format::Codecs::behind, tw_base::specs::format::Codecs::by_kind, tw_base::specs::format::Codecs::nothing, tw_base::specs::format::Codecs::pair, tw_base::specs::format::Codecs::seen, tw_base::specs::history::HistoryCodec::thread_codec))]
+#![tactic(auto, unfolding(crate::specs::Seen::nodes))]
 
 ghost use Rattle.std.specs.Prelude.{◌≡◌, ◌≢◌, ◌↔◌, ◌+◌, ◌≤◌, ◌<◌, ℕ, suc, length, map, false, IfErr, IsTrue, MatchOption, slice_get, Some};
 ghost use Rattle.tw_base.specs.kinds.Lists.{Each};
@@ -52,7 +52,7 @@ fn take_colour(bytes: &[u8], at: &mut u64) -> Result<bool, ReadFault>
 }
 
 /// Takes a slot.
-#[tactic(auto, unfolding(crate::specs::NodeBytes::slot_codec, tw_base::specs::format::Codecs::pair, tw_base::specs::format::Codecs::seen))]
+#[tactic(auto, unfolding(crate::specs::NodeBytes::slot_codec, tw_base::specs::format::Seen::records))]
 fn take_slot(bytes: &[u8], at: &mut u64) -> Result<Slot, ReadFault>
     requires { at.old ≤ length bytes.now }
     ensures takes { Takes slot_codec (λ s. s) bytes.now at.old at.new result }
@@ -140,7 +140,7 @@ fn take_counted(bytes: &[u8], at: &mut u64) -> Result<Held, ReadFault>
 }
 
 /// Takes what the bytes of a page have.
-#[tactic(auto, unfolding(crate::specs::NodeBytes::node_codec, tw_base::specs::format::Codecs::behind, tw_base::specs::format::Codecs::pair))]
+#[tactic(auto, unfolding(crate::specs::NodeBytes::node_codec, tw_base::specs::format::Seen::records))]
 fn take_fields(bytes: &[u8], at: &mut u64) -> Result<PageFields, ReadFault>
     requires { at.old ≤ length bytes.now }
     ensures takes { Takes node_codec (λ f. (f.level, (f.held.top, (f.held.slots.items, f.held.children.items)))) bytes.now at.old at.new result }

@@ -1,5 +1,5 @@
 // Writing a page.
-#![tactic(auto, unfolding(crate::specs::NodeBytes::child_codec, crate::specs::NodeBytes::colour_codec, crate::specs::NodeBytes::node_codec, crate::specs::NodeBytes::slot_codec, tw_base::specs::format::Codecs::behind, tw_base::specs::format::Codecs::by_kind, tw_base::specs::format::Codecs::bytes_codec, tw_base::specs::format::Codecs::many, tw_base::specs::format::Codecs::name_codec, tw_base::specs::format::Codecs::nothing, tw_base::specs::format::Codecs::number_codec, tw_base::specs::format::Codecs::pair, tw_base::specs::format::Codecs::seen, tw_base::specs::history::EntryCodec::entry_codec, tw_base::specs::history::HistoryCodec::thread_codec))]
+#![tactic(auto, unfolding(crate::specs::Seen::nodes_written))]
 
 ghost use Rattle.std.specs.Prelude.{◌≡◌, ◌+◌, ◌*◌, ◌≤◌, ◌<◌, ◌++◌, ◌∷◌, [], length, drop, flat_map, take};
 ghost use Rattle.tw_base.specs.kinds.Bytes.{AreBytes};
@@ -53,7 +53,7 @@ fn put_entry(page: &mut PageFront, entry: &Entry)
 }
 
 /// Puts a slot, 67 bytes.
-#[tactic(auto, unfolding(crate::specs::NodeBytes::colour_codec, crate::specs::NodeBytes::slot_codec, tw_base::specs::format::Codecs::by_kind, tw_base::specs::format::Codecs::nothing, tw_base::specs::format::Codecs::number_codec, tw_base::specs::format::Codecs::pair, tw_base::specs::format::Codecs::seen))]
+#[tactic(auto, unfolding(crate::specs::Seen::slots))]
 fn put_slot(page: &mut PageFront, slot: &Slot)
     requires room { length page.old + 67 ≤ 4096 }
     requires range { IsEntryInRange slot.now.entry }

@@ -1,7 +1,8 @@
 // Scripts: the lines that are read. What is told where one isn't allowed is tried by the acceptance run.
 
 use std::alloc::Global;
-use tw_script::{AskedProof, CrashChoice, Line, read_script, script_laws};
+use tw_base::Question;
+use tw_script::{CrashChoice, Line, read_script, script_laws};
 
 /// How many lines are read of the text; none where it is no script.
 fn count(alloc: Global, text: &[u8]) -> Option<usize> {
@@ -32,9 +33,9 @@ fn asks_under(alloc: Global, text: &[u8], wanted: Option<u64>) -> Option<bool> {
     })
 }
 
-fn is_under(asked: &AskedProof, wanted: Option<u64>) -> bool {
+fn is_under(asked: &Question, wanted: Option<u64>) -> bool {
     match asked {
-        AskedProof::OfThread { top, .. } => *top == wanted,
+        Question::Thread { top, .. } => *top == wanted,
         _ => false,
     }
 }

@@ -24,6 +24,10 @@ use Rattle.tw_service.specs.Receiving.{RefusesNoMessage}
 use Rattle.tw_service.specs.Serves.{HasSameDisk, Serves, disk_of, has_failed, head_of, name_of, record_of}
 use Rattle.tw_service.specs.Stands.{StandsFor, StandsForOneOf}
 use Rattle.tw_answers.specs.Limits.{append_refusal, broken_refusal, link_refusal, order_refusal, own_refusal, thread_refusal, top_refusal}
+use Rattle.tw_base.specs.declared.history.question.Question.{Question}
+use Rattle.tw_base.specs.declared.history.question.Question.TheVariants as ask
+use Rattle.tw_service.specs.Questions.{question_refusal}
+use Rattle.tw_service.specs.Tops.{top_of}
 use Rattle.tw_service.proofs.Serving.{rest_for_good}
 use Rattle.tw_runs.specs.Published.{IsReplyTo}
 use Rattle.tw_runs.specs.Runs.{IsAnswered, StaysAs, IsOpenedAs, replied}
@@ -67,6 +71,17 @@ module _ {X : Type 0} (answer : Result X Refusal) (Else : Type 0) where
   unfolding own_refusal
   own_reopens true own from says failed = says
   own_reopens false own from says failed = absurd cc
+
+  pub question_reopens : (broken : Bool) (last : ℕ) (q : Question) → Says (question_refusal broken last q) → IsTrue broken → answer ≡ Err Reopen
+  unfolding question_refusal
+  question_reopens broken last (ask.Event step index top) = order_reopens broken last step (top_of top last)
+  question_reopens broken last (ask.Thread step key top) = order_reopens broken last step (top_of top last)
+  question_reopens broken last (ask.Absent step key top) = order_reopens broken last step (top_of top last)
+  question_reopens broken last (ask.Link step top) = link_reopens broken last step (top_of top last)
+  question_reopens broken last (ask.Low step peer top) = order_reopens broken last step (top_of top last)
+  question_reopens broken last (ask.High step peer top) = top_reopens broken last (top_of top last)
+  question_reopens broken last (ask.ThreadOut since) = thread_reopens broken last since
+  question_reopens broken last ask.Export = broken_reopens broken
 
 pub weaker : {T E : Type 0} (result : Result T E) (P Q : Type 0) → (P → Q) → OnErr result P → OnErr result Q
 weaker (Ok x) P Q step is = tt

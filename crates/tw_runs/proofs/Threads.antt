@@ -12,7 +12,7 @@ use Rattle.tw_base.specs.history.Auth.{auth}
 use Rattle.tw_base.specs.history.Tree.{tree}
 use Rattle.tw_treeproof.specs.Making.{proof_of}
 use Rattle.tw_base.specs.history.History.{History, Step, plus, step_at, thread_of}
-use Rattle.tw_base.specs.history.HistoryCodec.{history_bytes, history_codec, history_layout}
+use Rattle.tw_base.specs.history.HistoryCodec.{history_codec, history_layout}
 use Rattle.tw_base.specs.history.Sound.{IsSound}
 use Rattle.tw_base.specs.kinds.Lists.{In}
 use Rattle.tw_base.proofs.lemmas.format.CodecLaws.{unambiguous}
@@ -23,13 +23,14 @@ use Rattle.tw_chain.specs.declared.proof.Proof.TheVariants.{Exists, Archived, Ab
 use Rattle.tw_chain.specs.Proofs.{proof_codec, proof_layout}
 use Rattle.tw_chain.proofs.ProofCodec.{from_existence, proof-lawful}
 use Rattle.tw_skipproof.specs.declared.existence.Part.{Part}
-use Rattle.tw_skipproof.specs.declared.path.Path.{Path}
-use Rattle.tw_skipproof.specs.HistoryProofs.{IsPartOf, IsPathOf, MakesExistence}
+use Rattle.tw_skipproof.specs.HistoryProofs.{IsPartOf, MakesExistence}
 use Rattle.tw_answers.specs.declared.refusal.Refusal.{Refusal}
 use Rattle.tw_answers.specs.declared.refusal.Refusal.TheVariants.{NoStep, TooLong}
-use Rattle.tw_answers.specs.Limits.{absence_refusal, is_in_order, link_refusal, or_else, order_refusal, proof_refusal, thread_proof_refusal, thread_refusal, top_refusal}
+use Rattle.tw_answers.specs.Limits.{is_in_order, link_refusal, or_else, order_refusal, top_refusal}
 use Rattle.tw_msg.specs.declared.message.Message.{Message}
 use Rattle.tw_msg.specs.HistoryMessages.{thread_at_step}
+use Rattle.tw_msg.specs.Messages.{message_codec}
+use Rattle.tw_msg.proofs.MessageCodec.{message-lawful}
 use Rattle.tw_service.specs.Mapping.{MakesHigh, MakesLow}
 use Rattle.tw_tmap.specs.declared.map_file.HighFile.{HighFile}
 use Rattle.tw_tmap.specs.declared.map_file.LowFile.{LowFile}
@@ -37,13 +38,17 @@ use Rattle.tw_tmap.specs.declared.map_file.LowPart.{LowPart}
 use Rattle.tw_tmap.specs.Checking.{low_ask, low_part}
 use Rattle.tw_tmap.specs.MapFiles.{high_codec, low_codec}
 use Rattle.tw_tmap.proofs.MapCodec.{high-lawful, low-lawful}
-use Rattle.tw_service.specs.Machine.{Call, IsStepOf, MakesAbsence, MakesLink, MakesThread, NextOf, Reply, append_table, last_thread}
-use Rattle.tw_service.specs.Exporting.{export_refusal, is_short, told_size}
-use Rattle.tw_service.specs.Machine.Call.{Append, Receive, TellThread, ProveEvent, ProveThread, ProveAbsent, ProveLink, ProveLow, ProveHigh, Export, CountSteps, TellHead, TellName}
-use Rattle.tw_service.specs.Machine.Reply.{OfThread, OfReceipt, OfPath, OfProof, OfFile, Refused}
+use Rattle.tw_service.specs.Machine.{Call, IsStepOf, Makes, MakesAbsence, MakesLink, MakesThread, NextOf, Reply, append_table, last_thread}
+use Rattle.tw_service.specs.Exporting.{is_short, told_size}
+use Rattle.tw_base.specs.declared.history.question.Question.{Question}
+use Rattle.tw_base.specs.declared.history.question.Question.TheVariants as ask
+use Rattle.tw_service.specs.Questions.{history_refusal, pages_refusal, question_refusal}
+use Rattle.tw_service.specs.Tops.{top_of}
+use Rattle.tw_service.specs.Machine.Call.{Append, Ask, Receive, CountSteps, TellHead, TellName}
+use Rattle.tw_service.specs.Machine.Reply.{OfBytes, OfThread, OfReceipt, Refused}
 use Rattle.tw_service.proofs.ReceivingLaws.{own-receipt}
 use Rattle.tw_service.proofs.ShortFiles.{reads-back}
-use Rattle.tw_runs.specs.Published.{IsInFile, IsReplyTo, IsThreadOf, Publishes, PublishesBy, high_threads, low_threads, own_threads, thread_before}
+use Rattle.tw_runs.specs.Published.{IsInAnswer, IsInFile, IsInHigh, IsInLow, IsInProof, IsReplyTo, IsThreadOf, Publishes, PublishesBy, high_threads, low_threads, own_threads, thread_before}
 
 -- ---- tables that don't refuse
 
@@ -111,18 +116,16 @@ module _ (dig : List ℕ → List ℕ) where
       let in_one : In t (u ∷ []) = subst (λ (us : List Thread). In t us) (ap (λ (x : Proof). own_threads x) same ∙ is) there in
       ⊎_elim (λ e. e) (λ no. absurd no) in_one
 
-  event_own : (h : History) (step index top : ℕ) (bytes : List ℕ) → proof_refusal false h step index top ≡ None → MakesExistence dig h step index top bytes
-      → (t : Thread) → Publishes (OfProof bytes) t → IsThreadOf dig h t
-  event_own h step index top bytes none makes t told =
-      let order = order_within (length h.steps) step top (none_first (order_refusal false (length h.steps) step top) _ none) in
+  event_own : (h : History) (step index top : ℕ) (bytes : List ℕ) → step ≤ length h.steps → MakesExistence dig h step index top bytes
+      → (t : Thread) → IsInProof bytes t → IsThreadOf dig h t
+  event_own h step index top bytes order makes t told =
       let is = only_thread bytes told.0 (Exists makes.0) t (thread_before makes.0.at) told.1 (from_existence bytes makes.0 makes.1) told.2 refl in
       subst (λ (u : Thread). IsThreadOf dig h u) (sym is) (before_own h step top makes.0.at makes.2.at order)
 
-  link_own : (h : History) (step top : ℕ) (bytes : List ℕ) → link_refusal false (length h.steps) step top ≡ None → MakesLink dig h step top bytes
-      → (t : Thread) → Publishes (OfProof bytes) t → IsThreadOf dig h t
-  link_own h step top bytes none makes t told =
+  link_own : (h : History) (step top : ℕ) (bytes : List ℕ) → step ≤ length h.steps → MakesLink dig h step top bytes
+      → (t : Thread) → IsInProof bytes t → IsThreadOf dig h t
+  link_own h step top bytes order makes t told =
       let p = makes.0 in
-      let order = link_within (length h.steps) step top none in
       let own : IsThreadOf dig h (record { from = p.service; step = p.step; auth = p.auth }) = record {
         from = makes.2.service;
         within = omega (arith, makes.2.at_step, order);
@@ -131,17 +134,15 @@ module _ (dig : List ℕ → List ℕ) where
       let is = only_thread bytes told.0 (Linked p) t (record { from = p.service; step = p.step; auth = p.auth }) told.1 makes.1 told.2 refl in
       subst (λ (u : Thread). IsThreadOf dig h u) (sym is) own
 
-  thread_own : (h : History) (step : ℕ) (key : Key) (top : ℕ) (bytes : List ℕ) → thread_proof_refusal false h step key top ≡ None → MakesThread dig h step key top bytes
-      → (t : Thread) → Publishes (OfProof bytes) t → IsThreadOf dig h t
-  thread_own h step key top bytes none makes t told =
-      let order = order_within (length h.steps) step top (none_first (order_refusal false (length h.steps) step top) _ none) in
+  thread_own : (h : History) (step : ℕ) (key : Key) (top : ℕ) (bytes : List ℕ) → step ≤ length h.steps → MakesThread dig h step key top bytes
+      → (t : Thread) → IsInProof bytes t → IsThreadOf dig h t
+  thread_own h step key top bytes order makes t told =
       let is = only_thread bytes told.0 (Archived makes.0) t (thread_before makes.0.at) told.1 makes.1 told.2 refl in
       subst (λ (u : Thread). IsThreadOf dig h u) (sym is) (before_own h step top makes.0.at makes.2.at order)
 
-  absence_own : (h : History) (step : ℕ) (key : Key) (top : ℕ) (bytes : List ℕ) → absence_refusal false h step key top ≡ None → MakesAbsence dig h step key top bytes
-      → (t : Thread) → Publishes (OfProof bytes) t → IsThreadOf dig h t
-  absence_own h step key top bytes none makes t told =
-      let order = order_within (length h.steps) step top (none_first (order_refusal false (length h.steps) step top) _ none) in
+  absence_own : (h : History) (step : ℕ) (key : Key) (top : ℕ) (bytes : List ℕ) → step ≤ length h.steps → MakesAbsence dig h step key top bytes
+      → (t : Thread) → IsInProof bytes t → IsThreadOf dig h t
+  absence_own h step key top bytes order makes t told =
       let is = only_thread bytes told.0 (Absent makes.0) t (thread_before makes.0.at) told.1 makes.1 told.2 refl in
       subst (λ (u : Thread). IsThreadOf dig h u) (sym is) (before_own h step top makes.0.at makes.2.at order)
 
@@ -155,22 +156,22 @@ module _ (dig : List ℕ → List ℕ) where
       let one = ⊎_elim (λ e. e) (λ no_other. absurd no_other) there in
       subst (λ (u : Thread). IsThreadOf dig h u) (sym one) (before_own h (step - 1) top (low_part f p) is.1 (omega (arith, within)))
 
-  low_own : (h : History) (step : ℕ) (peer : List ℕ) (top : ℕ) (bytes : List ℕ) → order_refusal false (length h.steps) step top ≡ None → MakesLow dig h step peer top bytes
-      → (t : Thread) → PublishesBy dig (ProveLow step peer top) (OfFile bytes) t → IsThreadOf dig h t
-  low_own h step peer top bytes none makes t told =
+  low_own : (h : History) (step : ℕ) (peer : List ℕ) (top : ℕ) (bytes : List ℕ) → step ≤ length h.steps → MakesLow dig h step peer top bytes
+      → (t : Thread) → IsInLow bytes t → IsThreadOf dig h t
+  low_own h step peer top bytes order makes t told =
       let same = (unambiguous low_codec low-lawful).one_value bytes told.0 makes.0 told.1 makes.1 in
       let there = subst (λ (f : LowFile). In t (low_threads f)) same told.2 in
-      shown_own h step top makes.0 t (order_within (length h.steps) step top none) makes.0.shown makes.2.shown there
+      shown_own h step top makes.0 t order makes.0.shown makes.2.shown there
 
-  high_own : (h : History) (step : ℕ) (peer : List ℕ) (top : ℕ) (bytes : List ℕ) → top_refusal false (length h.steps) top ≡ None → MakesHigh dig h step peer top bytes
-      → (t : Thread) → PublishesBy dig (ProveHigh step peer top) (OfFile bytes) t → IsThreadOf dig h t
-  high_own h step peer top bytes none makes t told =
+  high_own : (h : History) (step : ℕ) (peer : List ℕ) (top : ℕ) (bytes : List ℕ) → top ≤ length h.steps → MakesHigh dig h step peer top bytes
+      → (t : Thread) → IsInHigh bytes t → IsThreadOf dig h t
+  high_own h step peer top bytes order makes t told =
       let f = makes.0 in
       let same = (unambiguous high_codec high-lawful).one_value bytes told.0 f told.1 makes.1 in
       let one = ⊎_elim (λ e. e) (λ no_other. absurd no_other) (subst (λ (x : HighFile). In t (high_threads x)) same told.2) in
       let own : IsThreadOf dig h (record { from = f.service; step = f.top - 1; auth = f.opening.prev }) = record {
         from = makes.2.of_peer;
-        within = omega (arith, makes.2.at_top, top_within (length h.steps) top none);
+        within = omega (arith, makes.2.at_top, order);
         auth = sym makes.2.opening.binds.prev ∙ ap (λ (i : ℕ). auth dig h (i - 1)) (sym makes.2.at_top);
       } in
       subst (λ (u : Thread). IsThreadOf dig h u) (sym one) own
@@ -197,26 +198,6 @@ module _ (dig : List ℕ → List ℕ) where
 
   -- ---- replies
 
-  -- a call that is refused, or answered by bytes, publishes what the bytes do
-  by_bytes : (h : History) (table : Option Refusal) (Makes : List ℕ → Type 0) (reply : Reply) (t : Thread)
-      → MatchOption table ((bytes : List ℕ) × Makes bytes × (reply ≡ OfProof bytes)) (λ refusal. reply ≡ Refused refusal)
-      → (table ≡ None → (bytes : List ℕ) → Makes bytes → Publishes (OfProof bytes) t → IsThreadOf dig h t) → Publishes reply t → IsThreadOf dig h t
-  by_bytes h None Makes reply t made own told = own refl made.0 made.1 (subst (λ (r : Reply). Publishes r t) made.2 told)
-  by_bytes h (Some refusal) Makes reply t made own told = absurd (subst (λ (r : Reply). Publishes r t) made told)
-
-  by_path : (table : Option Refusal) (Makes : Type 0) (reply : Reply) (t : Thread) → (Makes → Publishes reply t → ⊥)
-      → MatchOption table Makes (λ refusal. reply ≡ Refused refusal) → Publishes reply t → ⊥
-  by_path None Makes reply t untold made told = untold made told
-  by_path (Some refusal) Makes reply t untold made told = subst (λ (r : Reply). Publishes r t) made told
-
-  -- a call that is refused, or answered by a map file
-  by_file : (h : History) (call : Call) (table : Option Refusal) (Makes : List ℕ → Type 0) (reply : Reply) (t : Thread)
-      → MatchOption table ((bytes : List ℕ) × Makes bytes × (reply ≡ OfFile bytes)) (λ refusal. reply ≡ Refused refusal)
-      → ((refusal : Refusal) → PublishesBy dig call (Refused refusal) t → ⊥)
-      → (table ≡ None → (bytes : List ℕ) → Makes bytes → PublishesBy dig call (OfFile bytes) t → IsThreadOf dig h t) → PublishesBy dig call reply t → IsThreadOf dig h t
-  by_file h call None Makes reply t made untold own told = own refl made.0 made.1 (subst (λ (r : Reply). PublishesBy dig call r t) made.2 told)
-  by_file h call (Some refusal) Makes reply t made untold own told = absurd (untold refusal (subst (λ (r : Reply). PublishesBy dig call r t) made told))
-
   by_append : (h next : History) (events : List (List ℕ)) (time : Option ℕ) (table : Option Refusal) (reply : Reply) (t : Thread)
       → MatchOption table (NextOf dig (Append events time) h next × (reply ≡ OfThread (last_thread dig next))) (λ refusal. (next ≡ h) × (reply ≡ Refused refusal))
       → Publishes reply t → IsThreadOf dig next t
@@ -229,40 +210,50 @@ module _ (dig : List ℕ → List ℕ) where
   pub file_own : (h : History) (bytes : List ℕ) (t : Thread) → Spells history_layout bytes h → IsInFile dig bytes t → IsThreadOf dig h t
   file_own h bytes t spelled told = subst (λ (x : History). IsThreadOf dig x t) ((unambiguous history_codec history-lawful).one_value bytes told.0 h told.1 spelled) told.2
 
-  by_history : (h : History) → IsSound h → (table : Option Refusal) → export_refusal false h ≡ table → (reply : Reply) (t : Thread)
-      → MatchOption table (reply ≡ OfFile (history_bytes h)) (λ refusal. reply ≡ Refused refusal) → PublishesBy dig Export reply t → IsThreadOf dig h t
-  by_history h sound None none reply t is told =
+  message_own : (h : History) (since : ℕ) (bytes : List ℕ) → Makes dig h (ask.ThreadOut since) bytes → (t : Thread) → IsInAnswer dig (ask.ThreadOut since) bytes t → IsThreadOf dig h t
+  unfolding Makes
+  message_own h since bytes makes t told =
+      let same = (unambiguous message_codec message-lawful).one_value bytes told.0 makes.0 told.1 makes.1 in
+      let is : t ≡ thread_at_step dig h (length h.steps) = told.2 ∙ ap (λ (m : Message). m.thread) same ∙ makes.2.thread in
+      subst (λ (u : Thread). IsThreadOf dig h u) (sym is) (record { from = refl; within = omega arith; auth = refl })
+
+  -- the threads that stand in an answer
+  answer_own : (h : History) → IsSound h → (q : Question) → history_refusal h q ≡ None → (bytes : List ℕ) → Makes dig h q bytes → (t : Thread) → IsInAnswer dig q bytes t → IsThreadOf dig h t
+  unfolding question_refusal pages_refusal Makes
+  answer_own h sound (ask.Event step index top) none bytes makes t told =
+      let n = length h.steps in
+      event_own h step index (top_of top n) bytes (order_within n step (top_of top n) (none_first (order_refusal false n step (top_of top n)) _ none)) makes t told
+  answer_own h sound (ask.Thread step key top) none bytes makes t told =
+      let n = length h.steps in
+      thread_own h step key (top_of top n) bytes (order_within n step (top_of top n) (none_first (order_refusal false n step (top_of top n)) _ none)) makes t told
+  answer_own h sound (ask.Absent step key top) none bytes makes t told =
+      let n = length h.steps in
+      absence_own h step key (top_of top n) bytes (order_within n step (top_of top n) (none_first (order_refusal false n step (top_of top n)) _ none)) makes t told
+  answer_own h sound (ask.Link step top) none bytes makes t told =
+      let n = length h.steps in
+      link_own h step (top_of top n) bytes (link_within n step (top_of top n) (none_first (link_refusal false n step (top_of top n)) _ none)) makes t told
+  answer_own h sound (ask.Low step peer top) none bytes makes t told =
+      let n = length h.steps in
+      low_own h step peer (top_of top n) bytes (order_within n step (top_of top n) (none_first (order_refusal false n step (top_of top n)) _ none)) makes t told
+  answer_own h sound (ask.High step peer top) none bytes makes t told =
+      let n = length h.steps in
+      high_own h step peer (top_of top n) bytes (top_within n (top_of top n) (none_first (top_refusal false n (top_of top n)) _ none)) makes t told
+  answer_own h sound (ask.ThreadOut since) none bytes makes t told = message_own h since bytes makes t told
+  answer_own h sound ask.Export none bytes makes t told =
       let file = reads-back h sound (passes (is_short h) (TooLong (told_size h)) none) in
-      file_own h (history_bytes h) t file.1 (subst (λ (r : Reply). PublishesBy dig Export r t) is told)
-  by_history h sound (Some refusal) refused reply t is told = absurd (subst (λ (r : Reply). PublishesBy dig Export r t) is told)
+      file_own h bytes t (subst (λ (bs : List ℕ). Spells history_layout bs h) (sym makes) file.1) told
+
+  by_answer : (h : History) → IsSound h → (q : Question) (o : Option Refusal) → history_refusal h q ≡ o → (reply : Reply) (t : Thread)
+      → MatchOption o ((bytes : List ℕ) × Makes dig h q bytes × (reply ≡ OfBytes bytes)) (λ refusal. reply ≡ Refused refusal) → PublishesBy dig (Ask q) reply t → IsThreadOf dig h t
+  by_answer h sound q None none reply t made told = answer_own h sound q none made.0 made.1 t (subst (λ (r : Reply). PublishesBy dig (Ask q) r t) made.2 told)
+  by_answer h sound q (Some refusal) is reply t made told = absurd (subst (λ (r : Reply). PublishesBy dig (Ask q) r t) made told)
 
   -- what a step of the machine publishes is of the history behind it
   pub told_own : (h : History) → IsSound h → (call : Call) (reply : Reply) (next : History) → IsReplyTo call reply → IsStepOf dig h call reply next → (t : Thread) → PublishesBy dig call reply t → IsThreadOf dig next t
   told_own h sound (Append events time) reply next kind is t told = by_append h next events time (append_table h events time) reply t is told
   told_own h sound (Receive m time) reply next kind is t told = receipt_own h next m time reply kind is t told
-  told_own h sound (TellThread since) reply next kind is t told =
-      absurd (by_path (thread_refusal false (length h.steps) since) ((path : Path) × IsPathOf dig h path.links (length h.steps) since × (reply ≡ OfPath path)) reply t
-      (λ made shown. subst (λ (r : Reply). Publishes r t) made.2 shown) is.1 told)
-  told_own h sound (ProveEvent step index top) reply next kind is t told =
-      subst (λ (n : History). IsThreadOf dig n t) (sym is.0)
-      (by_bytes h (proof_refusal false h step index top) (λ bytes. MakesExistence dig h step index top bytes) reply t is.1 (λ none bytes makes shown. event_own h step index top bytes none makes t shown) told)
-  told_own h sound (ProveThread step key top) reply next kind is t told =
-      subst (λ (n : History). IsThreadOf dig n t) (sym is.0)
-      (by_bytes h (thread_proof_refusal false h step key top) (λ bytes. MakesThread dig h step key top bytes) reply t is.1 (λ none bytes makes shown. thread_own h step key top bytes none makes t shown) told)
-  told_own h sound (ProveAbsent step key top) reply next kind is t told =
-      subst (λ (n : History). IsThreadOf dig n t) (sym is.0)
-      (by_bytes h (absence_refusal false h step key top) (λ bytes. MakesAbsence dig h step key top bytes) reply t is.1 (λ none bytes makes shown. absence_own h step key top bytes none makes t shown) told)
-  told_own h sound (ProveLink step top) reply next kind is t told =
-      subst (λ (n : History). IsThreadOf dig n t) (sym is.0)
-      (by_bytes h (link_refusal false (length h.steps) step top) (λ bytes. MakesLink dig h step top bytes) reply t is.1 (λ none bytes makes shown. link_own h step top bytes none makes t shown) told)
-  told_own h sound (ProveLow step peer top) reply next kind is t told =
-      subst (λ (n : History). IsThreadOf dig n t) (sym is.0)
-      (by_file h (ProveLow step peer top) (order_refusal false (length h.steps) step top) (λ bytes. MakesLow dig h step peer top bytes) reply t is.1 (λ refusal shown. shown) (λ none bytes makes shown. low_own h step peer top bytes none makes t shown) told)
-  told_own h sound (ProveHigh step peer top) reply next kind is t told =
-      subst (λ (n : History). IsThreadOf dig n t) (sym is.0)
-      (by_file h (ProveHigh step peer top) (top_refusal false (length h.steps) top) (λ bytes. MakesHigh dig h step peer top bytes) reply t is.1 (λ refusal shown. shown) (λ none bytes makes shown. high_own h step peer top bytes none makes t shown) told)
-  told_own h sound Export reply next kind is t told =
-      subst (λ (n : History). IsThreadOf dig n t) (sym is.0) (by_history h sound (export_refusal false h) refl reply t is.1 told)
+  told_own h sound (Ask q) reply next kind is t told =
+      subst (λ (n : History). IsThreadOf dig n t) (sym is.0) (by_answer h sound q (history_refusal h q) refl reply t is.1 told)
   told_own h sound CountSteps reply next kind is t told = absurd (subst (λ (r : Reply). Publishes r t) is.1 told)
   told_own h sound TellHead reply next kind is t told =
       let one : t ≡ last_thread dig h = subst (λ (r : Reply). Publishes r t) is.1 told in
@@ -276,14 +267,7 @@ module _ (dig : List ℕ → List ℕ) where
   next_has (Append events time) h next is t own = subst (λ (n : History). IsThreadOf dig n t) (sym is) (own_plus h _ t own)
   next_has (Receive m time) h next (inl is) t own = subst (λ (n : History). IsThreadOf dig n t) (sym is) own
   next_has (Receive m time) h next (inr is) t own = subst (λ (n : History). IsThreadOf dig n t) (sym is.1.1) (own_plus h is.1.0 t own)
-  next_has (TellThread since) h next is t own = subst (λ (n : History). IsThreadOf dig n t) (sym is) own
-  next_has (ProveEvent step index top) h next is t own = subst (λ (n : History). IsThreadOf dig n t) (sym is) own
-  next_has (ProveThread step key top) h next is t own = subst (λ (n : History). IsThreadOf dig n t) (sym is) own
-  next_has (ProveAbsent step key top) h next is t own = subst (λ (n : History). IsThreadOf dig n t) (sym is) own
-  next_has (ProveLink step top) h next is t own = subst (λ (n : History). IsThreadOf dig n t) (sym is) own
-  next_has (ProveLow step peer top) h next is t own = subst (λ (n : History). IsThreadOf dig n t) (sym is) own
-  next_has (ProveHigh step peer top) h next is t own = subst (λ (n : History). IsThreadOf dig n t) (sym is) own
-  next_has Export h next is t own = subst (λ (n : History). IsThreadOf dig n t) (sym is) own
+  next_has (Ask q) h next is t own = subst (λ (n : History). IsThreadOf dig n t) (sym is) own
   next_has CountSteps h next is t own = subst (λ (n : History). IsThreadOf dig n t) (sym is) own
   next_has TellHead h next is t own = subst (λ (n : History). IsThreadOf dig n t) (sym is) own
   next_has TellName h next is t own = subst (λ (n : History). IsThreadOf dig n t) (sym is) own
@@ -293,14 +277,7 @@ module _ (dig : List ℕ → List ℕ) where
   next_name (Append events time) h next is = ap (λ (n : History). n.name) is
   next_name (Receive m time) h next (inl is) = ap (λ (n : History). n.name) is
   next_name (Receive m time) h next (inr is) = ap (λ (n : History). n.name) is.1.1
-  next_name (TellThread since) h next is = ap (λ (n : History). n.name) is
-  next_name (ProveEvent step index top) h next is = ap (λ (n : History). n.name) is
-  next_name (ProveThread step key top) h next is = ap (λ (n : History). n.name) is
-  next_name (ProveAbsent step key top) h next is = ap (λ (n : History). n.name) is
-  next_name (ProveLink step top) h next is = ap (λ (n : History). n.name) is
-  next_name (ProveLow step peer top) h next is = ap (λ (n : History). n.name) is
-  next_name (ProveHigh step peer top) h next is = ap (λ (n : History). n.name) is
-  next_name Export h next is = ap (λ (n : History). n.name) is
+  next_name (Ask q) h next is = ap (λ (n : History). n.name) is
   next_name CountSteps h next is = ap (λ (n : History). n.name) is
   next_name TellHead h next is = ap (λ (n : History). n.name) is
   next_name TellName h next is = ap (λ (n : History). n.name) is

@@ -10,9 +10,13 @@ use Rattle.tw_base.specs.kinds.Lists.{In}
 use Rattle.tw_chain.specs.declared.proof.Proof.{Proof}
 use Rattle.tw_chain.specs.declared.proof.Proof.TheVariants.{Exists, Precedes, Archived, Absent, Linked}
 use Rattle.tw_chain.specs.Proofs.{proof_layout}
+use Rattle.tw_msg.specs.declared.message.Message.{Message}
+use Rattle.tw_msg.specs.Messages.{message_layout}
+use Rattle.tw_base.specs.declared.history.question.Question.{Question}
+use Rattle.tw_base.specs.declared.history.question.Question.TheVariants as ask
 use Rattle.tw_service.specs.Machine.{Call, Reply}
-use Rattle.tw_service.specs.Machine.Call.{Append, Receive, TellThread, ProveEvent, ProveThread, ProveAbsent, ProveLink, ProveLow, ProveHigh, Export, CountSteps, TellHead, TellName}
-use Rattle.tw_service.specs.Machine.Reply.{OfThread, OfReceipt, OfPath, OfProof, OfFile, OfNumber, OfName, Refused}
+use Rattle.tw_service.specs.Machine.Call.{Append, Ask, Receive, CountSteps, TellHead, TellName}
+use Rattle.tw_service.specs.Machine.Reply.{OfBytes, OfThread, OfReceipt, OfNumber, OfName, Refused}
 use Rattle.tw_skipproof.specs.declared.existence.Part.{Part}
 use Rattle.tw_tmap.specs.declared.map_file.HighFile.{HighFile}
 use Rattle.tw_tmap.specs.declared.map_file.LowFile.{LowFile}
@@ -59,36 +63,37 @@ pub record IsThreadOf (dig : List ℕ → List ℕ) (h : History) (t : Thread) :
 abbrev pub IsInFile : (dig : List ℕ → List ℕ) → (bytes : List ℕ) → Thread → Type 0
 IsInFile dig bytes t = (h : History) × Spells history_layout bytes h × IsThreadOf dig h t
 
--- the reply publishes the thread. A path has labels alone; the thread of the message that it belongs to is that of `head`
+-- the thread is that of the message that the bytes are
+abbrev pub IsInMessage : (bytes : List ℕ) → Thread → Type 0
+IsInMessage bytes t = (m : Message) × Spells message_layout bytes m × (t ≡ m.thread)
+
+-- the thread stands in the bytes that answer the question
+abbrev pub IsInAnswer : (dig : List ℕ → List ℕ) → Question → (bytes : List ℕ) → Thread → Type 0
+IsInAnswer dig (ask.Low step peer top) bytes t = IsInLow bytes t
+IsInAnswer dig (ask.High step peer top) bytes t = IsInHigh bytes t
+IsInAnswer dig (ask.ThreadOut since) bytes t = IsInMessage bytes t
+IsInAnswer dig ask.Export bytes t = IsInFile dig bytes t
+IsInAnswer dig _ bytes t = IsInProof bytes t
+
+-- the reply publishes the thread
 abbrev pub Publishes : Reply → Thread → Type 0
 Publishes (OfThread thread) t = t ≡ thread
 Publishes (OfReceipt receipt) t = t ≡ receipt.by
-Publishes (OfPath path) t = ⊥
-Publishes (OfProof bytes) t = IsInProof bytes t
-Publishes (OfFile bytes) t = ⊥
+Publishes (OfBytes bytes) t = ⊥
 Publishes (OfNumber number) t = ⊥
 Publishes (OfName name) t = ⊥
 Publishes (Refused refusal) t = ⊥
 
--- so does the call by its reply; a file is of the kind that was asked for
+-- so does the call by its reply; the bytes of an answer are of the kind that was asked for
 abbrev pub PublishesBy : (dig : List ℕ → List ℕ) → Call → Reply → Thread → Type 0
-PublishesBy dig (ProveLow step peer top) (OfFile bytes) t = IsInLow bytes t
-PublishesBy dig (ProveHigh step peer top) (OfFile bytes) t = IsInHigh bytes t
-PublishesBy dig Export (OfFile bytes) t = IsInFile dig bytes t
+PublishesBy dig (Ask q) (OfBytes bytes) t = IsInAnswer dig q bytes t
 PublishesBy dig _ reply t = Publishes reply t
 
 -- the call has replies of this kind
 abbrev pub IsReplyTo : Call → Reply → Type 0
 IsReplyTo (Append events time) (OfThread thread) = Unit {0}
 IsReplyTo (Receive message time) (OfReceipt receipt) = Unit {0}
-IsReplyTo (TellThread since) (OfPath path) = Unit {0}
-IsReplyTo (ProveEvent step index top) (OfProof bytes) = Unit {0}
-IsReplyTo (ProveThread step key top) (OfProof bytes) = Unit {0}
-IsReplyTo (ProveAbsent step key top) (OfProof bytes) = Unit {0}
-IsReplyTo (ProveLink step top) (OfProof bytes) = Unit {0}
-IsReplyTo (ProveLow step peer top) (OfFile bytes) = Unit {0}
-IsReplyTo (ProveHigh step peer top) (OfFile bytes) = Unit {0}
-IsReplyTo Export (OfFile bytes) = Unit {0}
+IsReplyTo (Ask q) (OfBytes bytes) = Unit {0}
 IsReplyTo CountSteps (OfNumber number) = Unit {0}
 IsReplyTo TellHead (OfThread thread) = Unit {0}
 IsReplyTo TellName (OfName name) = Unit {0}

@@ -12,7 +12,7 @@ use tw_service::Service;
 /// any moment on one disk, one thread of each step is published at most, and it is one of each history
 /// that the disk may stand for at the end. A run begins on a disk that stands for a history for good, or
 /// with a service that serves one; each call of a service is an event of a run, as the functions beside
-/// this one say. The service handed in only names the types.
+/// this one say: a call that asks one question has the contract of `ask` for it. The service handed in only names the types.
 pub fn run_laws<D: Disk, H: Hasher>(service: &Service<D, H>)
     // Over every run that begins with a history, any two threads of one step are equal, of those of that history and of those
     // published: a thread that `head` tells at some moment, that stands in an answer, or that is one of an exported

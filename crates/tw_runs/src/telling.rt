@@ -1,15 +1,17 @@
 // The calls of a service that tell its name, its steps and its head, as what comes in a run.
 
 ghost use Rattle.std.specs.Prelude.{Ok};
-ghost use Rattle.tw_service.specs.Machine.Call.{CountSteps, TellHead, TellName, TellThread};
-ghost use Rattle.tw_service.specs.Machine.Reply.{OfName, OfNumber, OfPath, OfThread};
+ghost use Rattle.tw_msg.specs.Messages.{message_bytes};
+ghost use Rattle.tw_base.specs.declared.history.question.Question.TheVariants.{ThreadOut};
+ghost use Rattle.tw_service.specs.Machine.Call.{Ask, CountSteps, TellHead, TellName};
+ghost use Rattle.tw_service.specs.Machine.Reply.{OfBytes, OfName, OfNumber, OfThread};
 ghost use Rattle.tw_runs.specs.Runs.{IsAnswered, IsTold, replied};
 
 use tw_answers::Refusal;
 use tw_base::{Hasher, Name, Thread};
 use tw_disk::Disk;
+use tw_msg::Message;
 use tw_service::Service;
-use tw_skipproof::Path;
 
 /// Tells the number of steps, by `Service::steps`.
 pub fn steps<D: Disk, H: Hasher>(service: &Service<D, H>) -> u64
@@ -35,13 +37,13 @@ pub fn name<D: Disk, H: Hasher>(service: &Service<D, H>) -> Name
     service.name()
 }
 
-/// Gives the path of the message of the last step, by `Service::thread_out`, with its answers.
+/// Gives the message of the last step, by `Service::thread_out`, with its answers.
 pub fn thread_out<D: Disk, H: Hasher>(
     service: &mut Service<D, H>,
     since: u64,
-) -> Result<Path, Refusal>
-    // Asking for the path of a message is a call of a run.
-    ensures { IsAnswered H.dig D.view (TellThread since) (replied (λ path. OfPath path) result) service.old service.new }
+) -> Result<Message, Refusal>
+    // Asking for a message is a call of a run.
+    ensures { IsAnswered H.dig D.view (Ask (ThreadOut since)) (replied (λ m. OfBytes (message_bytes m)) result) service.old service.new }
 {
     service.thread_out(since)
 }

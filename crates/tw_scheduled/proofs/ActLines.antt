@@ -2,8 +2,8 @@
 use Rattle.std.proofs.Common.{◌≡◌, ℕ, suc, List, [], ◌∷◌, ◌++◌, length, replicate, false, refl, ap, sym, ◌∙◌, subst, inl, arith}
 use Rattle.std.specs.Prelude.{◌-◌, codes, slice_get, Option, Some, None, MatchOption}
 use Rattle.std.proofs.lemmas.List.{length_push}
-use Rattle.tw_answers.specs.Limits.{thread_refusal}
 use Rattle.tw_answers.specs.declared.refusal.Refusal.{Refusal}
+use Rattle.tw_base.specs.declared.history.question.Question.TheVariants.{ThreadOut}
 use Rattle.tw_base.specs.format.Formats.{Spells}
 use Rattle.tw_base.specs.history.Family.{AllSound}
 use Rattle.tw_base.specs.history.History.{History}
@@ -21,13 +21,14 @@ use Rattle.tw_msg.specs.declared.receipt.Receipt.{Receipt}
 use Rattle.tw_script.specs.declared.line.Line.{Line}
 use Rattle.tw_script.specs.declared.line.Line.TheVariants.{Append, Send, Deliver}
 use Rattle.tw_service.specs.EventSteps.{with_events}
-use Rattle.tw_service.specs.Machine.{IsStepOf, RepliesTo, append_table, last_thread, received_as}
-use Rattle.tw_service.specs.Machine.Call.{Append as AppendEvents, TellThread}
-use Rattle.tw_service.specs.Machine.Reply.{OfPath, OfReceipt, OfThread, Refused}
+use Rattle.tw_service.specs.Machine.{IsStepOf, Makes, RepliesTo, append_table, last_thread, received_as}
+use Rattle.tw_service.specs.Machine.Call.{Append as AppendEvents, Ask}
+use Rattle.tw_service.specs.Machine.Reply.{OfBytes, OfReceipt, OfThread, Refused}
+use Rattle.tw_service.specs.Questions.{history_refusal}
 use Rattle.tw_service.specs.declared.receiving.Reception.{Reception}
 use Rattle.tw_service.specs.declared.receiving.Reception.TheVariants.{Archive, Known, Refuse}
 use Rattle.tw_world.specs.Hosts.{claims_none}
-use Rattle.tw_world.specs.Runs.{IsDelivered, IsMember, IsReached, IsTold, Runs, mail_of}
+use Rattle.tw_world.specs.Runs.{IsDelivered, IsMember, IsReached, IsTold, Runs}
 use Rattle.tw_world.specs.Worlds.{Mail, Member, World, after_line, family, histories_of, member_of, moved, no_world, put_member, with_message, with_service}
 use Rattle.tw_world.specs.Worlds.Mail.{Made}
 use Rattle.tw_world.specs.declared.told.Answer.TheVariants as answer
@@ -63,18 +64,13 @@ module _ (dig : List ℕ → List ℕ) where
           (subst (λ (o : Option Refusal). MatchOption o ((h ≡ with_events h events None) × (Refused r ≡ OfThread (last_thread dig h))) (λ refusal. (h ≡ h) × (Refused r ≡ Refused refusal))) (sym is)
           (refl, refl))
 
-  told_thread : (h : History) (since : ℕ) (m : Message) → IsNotRefused dig h (TellThread since) → IsMessageOf dig h since m
-      → IsStepOf dig h (TellThread since) (OfPath m.link) h
-  told_thread h since m goes is = (refl, unrefused _ _ (thread_refusal false (length h.steps) since) never (m.link, is.link, refl))
+  told_thread : (h : History) (since : ℕ) (m : Message) → IsNotRefused dig h (Ask (ThreadOut since)) → IsMessageOf dig h since m → Spells message_layout (message_bytes m) m
+      → IsStepOf dig h (Ask (ThreadOut since)) (OfBytes (message_bytes m)) h
+  unfolding Makes
+  told_thread h since m goes is spelled = (refl, unrefused _ _ (history_refusal h (ThreadOut since)) never (message_bytes m, (m, spelled, is), refl))
     where
-      never : (r : Refusal) → thread_refusal false (length h.steps) since ≡ Some r → ⊥
-      never r none = goes r h (refl, refused-so _ (thread_refusal false (length h.steps) since) r none)
-
-  mail-is : (h : History) (since : ℕ) (m : Message) → IsMessageOf dig h since m → mail_of dig h since (OfPath m.link) ≡ Made (message_bytes m)
-  mail-is h since m is = ap (λ (n : Message). Made (message_bytes n)) same
-    where
-      same : record { thread = last_thread dig h; since = since; link = m.link } ≡ m
-      same = λ j. record { thread = sym is.thread j; since = sym is.at_since j; link = m.link }
+      never : (r : Refusal) → history_refusal h (ThreadOut since) ≡ Some r → ⊥
+      never r none = goes r h (refl, refused-so _ (history_refusal h (ThreadOut since)) r none)
 
   heard-name : (h : History) (m : Message) (r : Receipt) (next : History) (x : Reception) → RepliesTo dig h m None (OfReceipt r) next x → next.name ≡ h.name
   heard-name h m r next (Refuse refusal) reply = (let bad : OfReceipt r ≡ Refused refusal = reply.1 in cc)
@@ -142,12 +138,13 @@ module _ (dig : List ℕ → List ℕ) where
   abbrev mailed : World → Message → World
   mailed w m = after_line (with_message w (Made (message_bytes m)))
 
-  send-line : (from : Who) (since : ℕ) (m : Message) (t : Trio) (w : World) (s : Stands t w) → IsNotRefused dig (history_of from t) (TellThread since)
-      → IsMessageOf dig (history_of from t) since m → IsTold dig claims_none w (Send (name_of from) since) (Plain (answer.Sent (suc (length w.messages)))) (mailed w m)
-  send-line from since m t w s goes is = (
+  send-line : (from : Who) (since : ℕ) (m : Message) (t : Trio) (w : World) (s : Stands t w) → IsNotRefused dig (history_of from t) (Ask (ThreadOut since))
+      → IsMessageOf dig (history_of from t) since m → Spells message_layout (message_bytes m) m
+      → IsTold dig claims_none w (Send (name_of from) since) (Plain (answer.Sent (suc (length w.messages)))) (mailed w m)
+  send-line from since m t w s goes is spelled = (
     one_of from t s.births,
     member from t w s,
-    (OfPath m.link, told_thread (history_of from t) since m goes is, refl, ap (λ (mail : Mail). after_line (with_message w mail)) (sym (mail-is (history_of from t) since m is))),
+    (OfBytes (message_bytes m), told_thread (history_of from t) since m goes is spelled, refl, refl),
   )
 
   stands-mailed : (t : Trio) (w : World) (m : Message) (s : Stands t w) → IsReached dig claims_none (mailed w m) → Stands t (mailed w m)
@@ -217,9 +214,10 @@ module _ (dig : List ℕ → List ℕ) where
         let m : Message = hears.message in
         let since : ℕ = last_heard b a.name in
         let v : World = mailed w m in
-        let sent = send-line from since m t w s can.0.0 hears.is_message in
+        let spelled = spelled_law a since m (sound from t w s) hears.is_message in
+        let sent = send-line from since m t w s can.0.0 hears.is_message spelled in
         let between : Stands t v = stands-mailed t w m s (reach-more w (Send (name_of from) since) (Plain (answer.Sent (suc (length w.messages)))) v s.reached sent) in
-        let line = deliver-line from to t w next hears between (spelled_law a since m (sound from t w s) hears.is_message) in
+        let line = deliver-line from to t w next hears between spelled in
         let x : World = onward to t v between.births next in
         let archived : Told = Plain (answer.Archived hears.receipt.by.step) in
         let own : next.name ≡ name_of to = heard-name b m hears.receipt next (received_as dig b m None) hears.receives ∙ named to t s.names in

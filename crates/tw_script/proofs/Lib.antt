@@ -3,6 +3,7 @@ pub mod InjectedLaws
 pub mod ValueLaws
 pub mod ReadingSteps
 pub mod LimitLaws
+pub mod LineValues
 pub mod LineLaws
 pub mod AskedLaws
 pub mod BadLines

@@ -2,6 +2,7 @@
 use Rattle.std.proofs.Common.{◌≡◌, ℕ, zero, suc, ◌+◌, List, [], ◌∷◌, length, slice_get, Bool, true, false, nat_lt, Option, Some, None, Result, Ok, Err, if◌then◌else◌, ap, subst, sym, ◌∙◌, refl, inl, inr, arith}
 use Rattle.std.specs.Option.{option_and_then}
 use Rattle.tw_base.specs.kinds.Lists.{Each, In}
+use Rattle.tw_script.specs.AskedWords.{AsksWell}
 use Rattle.tw_script.specs.Allowed.{made_by, may_follow, nothing_made}
 use Rattle.tw_script.specs.LineTable.{line_of}
 use Rattle.tw_script.specs.ScriptLines.{AreLines, IsLineOf, IsScript, RiseFrom}
@@ -11,6 +12,7 @@ use Rattle.tw_script.specs.declared.line.Line.{Line}
 use Rattle.tw_script.specs.declared.made.Made.{Made}
 use Rattle.tw_script.specs.declared.script.NumberedLine.{NumberedLine}
 use Rattle.tw_script.specs.declared.script.ScriptFault.TheVariants.{TooLong}
+use Rattle.tw_script.proofs.LineValues.{line-asks}
 use Rattle.tw_script.proofs.ReadingSteps.{numbered, read-line, read-none, read-skipped, read-stops}
 
 -- a text's line is its form's, and may follow
@@ -141,3 +143,11 @@ script-lines bytes script ok = by (nat_lt MOST_SCRIPT_BYTES (length bytes)) (rea
 
 pub is-script : (bytes : List ℕ) (script : List NumberedLine) → script_of bytes ≡ Ok script → IsScript bytes script
 is-script bytes script ok = lines-read (line_texts bytes) nothing_made 1 script (script-lines bytes script ok)
+
+-- its lines are asked what a service may be asked
+lines-ask : (number : ℕ) (texts : List (List ℕ)) (lines : List NumberedLine) → Each (IsLineOf number texts) lines → Each (λ (l : NumberedLine). AsksWell l.line) lines
+lines-ask number texts [] are = tt
+lines-ask number texts (l ∷ lines) are = (line-asks are.0.text l.line are.0.line_is, lines-ask number texts lines are.1)
+
+pub script-asks : (bytes : List ℕ) (script : List NumberedLine) → script_of bytes ≡ Ok script → Each (λ (l : NumberedLine). AsksWell l.line) script
+script-asks bytes script ok = lines-ask 1 (line_texts bytes) script (is-script bytes script ok).of_texts

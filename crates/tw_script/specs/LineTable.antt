@@ -1,32 +1,32 @@
 -- The forms of a script's lines.
 use Rattle.std.specs.Prelude.{ℕ, List, [], ◌∷◌, length, codes, nat_le, Option, Some, None, option_map, if◌then◌else◌}
 use Rattle.std.specs.Option.{option_and_then}
+use Rattle.tw_base.specs.declared.history.question.Question.{Question}
+use Rattle.tw_base.specs.declared.history.question.Question.TheVariants as ask
 use Rattle.tw_base.specs.declared.kinds.limits.TheConstants.{LAST_STEP}
 use Rattle.tw_script.specs.LineForms.{Form, all_values, any_number, any_number_value, choose, end, maybe, name, number, then_form}
 use Rattle.tw_script.specs.LineWords.{bytes_value, choice_value, words as words_of}
 use Rattle.tw_script.specs.declared.line.Line.{Line}
 use Rattle.tw_script.specs.declared.line.Line.TheVariants.{Service, Hostile, Append, Send, Inject, Deliver, Lose, Crash, Prove, Join, Anchor, Verify}
-use Rattle.tw_script.specs.declared.line.AskedProof.{AskedProof}
-use Rattle.tw_script.specs.declared.line.AskedProof.TheVariants.{OfEvent, OfThread, OfAbsence, OfLink}
 
 -- ---- the proofs that a `prove` line asks for, in the words that the command `prove` has behind its folder
 
-unfoldable pub of_event : Form AskedProof
-of_event = any_number (λ step. any_number (λ index. maybe (λ top. OfEvent step index top)))
+unfoldable pub of_event : Form Question
+of_event = any_number (λ step. any_number (λ index. maybe (λ top. ask.Event step index top)))
 
-unfoldable pub of_thread : Form AskedProof
-of_thread = any_number (λ step. name (λ peer. number 1 LAST_STEP (λ k. maybe (λ top. OfThread step peer k top))))
+unfoldable pub of_thread : Form Question
+of_thread = any_number (λ step. name (λ peer. number 1 LAST_STEP (λ k. maybe (λ top. ask.Thread step (record { from = peer; step = k }) top))))
 
-unfoldable pub of_absence : Form AskedProof
-of_absence = any_number (λ step. name (λ peer. number 1 LAST_STEP (λ k. maybe (λ top. OfAbsence step peer k top))))
+unfoldable pub of_absence : Form Question
+of_absence = any_number (λ step. name (λ peer. number 1 LAST_STEP (λ k. maybe (λ top. ask.Absent step (record { from = peer; step = k }) top))))
 
-unfoldable pub of_link : Form AskedProof
-of_link = any_number (λ step. maybe (λ top. OfLink step top))
+unfoldable pub of_link : Form Question
+of_link = any_number (λ step. maybe (λ top. ask.Link step top))
 
-abbrev pub proofs : List (List ℕ × Form AskedProof)
+abbrev pub proofs : List (List ℕ × Form Question)
 proofs = (codes "event", of_event) ∷ (codes "thread", of_thread) ∷ (codes "absent", of_absence) ∷ (codes "link", of_link) ∷ []
 
-unfoldable pub asked_proof : Form AskedProof
+unfoldable pub asked_proof : Form Question
 asked_proof = choose proofs
 
 -- ---- lines behind their first word

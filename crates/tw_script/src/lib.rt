@@ -15,5 +15,5 @@ mod there;
 mod word_values;
 
 pub use laws::script_laws;
-pub use line::{AskedProof, CrashChoice, Line};
+pub use line::{CrashChoice, Line};
 pub use script::{NumberedLine, Script, ScriptFault, read_script};

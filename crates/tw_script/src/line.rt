@@ -1,6 +1,6 @@
 // The lines of scripts.
 
-use tw_base::{Bytes, EventList, Name, Sequence};
+use tw_base::{Bytes, EventList, Name, Question, Sequence};
 
 /// A line of a script, with the values of its words in their order. A number of a message or of a file counts those that
 /// the script's lines make, from 1.
@@ -44,10 +44,10 @@ pub enum Line {
         call: u64,
         choice: CrashChoice,
     },
-    /// `prove NAME ..`: makes the next file, a proof of the service's history.
+    /// `prove NAME ..`: makes the next file, a proof of the service's history, of an event, a thread, an absence or a link.
     Prove {
         service: Name,
-        asked: AskedProof,
+        asked: Question,
     },
     /// `join N N ..`: joins files, at least two, into the next one.
     Join {
@@ -61,37 +61,6 @@ pub enum Line {
     /// `verify N`: judges a file under the anchors held.
     Verify {
         file: u64,
-    },
-}
-
-/// What a proof is asked of, with the words that the command `prove` has behind its folder. Where `top` is None the last step
-/// is meant.
-#[derive(Clone, Copy, Drop, Debug)]
-pub enum AskedProof {
-    /// `event STEP INDEX [TOP]`: that an event stands in a step.
-    OfEvent {
-        step: u64,
-        index: u64,
-        top: Option<u64>,
-    },
-    /// `thread STEP PEER K [TOP]`: that a peer's step is archived by a step.
-    OfThread {
-        step: u64,
-        peer: Name,
-        k: u64,
-        top: Option<u64>,
-    },
-    /// `absent STEP PEER K [TOP]`: that a peer's step isn't archived by a step.
-    OfAbsence {
-        step: u64,
-        peer: Name,
-        k: u64,
-        top: Option<u64>,
-    },
-    /// `link STEP [TOP]`: the authenticator of a step.
-    OfLink {
-        step: u64,
-        top: Option<u64>,
     },
 }
 

@@ -1,7 +1,7 @@
 -- What is found in pages that keep a history is the history's.
-use Rattle.std.proofs.Common.{◌≡◌, ◌⊎◌, ℕ, ◌+◌, ◌^◌, ◌<◌, ◌≤◌, List, length, refl, ap, sym, ◌∙◌, subst, arith, inl, inr, Bool}
+use Rattle.std.proofs.Common.{◌≡◌, ℕ, ◌+◌, ◌^◌, ◌<◌, ◌≤◌, List, length, refl, ap, sym, ◌∙◌, subst, arith, Bool}
 use Rattle.std.specs.Prelude.{Option, Some, None, Result, Ok, Err, if◌then◌else◌, false}
-use Rattle.std.proofs.lemmas.Bool.{cases_lt, le-ltb}
+use Rattle.std.proofs.lemmas.Bool.{le-ltb}
 use Rattle.tw_base.specs.declared.kinds.limits.TheConstants.{LAST_STEP}
 use Rattle.tw_base.specs.declared.history.content.Content.TheVariants.{Events}
 use Rattle.tw_base.specs.history.History.{History, events_at}
@@ -22,16 +22,15 @@ use Rattle.tw_disk.specs.Found.Found.{Is}
 use Rattle.tw_skiplist.specs.Infos.{IsInfoOf}
 use Rattle.tw_skiplist.specs.Keeping.{Keeps}
 use Rattle.tw_skiplist.specs.Readings.{found_link, found_path, found_proof}
-use Rattle.tw_disk.proofs.FoundLaws.{is_on, same_found}
+use Rattle.tw_disk.proofs.FoundLaws.{is_on}
 use Rattle.tw_skiplist.proofs.KeptEvents.{events_are}
 use Rattle.tw_skiplist.proofs.KeptReadings.{link_found, path_found, proof_found}
 use Rattle.tw_answers.specs.declared.refusal.Refusal.{Refusal}
 use Rattle.tw_answers.specs.declared.refusal.Refusal.TheVariants.{NoEvent}
-use Rattle.tw_answers.specs.Finds.{IsRefusalOf, event_proof, link_of, link_proof, part_of, path_down, proof_bytes, unless}
+use Rattle.tw_answers.specs.Finds.{event_proof, link_of, link_proof, part_of, path_down, proof_bytes, unless}
 use Rattle.tw_service.specs.Finds.{found_thread, thread_at}
 use Rattle.tw_answers.specs.Limits.{append_refusal, event_refusal}
 use Rattle.tw_service.specs.Machine.{MakesLink, last_thread}
-use Rattle.tw_answers.specs.Refusals.{IsBadPage, IsFault, IsNoEvent}
 use Rattle.tw_chain.specs.declared.proof.LinkProof.{LinkProof}
 use Rattle.tw_chain.specs.declared.proof.Proof.TheVariants.{Linked}
 use Rattle.tw_chain.specs.OwnProofs.{IsLinkProofOf}
@@ -43,7 +42,6 @@ use Rattle.tw_service.specs.EventSteps.{with_events}
 use Rattle.tw_service.specs.Stands.{KeepsWhole}
 use Rattle.tw_service.proofs.WholePages.{added_whole}
 use Rattle.tw_answers.proofs.TableAnswers.{has_event}
-use Rattle.tw_answers.proofs.FoundAnswers.{no_bad_found, no_event_found, value_found}
 
 -- ---- the thread of the next step
 
@@ -79,41 +77,9 @@ kept_link dig size ps h head step top keeps sound order some below =
       (made, own-spelled dig h step top (λ t. (size t).0) (λ t. (size t).1) sound order (omega (arith, below, keeps.step)) (Linked made) some tt own, own),
     )
 
--- what is found of a path is the history's, and no page is bad
-module _ (dig : List ℕ → List ℕ) (size : (text : List ℕ) → IsDigest (dig text)) (ps : Image) (h : History) (head : Head) (since : ℕ) (keeps : Keeps dig ps h head) (order : since ≤ head.step) where
-  same_path : (x y : Path) → ◌≡◌ {A = Result Path Refusal} (Ok x) (Ok y) → x ≡ y
-  same_path x y e = cc
-
-  pub path_answer : (path : Path) → path_down dig ps head since ≡ Is (Ok path) → IsPathOf dig h path.links (length h.steps) since
-  path_answer path is =
-      let own = kept_path dig size ps h head since keeps order in
-      subst (λ (p : Path). IsPathOf dig h p.links (length h.steps) since) (same_path own.0 path (same_found (Ok own.0) (Ok path) (sym own.1 ∙ is))) own.2
-
-  pub path_good : (refusal : Refusal) → IsRefusalOf refusal (path_down dig ps head since) → IsBadPage refusal → ⊥
-  path_good refusal is = let own = kept_path dig size ps h head since keeps order in no_bad_found refusal (path_down dig ps head since) own.0 own.1 is
-
--- what is found of an authenticator too
-module _ (dig : List ℕ → List ℕ) (size : (text : List ℕ) → IsDigest (dig text)) (ps : Image) (h : History) (head : Head) (keeps : Keeps dig ps h head) (sound : IsSound h) (name : List ℕ) (named : h.name ≡ name)
-    (step top : ℕ) (order : step ≤ top) (some : 1 ≤ top) (below : top ≤ head.step) where
-  same_bytes : (x y : List ℕ) → ◌≡◌ {A = Result (List ℕ) Refusal} (Ok x) (Ok y) → x ≡ y
-  same_bytes x y e = cc
-
-  own_link : (bytes : List ℕ) × (link_proof dig ps name head step top ≡ Is (Ok bytes)) × MakesLink dig h step top bytes
-  own_link =
-      let own = kept_link dig size ps h head step top keeps sound order some below in
-      (own.0, ap (λ (n : List ℕ). link_proof dig ps n head step top) (sym named) ∙ own.1, own.2)
-
-  pub link_answer : (bytes : List ℕ) → link_proof dig ps name head step top ≡ Is (Ok bytes) → MakesLink dig h step top bytes
-  link_answer bytes is =
-      let own = own_link in
-      subst (MakesLink dig h step top) (same_bytes own.0 bytes (same_found (Ok own.0) (Ok bytes) (sym own.1 ∙ is))) own.2
-
-  pub link_good : (refusal : Refusal) → IsRefusalOf refusal (link_proof dig ps name head step top) → IsBadPage refusal → ⊥
-  link_good refusal is = let own = own_link in no_bad_found refusal (link_proof dig ps name head step top) own.0 own.1 is
-
 -- ---- an event of a step
 
-no_such : (count index : ℕ) → count ≤ index → event_refusal count index ≡ Some (NoEvent count)
+pub no_such : (count index : ℕ) → count ≤ index → event_refusal count index ≡ Some (NoEvent count)
 unfolding event_refusal
 no_such count index past = ap (λ (b : Bool). if b then None else Some (NoEvent count)) (le-ltb index count past)
 
@@ -164,37 +130,3 @@ module _ (dig : List ℕ → List ℕ) (size : (text : List ℕ) → IsDigest (d
 
   pub beyond : length events ≤ index → whole ≡ Is (Err (NoEvent (length events)))
   beyond past = whole_is (Some (NoEvent (length events))) (no_such (length events) index past)
-
-  -- the bytes of an answer
-  pub answer_makes : (bytes : List ℕ) → whole ≡ Is (Ok bytes) → MakesExistence dig h step index top bytes × (index < length events)
-  answer_makes bytes is =
-      elim (cases_lt index (length events)) [
-        | inl l ↦ (
-            let own = in_range l in
-            let both : ◌≡◌ {A = Found (Result (List ℕ) Refusal)} (Is (Ok own.bytes)) (Is (Ok bytes)) = sym own.is ∙ is in
-            let same : own.bytes ≡ bytes = same_ok own.bytes bytes (same_found (Ok own.bytes) (Ok bytes) both) in
-            (subst (MakesExistence dig h step index top) same own.makes, l))
-        | inr past ↦ (
-            let both : ◌≡◌ {A = Found (Result (List ℕ) Refusal)} (Is (Err (NoEvent (length events)))) (Is (Ok bytes)) = sym (beyond past) ∙ is in
-            absurd (err_ok (same_found (Err (NoEvent (length events))) (Ok bytes) both)))
-      ]
-    where
-      same_ok : (x y : List ℕ) → ◌≡◌ {A = Result (List ℕ) Refusal} (Ok x) (Ok y) → x ≡ y
-      same_ok x y e = cc
-
-      err_ok : {r : Refusal} {x : List ℕ} → ◌≡◌ {A = Result (List ℕ) Refusal} (Err r) (Ok x) → ⊥
-      err_ok e = cc
-
-  -- a refusal's page is none, and its count the step's
-  pub answer_refuses : (refusal : Refusal) → IsRefusalOf refusal whole → (IsFault refusal ⊎ IsNoEvent refusal)
-      → (IsBadPage refusal → ⊥) × (IsNoEvent refusal → event_refusal (length events) index ≡ Some refusal)
-  answer_refuses refusal is of =
-      elim (cases_lt index (length events)) [
-        | inl l ↦ (
-            let own = in_range l in
-            let no = value_found refusal whole own.bytes own.is is of in
-            (no.0, (λ none. absurd (no.1 none))))
-        | inr past ↦ (
-            let no = no_event_found refusal whole (length events) (beyond past) is of in
-            (no.0, (λ none. no_such (length events) index past ∙ ap (λ (r : Refusal). Some r) (sym (no.1 none)))))
-      ]

@@ -1,6 +1,6 @@
 -- The map files that are found in pages that keep a history are the history's.
 use Rattle.std.proofs.Common.{◌≡◌, ℕ, ◌-◌, ◌<◌, ◌≤◌, List, length, refl, ap, sym, ◌∙◌, subst, arith, inl, inr, Bool, false}
-use Rattle.std.specs.Prelude.{Option, Some, None, Result, Ok, MatchOption, nat_lt}
+use Rattle.std.specs.Prelude.{Option, Some, None, Ok, nat_lt}
 use Rattle.std.proofs.lemmas.Bool.{cases_lt, lt-ltb, le-ltb}
 use Rattle.tw_base.specs.declared.history.root.Root.{Root}
 use Rattle.tw_base.specs.declared.history.thread.Entry.{Entry}
@@ -46,16 +46,7 @@ use Rattle.tw_tmap.proofs.MapCodec.{high-lawful, low-lawful}
 use Rattle.tw_archive.specs.Archives.{KeepsTrees, named_at}
 use Rattle.tw_archive.proofs.Keeping.{stands-at}
 use Rattle.tw_answers.specs.Finds.{tree_shown}
-use Rattle.tw_answers.specs.declared.refusal.Refusal.{Refusal}
 use Rattle.tw_answers.proofs.TreeAnswers.{shown-stands}
-use Rattle.tw_answers.specs.Finds.{IsRefusalOf}
-use Rattle.tw_answers.specs.Refusals.{IsBadPage}
-use Rattle.tw_answers.proofs.FoundAnswers.{no_bad_found}
-use Rattle.tw_disk.proofs.FoundLaws.{same_found}
-use Rattle.tw_answers.specs.Limits.{order_refusal, top_refusal}
-use Rattle.tw_service.specs.Machine.{IsStepOf}
-use Rattle.tw_service.specs.Machine.Call.{ProveHigh, ProveLow}
-use Rattle.tw_service.specs.Machine.Reply.{OfFile, Refused}
 use Rattle.tw_service.specs.Stands.{step_pages}
 use Rattle.tw_service.proofs.MapAnswers.{before-none, before-told, high-told}
 use Rattle.tw_service.specs.Mapping.{MakesHigh, MakesLow, high_file, high_with, low_before, low_file, low_part, low_with}
@@ -202,55 +193,3 @@ module _ (dig : List ℕ → List ℕ) (size : (text : List ℕ) → IsDigest (d
             record { of_peer = refl; at_top = refl; of_service = refl; at_step = refl; opening = told.2.opening; shown = refl },
           ),
         )
-
--- what is found of them by a service of the name is the history's, and no page is bad
-module _ (dig : List ℕ → List ℕ) (size : (text : List ℕ) → IsDigest (dig text)) (ps : Image) (h : History) (head : Head) (keeps : Keeps dig ps h head)
-    (trees : KeepsTrees dig ps h (step_pages keeps.places) (archive_at dig h keeps.places)) (sound : IsSound h) (name : List ℕ) (named : h.name ≡ name)
-    (peer : List ℕ) (is_name : IsName peer) (step top : ℕ) (some : 1 ≤ step) (short : step ≤ LAST_STEP) (from : 1 ≤ top) (within : top ≤ head.step) where
-  same_bytes : (x y : List ℕ) → ◌≡◌ {A = Result (List ℕ) Refusal} (Ok x) (Ok y) → x ≡ y
-  same_bytes x y e = cc
-
-  own_low : step ≤ top → (bytes : List ℕ) × (low_file dig ps head step peer top name ≡ Is (Ok bytes)) × MakesLow dig h step peer top bytes
-  own_low order =
-      let own = low_kept dig size ps h head keeps trees sound peer is_name step top some short from within order in
-      (own.0, ap (λ (n : List ℕ). low_file dig ps head step peer top n) (sym named) ∙ own.1, own.2)
-
-  own_high : (bytes : List ℕ) × (high_file dig ps head step peer top name ≡ Is (Ok bytes)) × MakesHigh dig h step peer top bytes
-  own_high =
-      let own = high_kept dig size ps h head keeps trees sound peer is_name step top some short from within in
-      (own.0, ap (λ (n : List ℕ). high_file dig ps head step peer top n) (sym named) ∙ own.1, own.2)
-
-  pub low_answer : step ≤ top → (bytes : List ℕ) → low_file dig ps head step peer top name ≡ Is (Ok bytes) → MakesLow dig h step peer top bytes
-  low_answer order bytes is =
-      let own = own_low order in
-      subst (MakesLow dig h step peer top) (same_bytes own.0 bytes (same_found (Ok own.0) (Ok bytes) (sym own.1 ∙ is))) own.2
-
-  pub low_good : step ≤ top → (refusal : Refusal) → IsRefusalOf refusal (low_file dig ps head step peer top name) → IsBadPage refusal → ⊥
-  low_good order refusal is = let own = own_low order in no_bad_found refusal (low_file dig ps head step peer top name) own.0 own.1 is
-
-  pub high_answer : (bytes : List ℕ) → high_file dig ps head step peer top name ≡ Is (Ok bytes) → MakesHigh dig h step peer top bytes
-  high_answer bytes is =
-      let own = own_high in
-      subst (MakesHigh dig h step peer top) (same_bytes own.0 bytes (same_found (Ok own.0) (Ok bytes) (sym own.1 ∙ is))) own.2
-
-  pub high_good : (refusal : Refusal) → IsRefusalOf refusal (high_file dig ps head step peer top name) → IsBadPage refusal → ⊥
-  high_good refusal is = let own = own_high in no_bad_found refusal (high_file dig ps head step peer top name) own.0 own.1 is
-
--- ---- steps of the machine
-
-module _ (dig : List ℕ → List ℕ) (h : History) (step : ℕ) (peer : List ℕ) (top : ℕ) where
-  pub low_refused : (r : Refusal) → Some r ≡ order_refusal false (length h.steps) step top → IsStepOf dig h (ProveLow step peer top) (Refused r) h
-  low_refused r is =
-      (refl, subst (λ o. MatchOption o ((bytes : List ℕ) × MakesLow dig h step peer top bytes × (Refused r ≡ OfFile bytes)) (λ refusal. Refused r ≡ Refused refusal)) is refl)
-
-  pub low_made : (bytes : List ℕ) → None ≡ order_refusal false (length h.steps) step top → MakesLow dig h step peer top bytes → IsStepOf dig h (ProveLow step peer top) (OfFile bytes) h
-  low_made bytes is own =
-      (refl, subst (λ o. MatchOption o ((bs : List ℕ) × MakesLow dig h step peer top bs × (OfFile bytes ≡ OfFile bs)) (λ refusal. OfFile bytes ≡ Refused refusal)) is (bytes, own, refl))
-
-  pub high_refused : (r : Refusal) → Some r ≡ top_refusal false (length h.steps) top → IsStepOf dig h (ProveHigh step peer top) (Refused r) h
-  high_refused r is =
-      (refl, subst (λ o. MatchOption o ((bytes : List ℕ) × MakesHigh dig h step peer top bytes × (Refused r ≡ OfFile bytes)) (λ refusal. Refused r ≡ Refused refusal)) is refl)
-
-  pub high_made : (bytes : List ℕ) → None ≡ top_refusal false (length h.steps) top → MakesHigh dig h step peer top bytes → IsStepOf dig h (ProveHigh step peer top) (OfFile bytes) h
-  high_made bytes is own =
-      (refl, subst (λ o. MatchOption o ((bs : List ℕ) × MakesHigh dig h step peer top bs × (OfFile bytes ≡ OfFile bs)) (λ refusal. OfFile bytes ≡ Refused refusal)) is (bytes, own, refl))

@@ -1,6 +1,6 @@
 -- What is found of threads and of their absence, in pages that keep a history whole, is the history's.
 use Rattle.std.proofs.Common.{◌≡◌, ℕ, ◌*◌, ◌≤◌, List, length, refl, ap, sym, ◌∙◌, subst, arith}
-use Rattle.std.specs.Prelude.{false, MatchOption, Option, Some, None, Result, Ok, Err}
+use Rattle.std.specs.Prelude.{Option, Some, None, Result, Ok, Err}
 use Rattle.tw_base.specs.declared.history.root.Root.{Root}
 use Rattle.tw_base.specs.declared.history.thread.Entry.{Entry}
 use Rattle.tw_base.specs.declared.history.thread.Key.{Key}
@@ -24,7 +24,7 @@ use Rattle.tw_base.proofs.lemmas.kinds.ListLemmas.{Each-in}
 use Rattle.tw_disk.specs.Found.{Found, ◌>>=◌}
 use Rattle.tw_disk.specs.Found.Found.{Is, Bad}
 use Rattle.tw_disk.specs.Image.{Image}
-use Rattle.tw_disk.proofs.FoundLaws.{is_on, same_found}
+use Rattle.tw_disk.proofs.FoundLaws.{is_on}
 use Rattle.tw_rbtree.specs.Standing.{StandsFor}
 use Rattle.tw_rbtree.specs.Ways.{found_with}
 use Rattle.tw_rbtree.proofs.RootWays.{root-way, with-found}
@@ -51,13 +51,10 @@ use Rattle.tw_answers.specs.declared.refusal.Refusal.{Refusal}
 use Rattle.tw_answers.specs.declared.refusal.Refusal.TheVariants.{BadPage, HasThread, NoThread}
 use Rattle.tw_answers.specs.declared.root.RootRecord.{RootRecord}
 use Rattle.tw_answers.specs.Finds.{IsRefusalOf, absence_bytes, absence_in, absence_proof, found_absence_of, found_thread_of, part_of, thread_bytes, thread_in, thread_proof, tree_shown, written}
-use Rattle.tw_answers.specs.Limits.{absence_refusal, has_thread, no_thread, thread_proof_refusal}
 use Rattle.tw_answers.specs.Refusals.{IsBadPage, IsHasThread, IsNoThread}
 use Rattle.tw_answers.proofs.TableAnswers.{IsTold}
 use Rattle.tw_answers.proofs.TreeAnswers.{shown-stands}
-use Rattle.tw_service.specs.Machine.{IsFewNodes, IsStepOf, MakesAbsence, MakesThread}
-use Rattle.tw_service.specs.Machine.Call.{ProveAbsent, ProveThread}
-use Rattle.tw_service.specs.Machine.Reply.{OfProof, Refused}
+use Rattle.tw_service.specs.Machine.{IsFewNodes, MakesAbsence, MakesThread}
 use Rattle.tw_service.specs.Stands.{KeepsWhole}
 use Rattle.tw_service.proofs.WholePages.{tree_at}
 
@@ -112,7 +109,7 @@ module _ (dig : List ℕ → List ℕ) (size : (text : List ℕ) → IsDigest (d
 
   -- ---- a thread
 
-  abbrev made_thread : Entry → ThreadProof
+  abbrev pub made_thread : Entry → ThreadProof
   made_thread e = record { at = part_of name top told.0; entry = e; shown = proof_of dig (tree h step) (Present e) }
 
   same_key : (e : Entry) → entry_with es key ≡ Some e → key_of e ≡ key
@@ -156,48 +153,13 @@ module _ (dig : List ℕ → List ℕ) (size : (text : List ℕ) → IsDigest (d
       let few = own-few dig h step top (λ t. (size t).0) (λ t. (size t).1) sound order top_within (Archived (made_thread e)) (omega (arith, height)) own in
       (made_thread e, own-spelled dig h step top (λ t. (size t).0) (λ t. (size t).1) sound order top_within (Archived (made_thread e)) (omega (arith, some, order)) few own, own, same_key e is)
 
-  -- what is found is the history's own proof, or that there is none
-  pub thread_made : (bytes : List ℕ) → thread_proof dig ps name r.head step key top ≡ Is (Ok bytes) → MakesThread dig h step key top bytes × (no_thread (entry_with es key) ≡ None)
-  thread_made bytes found = by (entry_with es key) refl
-    where
-      ok_ok : (x y : List ℕ) → ◌≡◌ {A = Result (List ℕ) Refusal} (Ok x) (Ok y) → x ≡ y
-      ok_ok x y e = cc
-
-      err_ok : (q : Refusal) (x : List ℕ) → ◌≡◌ {A = Result (List ℕ) Refusal} (Err q) (Ok x) → ⊥
-      err_ok q x e = cc
-
-      by : (o : Option Entry) → entry_with es key ≡ o → MakesThread dig h step key top bytes × (no_thread (entry_with es key) ≡ None)
-      by None is = absurd (err_ok NoThread bytes (same_found (Err NoThread) (Ok bytes) (sym (thread_is None is) ∙ found)))
-      by (Some e) is = (
-        subst (MakesThread dig h step key top) (ok_ok (bytes_of_proof (Archived (made_thread e))) bytes (same_found (Ok (bytes_of_proof (Archived (made_thread e)))) (Ok bytes) (sym (thread_is (Some e) is) ∙ found))) (makes e is),
-        ap no_thread is,
-      )
-
-  pub thread_refuses : (refusal : Refusal) → IsNoThread refusal → IsRefusalOf refusal (thread_proof dig ps name r.head step key top) → no_thread (entry_with es key) ≡ Some refusal
-  thread_refuses NoThread none found = by (entry_with es key) refl
-    where
-      ok_err : (x : List ℕ) → ◌≡◌ {A = Result (List ℕ) Refusal} (Ok x) (Err NoThread) → ⊥
-      ok_err x e = cc
-
-      by : (o : Option Entry) → entry_with es key ≡ o → no_thread (entry_with es key) ≡ Some NoThread
-      by None is = ap no_thread is
-      by (Some e) is = absurd (ok_err (bytes_of_proof (Archived (made_thread e))) (same_found (Ok (bytes_of_proof (Archived (made_thread e)))) (Err NoThread) (sym (thread_is (Some e) is) ∙ found)))
-  thread_refuses _ none found = absurd none
-
-  pub thread_good : (refusal : Refusal) → IsRefusalOf refusal (thread_proof dig ps name r.head step key top) → IsBadPage refusal → ⊥
-  thread_good refusal found = by (entry_with es key) refl
-    where
-      by : (o : Option Entry) → entry_with es key ≡ o → IsBadPage refusal → ⊥
-      by None is = no_bad_is refusal (thread_proof dig ps name r.head step key top) (Err NoThread) (thread_is None is) found
-      by (Some e) is = no_bad_is refusal (thread_proof dig ps name r.head step key top) (Ok (bytes_of_proof (Archived (made_thread e)))) (thread_is (Some e) is) found
-
   -- a proof that the history has itself has few nodes
   pub thread_few : (p : ThreadProof) → IsThreadProofOf dig h step top p → IsFewNodes (length es) (length (ancestors_of p.shown))
   thread_few p own = low (Present p.entry) p.shown own.shown
 
   -- ---- an absence
 
-  abbrev made_absence : AbsenceProof
+  abbrev pub made_absence : AbsenceProof
   made_absence = record { at = part_of name top told.0; key = key; shown = proof_of dig (tree h step) (OfNone key) }
 
   abbrev absence_answer : Option Entry → Found (Result (List ℕ) Refusal)
@@ -236,62 +198,8 @@ module _ (dig : List ℕ → List ℕ) (size : (text : List ℕ) → IsDigest (d
         let few = own-few dig h step top (λ t. (size t).0) (λ t. (size t).1) sound order top_within (Absent made_absence) (omega (arith, height)) own in
         (made_absence, own-spelled dig h step top (λ t. (size t).0) (λ t. (size t).1) sound order top_within (Absent made_absence) (omega (arith, some, order)) few own, own, refl)
 
-    pub absence_made : (bytes : List ℕ) → absence_proof dig ps name r.head step key top ≡ Is (Ok bytes) → MakesAbsence dig h step key top bytes × (has_thread (entry_with es key) ≡ None)
-    absence_made bytes found = by (entry_with es key) refl
-      where
-        ok_ok : (x y : List ℕ) → ◌≡◌ {A = Result (List ℕ) Refusal} (Ok x) (Ok y) → x ≡ y
-        ok_ok x y e = cc
-
-        err_ok : (q : Refusal) (x : List ℕ) → ◌≡◌ {A = Result (List ℕ) Refusal} (Err q) (Ok x) → ⊥
-        err_ok q x e = cc
-
-        by : (o : Option Entry) → entry_with es key ≡ o → MakesAbsence dig h step key top bytes × (has_thread (entry_with es key) ≡ None)
-        by None is = (
-          subst (MakesAbsence dig h step key top) (ok_ok (bytes_of_proof (Absent made_absence)) bytes (same_found (Ok (bytes_of_proof (Absent made_absence))) (Ok bytes) (sym (absence_is None is) ∙ found))) (lacks is),
-          ap has_thread is,
-        )
-        by (Some e) is = absurd (err_ok (HasThread e.archived) bytes (same_found (Err (HasThread e.archived)) (Ok bytes) (sym (absence_is (Some e) is) ∙ found)))
-
-  pub absence_refuses : (refusal : Refusal) → IsHasThread refusal → IsRefusalOf refusal (absence_proof dig ps name r.head step key top) → has_thread (entry_with es key) ≡ Some refusal
-  absence_refuses (HasThread archived) has found = by (entry_with es key) refl
-    where
-      ok_err : (x : List ℕ) → ◌≡◌ {A = Result (List ℕ) Refusal} (Ok x) (Err (HasThread archived)) → ⊥
-      ok_err x e = cc
-
-      err_err : (one other : ℕ) → ◌≡◌ {A = Result (List ℕ) Refusal} (Err (HasThread one)) (Err (HasThread other)) → one ≡ other
-      err_err one other e = cc
-
-      by : (o : Option Entry) → entry_with es key ≡ o → has_thread (entry_with es key) ≡ Some (HasThread archived)
-      by None is = absurd (ok_err (bytes_of_proof (Absent made_absence)) (same_found (Ok (bytes_of_proof (Absent made_absence))) (Err (HasThread archived)) (sym (absence_is None is) ∙ found)))
-      by (Some e) is = ap has_thread is ∙ ap (λ (k : ℕ). Some (HasThread k)) (err_err e.archived archived (same_found (Err (HasThread e.archived)) (Err (HasThread archived)) (sym (absence_is (Some e) is) ∙ found)))
-  absence_refuses _ has found = absurd has
-
-  pub absence_good : (refusal : Refusal) → IsRefusalOf refusal (absence_proof dig ps name r.head step key top) → IsBadPage refusal → ⊥
-  absence_good refusal found = by (entry_with es key) refl
-    where
-      by : (o : Option Entry) → entry_with es key ≡ o → IsBadPage refusal → ⊥
-      by None is = no_bad_is refusal (absence_proof dig ps name r.head step key top) (Ok (bytes_of_proof (Absent made_absence))) (absence_is None is) found
-      by (Some e) is = no_bad_is refusal (absence_proof dig ps name r.head step key top) (Err (HasThread e.archived)) (absence_is (Some e) is) found
-
   pub absence_few : (p : AbsenceProof) → IsAbsenceProofOf dig h step top p → IsFewNodes (length es) (length (ancestors_of p.shown))
   absence_few p own = low (OfNone p.key) p.shown own.shown
-
--- ---- the machine
-
-module _ (dig : List ℕ → List ℕ) (h : History) (step : ℕ) (key : Key) (top : ℕ) where
-  pub thread_refused : (r : Refusal) → Some r ≡ thread_proof_refusal false h step key top → IsStepOf dig h (ProveThread step key top) (Refused r) h
-  thread_refused r is = (refl, subst (λ o. MatchOption o ((bytes : List ℕ) × MakesThread dig h step key top bytes × (Refused r ≡ OfProof bytes)) (λ refusal. Refused r ≡ Refused refusal)) is refl)
-
-  pub thread_proved : (bytes : List ℕ) → None ≡ thread_proof_refusal false h step key top → MakesThread dig h step key top bytes → IsStepOf dig h (ProveThread step key top) (OfProof bytes) h
-  thread_proved bytes is makes =
-      (refl, subst (λ o. MatchOption o ((bs : List ℕ) × MakesThread dig h step key top bs × (OfProof bytes ≡ OfProof bs)) (λ refusal. OfProof bytes ≡ Refused refusal)) is (bytes, makes, refl))
-
-  pub absence_refused : (r : Refusal) → Some r ≡ absence_refusal false h step key top → IsStepOf dig h (ProveAbsent step key top) (Refused r) h
-  absence_refused r is = (refl, subst (λ o. MatchOption o ((bytes : List ℕ) × MakesAbsence dig h step key top bytes × (Refused r ≡ OfProof bytes)) (λ refusal. Refused r ≡ Refused refusal)) is refl)
-
-  pub absence_proved : (bytes : List ℕ) → None ≡ absence_refusal false h step key top → MakesAbsence dig h step key top bytes → IsStepOf dig h (ProveAbsent step key top) (OfProof bytes) h
-  absence_proved bytes is makes =
-      (refl, subst (λ o. MatchOption o ((bs : List ℕ) × MakesAbsence dig h step key top bs × (OfProof bytes ≡ OfProof bs)) (λ refusal. OfProof bytes ≡ Refused refusal)) is (bytes, makes, refl))
 
 -- ---- refusals of a proof's own
 

@@ -23,3 +23,4 @@ pub mod KnownPages
 pub mod KeptExports
 pub mod ExportAnswers
 pub mod MapAnswers
+pub mod Questions

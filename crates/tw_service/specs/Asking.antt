@@ -1,5 +1,5 @@
 -- What a call of a service makes that only reads.
-use Rattle.std.specs.Prelude.{◌≡◌, ◌⊎◌, ◌↔◌, ℕ, ◌≤◌, List, Option, Some, Result, Err, IfErr, IsTrue, MatchOption, false}
+use Rattle.std.specs.Prelude.{◌≡◌, ◌⊎◌, ◌↔◌, ℕ, ◌≤◌, List, Option, Some, Result, Err, IfErr, IfOk, IsTrue, MatchOption, false}
 use Rattle.tw_base.specs.history.History.{History}
 use Rattle.tw_base.specs.kinds.Faults.{Rose}
 use Rattle.tw_disk.specs.Disk.{DiskView, LeavesOnly}
@@ -9,9 +9,14 @@ use Rattle.tw_answers.specs.declared.refusal.Refusal.{Refusal}
 use Rattle.tw_answers.specs.declared.refusal.Refusal.TheVariants.{DiskFault}
 use Rattle.tw_service.specs.declared.service.Service.{Service}
 use Rattle.tw_answers.specs.Finds.{IsAnswer}
-use Rattle.tw_service.specs.Machine.{Answers, Call, Reply}
+use Rattle.tw_service.specs.Answered.{HasFewFor, IsAcceptedFor}
+use Rattle.tw_service.specs.Machine.{Answers, Call, Makes, Reply}
+use Rattle.tw_service.specs.Machine.Call.{Ask}
+use Rattle.tw_service.specs.Machine.Reply.{OfBytes}
+use Rattle.tw_base.specs.declared.history.question.Question.{Question}
+use Rattle.tw_service.specs.Questions.{Besides, found_answer, question_refusal}
 use Rattle.tw_answers.specs.Refusals.{IsFault}
-use Rattle.tw_service.specs.Serves.{HasSameDisk, Serves, disk_of, has_failed, name_of, pages_of, record_of}
+use Rattle.tw_service.specs.Serves.{HasSameDisk, Serves, disk_of, has_failed, head_of, name_of, pages_of, record_of, steps_of}
 use Rattle.tw_service.specs.Stands.{StandsFor}
 
 module _ {D H : Type 0} {g : _} {k : _} (dig : List ℕ → List ℕ) (view : D → DiskView) where
@@ -38,3 +43,13 @@ module _ {D H : Type 0} {g : _} {k : _} (dig : List ℕ → List ℕ) (view : D 
   -- the same of a call that has no refusal of its own
   abbrev pub Asks : {T : Type 0} → (call : Call) (reply : T → Reply) (refusal : Option Refusal) (found : Image → Found (Result T Refusal)) (old new : Service D H g k) (result : Result T Refusal) → Type 0
   Asks call reply refusal found old new result = AsksOr (λ why. ⊥) call reply refusal found old new result
+
+  -- what asking a question makes: all of the above, and the bytes of an answer are what the history makes of it
+  pub record AsksFor (q : Question) (old new : Service D H g k) (result : Result (List ℕ) Refusal) : Type 0 where
+    pub asks : AsksOr (Besides q) (Ask q) (λ bytes. OfBytes bytes) (question_refusal (has_failed old) (steps_of old) q)
+        (λ ps. found_answer dig ps (name_of old) (head_of old) (has_failed old) q) old new result
+    pub made : IfOk result (λ bytes. (h : History) → Serves dig view old h → Makes dig h q bytes)
+    -- a proof is accepted under every list of anchors that has the history's authenticator of the top, and a file is read as the history
+    pub accepted : IfOk result (λ bytes. (h : History) → Serves dig view old h → IsAcceptedFor dig h q bytes)
+    -- the tree proof that a thread was received, or wasn't, has few nodes
+    pub few : IfOk result (λ bytes. (h : History) → Serves dig view old h → HasFewFor h q bytes)

@@ -11,8 +11,6 @@ use Rattle.tw_skiplist.specs.declared.head.Head.{Head}
 use Rattle.tw_export.specs.Exporting.{found_file}
 use Rattle.tw_answers.specs.declared.refusal.Refusal.{Refusal}
 use Rattle.tw_answers.specs.declared.refusal.Refusal.TheVariants.{TooLong}
-use Rattle.tw_answers.specs.Finds.{unless}
-use Rattle.tw_answers.specs.Limits.{broken_refusal, or_else}
 
 -- ---- what is found
 
@@ -24,9 +22,6 @@ file_or (Err size) = Err (TooLong size)
 module _ (dig : List ℕ → List ℕ) (pages : Image) (name : List ℕ) (head : Head) where
   unfoldable pub history_file : Found (Result (List ℕ) Refusal)
   history_file = found_file dig pages name head >>= (λ told. Is (file_or told))
-
-  abbrev pub found_export : (is_broken : Bool) → Found (Result (List ℕ) Refusal)
-  found_export is_broken = unless (broken_refusal is_broken) history_file
 
 -- ---- the table
 
@@ -44,7 +39,3 @@ file_told h = if is_short h then Ok (history_bytes h) else Err (told_size h)
 
 abbrev pub file_refusal : History → Option Refusal
 file_refusal h = if is_short h then None else Some (TooLong (told_size h))
-
--- the whole table
-abbrev pub export_refusal : (is_broken : Bool) → History → Option Refusal
-export_refusal is_broken h = or_else (broken_refusal is_broken) (file_refusal h)

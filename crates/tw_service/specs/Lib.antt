@@ -1,3 +1,5 @@
+pub mod Tops
+pub mod Questions
 pub mod EventSteps
 pub mod Stands
 pub mod Receiving
@@ -11,4 +13,5 @@ pub mod Keeps
 pub mod TakingIn
 pub mod Serves
 pub mod Adding
+pub mod Answered
 pub mod Asking

@@ -19,41 +19,34 @@ use Rattle.tw_chain.specs.OwnProofs.{IsAbsenceProofOf, IsLinkProofOf, IsThreadPr
 use Rattle.tw_chain.specs.Proofs.{proof_layout}
 use Rattle.tw_msg.specs.declared.message.Message.{Message}
 use Rattle.tw_msg.specs.declared.receipt.Receipt.{Receipt}
-use Rattle.tw_msg.specs.HistoryMessages.{thread_at_step}
-use Rattle.tw_skipproof.specs.declared.path.Path.{Path}
-use Rattle.tw_skipproof.specs.HistoryProofs.{IsPathOf, MakesExistence}
+use Rattle.tw_msg.specs.HistoryMessages.{MakesMessage, thread_at_step}
+use Rattle.tw_skipproof.specs.HistoryProofs.{MakesExistence}
 use Rattle.tw_service.specs.EventSteps.{with_events}
 use Rattle.tw_service.specs.declared.receiving.Reception.{Reception}
 use Rattle.tw_service.specs.declared.receiving.Reception.TheVariants.{Refuse, Known, Archive}
 use Rattle.tw_answers.specs.declared.refusal.Refusal.{Refusal}
 use Rattle.tw_answers.specs.declared.refusal.Refusal.TheVariants.{BadPage, DiskFault, Reopen, NoMemory}
-use Rattle.tw_answers.specs.Limits.{absence_refusal, append_refusal, link_refusal, order_refusal, own_refusal, proof_refusal, thread_proof_refusal, thread_refusal, top_refusal}
-use Rattle.tw_service.specs.Exporting.{export_refusal}
+use Rattle.tw_answers.specs.Limits.{append_refusal, own_refusal}
 use Rattle.tw_service.specs.Mapping.{MakesHigh, MakesLow}
+use Rattle.tw_base.specs.declared.history.question.Question.{Question}
+use Rattle.tw_base.specs.declared.history.question.Question.TheVariants as ask
+use Rattle.tw_service.specs.Questions.{history_refusal}
+use Rattle.tw_service.specs.Tops.{top_of}
 use Rattle.tw_service.specs.Receiving.{reception, refuse_or}
 use Rattle.tw_service.specs.Stands.{greatest_time}
 
 pub data Call : Type 0 where
+  Ask : Question → Call
   Append : (events : List (List ℕ)) (time : Option ℕ) → Call
   Receive : (message : Message) (time : Option ℕ) → Call
-  TellThread : (since : ℕ) → Call
-  ProveEvent : (step index top : ℕ) → Call
-  ProveThread : (step : ℕ) (key : Key) (top : ℕ) → Call
-  ProveAbsent : (step : ℕ) (key : Key) (top : ℕ) → Call
-  ProveLink : (step top : ℕ) → Call
-  ProveLow : (step : ℕ) (peer : List ℕ) (top : ℕ) → Call
-  ProveHigh : (step : ℕ) (peer : List ℕ) (top : ℕ) → Call
-  Export : Call
   CountSteps : Call
   TellHead : Call
   TellName : Call
 
 pub data Reply : Type 0 where
+  OfBytes : List ℕ → Reply
   OfThread : Thread → Reply
   OfReceipt : Receipt → Reply
-  OfPath : Path → Reply
-  OfProof : List ℕ → Reply
-  OfFile : List ℕ → Reply
   OfNumber : ℕ → Reply
   OfName : List ℕ → Reply
   Refused : Refusal → Reply
@@ -89,14 +82,7 @@ module _ (dig : List ℕ → List ℕ) where
   abbrev pub NextOf : Call → (h next : History) → Type 0
   NextOf (Append events time) h next = next ≡ with_events h events time
   NextOf (Receive m time) h next = (next ≡ h) ⊎ ((received_as h m time ≡ Archive) × Archives m.thread time h next × IsSound next)
-  NextOf (TellThread since) h next = next ≡ h
-  NextOf (ProveEvent step index top) h next = next ≡ h
-  NextOf (ProveThread step key top) h next = next ≡ h
-  NextOf (ProveAbsent step key top) h next = next ≡ h
-  NextOf (ProveLink step top) h next = next ≡ h
-  NextOf (ProveLow step peer top) h next = next ≡ h
-  NextOf (ProveHigh step peer top) h next = next ≡ h
-  NextOf Export h next = next ≡ h
+  NextOf (Ask q) h next = next ≡ h
   NextOf CountSteps h next = next ≡ h
   NextOf TellHead h next = next ≡ h
   NextOf TellName h next = next ≡ h
@@ -120,6 +106,17 @@ module _ (dig : List ℕ → List ℕ) where
   abbrev pub MakesLink : History → (step top : ℕ) → (bytes : List ℕ) → Type 0
   MakesLink h step top bytes = (p : LinkProof) × Spells proof_layout bytes (Linked p) × IsLinkProofOf dig h step top p
 
+  -- the bytes are what the history makes of the question
+  unfoldable pub Makes : History → Question → (bytes : List ℕ) → Type 0
+  Makes h (ask.Event step index top) bytes = MakesExistence dig h step index (top_of top (length h.steps)) bytes
+  Makes h (ask.Thread step key top) bytes = MakesThread h step key (top_of top (length h.steps)) bytes
+  Makes h (ask.Absent step key top) bytes = MakesAbsence h step key (top_of top (length h.steps)) bytes
+  Makes h (ask.Link step top) bytes = MakesLink h step (top_of top (length h.steps)) bytes
+  Makes h (ask.Low step peer top) bytes = MakesLow dig h step peer (top_of top (length h.steps)) bytes
+  Makes h (ask.High step peer top) bytes = MakesHigh dig h step peer (top_of top (length h.steps)) bytes
+  Makes h (ask.ThreadOut since) bytes = MakesMessage dig h since bytes
+  Makes h ask.Export bytes = bytes ≡ history_bytes h
+
   -- the machine in the state h answers the call with this reply and goes on in the next state
   abbrev pub IsStepOf : (h : History) → Call → Reply → (next : History) → Type 0
   IsStepOf h (Append events time) reply next =
@@ -127,37 +124,9 @@ module _ (dig : List ℕ → List ℕ) where
       (NextOf (Append events time) h next × (reply ≡ OfThread (last_thread dig next)))
       (λ refusal. (next ≡ h) × (reply ≡ Refused refusal))
   IsStepOf h (Receive m time) reply next = RepliesTo h m time reply next (received_as h m time)
-  IsStepOf h (TellThread since) reply next =
-      (next ≡ h) × MatchOption (thread_refusal false (length h.steps) since)
-      ((path : Path) × IsPathOf dig h path.links (length h.steps) since × (reply ≡ OfPath path))
-      (λ refusal. reply ≡ Refused refusal)
-  IsStepOf h (ProveEvent step index top) reply next =
-      (next ≡ h) × MatchOption (proof_refusal false h step index top)
-      ((bytes : List ℕ) × MakesExistence dig h step index top bytes × (reply ≡ OfProof bytes))
-      (λ refusal. reply ≡ Refused refusal)
-  IsStepOf h (ProveThread step key top) reply next =
-      (next ≡ h) × MatchOption (thread_proof_refusal false h step key top)
-      ((bytes : List ℕ) × MakesThread h step key top bytes × (reply ≡ OfProof bytes))
-      (λ refusal. reply ≡ Refused refusal)
-  IsStepOf h (ProveAbsent step key top) reply next =
-      (next ≡ h) × MatchOption (absence_refusal false h step key top)
-      ((bytes : List ℕ) × MakesAbsence h step key top bytes × (reply ≡ OfProof bytes))
-      (λ refusal. reply ≡ Refused refusal)
-  IsStepOf h (ProveLink step top) reply next =
-      (next ≡ h) × MatchOption (link_refusal false (length h.steps) step top)
-      ((bytes : List ℕ) × MakesLink h step top bytes × (reply ≡ OfProof bytes))
-      (λ refusal. reply ≡ Refused refusal)
-  IsStepOf h (ProveLow step peer top) reply next =
-      (next ≡ h) × MatchOption (order_refusal false (length h.steps) step top)
-      ((bytes : List ℕ) × MakesLow dig h step peer top bytes × (reply ≡ OfFile bytes))
-      (λ refusal. reply ≡ Refused refusal)
-  IsStepOf h (ProveHigh step peer top) reply next =
-      (next ≡ h) × MatchOption (top_refusal false (length h.steps) top)
-      ((bytes : List ℕ) × MakesHigh dig h step peer top bytes × (reply ≡ OfFile bytes))
-      (λ refusal. reply ≡ Refused refusal)
-  IsStepOf h Export reply next =
-      (next ≡ h) × MatchOption (export_refusal false h)
-      (reply ≡ OfFile (history_bytes h))
+  IsStepOf h (Ask q) reply next =
+      (next ≡ h) × MatchOption (history_refusal h q)
+      ((bytes : List ℕ) × Makes h q bytes × (reply ≡ OfBytes bytes))
       (λ refusal. reply ≡ Refused refusal)
   IsStepOf h CountSteps reply next = (next ≡ h) × (reply ≡ OfNumber (length h.steps))
   IsStepOf h TellHead reply next = (next ≡ h) × (reply ≡ OfThread (last_thread dig h))

@@ -1,5 +1,5 @@
 -- The map files of a service: what is found of them in its pages, and which ones a history has.
-use Rattle.std.specs.Prelude.{ℕ, ◌-◌, List, nat_le, Bool, Option, Some, None, Result, Ok, if◌then◌else◌}
+use Rattle.std.specs.Prelude.{ℕ, ◌-◌, List, nat_le, Option, Some, None, Result, Ok, if◌then◌else◌}
 use Rattle.tw_base.specs.declared.history.tree_proof.TreeProof.{TreeProof}
 use Rattle.tw_base.specs.format.Formats.{Spells}
 use Rattle.tw_base.specs.history.History.{History}
@@ -16,8 +16,7 @@ use Rattle.tw_tmap.specs.declared.map_file.LowPart.{LowPart}
 use Rattle.tw_tmap.specs.Checking.{first_of, last_of}
 use Rattle.tw_tmap.specs.MapFiles.{high_bytes, high_layout, low_bytes, low_layout}
 use Rattle.tw_tmap.specs.OwnFiles.{IsOwnHigh, IsOwnLow}
-use Rattle.tw_answers.specs.Finds.{tree_shown, unless}
-use Rattle.tw_answers.specs.Limits.{order_refusal, top_refusal}
+use Rattle.tw_answers.specs.Finds.{tree_shown}
 use Rattle.tw_answers.specs.declared.refusal.Refusal.{Refusal}
 
 -- what a low file shows of the step before
@@ -52,13 +51,6 @@ module _ (dig : List ℕ → List ℕ) (pages : Image) (head : Head) (step : ℕ
     high_file =
         found_step dig pages head top
         >>= (λ info. tree_shown dig pages info.archive (first_of peer step) >>= (λ tree. Is (Ok (high_bytes (high_with name step peer top info tree)))))
-
-    -- the files, where the steps are in their order
-    abbrev pub found_low : (is_broken : Bool) → Found (Result (List ℕ) Refusal)
-    found_low is_broken = unless (order_refusal is_broken head.step step top) low_file
-
-    abbrev pub found_high : (is_broken : Bool) → Found (Result (List ℕ) Refusal)
-    found_high is_broken = unless (top_refusal is_broken head.step top) high_file
 
 -- ---- what a history has
 

@@ -2,6 +2,7 @@
 #![tactic(auto)]
 
 mod archiving;
+mod asking;
 mod exporting;
 mod mapping;
 mod receiving;

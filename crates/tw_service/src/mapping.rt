@@ -5,13 +5,11 @@ ghost use Rattle.tw_disk.specs.Answers.{ReadsOr, ReadsWhere};
 ghost use Rattle.tw_answers.specs.Refusals.{IsFault, refusals};
 ghost use Rattle.tw_service.specs.Mapping.{high_file, low_before, low_file, low_part};
 
-use crate::service::{Service, name_law};
 use std::alloc::Global;
-use tw_answers::{Refusal, is_disk_fault, order_refusal, show, top_refusal};
+use tw_answers::{Refusal, show};
 use tw_base::limits::LAST_STEP;
 use tw_base::{Bytes, Hasher, Name, TreeProof};
-use tw_disk::{Disk, Pages};
-use tw_pages::Store;
+use tw_disk::Pages;
 use tw_skiplist::{Head, StepProof, prove, step as read_step};
 use tw_tmap::{HighFile, LowFile, LowPart, ask_first, ask_last, write_high, write_low};
 
@@ -112,90 +110,4 @@ pub(crate) fn make_high<P: Pages, H: Hasher>(
     let bytes = write_high(alloc, &file);
     drop(file);
     Ok(bytes?)
-}
-
-impl<D: Disk, H: Hasher> Service<D, H> {
-    ghost use Rattle.tw_base.specs.history.History.{History};
-    ghost use Rattle.tw_answers.specs.Limits.{order_refusal as order_refusal_of, top_refusal as top_refusal_of};
-    ghost use Rattle.tw_service.specs.Asking.{Asks};
-    ghost use Rattle.tw_service.specs.Machine.Call.{ProveHigh, ProveLow};
-    ghost use Rattle.tw_service.specs.Machine.Reply.{OfFile};
-    ghost use Rattle.tw_service.specs.Mapping.{MakesHigh, MakesLow, found_high, found_low};
-    ghost use Rattle.tw_service.specs.Serves.{Serves, has_failed, head_of, name_of, steps_of};
-
-    /// The low map file of a step: with the high one that the peer gives for it, it shows between which steps of the peer the step lies.
-    /// Under the top it shows the step before, from step 2 on, and the peer's last thread there; of step 1 no page is read.
-    ///
-    /// Refusals, the first that stands: `Reopen` where an earlier call on this value answered `DiskFault`; `NoStep` where 1 <= step <=
-    /// top <= the last step doesn't hold, with the last step. `BadPage` tells the first page met that isn't of its kind, step pages
-    /// before those of the archive; it never comes where a history is served. It writes nothing.
-    pub fn prove_low(&mut self, step: u64, peer: Name, top: u64) -> Result<Bytes, Refusal>
-        // Asking for a low file does, by its own table and what is found for it, what asking for the path of a message does.
-        ensures asks { Asks H.dig D.view (ProveLow step peer top) (λ bytes. OfFile bytes)
-            (order_refusal_of (has_failed self.old) (steps_of self.old) step top)
-            (λ ps. found_low H.dig ps (head_of self.old) step peer top (name_of self.old) (has_failed self.old))
-            self.old self.new result }
-        // The file is the history's own low file of that step and peer under that top.
-        ensures made { IfOk result (λ bytes. (h : History) → Serves H.dig D.view self.old h
-            → MakesLow H.dig h step peer top bytes) }
-    {
-        let last = self.recorded.root.head.step;
-        if let Some(refusal) = order_refusal(self.is_broken, last, step, top) {
-            return Err(refusal);
-        }
-        name_law(&peer);
-        match make_low::<Store<D>, H>(
-            self.alloc,
-            &mut self.recorded.store,
-            &self.recorded.root.name,
-            &self.recorded.root.head,
-            step,
-            &peer,
-            top,
-        ) {
-            Ok(bytes) => Ok(bytes),
-            Err(refusal) => {
-                self.is_broken = is_disk_fault(&refusal);
-                Err(refusal)
-            }
-        }
-    }
-
-    /// The high map file for a step of the peer, from 1 to 2^40 - 1, under that top, which is a step of this service: it shows the
-    /// service's first thread of that step or of a later one.
-    ///
-    /// Refusals, the first that stands: `Reopen` where an earlier call on this value answered `DiskFault`; `NoStep` where the top isn't
-    /// within 1 to the last step, with the last step. `BadPage` comes as in `prove_low`. It writes nothing.
-    pub fn prove_high(&mut self, step: u64, peer: Name, top: u64) -> Result<Bytes, Refusal>
-        requires { (0 < step) × (step ≤ LAST_STEP) }
-        // Asking for a high file does, by its own table and what is found for it, what asking for the path of a message does.
-        ensures asks { Asks H.dig D.view (ProveHigh step peer top) (λ bytes. OfFile bytes)
-            (top_refusal_of (has_failed self.old) (steps_of self.old) top)
-            (λ ps. found_high H.dig ps (head_of self.old) step peer top (name_of self.old) (has_failed self.old))
-            self.old self.new result }
-        // The file is the history's own high file of that top for that step of the peer.
-        ensures made { IfOk result (λ bytes. (h : History) → Serves H.dig D.view self.old h
-            → MakesHigh H.dig h step peer top bytes) }
-    {
-        let last = self.recorded.root.head.step;
-        if let Some(refusal) = top_refusal(self.is_broken, last, top) {
-            return Err(refusal);
-        }
-        name_law(&peer);
-        match make_high::<Store<D>, H>(
-            self.alloc,
-            &mut self.recorded.store,
-            &self.recorded.root.name,
-            &self.recorded.root.head,
-            step,
-            &peer,
-            top,
-        ) {
-            Ok(bytes) => Ok(bytes),
-            Err(refusal) => {
-                self.is_broken = is_disk_fault(&refusal);
-                Err(refusal)
-            }
-        }
-    }
 }

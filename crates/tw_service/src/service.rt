@@ -7,16 +7,13 @@ use crate::recorded::Recorded;
 use std::alloc::Global;
 use std::marker::PhantomData;
 use tw_answers::{
-    Refusal, RootRecord, append_refusal, is_disk_fault, link_refusal, make_absence, make_link,
-    make_proof, make_thread, order_refusal, own_refusal, path_down, read_root, root_record,
-    thread_refusal,
+    Refusal, RootRecord, append_refusal, is_disk_fault, own_refusal, read_root, root_record,
 };
-use tw_base::{Bytes, EventList, Hasher, Key, Name, ReadFault, Root, Thread, empty_tree, genesis};
+use tw_base::{EventList, Hasher, Name, ReadFault, Root, Thread, empty_tree, genesis};
 use tw_disk::{Disk, Pages};
 use tw_msg::{Message as MessageRead, Receipt, message_laws, read_message};
 use tw_pages::{Store, StoreFault};
 use tw_skiplist::Head;
-use tw_skipproof::Path;
 
 /// A service: one sound history on a disk, where its pages keep one.
 #[derive(Drop)]
@@ -37,36 +34,23 @@ pub(crate) fn name_law(name: &Name)
 
 impl<D: Disk, H: Hasher> Service<D, H> {
     ghost use Rattle.std.specs.Prelude.{◌↔◌, ◌≢◌, ℕ, [], length, List, Some, None, Ok, Err, IfOk, IfErr, IsErrAnd, IsTrue, OnErr, MatchOption, MatchResult};
-    ghost use Rattle.tw_base.specs.history.Anchors.{anchor_of};
-    ghost use Rattle.tw_base.specs.history.Auth.{auth};
     ghost use Rattle.tw_base.specs.declared.kinds.limits.TheConstants.{LAST_TIME};
     ghost use Rattle.tw_base.specs.history.History.{History, events_at};
     ghost use Rattle.tw_base.specs.history.Limits.{IsStep, IsThread, IsTimeWithinLimits};
-    ghost use Rattle.tw_base.specs.declared.history.thread.Thread.{Thread as ThreadOf};
-    ghost use Rattle.tw_chain.specs.Accepting.{Accepts};
-    ghost use Rattle.tw_skipproof.specs.HistoryProofs.{IsPathOf, MakesExistence};
     ghost use Rattle.tw_base.specs.kinds.Faults.{Rose};
     ghost use Rattle.tw_disk.specs.Disk.{IsAtRest, LeavesOnly, Reads};
     ghost use Rattle.tw_disk.specs.Image.{Image};
     ghost use Rattle.tw_pages.specs.Slots.{IsTaken};
     ghost use Rattle.tw_pages.specs.declared.open.StoreFault.{StoreFault as Fault};
-    ghost use Rattle.tw_answers.specs.Refusals.{IsFault, IsHasThread, IsNoEvent, IsNoThread};
-    ghost use Rattle.tw_base.specs.format.Formats.{Spells};
-    ghost use Rattle.tw_base.specs.history.Tree.{entries, tree};
-    ghost use Rattle.tw_chain.specs.declared.proof.AbsenceProof.{AbsenceProof};
-    ghost use Rattle.tw_chain.specs.declared.proof.Proof.TheVariants.{Absent, Archived};
-    ghost use Rattle.tw_chain.specs.declared.proof.ThreadProof.{ThreadProof};
-    ghost use Rattle.tw_chain.specs.Proofs.{proof_layout};
-    ghost use Rattle.tw_treeproof.specs.Answers.{ancestors_of};
+    ghost use Rattle.tw_answers.specs.Refusals.{IsFault};
     ghost use Rattle.tw_msg.specs.Messages.{IsLinked};
     ghost use Rattle.tw_service.specs.Adding.{Appends, Receives, ReceivesBytes, Steps};
-    ghost use Rattle.tw_service.specs.Asking.{Asks, AsksOr};
-    ghost use Rattle.tw_answers.specs.Finds.{IsAnswer, found_absence, found_event, found_link_proof, found_message, found_thread_proof};
+    ghost use Rattle.tw_answers.specs.Finds.{IsAnswer};
     ghost use Rattle.tw_service.specs.Finds.{found_thread};
-    ghost use Rattle.tw_answers.specs.Limits.{append_refusal as append_refusal_of, link_refusal as link_refusal_of, order_refusal as order_refusal_of, proof_refusal, thread_refusal as thread_refusal_of};
-    ghost use Rattle.tw_service.specs.Machine.{Answers, IsFewNodes, IsStepOf, MakesAbsence, MakesLink, MakesThread, last_thread};
-    ghost use Rattle.tw_service.specs.Machine.Call.{Append, CountSteps, ProveAbsent, ProveEvent, ProveLink, ProveThread, TellHead, TellName, TellThread};
-    ghost use Rattle.tw_service.specs.Machine.Reply.{OfName, OfNumber, OfPath, OfProof, OfThread};
+    ghost use Rattle.tw_answers.specs.Limits.{append_refusal as append_refusal_of};
+    ghost use Rattle.tw_service.specs.Machine.{Answers, IsStepOf, last_thread};
+    ghost use Rattle.tw_service.specs.Machine.Call.{Append, CountSteps, TellHead, TellName};
+    ghost use Rattle.tw_service.specs.Machine.Reply.{OfName, OfNumber, OfThread};
     ghost use Rattle.tw_service.specs.Serves.{HasSameDisk, Serves, archive_of, clock_of, disk_of, has_failed, head_of, name_of, pages_of, record_of, steps_of, thread_of, threads_of};
     ghost use Rattle.tw_service.specs.Stands.{IsBlankOrNew, IsNotOpenedFor, OpensWith, StandsFor, StandsForOneOf, greater, no_history};
 
@@ -430,265 +414,6 @@ impl<D: Disk, H: Hasher> Service<D, H> {
         }
         match self.recorded.add_step::<H>(self.alloc, events, time) {
             Ok(()) => Ok(self.head()),
-            Err(refusal) => {
-                self.is_broken = is_disk_fault(&refusal);
-                Err(refusal)
-            }
-        }
-    }
-
-    /// The path from the last step down to the step `since`, which may be 0. With the thread of `head` and `since` it is the message that
-    /// tells the last step to a service that knows the step `since`.
-    ///
-    /// Refusals, the first that stands: `Reopen` where an earlier call on this value answered `DiskFault`; `NoStep` where there is no
-    /// step, or `since` is above the last one, with the last step. `BadPage` tells the first page met on the way that isn't the page of
-    /// its step; it never comes where a history is served. It writes nothing.
-    pub fn thread_out(&mut self, since: u64) -> Result<Path, Refusal>
-        // Asking for the path of a message. Each refusal of the table comes exactly where its line is the first that stands; else only
-        // `DiskFault`, `BadPage` and `NoMemory` are left. Over told pages, whatever they keep, the answer is what is found in them, a
-        // disk fault and want of memory excepted. Where a history is served and no earlier call met a disk fault, the call is a step of
-        // the machine. Whatever the answer, the history is served as before, at rest, nothing is written, and the root record is as
-        // before. The value remembers that a call answered `DiskFault`, which comes only where the disk's count of faults rose.
-        ensures asks { Asks H.dig D.view (TellThread since) (λ path. OfPath path)
-            (thread_refusal_of (has_failed self.old) (steps_of self.old) since)
-            (λ ps. found_message H.dig ps (head_of self.old) (has_failed self.old) since) self.old self.new result }
-        // The path is the history's own, from its last step down to the earlier one.
-        ensures made { IfOk result (λ path. (h : History) → Serves H.dig D.view self.old h
-            → IsPathOf H.dig h path.links (length h.steps) since) }
-        // Over any pages, told or not, the path has at most twice as many links as the last step has binary digits.
-        ensures bound { IfOk result (λ path. (digits : ℕ) → steps_of self.old < 2 ^ digits
-            → length path.links ≤ 2 * digits) }
-    {
-        if let Some(refusal) = thread_refusal(self.is_broken, self.recorded.root.head.step, since) {
-            return Err(refusal);
-        }
-        match path_down::<Store<D>, H>(
-            self.alloc,
-            &mut self.recorded.store,
-            &self.recorded.root.head,
-            since,
-        ) {
-            Ok(path) => Ok(path),
-            Err(refusal) => {
-                self.is_broken = is_disk_fault(&refusal);
-                Err(refusal)
-            }
-        }
-    }
-
-    /// The proof of the authenticator of a step, which may be 0, under that top. The page of the step isn't read: the link that leads to
-    /// it has the authenticator.
-    ///
-    /// Refusals, the first that stands: `Reopen` where an earlier call on this value answered `DiskFault`; `NoStep` where step <= top and
-    /// 1 <= top <= the last step don't both hold, with the last step. `BadPage` tells the first page met that isn't of its kind; it never
-    /// comes where a history is served. It writes nothing.
-    pub fn prove_link(&mut self, step: u64, top: u64) -> Result<Bytes, Refusal>
-        // Asking for the proof of a step's authenticator does, by its own table and what is found for it, what asking for the path of a
-        // message does.
-        ensures asks { Asks H.dig D.view (ProveLink step top) (λ bytes. OfProof bytes)
-            (link_refusal_of (has_failed self.old) (steps_of self.old) step top)
-            (λ ps. found_link_proof H.dig ps (name_of self.old) (head_of self.old) (has_failed self.old) step top)
-            self.old self.new result }
-        // The proof is the history's own proof of that authenticator under that top.
-        ensures made { IfOk result (λ bytes. (h : History) → Serves H.dig D.view self.old h
-            → MakesLink H.dig h step top bytes) }
-        // The proof is accepted under every list of anchors whose anchor of the service and top has the history's authenticator of the
-        // top.
-        ensures accepted { IfOk result (λ bytes. (h : History) → Serves H.dig D.view self.old h
-            → (anchors : List ThreadOf) (anchor : ThreadOf) → anchor_of anchors h.name top ≡ Some anchor
-            → anchor.auth ≡ auth H.dig h top
-            → Accepts H.dig anchors bytes) }
-    {
-        if let Some(refusal) = link_refusal(
-            self.is_broken,
-            self.recorded.root.head.step,
-            step,
-            top,
-        ) {
-            return Err(refusal);
-        }
-        match make_link::<Store<D>, H>(
-            self.alloc,
-            &mut self.recorded.store,
-            &self.recorded.root.name,
-            &self.recorded.root.head,
-            step,
-            top,
-        ) {
-            Ok(bytes) => Ok(bytes),
-            Err(refusal) => {
-                self.is_broken = is_disk_fault(&refusal);
-                Err(refusal)
-            }
-        }
-    }
-
-    /// The proof that a step received a thread of the key, of the steps up to this one, under that top: the entry of the key in the
-    /// step's archive, with its place.
-    ///
-    /// Condition: the key's step is within 1 to 2^40 - 1. Refusals, the first that stands: `Reopen` where an earlier call on this value
-    /// answered `DiskFault`; `NoStep` where 1 <= step <= top <= the last step doesn't hold, with the last step; `NoThread` where no step
-    /// up to that one received a thread of the key. `BadPage` tells the first page met that isn't of its kind, or the root's page of an
-    /// archive whose pages don't fit one another; it never comes where a history is served. It writes nothing.
-    pub fn prove_thread(&mut self, step: u64, key: &Key, top: u64) -> Result<Bytes, Refusal>
-        requires { IsStep key.now.step }
-        // Asking for the proof of a thread. Each refusal of the table that needs no page comes exactly where its line is the first that
-        // stands; else only `NoThread`, `DiskFault`, `BadPage` and `NoMemory` are left. Over told pages, whatever they keep, the answer
-        // is what is found in them, a disk fault and want of memory excepted. Where a history is served and no earlier call met a disk
-        // fault, the call is a step of the machine. Whatever the answer, the history is served as before, at rest, nothing is written,
-        // and the root record is as before. The value remembers that a call answered `DiskFault`, which comes only where the disk's count
-        // of faults rose.
-        ensures asks { AsksOr H.dig D.view IsNoThread (ProveThread step key.now top) (λ bytes. OfProof bytes) (order_refusal_of (has_failed self.old) (steps_of self.old) step top)
-            (λ ps. found_thread_proof H.dig ps (name_of self.old) (head_of self.old) step key.now top (has_failed self.old)) self.old self.new result }
-        // The proof is the history's own proof of a thread of that key under that top.
-        ensures made { IfOk result (λ bytes. (h : History) → Serves H.dig D.view self.old h → MakesThread H.dig h step key.now top bytes) }
-        // Where a history is served, the tree proof has at most 9 nodes above its place for each of some number of levels, of which each
-        // one more takes 13 times the threads; over an archive of no thread it has none.
-        ensures size { IfOk result (λ bytes. (h : History) → Serves H.dig D.view self.old h → (p : ThreadProof) → Spells proof_layout bytes (Archived p)
-            → IsFewNodes (length (entries (tree h step))) (length (ancestors_of p.shown))) }
-        // The proof is accepted under every list of anchors whose anchor of the service and top has the history's authenticator of the
-        // top.
-        ensures accepted { IfOk result (λ bytes. (h : History) → Serves H.dig D.view self.old h
-            → (anchors : List ThreadOf) (anchor : ThreadOf) → anchor_of anchors h.name top ≡ Some anchor → anchor.auth ≡ auth H.dig h top
-            → Accepts H.dig anchors bytes) }
-    {
-        let root = &self.recorded.root;
-        if let Some(refusal) = order_refusal(self.is_broken, root.head.step, step, top) {
-            return Err(refusal);
-        }
-        match make_thread::<Store<D>, H>(
-            self.alloc,
-            &mut self.recorded.store,
-            &self.recorded.root.name,
-            &self.recorded.root.head,
-            step,
-            key,
-            top,
-        ) {
-            Ok(bytes) => Ok(bytes),
-            Err(refusal) => {
-                self.is_broken = is_disk_fault(&refusal);
-                Err(refusal)
-            }
-        }
-    }
-
-    /// The proof that no step received a thread of the key, of the steps up to this one, under that top: the empty place of the key in
-    /// the step's archive.
-    ///
-    /// Condition and refusals are those of `prove_thread`, but for `HasThread` in place of `NoThread`, where a step up to that one
-    /// received a thread of the key, with that step.
-    pub fn prove_absent(&mut self, step: u64, key: &Key, top: u64) -> Result<Bytes, Refusal>
-        requires { IsStep key.now.step }
-        // Asking for the proof that there is no thread does, by what is found for it and with `HasThread` in place of `NoThread`, what
-        // asking for the proof of a thread does.
-        ensures asks { AsksOr H.dig D.view IsHasThread (ProveAbsent step key.now top) (λ bytes. OfProof bytes) (order_refusal_of (has_failed self.old) (steps_of self.old) step top)
-            (λ ps. found_absence H.dig ps (name_of self.old) (head_of self.old) step key.now top (has_failed self.old)) self.old self.new result }
-        // The proof is the history's own proof, under that top, that no step up to that one received a thread of that key.
-        ensures made { IfOk result (λ bytes. (h : History) → Serves H.dig D.view self.old h → MakesAbsence H.dig h step key.now top bytes) }
-        // Where a history is served, the tree proof has at most 9 nodes above its place for each of some number of levels, of which each
-        // one more takes 13 times the threads; over an archive of no thread it has none.
-        ensures size { IfOk result (λ bytes. (h : History) → Serves H.dig D.view self.old h → (p : AbsenceProof) → Spells proof_layout bytes (Absent p)
-            → IsFewNodes (length (entries (tree h step))) (length (ancestors_of p.shown))) }
-        // The proof is accepted under every list of anchors whose anchor of the service and top has the history's authenticator of the
-        // top.
-        ensures accepted { IfOk result (λ bytes. (h : History) → Serves H.dig D.view self.old h
-            → (anchors : List ThreadOf) (anchor : ThreadOf) → anchor_of anchors h.name top ≡ Some anchor → anchor.auth ≡ auth H.dig h top
-            → Accepts H.dig anchors bytes) }
-    {
-        name_law(&key.from);
-        let root = &self.recorded.root;
-        if let Some(refusal) = order_refusal(self.is_broken, root.head.step, step, top) {
-            return Err(refusal);
-        }
-        match make_absence::<Store<D>, H>(
-            self.alloc,
-            &mut self.recorded.store,
-            &self.recorded.root.name,
-            &self.recorded.root.head,
-            step,
-            key,
-            top,
-        ) {
-            Ok(bytes) => Ok(bytes),
-            Err(refusal) => {
-                self.is_broken = is_disk_fault(&refusal);
-                Err(refusal)
-            }
-        }
-    }
-
-    /// The existence proof of the event at that index (from 0) of a step, under that top.
-    ///
-    /// Refusals, the first that stands: `Reopen` where an earlier call on this value answered `DiskFault`; `NoStep` where 1 <= step <=
-    /// top <= the last step doesn't hold, with the last step; `NoEvent` where the index isn't below the step's count of events, with the
-    /// count. `BadPage` tells the first page met that isn't of its kind, or the one read last where the event pages don't spell the
-    /// step's events; it never comes where a history is served. It writes nothing.
-    pub fn prove_event(&mut self, step: u64, index: u32, top: u64) -> Result<Bytes, Refusal>
-        // Each refusal of the table that needs no page comes exactly where its line is the first that stands; else only `DiskFault`,
-        // `BadPage`, `NoMemory` and `NoEvent` are left.
-        ensures table { MatchOption (order_refusal_of (has_failed self.old) (steps_of self.old) step top)
-            (IfErr result (λ refusal. IsFault refusal ⊎ IsNoEvent refusal)) (λ refusal. result ≡ Err refusal) }
-
-        // A proof is the history's own proof of that event under that top.
-        ensures made { IfOk result (λ bytes. (h : History) → Serves H.dig D.view self.old h
-            → MakesExistence H.dig h step index top bytes) }
-        // The proof is accepted under every list of anchors whose anchor of the service and top has the history's authenticator of the
-        // top.
-        ensures accepted { IfOk result (λ bytes. (h : History) → Serves H.dig D.view self.old h
-            → (anchors : List ThreadOf) (anchor : ThreadOf) → anchor_of anchors h.name top ≡ Some anchor
-            → anchor.auth ≡ auth H.dig h top
-            → Accepts H.dig anchors bytes) }
-
-        // Where a history is served and no earlier call on the value met a disk fault, proving an event is a step of the machine, a disk
-        // fault and want of memory excepted.
-        ensures machine { has_failed self.old ≡ false → (h : History) → Serves H.dig D.view self.old h
-            → Answers H.dig h (ProveEvent step index top) (λ bytes. OfProof bytes) result
-            (Serves H.dig D.view self.new) }
-        // Whatever the answer, the history is served as before, at rest.
-        ensures same { (h : History) → Serves H.dig D.view self.old h → Serves H.dig D.view self.new h
-            × LeavesOnly (D.view (disk_of self.old)) (D.view (disk_of self.new))
-            (λ i. StandsFor H.dig i (name_of self.old) h) }
-        // Whatever the answer, nothing is written.
-        ensures unwritten { HasSameDisk D.view self.old self.new }
-        // The root record, and with it name, head, archive and greatest time, is as before.
-        ensures kept { record_of self.new ≡ record_of self.old }
-        // The value remembers that a call answered `DiskFault`, and nothing else is remembered so: by the table `Reopen` is answered
-        // exactly after one.
-        ensures broken { IsTrue (has_failed self.new)
-            ↔ (IsTrue (has_failed self.old) ⊎ (result ≡ Err Refusal.DiskFault)) }
-        // `DiskFault` comes only where the disk's count of faults rose.
-        ensures fault { result ≡ Err Refusal.DiskFault
-            → Rose ((D.view (disk_of self.old)).faults) ((D.view (disk_of self.new)).faults) }
-        // The count of faults hasn't fallen.
-        ensures later { (D.view (disk_of self.old)).faults ≤ (D.view (disk_of self.new)).faults }
-
-        // What the answer is, a disk fault and want of memory excepted, whatever the pages keep: the refusal of the table for the order
-        // of steps, where one stands; else, of what the walk from the head by the top finds, the bytes of the proof that is made of path,
-        // opening and events, `NoEvent` with the number of events that the step's page counts, where the index isn't below it, or
-        // `BadPage` with the first page met that isn't of its kind, or with the one that the step's events fail at.
-        ensures answer { (ps : Image) → pages_of D.view self.old ≡ Some ps
-            → IsAnswer result
-            (found_event H.dig ps (name_of self.old) (head_of self.old) step index top (has_failed self.old)) }
-    {
-        if let Some(refusal) = order_refusal(
-            self.is_broken,
-            self.recorded.root.head.step,
-            step,
-            top,
-        ) {
-            return Err(refusal);
-        }
-        match make_proof::<Store<D>, H>(
-            self.alloc,
-            &mut self.recorded.store,
-            &self.recorded.root.name,
-            &self.recorded.root.head,
-            step,
-            index,
-            top,
-        ) {
-            Ok(bytes) => Ok(bytes),
             Err(refusal) => {
                 self.is_broken = is_disk_fault(&refusal);
                 Err(refusal)

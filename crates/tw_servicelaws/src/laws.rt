@@ -10,12 +10,10 @@ ghost use Rattle.tw_base.specs.declared.kinds.limits.TheConstants.{LAST_STEP};
 ghost use Rattle.tw_base.specs.history.Asking.{entry_with};
 ghost use Rattle.tw_base.specs.history.Auth.{auth};
 ghost use Rattle.tw_base.specs.history.History.{History, events_at};
-ghost use Rattle.tw_base.specs.history.HistoryCodec.{history_bytes};
 ghost use Rattle.tw_base.specs.history.Limits.{IsStep, IsTimeWithinLimits, MayRecord};
 ghost use Rattle.tw_base.specs.history.Sound.{IsSound};
 ghost use Rattle.tw_base.specs.history.Tree.{entries, tree};
 ghost use Rattle.tw_base.specs.kinds.Lists.{In};
-ghost use Rattle.tw_base.specs.kinds.Names.{IsName};
 ghost use Rattle.tw_disk.specs.Found.Found.{Is};
 ghost use Rattle.tw_disk.specs.Image.{Image};
 ghost use Rattle.tw_pages.specs.declared.open.StoreFault.{StoreFault};
@@ -29,16 +27,17 @@ ghost use Rattle.tw_skiplist.specs.declared.head.Head.{Head};
 ghost use Rattle.tw_skiplist.specs.Keeping.{Keeps, archive_at};
 ghost use Rattle.tw_skipproof.specs.HistoryProofs.{IsPathOf, MakesExistence};
 ghost use Rattle.tw_skipproof.specs.declared.path.Path.{Path};
-ghost use Rattle.tw_answers.specs.declared.refusal.Refusal.TheVariants.{HasThread, NoEvent, NoThread};
+ghost use Rattle.tw_answers.specs.declared.refusal.Refusal.TheVariants.{NoEvent, NoThread};
 ghost use Rattle.tw_answers.specs.declared.root.RootRecord.{RootRecord};
-ghost use Rattle.tw_answers.specs.Finds.{absence_proof, event_proof, link_proof, path_down, thread_proof};
+ghost use Rattle.tw_answers.specs.Finds.{event_proof, link_proof, path_down, thread_proof};
 ghost use Rattle.tw_answers.specs.Limits.{append_refusal, archive_refusal, clock_refusal};
-ghost use Rattle.tw_service.specs.Exporting.{file_refusal, history_file};
-ghost use Rattle.tw_service.specs.Mapping.{MakesHigh, MakesLow, high_file, low_file};
+ghost use Rattle.tw_base.specs.declared.history.question.Question.{Question};
+ghost use Rattle.tw_base.specs.history.Questions.{HasNames, MayAsk};
+ghost use Rattle.tw_service.specs.Questions.{AreInOrder, found_bytes, pages_refusal};
 ghost use Rattle.tw_service.specs.declared.receiving.Reception.TheVariants.{Archive, Known as ReceptionKnown};
 ghost use Rattle.tw_service.specs.EventSteps.{with_events};
 ghost use Rattle.tw_service.specs.Finds.{found_archived, found_receipt, found_reception, found_thread};
-ghost use Rattle.tw_service.specs.Machine.{IsStepOf, MakesAbsence, MakesLink, MakesThread, last_thread, receipt_by, received_as};
+ghost use Rattle.tw_service.specs.Machine.{IsStepOf, Makes, MakesLink, last_thread, receipt_by, received_as};
 ghost use Rattle.tw_service.specs.Machine.Call.{Receive};
 ghost use Rattle.tw_service.specs.Machine.Reply.{OfReceipt};
 ghost use Rattle.tw_service.specs.Receiving.{reception};
@@ -101,32 +100,14 @@ pub fn finding_laws<H: Hasher>()
     // others; so no page met is bad.
     ensures archived { (ps : Image) (h : History) (r : RootRecord) (t : Thread) (time : Option ℕ) (tree_pages : Image) (grown : Root) → KeepsWhole H.dig ps h r → IsSound h →
         MayArchive h t time → (receipt : Receipt) × (found_archived H.dig ps h.name r.head r.archive t time tree_pages grown ≡ Is (Ok receipt)) }
-    // Where the history is sound, the steps are in their order and the step's archive has an entry of the key, what `prove_thread`
-    // finds is the history's own proof of it under that top.
-    ensures proved { (ps : Image) (h : History) (r : RootRecord) (step : ℕ) (key : Key) (top : ℕ) (e : Entry) → KeepsWhole H.dig ps h r → IsSound h → 1 ≤ step → step ≤ top →
-        top ≤ r.head.step → entry_with (entries (tree h step)) key ≡ Some e →
-        (bytes : List ℕ) × (thread_proof H.dig ps h.name r.head step key top ≡ Is (Ok bytes)) × MakesThread H.dig h step key top bytes }
-    // Where it has none, what is found is `NoThread`.
+    // Where the history is sound, and the steps of a question, its peer's step and its peer's name are in their ranges, what is found
+    // for it is the bytes that the history makes of it, or the refusal that the history tells; so no page met is bad.
+    ensures asked { (ps : Image) (h : History) (r : RootRecord) (q : Question) → KeepsWhole H.dig ps h r → IsSound h → MayAsk q → HasNames q → AreInOrder r.head.step q →
+        MatchOption (pages_refusal h q) ((bytes : List ℕ) × (found_bytes H.dig ps h.name r.head q ≡ Is (Ok bytes)) × Makes H.dig h q bytes)
+        (λ refusal. found_bytes H.dig ps h.name r.head q ≡ Is (Err refusal)) }
+    // Whatever the key, where the step's archive has no entry of it, what `prove_thread` finds is `NoThread`.
     ensures no_thread { (ps : Image) (h : History) (r : RootRecord) (step : ℕ) (key : Key) (top : ℕ) → KeepsWhole H.dig ps h r → IsSound h → 1 ≤ step → step ≤ top →
         top ≤ r.head.step → entry_with (entries (tree h step)) key ≡ None → thread_proof H.dig ps h.name r.head step key top ≡ Is (Err NoThread) }
-    // Where it has none, and the key is one that a thread may have, what `prove_absent` finds is the history's own proof of that
-    // under that top.
-    ensures absence { (ps : Image) (h : History) (r : RootRecord) (step : ℕ) (key : Key) (top : ℕ) → KeepsWhole H.dig ps h r → IsSound h → 1 ≤ step → step ≤ top →
-        top ≤ r.head.step → IsName key.from → IsStep key.step → entry_with (entries (tree h step)) key ≡ None →
-        (bytes : List ℕ) × (absence_proof H.dig ps h.name r.head step key top ≡ Is (Ok bytes)) × MakesAbsence H.dig h step key top bytes }
-    // Where it has one, what is found is `HasThread` with the step that received it.
-    ensures has_thread { (ps : Image) (h : History) (r : RootRecord) (step : ℕ) (key : Key) (top : ℕ) (e : Entry) → KeepsWhole H.dig ps h r → IsSound h → 1 ≤ step → step ≤ top →
-        top ≤ r.head.step → entry_with (entries (tree h step)) key ≡ Some e → absence_proof H.dig ps h.name r.head step key top ≡ Is (Err (HasThread e.archived)) }
-    // Where the history is sound and the steps are in their order, what `prove_low` finds is the history's own low file.
-    ensures low { (ps : Image) (h : History) (r : RootRecord) (step : ℕ) (peer : List ℕ) (top : ℕ) → KeepsWhole H.dig ps h r → IsSound h → IsName peer → 1 ≤ step → step ≤ top →
-        top ≤ r.head.step → (bytes : List ℕ) × (low_file H.dig ps r.head step peer top h.name ≡ Is (Ok bytes)) × MakesLow H.dig h step peer top bytes }
-    // What `prove_high` finds is the history's own high file.
-    ensures high { (ps : Image) (h : History) (r : RootRecord) (step : ℕ) (peer : List ℕ) (top : ℕ) → KeepsWhole H.dig ps h r → IsSound h → IsName peer → IsStep step → 1 ≤ top →
-        top ≤ r.head.step → (bytes : List ℕ) × (high_file H.dig ps r.head step peer top h.name ≡ Is (Ok bytes)) × MakesHigh H.dig h step peer top bytes }
-    // Where the history is sound, what `export` finds is the history's own file, or, where that isn't within its limits, the
-    // refusal of the table.
-    ensures file { (ps : Image) (h : History) (r : RootRecord) → KeepsWhole H.dig ps h r → IsSound h →
-        MatchOption (file_refusal h) (history_file H.dig ps h.name r.head ≡ Is (Ok (history_bytes h))) (λ refusal. history_file H.dig ps h.name r.head ≡ Is (Err refusal)) }
     // Where they keep a history whole, the own proof that the archive's tree after a step has of an answer, as proofs and map files of the
     // history show it, has at most 9 nodes above its place for each level of the archive's pages, so at most 99; the levels are more than
     // none only where at least 2 * 13^(levels - 1) - 1 threads were received.

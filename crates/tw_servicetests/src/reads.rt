@@ -3,10 +3,9 @@
 use std::alloc::Global;
 use std::process::Abort;
 use std::test::Fail;
-use tw_base::{Bytes, EventList, Key, Name, Sha, Thread};
+use tw_base::{Bytes, EventList, Key, Name, Question, Sha, Thread};
 use tw_chain::Verdict;
 use tw_disk::MemDisk;
-use tw_msg::{Message, write_message};
 use tw_service::{Refusal, Service};
 use tw_verifier::verify;
 
@@ -34,14 +33,8 @@ fn receive_next(
     peer: &mut Service<MemDisk, Sha>,
 ) -> Result<(), Refusal> {
     let since = peer.steps();
-    let thread = append(alloc, peer)?;
-    let link = peer.thread_out(since)?;
-    let message = Message {
-        thread,
-        since,
-        link,
-    };
-    let bytes = write_message(alloc, &message)?;
+    let _ = append(alloc, peer)?;
+    let bytes = peer.ask(&Question::ThreadOut { since })?;
     let _receipt = service.receive(bytes.as_slice())?;
     Ok(())
 }

@@ -1,10 +1,12 @@
 // Services on a disk in memory: each call once, and how many device calls and reads it makes. Root records, pages that aren't of their kind,
 // limits and what is missing are shown by the acceptance run, and what stops and failed calls leave by `tw_hostiletests`.
 
+ghost use Rattle.tw_base.specs.history.Questions.{MayAsk};
+
 use std::alloc::Global;
 use std::process::Abort;
 use std::test::Fail;
-use tw_base::{Bytes, EventList, Name, NoMemory, Sha, Thread};
+use tw_base::{Bytes, EventList, Key, Name, NoMemory, Question, Sha, Thread};
 use tw_chain::Verdict;
 use tw_disk::MemDisk;
 use tw_service::{Refusal, Service};
@@ -156,7 +158,7 @@ fn is_told_from(service: &mut Service<MemDisk, Sha>, earlier: Thread) -> bool {
         return false;
     }
     match service.thread_out(earlier.step) {
-        Ok(path) => match climb::<Sha>(&path, last.step, earlier.step, &earlier.auth) {
+        Ok(told) => match climb::<Sha>(&told.link, last.step, earlier.step, &earlier.auth) {
             Some(auth) => auth == last.auth,
             None => false,
         },
@@ -222,5 +224,41 @@ fn the_greatest_time_outlives_a_step_without_one(rt: HostRuntime) -> Result<(), 
     let third = append_at(alloc, &mut service, 7)?;
     assert_eq!(rt; third.step, 3);
     assert!(rt; is_accepted(alloc, &mut service, 1, third));
+    Ok(())
+}
+
+// Whether the answer to a question begins with these bytes.
+fn is_answered(service: &mut Service<MemDisk, Sha>, question: Question, front: &[u8]) -> bool
+    requires { MayAsk question }
+{
+    match service.ask(&question) {
+        Ok(bytes) => bytes.as_slice().starts_with(front),
+        Err(_) => false,
+    }
+}
+
+#[test]
+fn each_question_is_answered(rt: HostRuntime) -> Result<(), Fail> {
+    let alloc = rt.alloc();
+    let from = alpha(&rt);
+    let peer = Name::read(b"beta").expect(&rt, "a name");
+    let mut beta = init(alloc, MemDisk::new(alloc), peer).ok_or("no peer")?;
+    let mut own = init(alloc, MemDisk::new(alloc), from).ok_or("no service")?;
+    let _ = append(alloc, &mut beta)?;
+    let _ = append(alloc, &mut beta)?;
+    let told = beta.ask(&Question::ThreadOut { since: 0 })?;
+    let _ = own.receive(told.as_slice())?;
+    let _ = append(alloc, &mut own)?;
+    let (step, index, top) = (2, 0, None);
+    assert!(rt; is_answered(&mut own, Question::Event { step, index, top }, b"TWP1\x01"));
+    let key = Key { from: peer, step };
+    assert!(rt; is_answered(&mut own, Question::Thread { step, key, top }, b"TWP1\x03"));
+    let key = Key { from, step };
+    assert!(rt; is_answered(&mut own, Question::Absent { step, key, top }, b"TWP1\x04"));
+    assert!(rt; is_answered(&mut own, Question::Link { step, top }, b"TWP1\x05"));
+    assert!(rt; is_answered(&mut own, Question::Low { step, peer, top }, b"TWP1\x06"));
+    assert!(rt; is_answered(&mut own, Question::High { step, peer, top }, b"TWP1\x07"));
+    assert!(rt; is_answered(&mut own, Question::ThreadOut { since: 0 }, b"TWT1alpha"));
+    assert!(rt; is_answered(&mut own, Question::Export, b"TWH1alpha"));
     Ok(())
 }

@@ -5,3 +5,4 @@ pub mod Existence
 pub mod Spelling
 pub mod HistoryProofs
 pub mod Acceptance
+pub mod Seen

@@ -1,5 +1,5 @@
 // Reading existence proofs.
-#![tactic(auto, unfolding(crate::specs::Codecs::event_codec, crate::specs::Codecs::existence_body, crate::specs::Codecs::part_codec, tw_base::specs::format::Codecs::pair, tw_base::specs::format::Codecs::seen))]
+#![tactic(auto, unfolding(crate::specs::Seen::existence_read))]
 
 ghost use Rattle.std.specs.Prelude.{◌≡◌, ◌≤◌, length, IfOk};
 ghost use Rattle.tw_base.specs.declared.kinds.limits.TheConstants.{LAST_STEP, MOST_EVENTS};

@@ -1,5 +1,5 @@
 // Reading openings and paths.
-#![tactic(auto, unfolding(crate::specs::Codecs::link_codec, crate::specs::Codecs::opening_codec, tw_base::specs::format::Codecs::pair, tw_base::specs::format::Codecs::seen))]
+#![tactic(auto, unfolding(crate::specs::Codecs::link_codec, crate::specs::Codecs::opening_codec, tw_base::specs::format::Seen::records))]
 
 ghost use Rattle.std.specs.Prelude.{◌≡◌, ℕ, ◌<◌, ◌≤◌, length, IfOk};
 ghost use Rattle.tw_base.specs.declared.kinds.limits.TheConstants.{LAST_STEP, MOST_EVENTS};

@@ -1,5 +1,5 @@
 // Writing openings, paths and existence proofs.
-#![tactic(auto, unfolding(crate::specs::Codecs::count_codec, crate::specs::Codecs::event_codec, crate::specs::Codecs::link_bytes, crate::specs::Codecs::link_codec, crate::specs::Codecs::opening_bytes, crate::specs::Codecs::opening_codec, tw_base::specs::format::Codecs::by_kind, tw_base::specs::format::Codecs::bytes_codec, tw_base::specs::format::Codecs::labels_codec, tw_base::specs::format::Codecs::many, tw_base::specs::format::Codecs::number_codec, tw_base::specs::format::Codecs::pair, tw_base::specs::format::Codecs::seen, tw_base::specs::format::Codecs::sized_codec, tw_base::specs::format::Codecs::written))]
+#![tactic(auto, unfolding(crate::specs::Seen::openings))]
 
 ghost use Rattle.std.specs.Prelude.{◌≡◌, ℕ, ◌+◌, ◌^◌, ◌<◌, ◌≤◌, [], ◌++◌, length, IfOk, OnOk, if◌then◌else◌};
 ghost use Rattle.tw_base.specs.declared.kinds.limits.TheConstants.{MOST_EVENTS};
@@ -113,7 +113,7 @@ pub fn put_path(into: &mut Bytes, path: &Path) -> Result<(), NoMemory>
 }
 
 /// Appends the step under its top: service, step, top, path and opening.
-#[tactic(auto, unfolding(crate::specs::Codecs::count_codec, crate::specs::Codecs::opening_bytes, crate::specs::Codecs::opening_codec, crate::specs::Codecs::part_bytes, crate::specs::Codecs::part_codec, crate::specs::Codecs::path_bytes, crate::specs::Codecs::path_codec, tw_base::specs::format::Codecs::by_kind, tw_base::specs::format::Codecs::bytes_codec, tw_base::specs::format::Codecs::each, tw_base::specs::format::Codecs::labels_codec, tw_base::specs::format::Codecs::many, tw_base::specs::format::Codecs::name_codec, tw_base::specs::format::Codecs::number_codec, tw_base::specs::format::Codecs::pair, tw_base::specs::format::Codecs::seen, tw_base::specs::format::Codecs::written))]
+#[tactic(auto, unfolding(crate::specs::Seen::parts))]
 pub fn put_part(into: &mut Bytes, part: &Part) -> Result<(), NoMemory>
     // What is put of a step under a top is its bytes in the format.
     ensures ok { OnOk result (into.new ≡ into.old ++ part_bytes part.now) }
@@ -130,7 +130,7 @@ pub fn put_part(into: &mut Bytes, part: &Part) -> Result<(), NoMemory>
 }
 
 /// Appends the proof behind its kind: the step under its top, and the event.
-#[tactic(auto, unfolding(crate::specs::Codecs::count_codec, crate::specs::Codecs::event_codec, crate::specs::Codecs::existence_body, crate::specs::Codecs::opening_codec, crate::specs::Codecs::part_bytes, crate::specs::Codecs::part_codec, tw_base::specs::format::Codecs::by_kind, tw_base::specs::format::Codecs::labels_codec, tw_base::specs::format::Codecs::many, tw_base::specs::format::Codecs::number_codec, tw_base::specs::format::Codecs::pair, tw_base::specs::format::Codecs::seen, tw_base::specs::format::Codecs::written))]
+#[tactic(auto, unfolding(crate::specs::Seen::existence))]
 pub fn put_existence_body(into: &mut Bytes, proof: &ExistenceProof) -> Result<(), NoMemory>
     // What is put of an existence proof behind its kind is its bytes in the format.
     ensures ok { OnOk result (into.new ≡ into.old ++ existence_body.write proof.now) }
@@ -144,7 +144,7 @@ pub fn put_existence_body(into: &mut Bytes, proof: &ExistenceProof) -> Result<()
 }
 
 /// Appends the proof.
-#[tactic(auto, unfolding(crate::specs::Codecs::existence_codec, tw_base::specs::format::Codecs::behind, tw_base::specs::format::Codecs::text_codec))]
+#[tactic(auto, unfolding(crate::specs::Codecs::existence_codec, tw_base::specs::format::Seen::codecs))]
 fn put_existence(into: &mut Bytes, proof: &ExistenceProof) -> Result<(), NoMemory>
     ensures ok { OnOk result (into.new ≡ into.old ++ existence_bytes proof.now) }
     ensures fits { OnOk result (IsExistenceInRange proof.now → IsShaped proof.now → existence_codec.Fits proof.now) }

@@ -23,7 +23,7 @@ use tw_base::{
 // ---- links
 
 // Puts a link.
-#[tactic(auto, unfolding(crate::specs::StepBytes::ref_codec, tw_base::specs::format::Codecs::bytes_codec, tw_base::specs::format::Codecs::number_codec, tw_base::specs::format::Codecs::pair, tw_base::specs::format::Codecs::seen))]
+#[tactic(auto, unfolding(crate::specs::StepBytes::ref_codec, tw_base::specs::format::Seen::codecs))]
 fn put_link(page: &mut PageFront, link: &StepRef)
     requires { length page.old + 40 ≤ 4096 }
     ensures bytes { page.new ≡ page.old ++ ref_codec.write link.now }
@@ -80,7 +80,7 @@ fn kind_of(fields: &StepFields) -> u64
 // ---- writing
 
 // Puts the number of events and where they stand, or zeros.
-#[tactic(auto, unfolding(crate::specs::StepBytes::counts_codec, tw_base::specs::format::Codecs::behind, tw_base::specs::format::Codecs::nothing, tw_base::specs::format::Codecs::number_codec, tw_base::specs::format::Codecs::pair, tw_base::specs::format::Codecs::seen))]
+#[tactic(auto, unfolding(crate::specs::StepBytes::counts_codec, tw_base::specs::format::Seen::codecs))]
 fn put_counts(page: &mut PageFront, is_events: bool, count: u32, stream: &StreamRef)
     requires { length page.old + 16 ≤ 4096 }
     ensures bytes { page.new ≡ page.old ++ (counts_codec is_events).write (count, stream.now) }
@@ -96,7 +96,7 @@ fn put_counts(page: &mut PageFront, is_events: bool, count: u32, stream: &Stream
 }
 
 // Puts a received thread.
-#[tactic(auto, unfolding(crate::specs::StepBytes::page_thread_codec, tw_base::specs::format::Codecs::bytes_codec, tw_base::specs::format::Codecs::name_codec, tw_base::specs::format::Codecs::number_codec, tw_base::specs::format::Codecs::pair, tw_base::specs::format::Codecs::seen))]
+#[tactic(auto, unfolding(crate::specs::StepBytes::page_thread_codec, tw_base::specs::format::Seen::codecs))]
 fn put_thread(page: &mut PageFront, thread: &Thread)
     requires { length page.old + 56 ≤ 4096 }
     ensures bytes { page.new ≡ page.old ++ page_thread_codec.write thread.now }
@@ -108,7 +108,7 @@ fn put_thread(page: &mut PageFront, thread: &Thread)
 }
 
 // Puts the thread of a step that received one, or the zeros of one of events.
-#[tactic(auto, unfolding(crate::specs::StepBytes::received_codec, tw_base::specs::format::Codecs::behind, tw_base::specs::format::Codecs::nothing, tw_base::specs::format::Codecs::present))]
+#[tactic(auto, unfolding(crate::specs::StepBytes::received_codec, tw_base::specs::format::Seen::codecs))]
 fn put_received(page: &mut PageFront, is_events: bool, received: &Option<Thread>)
     requires { length page.old + 56 ≤ 4096 }
     ensures bytes { page.new ≡ page.old ++ (received_codec is_events).write received.now }
@@ -122,7 +122,7 @@ fn put_received(page: &mut PageFront, is_events: bool, received: &Option<Thread>
 }
 
 // Puts the time of a step that is to have one.
-#[tactic(auto, unfolding(tw_base::specs::format::Codecs::nothing, tw_base::specs::format::Codecs::number_codec, tw_base::specs::format::Codecs::present))]
+#[tactic(auto, unfolding(tw_base::specs::format::Seen::codecs))]
 fn put_time(page: &mut PageFront, is_timed: bool, time: Option<u64>)
     requires { length page.old + 8 ≤ 4096 }
     ensures { page.new ≡ page.old ++ (optional is_timed time_codec).write time }
@@ -133,7 +133,7 @@ fn put_time(page: &mut PageFront, is_timed: bool, time: Option<u64>)
 }
 
 // Puts what a step of this kind has behind the kind.
-#[tactic(auto, unfolding(crate::specs::StepBytes::body_codec, crate::specs::StepBytes::links_codec, tw_base::specs::format::Codecs::behind, tw_base::specs::format::Codecs::bytes_codec, tw_base::specs::format::Codecs::many, tw_base::specs::format::Codecs::number_codec, tw_base::specs::format::Codecs::pair, tw_base::specs::format::Codecs::seen))]
+#[tactic(auto, unfolding(crate::specs::Seen::body))]
 fn put_body(page: &mut PageFront, step: u64, kind: u64, fields: &StepFields, links: &[StepRef])
     requires few { length links.now ≤ MOST_LINKS }
     requires count { length links.now ≡ suc (top_level_of step) }
@@ -152,7 +152,7 @@ fn put_body(page: &mut PageFront, step: u64, kind: u64, fields: &StepFields, lin
 }
 
 /// The page of a step with these links, of which a step below 2^40 has one a level.
-#[tactic(auto, unfolding(crate::specs::StepBytes::kinds_codec, crate::specs::StepBytes::step_codec, tw_base::specs::format::Codecs::behind, tw_base::specs::format::Codecs::by_kind, tw_base::specs::format::Codecs::number_codec))]
+#[tactic(auto, unfolding(crate::specs::StepBytes::kinds_codec, crate::specs::StepBytes::step_codec, tw_base::specs::format::Seen::codecs))]
 pub fn step_page(step: u64, fields: &StepFields, links: &[StepRef]) -> Page
     requires few { length links.now ≤ MOST_LINKS }
     requires count { length links.now ≡ suc (top_level_of step) }
@@ -168,7 +168,7 @@ pub fn step_page(step: u64, fields: &StepFields, links: &[StepRef]) -> Page
 }
 
 /// The event page of this number within a step.
-#[tactic(auto, unfolding(crate::specs::StepBytes::event_page_bytes, crate::specs::StepBytes::piece_codec, tw_base::specs::format::Codecs::behind, tw_base::specs::format::Codecs::bytes_codec))]
+#[tactic(auto, unfolding(crate::specs::Seen::pieces))]
 pub fn event_page(step: u64, number: u16, piece: &[u8]) -> Page
     requires { length piece.now ≤ MOST_PIECE_BYTES }
     ensures page { result ≡ event_page_bytes step number piece.now }
@@ -192,7 +192,7 @@ pub struct StepPage {
 }
 
 // Takes a link.
-#[tactic(auto, unfolding(crate::specs::StepBytes::ref_codec, tw_base::specs::format::Codecs::pair, tw_base::specs::format::Codecs::seen))]
+#[tactic(auto, unfolding(crate::specs::StepBytes::ref_codec, tw_base::specs::format::Seen::records))]
 fn take_link(bytes: &[u8], at: &mut u64) -> Result<StepRef, ReadFault>
     requires { at.old ≤ length bytes.now }
     ensures takes { Takes ref_codec (λ l. l) bytes.now at.old at.new result }
@@ -231,7 +231,7 @@ fn take_all_links(bytes: &[u8], at: &mut u64, step: u64) -> Result<ArrayVec<Step
 }
 
 // Takes the number of events and where they stand, or zeros.
-#[tactic(auto, unfolding(crate::specs::StepBytes::counts_codec, tw_base::specs::format::Codecs::behind, tw_base::specs::format::Codecs::nothing, tw_base::specs::format::Codecs::pair, tw_base::specs::format::Codecs::seen))]
+#[tactic(auto, unfolding(crate::specs::StepBytes::counts_codec, tw_base::specs::format::Seen::codecs))]
 fn take_counts(bytes: &[u8], at: &mut u64, is_events: bool) -> Result<(u32, StreamRef), ReadFault>
     requires { at.old ≤ length bytes.now }
     ensures takes { Takes (counts_codec is_events) (λ c. c) bytes.now at.old at.new result }
@@ -248,7 +248,7 @@ fn take_counts(bytes: &[u8], at: &mut u64, is_events: bool) -> Result<(u32, Stre
 }
 
 // Takes a received thread.
-#[tactic(auto, unfolding(crate::specs::StepBytes::page_thread_codec, tw_base::specs::format::Codecs::pair, tw_base::specs::format::Codecs::seen))]
+#[tactic(auto, unfolding(crate::specs::StepBytes::page_thread_codec, tw_base::specs::format::Seen::records))]
 fn take_thread(bytes: &[u8], at: &mut u64) -> Result<Thread, ReadFault>
     requires { at.old ≤ length bytes.now }
     ensures takes { Takes page_thread_codec (λ t. t) bytes.now at.old at.new result }
@@ -261,7 +261,7 @@ fn take_thread(bytes: &[u8], at: &mut u64) -> Result<Thread, ReadFault>
 }
 
 // Takes the thread of a step that received one, or the zeros of one of events.
-#[tactic(auto, unfolding(crate::specs::StepBytes::received_codec, tw_base::specs::format::Codecs::behind, tw_base::specs::format::Codecs::nothing, tw_base::specs::format::Codecs::present))]
+#[tactic(auto, unfolding(crate::specs::StepBytes::received_codec, tw_base::specs::format::Seen::codecs))]
 fn take_received(bytes: &[u8], at: &mut u64, is_events: bool) -> Result<Option<Thread>, ReadFault>
     requires { at.old ≤ length bytes.now }
     ensures takes { Takes (received_codec is_events) (λ r. r) bytes.now at.old at.new result }
@@ -290,7 +290,7 @@ fn take_time(bytes: &[u8], at: &mut u64, is_timed: bool) -> Result<Option<u64>, 
 }
 
 // Takes what a step of this kind has behind the kind.
-#[tactic(auto, unfolding(crate::specs::StepBytes::body_codec, tw_base::specs::format::Codecs::pair, tw_base::specs::format::Codecs::seen))]
+#[tactic(auto, unfolding(crate::specs::StepBytes::body_codec, tw_base::specs::format::Seen::records))]
 fn take_body(bytes: &[u8], at: &mut u64, step: u64, kind: u64) -> Result<StepPage, ReadFault>
     requires within { at.old ≤ length bytes.now }
     requires step { step < 2 ^ 40 }

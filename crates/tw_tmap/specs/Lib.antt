@@ -4,3 +4,4 @@ pub mod Checking
 pub mod Binding
 pub mod OwnFiles
 pub mod Texts
+pub mod Seen

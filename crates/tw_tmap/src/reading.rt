@@ -1,5 +1,5 @@
 // Reading map files.
-#![tactic(auto, unfolding(crate::specs::MapFiles::high_codec, crate::specs::MapFiles::low_codec, crate::specs::MapFiles::low_part_codec, tw_base::specs::format::Codecs::behind, tw_base::specs::format::Codecs::pair, tw_base::specs::format::Codecs::seen))]
+#![tactic(auto, unfolding(crate::specs::Seen::reading))]
 
 ghost use Rattle.std.specs.Prelude.{◌≡◌, ◌-◌, ◌<◌, ◌≤◌, length, IfOk, nat_lt};
 ghost use Rattle.tw_base.specs.declared.kinds.limits.TheConstants.{LAST_STEP};

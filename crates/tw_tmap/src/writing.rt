@@ -1,5 +1,5 @@
 // Writing map files.
-#![tactic(auto, unfolding(crate::specs::MapFiles::high_codec, crate::specs::MapFiles::low_codec, crate::specs::MapFiles::low_part_codec, tw_base::specs::format::Codecs::behind, tw_base::specs::format::Codecs::by_kind, tw_base::specs::format::Codecs::bytes_codec, tw_base::specs::format::Codecs::each, tw_base::specs::format::Codecs::labels_codec, tw_base::specs::format::Codecs::many, tw_base::specs::format::Codecs::name_codec, tw_base::specs::format::Codecs::number_codec, tw_base::specs::format::Codecs::pair, tw_base::specs::format::Codecs::seen, tw_base::specs::format::Codecs::text_codec, tw_base::specs::format::Codecs::written, tw_skipproof::specs::Codecs::count_codec, tw_skipproof::specs::Codecs::opening_bytes, tw_skipproof::specs::Codecs::opening_codec, tw_skipproof::specs::Codecs::path_bytes, tw_skipproof::specs::Codecs::path_codec))]
+#![tactic(auto, unfolding(crate::specs::Seen::writing))]
 
 ghost use Rattle.std.specs.Prelude.{◌≡◌, ℕ, ◌-◌, ◌++◌, IfOk, OnOk, nat_lt};
 ghost use Rattle.tw_base.specs.format.Codecs.{optional};

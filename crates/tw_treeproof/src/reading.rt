@@ -1,5 +1,5 @@
 // Reading tree proofs.
-#![tactic(auto, unfolding(crate::specs::Codecs::ancestor_codec, tw_base::specs::format::Codecs::pair, tw_base::specs::format::Codecs::seen))]
+#![tactic(auto, unfolding(crate::specs::Codecs::ancestor_codec, tw_base::specs::format::Seen::records))]
 
 ghost use Rattle.std.specs.Prelude.{◌≤◌, length};
 ghost use Rattle.tw_base.specs.format.Codecs.{counted, many};

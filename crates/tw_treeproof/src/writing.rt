@@ -1,5 +1,5 @@
 // Writing tree proofs.
-#![tactic(auto, unfolding(crate::specs::Codecs::ancestor_codec, tw_base::specs::format::Codecs::bytes_codec, tw_base::specs::format::Codecs::pair, tw_base::specs::format::Codecs::seen))]
+#![tactic(auto, unfolding(crate::specs::Codecs::ancestor_codec, tw_base::specs::format::Seen::codecs))]
 
 ghost use Rattle.std.specs.Prelude.{◌≡◌, ◌++◌, flat_map, length, OnOk};
 ghost use Rattle.tw_base.specs.format.Fields.{number_bytes};
@@ -44,7 +44,7 @@ fn put_ancestors(into: &mut Bytes, ancestors: &[Ancestor]) -> Result<(), NoMemor
 /// Appends the proof: the number of the nodes above, of an entry the labels of both sides of its
 /// node, and the nodes, nearest first. They spell it where it has at most 127 nodes above an entry or
 /// 128 above an empty place, and their entries' steps are within 1 to 2^40 - 1.
-#[tactic(auto, unfolding(crate::specs::Codecs::gap_codec, crate::specs::Codecs::present_codec, tw_base::specs::format::Codecs::by_kind, tw_base::specs::format::Codecs::bytes_codec, tw_base::specs::format::Codecs::counted, tw_base::specs::format::Codecs::many, tw_base::specs::format::Codecs::number_codec, tw_base::specs::format::Codecs::pair, tw_base::specs::format::Codecs::variant))]
+#[tactic(auto, unfolding(crate::specs::Codecs::gap_codec, crate::specs::Codecs::present_codec, tw_base::specs::format::Seen::codecs))]
 pub fn put_tree_proof(into: &mut Bytes, proof: &TreeProof) -> Result<(), NoMemory>
     // What is appended of a tree proof is its bytes in the format.
     ensures ok { OnOk result (into.new ≡ into.old ++ tree_proof_bytes proof.now) }

@@ -1,5 +1,5 @@
 // Reading the segments of a proof that comes in pieces, but those that other crates read.
-#![tactic(auto, unfolding(crate::specs::Stages::kind_head, crate::specs::Stages::link_head, crate::specs::Stages::part_head, crate::specs::Stages::present_head, tw_base::specs::format::Codecs::behind, tw_base::specs::format::Codecs::pair))]
+#![tactic(auto, unfolding(crate::specs::Seen::heads))]
 
 ghost use Rattle.std.specs.Prelude.{◌≤◌, length, IfOk};
 ghost use Rattle.tw_base.specs.format.Taking.{Takes};

@@ -5,8 +5,9 @@ use Rattle.std.proofs.lemmas.Option.{slice_get-get_or, slice_get-map}
 use Rattle.std.specs.Vec.{with_item}
 use Rattle.std.specs.Prelude.{map, option_map, Option, Some, None, Result, is_some, slice_get, slice_set}
 use Rattle.tw_answers.specs.declared.refusal.Refusal.{Refusal}
+use Rattle.tw_base.specs.declared.history.question.Question.{Question}
 use Rattle.tw_base.specs.history.History.{History}
-use Rattle.tw_world.specs.Hosts.{Asked, Given, Gives, GoesOn, Holds, Takes, own_answer}
+use Rattle.tw_world.specs.Hosts.{Given, Gives, GoesOn, Holds, Takes, own_answer}
 use Rattle.tw_world.specs.Players.{AreHostsOf, Follows, IsFirst, IsHostOf, mail_kept}
 use Rattle.tw_world.specs.Runs.{IsMember, Moves}
 use Rattle.tw_world.specs.Worlds.{Mail, Member, World, after_line, with_member, without_message}
@@ -90,9 +91,9 @@ module _ (old new : Player) (name : List ℕ) (at : ℕ) (host one : Host) (serv
   }
 
   -- a line that only asked
-  pub follows-asked : (asked : Asked) (given : Result (List ℕ) Refusal) → ((h : History) → Holds host h → Gives h asked given × Holds one h)
-      → one.crash ≡ host.crash → (m : Member) × IsMember w name m × Gives m.history asked given × Follows new w
-  follows-asked asked given gives crash =
+  pub follows-asked : (question : Question) (given : Result (List ℕ) Refusal) → ((h : History) → Holds host h → Gives h question given × Holds one h)
+      → one.crash ≡ host.crash → (m : Member) × IsMember w name m × Gives m.history question given × Follows new w
+  follows-asked question given gives crash =
       let found = find-member old.hosts.items w.members name at host f.hosts served.first served.there in (
         found.member,
         found.there,

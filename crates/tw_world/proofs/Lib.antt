@@ -12,13 +12,11 @@ pub mod PlayedTexts
 pub mod Resting
 pub mod AnsweredCalls
 pub mod Ends
-pub mod AskedCalls
 pub mod Following
 pub mod LineMoves
 pub mod ToldLines
 pub mod Follows
 pub mod Filed
-pub mod LineValues
 pub mod MadeWorlds
 pub mod PlayedRuns
 pub mod PlayedDisks

@@ -1,8 +1,8 @@
 -- Each line of a schedule keeps what the order of recording stands on.
-use Rattle.std.proofs.Common.{◌≡◌, ℕ, ◌+◌, ◌-◌, ◌<◌, ◌≤◌, List, [], ◌∷◌, length, Bool, true, false, refl, ap, sym, ◌∙◌, subst, inl, inr, arith}
+use Rattle.std.proofs.Common.{◌≡◌, ℕ, ◌+◌, ◌-◌, List, [], ◌∷◌, Bool, true, false, refl, ap, sym, ◌∙◌, subst, inl, inr, arith}
 use Rattle.std.specs.Prelude.{Option, Some, None, IsNone, MatchOption, Result, Ok, Err}
 use Rattle.tw_base.specs.declared.history.thread.Thread.{Thread}
-use Rattle.tw_base.specs.format.Formats.{Spells}
+use Rattle.tw_base.specs.declared.history.question.Question.TheVariants.{ThreadOut}
 use Rattle.tw_base.specs.history.Auth.{auth}
 use Rattle.tw_base.specs.history.History.{History}
 use Rattle.tw_base.specs.history.Sound.{IsSound}
@@ -12,20 +12,17 @@ use Rattle.tw_base.proofs.lemmas.format.CodecLaws.{unambiguous}
 use Rattle.tw_chain.specs.declared.proof.Proof.{Proof}
 use Rattle.tw_join.specs.declared.joining.JoinFault.{JoinFault}
 use Rattle.tw_join.specs.declared.joining.JoinFault.TheVariants.{Gap, NoMemory}
-use Rattle.tw_msg.specs.HistoryMessages.{IsMessageOf}
-use Rattle.tw_msg.specs.Messages.{message_bytes, message_codec, message_layout}
+use Rattle.tw_msg.specs.HistoryMessages.{MakesMessage}
+use Rattle.tw_msg.specs.Messages.{message_codec}
 use Rattle.tw_msg.specs.declared.message.Message.{Message}
 use Rattle.tw_msg.proofs.MessageCodec.{message-lawful}
-use Rattle.tw_msg.proofs.OwnMessages.{message-spelled}
 use Rattle.tw_script.specs.declared.line.Line.{Line}
 use Rattle.tw_script.specs.declared.line.Line.TheVariants.{Service, Hostile, Append, Send, Inject, Deliver, Lose, Crash, Prove, Join, Anchor, Verify}
-use Rattle.tw_answers.specs.Limits.{thread_refusal}
 use Rattle.tw_answers.specs.declared.refusal.Refusal.{Refusal}
-use Rattle.tw_service.specs.Machine.{IsStepOf, Reply, last_thread}
-use Rattle.tw_service.specs.Machine.Call.{TellThread}
-use Rattle.tw_service.specs.Machine.Reply.{OfFile, OfName, OfNumber, OfPath, OfProof, OfReceipt, OfThread, Refused}
-use Rattle.tw_skipproof.specs.HistoryProofs.{IsPathOf}
-use Rattle.tw_skipproof.specs.declared.path.Path.{Path}
+use Rattle.tw_service.specs.Machine.{IsStepOf, Makes, Reply}
+use Rattle.tw_service.specs.Machine.Call.{Ask}
+use Rattle.tw_service.specs.Machine.Reply.{OfBytes, Refused}
+use Rattle.tw_service.specs.Questions.{history_refusal}
 use Rattle.tw_world.specs.Runs.{Appending, IsDelivered, IsMember, IsReached, IsTold, IsUndone, JoinTold, Moves, ProofTold, Receiving, Runs, mail_of}
 use Rattle.tw_world.specs.declared.told.Answer.{Answer}
 use Rattle.tw_world.specs.declared.told.Told.{Told}
@@ -33,7 +30,7 @@ use Rattle.tw_world.specs.Worlds.{Mail, Member, World, after_line, member_of, no
 use Rattle.tw_world.specs.Worlds.Mail.{Made, Unmade, Dropped}
 use Rattle.tw_world.proofs.Births.{each-numbered}
 use Rattle.tw_world.proofs.Growing.{moved-more, moved-same, put-same}
-use Rattle.tw_world.proofs.MachineSteps.{append-goes, given-goes, may-tell}
+use Rattle.tw_world.proofs.MachineSteps.{append-goes, given-goes}
 use Rattle.tw_world.proofs.Members.{each-member, named}
 use Rattle.tw_world.proofs.Ordered.{IsHonest, IsHonestMail, IsOrderedWorld, ordered-anchor, ordered-hostile, ordered-later, ordered-lost, ordered-mail, ordered-service}
 
@@ -41,7 +38,7 @@ is-none : {X : Type 0} (o : Option X) → IsNone o → o ≡ None
 is-none None none = refl
 is-none (Some x) none = cc
 
-module _ (dig : List ℕ → List ℕ) (size : (text : List ℕ) → length (dig text) ≡ 32) (are : (text : List ℕ) → AreBytes (dig text)) (may_claim : Option ℕ → Bool) where
+module _ (dig : List ℕ → List ℕ) (may_claim : Option ℕ → Bool) where
   abbrev Good : World → Type 0
   Good w = IsOrderedWorld dig w
 
@@ -98,29 +95,28 @@ module _ (dig : List ℕ → List ℕ) (size : (text : List ℕ) → length (dig
     -- ---- messages
 
     -- the message of a service's last step is honest
-    told-honest : (name : List ℕ) (m : Member) (since : ℕ) (path : Path) → member_of w.members name ≡ Some m → 0 < length m.history.steps → since ≤ length m.history.steps
-        → IsPathOf dig m.history path.links (length m.history.steps) since → IsHonestMail dig w.members w.hostile (mail_of dig m.history since (OfPath path))
-    told-honest name m since path is some order link = λ found spells.
-        let own : Message = record { thread = last_thread dig m.history; since = since; link = path } in
-        let of : IsMessageOf dig m.history since own = record { some = some; earlier = order; thread = refl; at_since = refl; link = link } in
-        let spelled : Spells message_layout (message_bytes own) own = message-spelled dig m.history size are (sound-of name m is) since own of in
-        let same : found ≡ own = (unambiguous message_codec message-lawful).one_value (message_bytes own) found own spells spelled in
+    told-honest : (name : List ℕ) (m : Member) (since : ℕ) (bytes : List ℕ) → member_of w.members name ≡ Some m → Makes dig m.history (ThreadOut since) bytes
+        → IsHonestMail dig w.members w.hostile (Made bytes)
+    unfolding Makes
+    told-honest name m since bytes is makes = λ found spells.
+        let made : MakesMessage dig m.history since bytes = makes in
+        let of = made.2 in
+        let same : found ≡ made.0 = (unambiguous message_codec message-lawful).one_value bytes found made.0 spells made.1 in
         let at : member_of w.members m.history.name ≡ Some m = ap (member_of w.members) (named w.members name m is) ∙ is in
-        subst (λ (x : Message). IsHonest dig w.members w.hostile x.thread) (sym same) (inl (record { member = m; is = at; some = some; within = omega arith; present = refl }))
+        subst (IsHonest dig w.members w.hostile) (sym (ap (λ (x : Message). x.thread) same ∙ of.thread))
+        (inl (record { member = m; is = at; some = of.some; within = omega arith; present = refl }))
 
-    sent-honest : (name : List ℕ) (m : Member) (since : ℕ) (reply : Reply) → member_of w.members name ≡ Some m → IsStepOf dig m.history (TellThread since) reply m.history
-        → IsHonestMail dig w.members w.hostile (mail_of dig m.history since reply)
-    sent-honest name m since reply is step = by (thread_refusal false (length m.history.steps) since) refl step.1
+    sent-honest : (name : List ℕ) (m : Member) (since : ℕ) (reply : Reply) → member_of w.members name ≡ Some m
+        → IsStepOf dig m.history (Ask (ThreadOut since)) reply m.history → IsHonestMail dig w.members w.hostile (mail_of reply)
+    sent-honest name m since reply is step = by (history_refusal m.history (ThreadOut since)) step.1
       where
         Sent : Reply → Type 0
-        Sent r = IsHonestMail dig w.members w.hostile (mail_of dig m.history since r)
+        Sent r = IsHonestMail dig w.members w.hostile (mail_of r)
 
-        by : (x : Option Refusal) → thread_refusal false (length m.history.steps) since ≡ x
-            → MatchOption x ((path : Path) × IsPathOf dig m.history path.links (length m.history.steps) since × (reply ≡ OfPath path)) (λ refusal. reply ≡ Refused refusal) → Sent reply
-        by (Some refusal) at refused = subst Sent (sym refused) tt
-        by None at (path, link, told) =
-            let may = may-tell (length m.history.steps) since at in
-            subst Sent (sym told) (told-honest name m since path is may.0 may.1 link)
+        by : (o : Option Refusal) → MatchOption o ((bytes : List ℕ) × Makes dig m.history (ThreadOut since) bytes × (reply ≡ OfBytes bytes)) (λ refusal. reply ≡ Refused refusal)
+            → Sent reply
+        by (Some refusal) refused = subst Sent (sym refused) tt
+        by None (bytes, makes, told) = subst Sent (sym told) (told-honest name m since bytes is makes)
 
     mail-good : (mail : Mail) → IsHonestMail dig w.members w.hostile mail → IsOrderedWorld dig (after_line (with_message w mail))
     mail-good mail honest = ordered-mail dig w.members w.hostile w.messages w.anchors (w.place + 1) later mail honest
@@ -133,14 +129,9 @@ module _ (dig : List ℕ → List ℕ) (size : (text : List ℕ) → length (dig
     joined-good (Err NoMemory) told next is = absurd is
 
     proof-good : (reply : Reply) (told : Told) (next : World) → ProofTold w reply told next → Good next
-    proof-good (OfProof bytes) told next is = subst Good (sym is.1) later
+    proof-good (OfBytes bytes) told next is = subst Good (sym is.1) later
     proof-good (Refused refusal) told next is = subst Good (sym is.1) later
-    proof-good (OfThread t) told next is = absurd is
-    proof-good (OfReceipt r) told next is = absurd is
-    proof-good (OfPath path) told next is = absurd is
-    proof-good (OfNumber n) told next is = absurd is
-    proof-good (OfName name) told next is = absurd is
-    proof-good (OfFile file) told next is = absurd is
+    proof-good _ told next is = absurd is
 
     pub line-good : (line : Line) (told : Told) (next : World) → IsTold dig may_claim w line told next → Good next
     line-good (Service name) told next is =
@@ -148,7 +139,7 @@ module _ (dig : List ℕ → List ℕ) (size : (text : List ℕ) → length (dig
     line-good (Hostile name) told next is =
         subst Good (sym is.2) (ordered-hostile dig w.members w.hostile w.messages w.anchors (w.place + 1) later name (is-none (member_of w.members name) is.0.1))
     line-good (Append name events) told next (bytes, (m, there, is)) = append-good name m events _ told next bytes there is
-    line-good (Send name since) told next (m, there, (reply, step, text, same)) = subst Good (sym same) (mail-good (mail_of dig m.history since reply) (sent-honest name m since reply there step))
+    line-good (Send name since) told next (m, there, (reply, step, text, same)) = subst Good (sym same) (mail-good (mail_of reply) (sent-honest name m since reply there step))
     line-good (Inject name bytes) told next (lies, own, text, same) =
         subst Good (sym same) (mail-good (Made bytes) (λ m spells. inr (subst (λ x. In x w.hostile) (sym (own m spells)) lies)))
     line-good (Deliver number name) told next (m, there, is) = delivered-good number name m told next there is

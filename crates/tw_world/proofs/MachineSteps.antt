@@ -1,7 +1,7 @@
 -- What a service's machine makes of a history when it is given events, or the bytes of a message: the same history, or one with one more step.
 use Rattle.std.proofs.Common.{◌≡◌, ◌⊎◌, ℕ, ◌<◌, ◌≤◌, List, length, Bool, true, false, refl, ap, sym, subst, inl, inr, arith}
-use Rattle.std.specs.Prelude.{Option, Some, None, MatchOption, nat_le, nat_lt, if◌then◌else◌, ◌&&◌}
-use Rattle.std.proofs.lemmas.Bool.{leb-false, leb-true, ltb-false, ltb-true}
+use Rattle.std.specs.Prelude.{Option, Some, None, MatchOption, nat_le, nat_lt, if◌then◌else◌}
+use Rattle.std.proofs.lemmas.Bool.{leb-false, ltb-false}
 use Rattle.tw_base.specs.declared.history.content.Content.{Content}
 use Rattle.tw_base.specs.declared.history.content.Content.TheVariants.{Received}
 use Rattle.tw_base.specs.declared.history.thread.Thread.{Thread}
@@ -20,13 +20,13 @@ use Rattle.tw_archive.specs.declared.judgement.Judgement.TheVariants.{Known, For
 use Rattle.tw_base.specs.history.Tree.{entries, tree}
 use Rattle.tw_service.specs.Receiving.{reception, refuse_or}
 use Rattle.tw_service.specs.EventSteps.{event_step, with_events}
-use Rattle.tw_answers.specs.Limits.{append_refusal, archive_refusal, bytes_of, clock_refusal, first_long, full_refusal, length_refusal, limits_refusal, or_else, own_refusal, thread_refusal}
+use Rattle.tw_answers.specs.Limits.{append_refusal, archive_refusal, bytes_of, clock_refusal, first_long, full_refusal, length_refusal, limits_refusal, or_else, own_refusal}
 use Rattle.tw_service.specs.Machine.{Archives, IsStepOf, Reply, RepliesTo, append_table, last_thread}
 use Rattle.tw_service.specs.Machine.Reply.{OfThread, Refused}
 use Rattle.tw_service.specs.Machine.Call.{Append as AppendEvents}
 use Rattle.tw_service.specs.Stands.{greatest_time}
 use Rattle.tw_answers.specs.declared.refusal.Refusal.{Refusal}
-use Rattle.tw_answers.specs.declared.refusal.Refusal.TheVariants.{Full, NoStep, TooLong, TooMany}
+use Rattle.tw_answers.specs.declared.refusal.Refusal.TheVariants.{Full, TooLong, TooMany}
 use Rattle.tw_answers.proofs.EventLimits.{none_long}
 use Rattle.tw_service.proofs.NextHistories.{sound_plus}
 use Rattle.tw_world.specs.Runs.{TakesBytes}
@@ -122,14 +122,3 @@ module _ (dig : List ℕ → List ℕ) where
         | inl same ↦ inl same
         | inr more ↦ inr (m, spells, more)
       ]
-
--- ---- telling the last step
-
-pub may-tell : (last since : ℕ) → thread_refusal false last since ≡ None → (0 < last) × (since ≤ last)
-unfolding thread_refusal
-may-tell last since none = by (nat_lt 0 last) (nat_le since last) refl refl none
-  where
-    by : (a b : Bool) → nat_lt 0 last ≡ a → nat_le since last ≡ b → (if a && b then None else Some (NoStep last)) ≡ None → (0 < last) × (since ≤ last)
-    by true true some order none = (ltb-true 0 last some, leb-true since last order)
-    by true false some order none = cc
-    by false b some order none = cc

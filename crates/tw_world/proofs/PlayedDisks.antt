@@ -5,11 +5,9 @@ use Rattle.std.specs.List.Sorted.{IsPermutation, IsSorted, IsSortedByKey}
 use Rattle.std.specs.Ordering.{is_lt, nat_cmp}
 use Rattle.std.proofs.lemmas.List.{get_or-map, length-map}
 use Rattle.std.proofs.lemmas.List.Sorted.{All-permutation, IsPermutation-map}
-use Rattle.sha2.proofs.Facts256.{length-sha256}
 use Rattle.sha2.specs.Sha256.{sha256}
 use Rattle.tw_base.specs.history.Family.{HasHistory}
 use Rattle.tw_base.specs.history.History.{History}
-use Rattle.tw_base.specs.kinds.HasherSteps.{bytes-sha256}
 use Rattle.tw_base.specs.kinds.Lists.{Each, In}
 use Rattle.tw_base.proofs.lemmas.kinds.ListLemmas.{Each-map}
 use Rattle.tw_script.specs.declared.line.Line.{Line}
@@ -111,4 +109,4 @@ pub own-histories : (lines : List Line) (told : List Told) (end : World) → Run
     → Each (λ (m : Member). HasHistory (family end) m.history.name m.history) end.members
 own-histories lines told end runs =
     Each-map (λ (m : Member). IsMember end m.history.name m × (In m.history.name end.hostile → ⊥)) (λ (m : Member). HasHistory (family end) m.history.name m.history) end.members
-    (λ m is. has-history end.members m.history.name m is.0) (names-found sha256 end (reached-good sha256 length-sha256 bytes-sha256 claims_none end (lines, told, runs)))
+    (λ m is. has-history end.members m.history.name m is.0) (names-found sha256 end (reached-good sha256 claims_none end (lines, told, runs)))

@@ -18,6 +18,7 @@ use Rattle.tw_msg.specs.Messages.{message_layout}
 use Rattle.tw_msg.specs.declared.message.Message.{Message}
 use Rattle.tw_script.specs.Allowed as allowed
 use Rattle.tw_script.specs.Allowed.{is_hostile, made_by, may_follow, nothing_made}
+use Rattle.tw_script.specs.AskedWords.{AsksWell}
 use Rattle.tw_script.specs.Injected.{is_own_or_none}
 use Rattle.tw_script.specs.ScriptLines.{AreAllowed, IsLineOf, IsScript, made_by_all}
 use Rattle.tw_script.specs.Scripts.{line_texts}
@@ -26,9 +27,10 @@ use Rattle.tw_script.specs.declared.line.Line.TheVariants.{Service, Hostile, App
 use Rattle.tw_script.specs.declared.made.Made.{Made}
 use Rattle.tw_script.specs.declared.script.NumberedLine.{NumberedLine}
 use Rattle.tw_script.proofs.InjectedLaws.{message-spelled}
-use Rattle.tw_script.proofs.LineLaws.{is-script}
+use Rattle.tw_script.proofs.LineLaws.{is-script, script-asks}
+use Rattle.tw_script.proofs.LineValues.{HasValues, line-has}
 use Rattle.tw_service.specs.Machine.{Reply}
-use Rattle.tw_service.specs.Machine.Reply.{OfFile, OfName, OfNumber, OfPath, OfProof, OfReceipt, OfThread, Refused}
+use Rattle.tw_service.specs.Machine.Reply.{OfBytes, Refused}
 use Rattle.tw_world.specs.Hosts.{claims_none}
 use Rattle.tw_world.specs.PlayedLines.{IsRead}
 use Rattle.tw_world.specs.Players.{MayTell}
@@ -38,7 +40,6 @@ use Rattle.tw_world.specs.Worlds.{Mail, Member, World, no_world, numbered}
 use Rattle.tw_world.specs.Worlds.Mail.{Made as MadeMail, Unmade, Dropped}
 use Rattle.tw_world.specs.declared.told.Answer.{Answer}
 use Rattle.tw_world.specs.declared.told.Told.{Told}
-use Rattle.tw_world.proofs.LineValues.{HasValues, line-has}
 use Rattle.tw_world.proofs.MadeWorlds.{HasMade, files-there, free-new, is_there, made-anchor, made-file, made-hostile, made-later, made-lost, made-mail, made-member, made-service, nothing-made}
 
 -- ---- a line more
@@ -59,19 +60,14 @@ module _ (dig : List ℕ → List ℕ) (may_claim : Option ℕ → Bool) (made :
   delivered-made (Some Unmade) m told next is = subst (HasMade made) (sym is.1) (made-later made w o)
   delivered-made (Some Dropped) m told next is = absurd is
 
-  sent-there : (h : History) (since : ℕ) (reply : Reply) → is_there (mail_of dig h since reply) ≡ true
-  sent-there h since (OfPath path) = refl
-  sent-there h since _ = refl
+  sent-there : (reply : Reply) → is_there (mail_of reply) ≡ true
+  sent-there (OfBytes bytes) = refl
+  sent-there _ = refl
 
   proof-made : (reply : Reply) (told : Told) (next : World) → ProofTold w reply told next → HasMade (allowed.with_file made) next
-  proof-made (OfProof bytes) told next is = subst (HasMade (allowed.with_file made)) (sym is.1) (made-file made w o (Some bytes))
+  proof-made (OfBytes bytes) told next is = subst (HasMade (allowed.with_file made)) (sym is.1) (made-file made w o (Some bytes))
   proof-made (Refused refusal) told next is = subst (HasMade (allowed.with_file made)) (sym is.1) (made-file made w o None)
-  proof-made (OfThread t) told next is = absurd is
-  proof-made (OfReceipt r) told next is = absurd is
-  proof-made (OfPath path) told next is = absurd is
-  proof-made (OfNumber n) told next is = absurd is
-  proof-made (OfName name) told next is = absurd is
-  proof-made (OfFile file) told next is = absurd is
+  proof-made _ told next is = absurd is
 
   joined-made : (joined : Result Proof JoinFault) (told : Told) (next : World) → JoinTold w joined told next → HasMade (allowed.with_file made) next
   joined-made (Ok p) told next is = subst (HasMade (allowed.with_file made)) (sym is.1) (made-file made w o (Some (proof_bytes p)))
@@ -84,7 +80,7 @@ module _ (dig : List ℕ → List ℕ) (may_claim : Option ℕ → Bool) (made :
   line-made (Hostile name) told next is = subst (HasMade (allowed.with_name made name true)) (sym is.2) (made-hostile made w o name)
   line-made (Append name events) told next (bytes, (m, there, is)) = moves-made (Appending dig may_claim events) _ m told next is
   line-made (Send name since) told next (m, there, (reply, step, text, same)) =
-      subst (HasMade (allowed.with_message made)) (sym same) (made-mail made w o (mail_of dig m.history since reply) (sent-there m.history since reply))
+      subst (HasMade (allowed.with_message made)) (sym same) (made-mail made w o (mail_of reply) (sent-there reply))
   line-made (Inject name bytes) told next (lies, own, text, same) = subst (HasMade (allowed.with_message made)) (sym same) (made-mail made w o (MadeMail bytes) refl)
   line-made (Deliver number name) told next (m, there, is) = delivered-made (numbered w.messages number) m told next is
   line-made (Lose number) told next (mail, there, text, same) = subst (HasMade (allowed.without_message made number)) (sym same) (made-lost made w o number)
@@ -177,3 +173,7 @@ may-next script i l told w (bytes, read) within at runs =
     let of : IsLineOf 1 (line_texts bytes) l = each-at (IsLineOf 1 (line_texts bytes)) script i l is.of_texts within at in
     line-may (made_by_all nothing_made (take i script)) w (made-runs sha256 claims_none (take i script) nothing_made no_world told w nothing-made runs) l.line
     (line-has of.text l.line of.line_is) (allowed-at script nothing_made i l is.allowed within at)
+
+-- and it is asked what a service may be asked
+pub asks-next : (script : List NumberedLine) (i : ℕ) (l : NumberedLine) → IsRead script → i < length script → get_or script i l ≡ l → AsksWell l.line
+asks-next script i l read within at = each-at (λ (n : NumberedLine). AsksWell n.line) script i l (script-asks read.0 script read.1) within at

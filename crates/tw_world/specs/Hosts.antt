@@ -2,6 +2,7 @@
 use Rattle.std.specs.Prelude.{◌≡◌, ◌⊎◌, ℕ, List, [], ◌∷◌, codes, length, Bool, true, Option, Some, None, is_none, Result, Ok, Err}
 use Rattle.serde_json.specs.Data.{Data, Members, member, no_members, number, object, put, unsigned}
 use Rattle.sha2.specs.Sha256.{sha256}
+use Rattle.tw_base.specs.declared.history.question.Question.{Question}
 use Rattle.tw_base.specs.history.History.{History}
 use Rattle.tw_base.specs.kinds.Names.{name_text}
 use Rattle.tw_answers.specs.declared.refusal.Refusal.{Refusal}
@@ -10,16 +11,13 @@ use Rattle.tw_disk.specs.Disk.{IsAtRest}
 use Rattle.tw_disk.specs.Image.{Image}
 use Rattle.tw_disk.specs.MemDisk.{view_of}
 use Rattle.tw_disk.specs.declared.memory_disk.MemDisk.{MemDisk}
-use Rattle.tw_script.specs.declared.line.AskedProof.{AskedProof}
-use Rattle.tw_service.specs.Machine.{Call, IsStepOf, Reply}
-use Rattle.tw_service.specs.Machine.Call.{TellThread}
-use Rattle.tw_service.specs.Machine.Reply.{OfPath, OfProof, Refused}
+use Rattle.tw_service.specs.Machine.{IsStepOf, Reply}
+use Rattle.tw_service.specs.Machine.Call.{Ask}
+use Rattle.tw_service.specs.Machine.Reply.{OfBytes as ReplyBytes, Refused}
 use Rattle.tw_service.specs.Serves.{Serves, disk_of}
 use Rattle.tw_service.specs.Stands.{StandsFor}
 use Rattle.tw_service.specs.declared.service.Service.{Service}
-use Rattle.tw_skipproof.specs.declared.path.Path.{Path}
-use Rattle.tw_world.specs.Runs.{Appending, Receiving, Tells, answer_of, call_of, mail_of, receipt_step}
-use Rattle.tw_world.specs.Worlds.Mail.{Made}
+use Rattle.tw_world.specs.Runs.{Appending, Receiving, Tells, answer_of, receipt_step}
 use Rattle.tw_world.specs.declared.counts.Counts.{Counts}
 use Rattle.tw_world.specs.declared.host.Host.{Host}
 use Rattle.tw_world.specs.declared.told.Answer.{Answer}
@@ -119,30 +117,16 @@ pub record Ends (given : Given) (waits : Bool) (h : History) (told : Told) (disk
 
 -- ---- what it is asked
 
--- what a line asks that adds no step: the message of the last step, since a step, or a proof
-pub data Asked : Type 0 where
-  ForMessage : (since : ℕ) → Asked
-  ForProof : AskedProof → Asked
+-- the machine replies so to the question, by bytes or by a refusal, and the history stays
+abbrev pub Gives : History → Question → Result (List ℕ) Refusal → Type 0
+Gives h question (Ok bytes) = IsStepOf sha256 h (Ask question) (ReplyBytes bytes) h
+Gives h question (Err refusal) = IsStepOf sha256 h (Ask question) (Refused refusal) h
 
-abbrev pub asked_call : History → Asked → Call
-asked_call h (ForMessage since) = TellThread since
-asked_call h (ForProof asked) = call_of (length h.steps) asked
-
--- the reply makes these bytes: those of the message, or the proof itself
-abbrev pub MakesBytes : History → Asked → Reply → (bytes : List ℕ) → Type 0
-MakesBytes h (ForMessage since) reply bytes = (path : Path) × (reply ≡ OfPath path) × (mail_of sha256 h since reply ≡ Made bytes)
-MakesBytes h (ForProof asked) reply bytes = reply ≡ OfProof bytes
-
--- the machine replies so, by bytes or by a refusal, and the history stays
-abbrev pub Gives : History → Asked → Result (List ℕ) Refusal → Type 0
-Gives h asked (Ok bytes) = (reply : Reply) × IsStepOf sha256 h (asked_call h asked) reply h × MakesBytes h asked reply bytes
-Gives h asked (Err refusal) = IsStepOf sha256 h (asked_call h asked) (Refused refusal) h
-
--- the same, but for disk faults and want of memory
-abbrev pub GivesOrFails : History → Asked → Result (List ℕ) Refusal → Type 0
-GivesOrFails h asked (Err DiskFault) = Unit {0}
-GivesOrFails h asked (Err NoMemory) = Unit {0}
-GivesOrFails h asked result = Gives h asked result
+-- the reply is given as it is; after a disk fault and want of memory nothing is given
+abbrev pub IsGiven : (reply given : Result (List ℕ) Refusal) → Type 0
+IsGiven (Err DiskFault) given = ⊥
+IsGiven (Err NoMemory) given = ⊥
+IsGiven reply given = given ≡ reply
 
 -- ---- the summary
 

@@ -4,6 +4,7 @@ use Rattle.std.specs.Str.{bytes_eq}
 use Rattle.sha2.specs.Sha256.{sha256}
 use Rattle.tw_answers.specs.declared.refusal.Refusal.{Refusal}
 use Rattle.tw_base.specs.format.Formats.{Spells}
+use Rattle.tw_base.specs.declared.history.question.Question.{Question}
 use Rattle.tw_base.specs.declared.history.thread.Thread.{Thread}
 use Rattle.tw_base.specs.kinds.Bytes.{AreBytes}
 use Rattle.tw_base.specs.kinds.Lists.{Each, In}
@@ -13,7 +14,7 @@ use Rattle.tw_msg.specs.Messages.{message_layout}
 use Rattle.tw_msg.specs.declared.message.Message.{Message}
 use Rattle.tw_script.specs.declared.line.Line.{Line}
 use Rattle.tw_script.specs.declared.line.Line.TheVariants.{Service, Hostile, Append, Inject, Join, Anchor}
-use Rattle.tw_world.specs.Hosts.{Asked, Gives, Holds, claims_none}
+use Rattle.tw_world.specs.Hosts.{Gives, Holds, claims_none}
 use Rattle.tw_world.specs.Runs.{AreFiles, AreProofs, IsMember, IsNew, IsTold}
 use Rattle.tw_world.specs.Worlds.{Mail, Member, World, numbered}
 use Rattle.tw_world.specs.Worlds.Mail.{Made, Unmade, Dropped}
@@ -75,9 +76,9 @@ abbrev pub thread_of : LinkProof → Thread
 thread_of link = record { from = link.service; step = link.step; auth = link.auth }
 
 -- the service of this name gives this, and what is played stays the world
-abbrev pub HasGiven : (old new : Player) → (name : List ℕ) → Asked → Result (List ℕ) Refusal → Type 0
-HasGiven old new name asked given =
-    (w : World) → Follows old w → (m : Member) × IsMember w name m × Gives m.history asked given × Follows new w
+abbrev pub HasGiven : (old new : Player) → (name : List ℕ) → Question → Result (List ℕ) Refusal → Type 0
+HasGiven old new name question given =
+    (w : World) → Follows old w → (m : Member) × IsMember w name m × Gives m.history question given × Follows new w
 
 -- where a line may be told of the world that is played, it is told so, and what is played then is the next world
 abbrev pub Plays : (old new : Player) → Line → Told → Type 0

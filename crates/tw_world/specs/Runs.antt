@@ -1,7 +1,8 @@
 -- What the lines of a schedule do to a world, one after another, and what is told of each. Free are only the shape of an archive's new tree, the times
 -- that services may claim, and, at a line that a crash waits for, whether it is stopped, and then whether it has done what it does.
-use Rattle.std.specs.Prelude.{◌≡◌, ◌⊎◌, ℕ, suc, ◌≤◌, List, [], ◌∷◌, length, Bool, true, false, Option, Some, None, IsNone, IsTrue, MatchOption, Result, Ok, Err, unwrap_or}
+use Rattle.std.specs.Prelude.{◌≡◌, ◌⊎◌, ℕ, suc, ◌≤◌, List, [], ◌∷◌, length, Bool, true, false, Option, Some, None, IsNone, IsTrue, MatchOption, Result, Ok, Err}
 use Rattle.tw_base.specs.format.Formats.{IsPlace, Spells, SpellsNothing}
+use Rattle.tw_base.specs.declared.history.question.Question.TheVariants.{ThreadOut}
 use Rattle.tw_base.specs.history.Auth.{auth}
 use Rattle.tw_base.specs.history.History.{History}
 use Rattle.tw_base.specs.history.Limits.{IsTimeWithinLimits}
@@ -17,15 +18,13 @@ use Rattle.tw_chain.specs.declared.verdict.Verdict.TheVariants.{Yes, No}
 use Rattle.tw_join.specs.Joining.{Joins}
 use Rattle.tw_join.specs.declared.joining.JoinFault.{JoinFault}
 use Rattle.tw_join.specs.declared.joining.JoinFault.TheVariants.{Gap, NoMemory}
-use Rattle.tw_msg.specs.Messages.{message_bytes, message_layout}
+use Rattle.tw_msg.specs.Messages.{message_layout}
 use Rattle.tw_msg.specs.declared.message.Message.{Message}
-use Rattle.tw_script.specs.declared.line.AskedProof.{AskedProof}
-use Rattle.tw_script.specs.declared.line.AskedProof.TheVariants.{OfEvent, OfThread, OfAbsence, OfLink}
 use Rattle.tw_script.specs.declared.line.Line.{Line}
 use Rattle.tw_script.specs.declared.line.Line.TheVariants.{Service, Hostile, Append, Send, Inject, Deliver, Lose, Crash, Prove, Join, Anchor, Verify}
-use Rattle.tw_service.specs.Machine.{Call, IsStepOf, Reply, last_thread}
-use Rattle.tw_service.specs.Machine.Call.{Append as AppendEvents, ProveAbsent, ProveEvent, ProveLink, ProveThread, Receive, TellThread}
-use Rattle.tw_service.specs.Machine.Reply.{OfPath, OfProof, OfReceipt, Refused}
+use Rattle.tw_service.specs.Machine.{IsStepOf, Reply}
+use Rattle.tw_service.specs.Machine.Call.{Append as AppendEvents, Ask, Receive}
+use Rattle.tw_service.specs.Machine.Reply.{OfBytes, OfReceipt, Refused}
 use Rattle.tw_answers.specs.declared.refusal.Refusal.TheVariants.{Malformed, NoStep}
 use Rattle.tw_world.specs.declared.told.Answer.{Answer}
 use Rattle.tw_world.specs.declared.told.Answer.TheVariants as answer
@@ -61,18 +60,16 @@ IsFiled w bytes told next = (told ≡ Plain (answer.Filed (suc (length w.files))
 abbrev pub IsNotFiled : World → (why : Answer) → Told → World → Type 0
 IsNotFiled w why told next = (told ≡ Plain why) × (next ≡ after_line (with_file w None))
 
+-- the message that a reply makes
+abbrev pub mail_of : Reply → Mail
+mail_of (OfBytes bytes) = Made bytes
+mail_of _ = Unmade
+
 -- the file that a proof's reply makes; a refusal makes none, and is told
 abbrev pub ProofTold : World → Reply → Told → World → Type 0
-ProofTold w (OfProof bytes) told next = IsFiled w bytes told next
+ProofTold w (OfBytes bytes) told next = IsFiled w bytes told next
 ProofTold w (Refused refusal) told next = IsNotFiled w (answer.Refused refusal) told next
 ProofTold w _ told next = ⊥
-
--- the call by which a proof is asked; without a top the last step is meant
-abbrev pub call_of : (last : ℕ) → AskedProof → Call
-call_of last (OfEvent step index top) = ProveEvent step index (unwrap_or top last)
-call_of last (OfThread step peer k top) = ProveThread step (record { from = peer; step = k }) (unwrap_or top last)
-call_of last (OfAbsence step peer k top) = ProveAbsent step (record { from = peer; step = k }) (unwrap_or top last)
-call_of last (OfLink step top) = ProveLink step (unwrap_or top last)
 
 -- the files of these numbers, in their order: each is there, and has these bytes or wasn't made
 abbrev pub AreFiles : World → (numbers : List ℕ) → List (Option (List ℕ)) → Type 0
@@ -120,11 +117,6 @@ module _ (dig : List ℕ → List ℕ) where
       ((m : Message) × Spells message_layout bytes m × IsStepOf dig h (Receive m time) reply next)
       ⊎ (SpellsNothing message_layout bytes × (next ≡ h) × ((place : ℕ) × IsPlace message_layout bytes place × (reply ≡ Refused (Malformed place))))
 
-  -- the message that a reply makes of the last step
-  abbrev pub mail_of : History → (since : ℕ) → Reply → Mail
-  mail_of h since (OfPath path) = Made (message_bytes (record { thread = last_thread dig h; since = since; link = path }))
-  mail_of h since _ = Unmade
-
 -- the service replies, by this rule, and goes on with a history; `own` is told of a reply that is no refusal
 pub record Replies (Rule : History → Reply → History → Type 0) (own : History → Reply → Answer) (w : World) (m : Member) (told : Told) (next : World) : Type 0 where
   pub reply : Reply
@@ -165,8 +157,8 @@ module _ (dig : List ℕ → List ℕ) (may_claim : Option ℕ → Bool) where
   IsTold w (Append name events) told next =
       Each AreBytes events × ((m : Member) × IsMember w name m × Moves (Appending events) (λ h reply. answer.Stepped (length h.steps)) w m told next)
   IsTold w (Send name since) told next =
-      (m : Member) × IsMember w name m × ((reply : Reply) × IsStepOf dig m.history (TellThread since) reply m.history
-      × (told ≡ Plain (answer_of (answer.Sent (suc (length w.messages))) reply)) × (next ≡ after_line (with_message w (mail_of dig m.history since reply))))
+      (m : Member) × IsMember w name m × ((reply : Reply) × IsStepOf dig m.history (Ask (ThreadOut since)) reply m.history
+      × (told ≡ Plain (answer_of (answer.Sent (suc (length w.messages))) reply)) × (next ≡ after_line (with_message w (mail_of reply))))
   IsTold w (Inject name bytes) told next =
       In name w.hostile × ((m : Message) → Spells message_layout bytes m → m.thread.from ≡ name)
       × (told ≡ Plain (answer.Sent (suc (length w.messages)))) × (next ≡ after_line (with_message w (Made bytes)))
@@ -179,8 +171,7 @@ module _ (dig : List ℕ → List ℕ) (may_claim : Option ℕ → Bool) where
   IsTold w (Crash name call choice) told next =
       (m : Member) × IsMember w name m × (told ≡ Plain answer.Done) × (next ≡ after_line (with_member w (record m { waits = true })))
   IsTold w (Prove name asked) told next =
-      (m : Member) × IsMember w name m × ((reply : Reply) × IsStepOf dig m.history (call_of (length m.history.steps) asked) reply m.history
-      × ProofTold w reply told next)
+      (m : Member) × IsMember w name m × ((reply : Reply) × IsStepOf dig m.history (Ask asked) reply m.history × ProofTold w reply told next)
   IsTold w (Join numbers) told next =
       (2 ≤ length numbers) × ((files : List (Option (List ℕ))) × AreFiles w numbers files
       × ((In None files × IsNotFiled w answer.Nothing told next)

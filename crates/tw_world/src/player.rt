@@ -3,13 +3,14 @@
 ghost use Rattle.std.specs.Prelude.{◌≡◌, ◌<◌, ◌+◌, ℕ, suc, List, length, false, Some, IfOk, OnOk};
 ghost use Rattle.sha2.specs.Sha256.{sha256};
 ghost use Rattle.tw_base.specs.format.Formats.{Spells};
+ghost use Rattle.tw_base.specs.history.Questions.{MayAsk};
 ghost use Rattle.tw_chain.specs.Proofs.{proof_layout};
 ghost use Rattle.tw_chain.specs.Reasons.{IsVerdict};
 ghost use Rattle.tw_chain.specs.declared.proof.LinkProof.{LinkProof};
 ghost use Rattle.tw_chain.specs.declared.proof.Proof.TheVariants.{Linked};
 ghost use Rattle.tw_chain.specs.declared.verdict.Verdict.{Verdict as VerdictOf};
+ghost use Rattle.tw_script.specs.AskedWords.{AsksWell};
 ghost use Rattle.tw_script.specs.declared.line.Line.TheVariants.{Service, Append, Send, Inject, Deliver, Lose, Crash, Prove, Join, Anchor, Verify};
-ghost use Rattle.tw_world.specs.Hosts.Asked.{ForMessage, ForProof};
 ghost use Rattle.tw_world.specs.PlayedLines.{HasPlayed, IsRead, TellsNext};
 ghost use Rattle.tw_world.specs.Players.{AreFiled, AreProofsOf, Follows, HasGiven, IsFirst, Plays, mail_kept, thread_of};
 ghost use Rattle.tw_world.specs.Playing.{lines_of};
@@ -22,10 +23,10 @@ use crate::host::{Host, Planned};
 use crate::told::{Answer, Told, ToldList};
 use std::alloc::Global;
 use tw_answers::Refusal;
-use tw_base::{Bytes, EventList, Name, NoMemory, Sequence, Sha, Thread};
+use tw_base::{Bytes, EventList, Name, NoMemory, Question, Sequence, Sha, Thread};
 use tw_chain::{Proof, Verdict, read_proof, write_proof};
 use tw_join::{JoinFault, join};
-use tw_script::{AskedProof, Line, Script};
+use tw_script::{Line, Script};
 use tw_verifier::verify;
 
 /// A message.
@@ -86,6 +87,7 @@ impl Player {
 
     /// Plays the line, and tells what came of it behind what was told before.
     fn play_next(&mut self, told: &mut ToldList, line: &Line) -> Result<(), NoMemory>
+        requires { AsksWell line.now }
         ensures { OnOk result (TellsNext self.old self.new line.now told.old told.new) }
     {
         match self.play(line)? {
@@ -98,6 +100,7 @@ impl Player {
 
     /// Plays the line. The script's lines use only what is there.
     fn play(&mut self, line: &Line) -> Result<Told, NoMemory>
+        requires { AsksWell line.now }
         ensures { IfOk result (Plays self.old self.new line.now) }
     {
         match line {
@@ -165,12 +168,17 @@ impl Player {
         Ok(self.messages.len() as u64)
     }
 
-    /// What the service gives as the message of its last step, since a step.
-    fn message(&mut self, service: &Name, since: u64) -> Result<Result<Bytes, Refusal>, NoMemory>
-        ensures { IfOk result (HasGiven self.old self.new service.now (ForMessage since)) }
+    /// What the service gives when it is asked.
+    fn ask(
+        &mut self,
+        service: &Name,
+        question: &Question,
+    ) -> Result<Result<Bytes, Refusal>, NoMemory>
+        requires { MayAsk question.now }
+        ensures { IfOk result (HasGiven self.old self.new service.now question.now) }
     {
         let at = self.find(service)?;
-        let given = self.hosts[at].send(self.alloc, since)?;
+        let given = self.hosts[at].ask(self.alloc, question)?;
         Ok(given)
     }
 
@@ -178,7 +186,7 @@ impl Player {
     fn send(&mut self, service: &Name, since: u64) -> Result<Told, NoMemory>
         ensures { IfOk result (Plays self.old self.new (Send service.now since)) }
     {
-        match self.message(service, since)? {
+        match self.ask(service, &Question::ThreadOut { since })? {
             Ok(bytes) => {
                 let number = self.add_message(Mail::Made(bytes))?;
                 Ok(Told::Plain(Answer::Sent { number }))
@@ -252,24 +260,12 @@ impl Player {
         Ok(Told::Plain(why))
     }
 
-    /// What the service gives as a proof of its history.
-    fn proof(
-        &mut self,
-        service: &Name,
-        asked: &AskedProof,
-    ) -> Result<Result<Bytes, Refusal>, NoMemory>
-        ensures { IfOk result (HasGiven self.old self.new service.now (ForProof asked.now)) }
-    {
-        let at = self.find(service)?;
-        let given = self.hosts[at].prove(self.alloc, asked)?;
-        Ok(given)
-    }
-
     /// Makes the next file, a proof of the service's history.
-    fn prove(&mut self, service: &Name, asked: &AskedProof) -> Result<Told, NoMemory>
+    fn prove(&mut self, service: &Name, asked: &Question) -> Result<Told, NoMemory>
+        requires { MayAsk asked.now }
         ensures { IfOk result (Plays self.old self.new (Prove service.now asked.now)) }
     {
-        match self.proof(service, asked)? {
+        match self.ask(service, asked)? {
             Ok(bytes) => self.add_file(bytes),
             Err(refusal) => self.add_none(Answer::Refused(refusal)),
         }
@@ -314,8 +310,7 @@ impl Player {
     fn anchor(&mut self, service: &Name, step: u64) -> Result<Told, NoMemory>
         ensures { IfOk result (Plays self.old self.new (Anchor service.now step)) }
     {
-        let asked = AskedProof::OfLink { step, top: None };
-        match self.proof(service, &asked)? {
+        match self.ask(service, &Question::Link { step, top: None })? {
             Err(refusal) => Ok(Told::Plain(Answer::Refused(refusal))),
             Ok(bytes) => self.hold_linked(bytes.as_slice()),
         }

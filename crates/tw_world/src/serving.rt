@@ -1,17 +1,14 @@
 // What a service on a disk in memory does for a line.
 
-ghost use Rattle.std.specs.Prelude.{◌≡◌, ◌⊎◌, ◌≤◌, ℕ, true, false, None, is_some, IfErr, IfOk, IfSome, OnOk};
+ghost use Rattle.std.specs.Prelude.{◌≡◌, ◌⊎◌, ◌≤◌, true, false, None, is_some, IfOk, OnOk};
 ghost use Rattle.sha2.specs.Sha256.{sha256};
 ghost use Rattle.tw_base.specs.history.History.{History};
-ghost use Rattle.tw_base.specs.history.Limits.{IsStep};
+ghost use Rattle.tw_base.specs.history.Questions.{MayAsk};
 ghost use Rattle.tw_disk.specs.Image.{Image};
 ghost use Rattle.tw_disk.specs.MemDisk.{view_of};
-ghost use Rattle.tw_answers.specs.declared.refusal.Refusal.TheVariants.{NoMemory as NoMemoryOf};
-ghost use Rattle.tw_msg.specs.Messages.{message_bytes};
 ghost use Rattle.tw_service.specs.Serves.{Serves, has_failed};
 ghost use Rattle.tw_service.specs.Stands.{no_history};
-ghost use Rattle.tw_world.specs.Hosts.{Asked, Given, Answered, AnswersRefusal, Ends, Gives, GivesOrFails, GoesOn, Holds, RestsAs, StandsAs, StandsForGood, crash_told as crash_told_of};
-ghost use Rattle.tw_world.specs.Hosts.Asked.{ForMessage, ForProof};
+ghost use Rattle.tw_world.specs.Hosts.{Given, Answered, AnswersRefusal, Ends, Gives, GoesOn, Holds, IsGiven, RestsAs, StandsAs, StandsForGood, crash_told as crash_told_of};
 ghost use Rattle.tw_world.specs.Hosts.Given.{OfBytes, OfEvents};
 
 use crate::host::{Host, Planned};
@@ -19,11 +16,9 @@ use crate::told::{Answer, Told};
 use std::alloc::Global;
 use std::mem;
 use tw_answers::Refusal;
-use tw_base::limits::LAST_STEP;
-use tw_base::{Bytes, EventList, Key, Name, NoMemory, Sha};
+use tw_base::{Bytes, EventList, Name, NoMemory, Question, Sha};
 use tw_disk::MemDisk;
-use tw_msg::{Message, write_message};
-use tw_script::{AskedProof, CrashChoice};
+use tw_script::CrashChoice;
 use tw_service::Service;
 
 /// A service over a disk in memory.
@@ -208,77 +203,9 @@ fn received(service: &mut MemService, bytes: &[u8]) -> Result<Option<Answer>, No
     }
 }
 
-/// The bytes of a message.
-fn written(alloc: Global, message: &Message) -> Result<Bytes, Refusal>
-    ensures bytes { IfOk result (λ bytes. bytes ≡ message_bytes message.now) }
-    ensures memory { IfErr result (λ why. why ≡ NoMemoryOf) }
-{
-    match write_message(alloc, message) {
-        Ok(bytes) => Ok(bytes),
-        Err(_) => Err(Refusal::NoMemory),
-    }
-}
-
-/// The bytes of the message of the service's last step, since a step.
-fn message(alloc: Global, service: &mut MemService, since: u64) -> Result<Bytes, Refusal>
-    ensures gives { (h : History) → Serves sha256 view_of service.old h → has_failed service.old ≡ false → GivesOrFails h (ForMessage since) result }
-    ensures same { (h : History) → Serves sha256 view_of service.old h → Serves sha256 view_of service.new h }
-{
-    match service.thread_out(since) {
-        Ok(link) => {
-            let message = Message {
-                thread: service.head(),
-                since,
-                link,
-            };
-            written(alloc, &message)
-        }
-        Err(refusal) => Err(refusal),
-    }
-}
-
-/// The key of a peer's step; None where the step isn't from 1 to 2^40 - 1. The lines of scripts have no such step.
-fn key_of(peer: Name, step: u64) -> Option<Key>
-    ensures { IfSome result (λ key. (key ≡ record { from = peer; step = step }) × IsStep key.step) }
-{
-    if step == 0 || step > LAST_STEP {
-        return None;
-    }
-    Some(Key { from: peer, step })
-}
-
-/// The proof that is asked for, where no top is given under the last step. No step has an event of an index above
-/// 2^32 - 1, so such an index is refused as that one is.
-fn proof(service: &mut MemService, asked: &AskedProof) -> Result<Bytes, Refusal>
-    ensures gives { (h : History) → Serves sha256 view_of service.old h → has_failed service.old ≡ false → GivesOrFails h (ForProof asked.now) result }
-    ensures same { (h : History) → Serves sha256 view_of service.old h → Serves sha256 view_of service.new h }
-{
-    let last = service.steps();
-    match asked {
-        AskedProof::OfEvent { step, index, top } => service.prove_event(
-            *step,
-            (*index).min(u32::MAX as u64) as u32,
-            (*top).unwrap_or(last),
-        ),
-        AskedProof::OfThread { step, peer, k, top } => {
-            match key_of(*peer, *k) {
-                Some(key) => service.prove_thread(*step, &key, (*top).unwrap_or(last)),
-                None => Err(Refusal::NoMemory),
-            }
-        }
-        AskedProof::OfAbsence { step, peer, k, top } => {
-            match key_of(*peer, *k) {
-                Some(key) => service.prove_absent(*step, &key, (*top).unwrap_or(last)),
-                None => Err(Refusal::NoMemory),
-            }
-        }
-        AskedProof::OfLink { step, top } => service.prove_link(*step, (*top).unwrap_or(last)),
-    }
-}
-
-/// What a reply to a call that only asks gives; a fault comes from want of memory.
+/// What a reply to a question gives; a fault comes from want of memory.
 fn given(reply: Result<Bytes, Refusal>) -> Result<Result<Bytes, Refusal>, NoMemory>
-    ensures { IfOk result (λ given. (h : History) (asked : Asked) → GivesOrFails h asked reply → Gives h asked given) }
+    ensures { IfOk result (IsGiven reply) }
 {
     match reply {
         Ok(bytes) => Ok(Ok(bytes)),
@@ -356,48 +283,20 @@ impl Host {
         Ok(self.end(ended))
     }
 
-    /// Puts the disk back behind a line that only asks: a fault comes from want of memory.
-    fn asked(
+    /// Asks a question; a fault comes from want of memory.
+    pub(crate) fn ask(
         &mut self,
-        service: MemService,
-        reply: Result<Bytes, Refusal>,
+        alloc: Global,
+        question: &Question,
     ) -> Result<Result<Bytes, Refusal>, NoMemory>
-        ensures gives { IfOk result (λ given. (h : History) (asked : Asked) → GivesOrFails h asked reply → Gives h asked given) }
-        ensures stands { OnOk result ((h : History) → Serves sha256 view_of service h → StandsForGood self.new.disk h) }
-        ensures same { (self.new.name ≡ self.old.name) × (self.new.steps ≡ self.old.steps) × (self.new.crash ≡ self.old.crash) }
+        requires { MayAsk question.now }
+        ensures gives { IfOk result (λ given. (h : History) → Holds self.old h → Gives h question.now given × Holds self.new h) }
+        ensures waits { OnOk result (self.new.crash ≡ self.old.crash) }
     {
-        let given = given(reply)?;
+        let mut service = open(alloc, self.take_disk(alloc))?;
+        let reply = service.ask(question);
         self.disk = service.close();
-        Ok(given)
-    }
-
-    /// Asks for the message of the last step, since a step.
-    pub(crate) fn send(
-        &mut self,
-        alloc: Global,
-        since: u64,
-    ) -> Result<Result<Bytes, Refusal>, NoMemory>
-        ensures gives { IfOk result (λ given. (h : History) → Holds self.old h → Gives h (ForMessage since) given × Holds self.new h) }
-        ensures waits { OnOk result (self.new.crash ≡ self.old.crash) }
-    {
-        let mut service = open(alloc, self.take_disk(alloc))?;
-        let reply = message(alloc, &mut service, since);
-        let given = self.asked(service, reply)?;
-        Ok(given)
-    }
-
-    /// Asks for a proof.
-    pub(crate) fn prove(
-        &mut self,
-        alloc: Global,
-        asked: &AskedProof,
-    ) -> Result<Result<Bytes, Refusal>, NoMemory>
-        ensures gives { IfOk result (λ given. (h : History) → Holds self.old h → Gives h (ForProof asked.now) given × Holds self.new h) }
-        ensures waits { OnOk result (self.new.crash ≡ self.old.crash) }
-    {
-        let mut service = open(alloc, self.take_disk(alloc))?;
-        let reply = proof(&mut service, asked);
-        let given = self.asked(service, reply)?;
+        let given = given(reply)?;
         Ok(given)
     }
 }

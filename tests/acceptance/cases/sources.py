@@ -1,5 +1,5 @@
-"""The sources keep the project's own rules: long functions say why they are, files of lemmas what they are of, tests stand in crates of
-their own, crates are small, and no chain of crates is long."""
+"""The sources keep the project's own rules: long functions say why they are, attributes fit on a line, files of lemmas say what they are
+of, tests stand in crates of their own, crates are small, and no chain of crates is long."""
 
 import re
 import shutil
@@ -12,13 +12,16 @@ from harness.places import TOP
 
 LONGEST = 40
 
+# The most columns of an attribute, which `rt fmt` lays out as one line. A longer list of definitions has a name of its own in `specs/Seen`.
+WIDEST = 140
+
 # A crate's most lines of code and functions, and the longest chain of crates.
 MOST_LINES, MOST_FUNCTIONS, MOST_HEIGHT = 1500, 100, 8
 
 # The crates that have more, and how much at most: no crate comes in, no number rises but for a reason that docs/DECISIONS.md tells, and one
 # that has no more than the others goes.
 LARGE = {
-    "tw_base": (2600, 136),
+    "tw_base": (2660, 136),
     "tw_history": (2002, 106),
     "tw_rbnode": (1522, 100),
     "tw_skiplist": (1568, 100),
@@ -59,6 +62,16 @@ def long_functions(program):
         for name, comment, count in functions(path.read_text().split("\n")):
             if count > LONGEST and not re.search(r"//.*\blong", comment):
                 wrong.append(f"  {path.relative_to(TOP)}: {name} has {count} lines, and no comment says why it is long")
+    return "\n".join(wrong) or None
+
+
+def wide_attributes(program):
+    """The attributes of more than 140 columns."""
+    wrong = []
+    for path in files("*.rt"):
+        for number, line in enumerate(path.read_text().split("\n"), 1):
+            if re.match(r"\s*#!?\[", line) and len(line) > WIDEST:
+                wrong.append(f"  {path.relative_to(TOP)}:{number}: an attribute of {len(line)} columns, at most {WIDEST} are allowed")
     return "\n".join(wrong) or None
 
 
@@ -115,6 +128,7 @@ def heights(program):
 
 def cases():
     yield {"name": "sources: long functions", "check": long_functions}
+    yield {"name": "sources: attributes", "check": wide_attributes}
     yield {"name": "sources: files of lemmas", "check": lemma_files}
     yield {"name": "sources: tests", "check": tests_elsewhere}
     yield {"name": "sources: lines and functions of crates", "check": crate_sizes}

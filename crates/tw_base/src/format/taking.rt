@@ -1,7 +1,7 @@
 // The readers of fields at a place that moves: each takes the field that begins there, and leaves
 // the place behind it. Where the bytes aren't that field they tell the first bad byte, and leave any
 // place. Only those that are given an allocator take memory.
-#![tactic(auto, unfolding(crate::specs::format::Codecs::by_kind, crate::specs::format::Codecs::bytes_codec, crate::specs::format::Codecs::labels_codec, crate::specs::format::Codecs::name_codec, crate::specs::format::Codecs::number_codec, crate::specs::format::Codecs::sized_codec, crate::specs::format::Codecs::text_codec))]
+#![tactic(auto, unfolding(crate::specs::format::Seen::fields))]
 
 ghost use Rattle.std.specs.Prelude.{◌≡◌, ◌≢◌, ◌^◌, ◌<◌, ◌≤◌, length, IfErr, IfOk};
 ghost use Rattle.tw_base.specs.format.Codecs.{bytes_codec, digest_codec, labels_codec, name_codec, number_codec, sized_codec, text_codec};

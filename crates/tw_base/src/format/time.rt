@@ -37,7 +37,7 @@ pub fn take_time(bytes: &[u8], at: &mut u64, timed: bool) -> Result<Option<u64>,
 }
 
 /// Appends the time in eight bytes, where there is one.
-#[tactic(auto, unfolding(crate::specs::format::Codecs::nothing, crate::specs::format::Codecs::number_codec, crate::specs::format::Codecs::present))]
+#[tactic(auto, unfolding(crate::specs::format::Codecs::number_codec, crate::specs::format::Seen::choices))]
 pub fn put_time(into: &mut Bytes, time: Option<u64>) -> Result<(), NoMemory>
     // A time is appended as its codec writes it, where there is one.
     ensures { Puts (optional (is_some time) (number_codec 8 0 (2 ^ 64 - 1))) time into.old into.new result }

@@ -1,6 +1,6 @@
 // The writers of a file's fields: each appends the bytes that the field's reader reads as the value.
 // Numbers are big-endian. After want of memory nothing was appended, but by `put_labels`.
-#![tactic(auto, unfolding(crate::specs::format::Codecs::by_kind, crate::specs::format::Codecs::bytes_codec, crate::specs::format::Codecs::labels_codec, crate::specs::format::Codecs::name_codec, crate::specs::format::Codecs::number_codec, crate::specs::format::Codecs::sized_codec, crate::specs::format::Codecs::text_codec))]
+#![tactic(auto, unfolding(crate::specs::format::Seen::fields))]
 
 ghost use Rattle.std.specs.Prelude.{◌≡◌, ℕ, ◌-◌, ◌^◌, ◌<◌, ◌≤◌, ◌++◌, length, take, OnErr, OnOk};
 ghost use Rattle.tw_base.specs.format.Codecs.{bytes_codec, digest_codec, labels_codec, name_codec, number_codec, sized_codec, text_codec};

@@ -1,5 +1,5 @@
 // The entries of an archive, read and written.
-#![tactic(auto, unfolding(crate::specs::format::Codecs::bytes_codec, crate::specs::format::Codecs::name_codec, crate::specs::format::Codecs::number_codec, crate::specs::format::Codecs::pair, crate::specs::format::Codecs::seen, crate::specs::history::EntryCodec::entry_codec, crate::specs::history::HistoryCodec::thread_codec))]
+#![tactic(auto, unfolding(crate::specs::history::Seen::entries))]
 
 ghost use Rattle.std.specs.Prelude.{◌≡◌, ◌≢◌, ◌≤◌, ◌++◌, length, IfErr, OnOk};
 ghost use Rattle.tw_base.specs.history.EntryCodec.{entry_codec};
@@ -15,7 +15,7 @@ use crate::kinds::limits::LAST_STEP;
 use crate::kinds::sequence::Bytes;
 
 /// Takes an entry, 64 bytes. Takes no memory.
-#[tactic(auto, unfolding(crate::specs::format::Codecs::pair, crate::specs::format::Codecs::seen, crate::specs::history::EntryCodec::entry_codec))]
+#[tactic(auto, unfolding(crate::specs::format::Seen::records, crate::specs::history::EntryCodec::entry_codec))]
 pub fn take_entry(bytes: &[u8], at: &mut u64) -> Result<Entry, ReadFault>
     requires { at.old ≤ length bytes.now }
     // An entry is taken at a place exactly as its codec reads it; else the place of the first bad byte is told.

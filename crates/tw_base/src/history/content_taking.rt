@@ -1,5 +1,5 @@
 // Reading what a step records.
-#![tactic(auto, unfolding(crate::specs::format::Codecs::variant, crate::specs::format::Codecs::pair, crate::specs::format::Codecs::seen, crate::specs::history::HistoryCodec::content_codec, crate::specs::history::HistoryCodec::thread_codec))]
+#![tactic(auto, unfolding(crate::specs::history::Seen::contents))]
 
 ghost use Rattle.std.specs.Prelude.{◌≡◌, ◌≢◌, ◌≤◌, length, IfErr};
 ghost use Rattle.tw_base.specs.history.HistoryCodec.{is_of_events as is_kind_of_events, is_timed as is_timed_kind};

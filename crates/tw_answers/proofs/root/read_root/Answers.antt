@@ -1,8 +1,7 @@
-use Rattle.std.proofs.Common.{◌≡◌, ◌∙◌, false, IsTrue, Bool, ap, length, refl, subst, sym}
-use Rattle.std.specs.Prelude.{is_some, ◌==◌}
+use Rattle.std.proofs.Common.{◌∙◌, false, IsTrue, Bool, ap, length, refl, subst, sym}
+use Rattle.std.specs.Prelude.{◌==◌}
 use Rattle.tw_base.proofs.lemmas.format.TakeLaws.{takes-word, word-once}
-use Rattle.tw_answers.specs.declared.root.RootRecord.{RootRecord}
-use Rattle.tw_answers.specs.Roots.{FitsStore, root_bytes, root_codec}
+use Rattle.tw_answers.specs.Roots.{FitsStore, root_codec}
 use Rattle.tw_answers.proofs.RootLaws.{by_timed, root-lawful, root-timed, timed-length}
 use Rattle.tw_answers.proofs.root.read_root.Goals as goal
 

@@ -1,9 +1,7 @@
-use Rattle.std.proofs.Common.{◌≡◌, ◌⊎◌, ◌∙◌, ℕ, List, arith, ap, refl, sym, subst}
-use Rattle.std.specs.Prelude.{Result, Ok}
+use Rattle.std.proofs.Common.{◌≡◌, ◌⊎◌, ◌∙◌, ℕ, List, arith, refl, sym, subst}
 use Rattle.tw_base.specs.declared.history.thread.Key.{Key}
-use Rattle.tw_answers.specs.declared.showing.EntryShown.{EntryShown}
 use Rattle.tw_disk.specs.Answers.{AnswersOr}
-use Rattle.tw_disk.specs.Found.{Found, ◌>>=◌}
+use Rattle.tw_disk.specs.Found.{◌>>=◌}
 use Rattle.tw_disk.specs.Found.Found.{Is}
 use Rattle.tw_disk.specs.Image.{Image}
 use Rattle.tw_disk.proofs.FoundLaws.{is_on}
@@ -11,7 +9,6 @@ use Rattle.tw_disk.proofs.ReadingLaws.{only_reads_on}
 use Rattle.tw_skiplist.specs.declared.head.Head.{Head}
 use Rattle.tw_skiplist.specs.declared.info.StepProof.{StepProof}
 use Rattle.tw_skiplist.specs.Readings.{found_proof}
-use Rattle.tw_answers.specs.declared.refusal.Refusal.{Refusal}
 use Rattle.tw_answers.specs.Finds.{thread_bytes, found_thread_of, thread_proof, written}
 use Rattle.tw_answers.specs.Refusals.{IsFault, IsNoThread, refusals}
 use Rattle.tw_answers.proofs.HandedOn.{handed-answer, handed-failed, handed-own}

@@ -1,5 +1,4 @@
-use Rattle.std.proofs.Common.{◌≡◌, ◌∙◌, List, ℕ, ap, sym}
-use Rattle.std.specs.Prelude.{Some}
+use Rattle.std.proofs.Common.{◌∙◌, ap, sym}
 use Rattle.tw_base.specs.history.History.{History}
 use Rattle.tw_tmap.specs.Bounds.{first_from}
 use Rattle.tw_generate.specs.Summing.{received_by}

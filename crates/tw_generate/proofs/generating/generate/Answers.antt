@@ -1,4 +1,4 @@
-use Rattle.std.proofs.Common.{◌≡◌, List, ℕ, refl}
+use Rattle.std.proofs.Common.{refl}
 use Rattle.sha2.specs.Sha256.{sha256}
 use Rattle.tw_disk.specs.MemDisk.{view_of}
 use Rattle.tw_generate.specs.Schedules.{no_steps}

@@ -1,4 +1,4 @@
-use Rattle.std.proofs.Common.{◌≡◌, ◌∙◌, ◌+◌, List, ℕ, [], ◌∷◌, length, ap, subst, true}
+use Rattle.std.proofs.Common.{◌≡◌, ◌∙◌, ◌+◌, List, ℕ, length, ap, subst, true}
 use Rattle.std.specs.Prelude.{Ok}
 use Rattle.tw_audit.specs.Auditing.{IsAudit}
 use Rattle.tw_base.specs.declared.history.thread.Thread.{Thread}

@@ -5,18 +5,17 @@ use Rattle.tw_base.specs.history.Tree.{entries, tree}
 use Rattle.tw_base.proofs.lemmas.history.Trees.{tree-rises}
 use Rattle.tw_join.specs.Joining.{joined}
 use Rattle.tw_join.specs.Joining.Taken.{Nothing}
-use Rattle.tw_service.specs.Machine.{last_thread}
-use Rattle.tw_service.specs.Mapping.{MakesHigh, MakesLow}
+use Rattle.tw_service.specs.Machine.{Makes, last_thread}
 use Rattle.tw_service.proofs.ReceivingLaws.{accept-archives, archive-ranges, known-known}
 use Rattle.tw_generate.specs.Schedules.Who.{Alpha, Gamma}
-use Rattle.tw_generate.specs.Summing.{family, heads, last}
+use Rattle.tw_generate.specs.Summing.{family, heads, high_side, last, low_side}
 use Rattle.tw_generate.proofs.Accepted.{head-found}
 use Rattle.tw_generate.proofs.Acts.{played-stands}
 use Rattle.tw_generate.proofs.AskedParts.{asked, asked-parts}
 use Rattle.tw_generate.proofs.Claimed.{accepted-told, accepted-verdict, claim-accepted, parts-are}
 use Rattle.tw_generate.proofs.Ends.{all-heard, some-steps}
-use Rattle.tw_generate.proofs.MapsMade.{file-made}
 use Rattle.tw_generate.proofs.NotRefused.{schedule-goes}
+use Rattle.tw_generate.proofs.Parts.{made-of}
 use Rattle.tw_generate.proofs.SixParts.{parts-join, whole}
 use Rattle.tw_generate.proofs.Standing.{AllHad, each-who}
 use Rattle.tw_generate.proofs.laws.generate_laws.Goals as goal
@@ -64,12 +63,13 @@ returns-clause-accepted g c = λ number rounds t bytes led is.
     (claim-accepted dig c.proof_laws.ensures.once t _ stand some c.joining_laws.ensures.joined c.joining_laws.ensures.joined_spelled c.completeness_laws.ensures.own rounds bytes is)
 
 pub returns-clause-mapped : goal.returns-clause-mapped
-returns-clause-mapped g c = λ number rounds t low_bytes high_bytes led low_step high_step.
+unfolding Makes
+returns-clause-mapped g c = λ number rounds t low_bytes high_bytes led is_low is_high.
     let dig = g.H.Hasher.dig in
     let stand = played-stands dig number rounds t led.0 led.1 in
     let some = some-steps dig number rounds t led in
-    let low = file-made (MakesLow dig t.alpha (last t.alpha) t.gamma.name (last t.alpha)) _ low_bytes low_step.1 in
-    let high = file-made (MakesHigh dig t.gamma (last t.alpha) t.alpha.name (last t.gamma)) _ high_bytes high_step.1 in
+    let low = made-of dig t.alpha (low_side t) low_bytes is_low in
+    let high = made-of dig t.gamma (high_side t) high_bytes is_high in
     record {
       low_file = low.0;
       low_spelled = low.1;

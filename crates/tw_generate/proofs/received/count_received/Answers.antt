@@ -1,8 +1,8 @@
-use Rattle.std.proofs.Common.{◌≡◌, ℕ, ◌+◌, ◌≤◌, length, refl, ap, sym, ◌∙◌, arith}
+use Rattle.std.proofs.Common.{◌≡◌, ◌+◌, ◌≤◌, length, ap, sym, ◌∙◌, arith}
 use Rattle.std.specs.Prelude.{Option, Some, None}
 use Rattle.std.specs.Option.{option_to_list}
 use Rattle.tw_base.specs.declared.history.thread.Entry.{Entry}
-use Rattle.tw_base.specs.history.History.{History, received}
+use Rattle.tw_base.specs.history.History.{received}
 use Rattle.tw_history.specs.declared.step.Step.{Step}
 use Rattle.tw_generate.proofs.ReceivedSteps.{count-step, entry_in, received-none}
 use Rattle.tw_generate.proofs.received.count_received.Goals as goal

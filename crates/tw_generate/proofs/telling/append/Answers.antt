@@ -1,10 +1,3 @@
-use Rattle.std.proofs.Common.{◌≡◌, refl, sym, subst}
-use Rattle.std.specs.Prelude.{None, Result, Ok, IfOk}
-use Rattle.tw_service.specs.Machine.{IsStepOf}
-use Rattle.tw_service.specs.Machine.Call.{Append}
-use Rattle.tw_service.specs.Machine.Reply.{OfThread}
-use Rattle.tw_service.specs.Serves.{Serves, has_failed}
-use Rattle.tw_generate.specs.Playing.{Plays}
 use Rattle.tw_generate.proofs.AskedCalls.{appended-by}
 use Rattle.tw_generate.proofs.telling.append.Goals as goal
 

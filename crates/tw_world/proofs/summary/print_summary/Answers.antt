@@ -1,4 +1,4 @@
-use Rattle.std.proofs.Common.{◌≡◌, ◌∙◌, ap, sym, codes, false}
+use Rattle.std.proofs.Common.{◌≡◌, ◌∙◌, ap, codes, false}
 use Rattle.serde_json.specs.Data.{Data, member, no_members, number, object, unsigned}
 use Rattle.serde_json.specs.View.{view}
 use Rattle.serde_json.specs.Written.{compact_text, has_float}

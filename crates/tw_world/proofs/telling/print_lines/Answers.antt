@@ -1,4 +1,4 @@
-use Rattle.std.proofs.Common.{◌≡◌, ◌+◌, ◌<◌, ◌≤◌, ◌∙◌, ◌++◌, length, drop, get_or, sym, ap, arith, append_assoc, append-nil}
+use Rattle.std.proofs.Common.{◌+◌, ◌<◌, ◌≤◌, ◌∙◌, ◌++◌, length, drop, sym, ap, arith, append_assoc, append-nil}
 use Rattle.std.proofs.lemmas.List.{at_drop_all}
 use Rattle.tw_script.specs.declared.script.NumberedLine.{NumberedLine}
 use Rattle.tw_world.specs.Telling.{told_line, told_lines}

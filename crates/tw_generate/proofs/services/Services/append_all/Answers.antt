@@ -1,4 +1,4 @@
-use Rattle.std.proofs.Common.{◌≡◌, List, ℕ}
+use Rattle.std.proofs.Common.{List, ℕ}
 use Rattle.tw_generate.proofs.Leading.{all-append, heard-events, with_steps}
 use Rattle.tw_generate.proofs.services.Services.append_all.Goals as goal
 

@@ -1,7 +1,5 @@
-use Rattle.std.proofs.Common.{◌≡◌, ◌∙◌, List, ℕ, ap, refl, sym}
-use Rattle.tw_base.specs.history.History.{History}
+use Rattle.std.proofs.Common.{◌∙◌, List, ℕ, ap, refl, sym}
 use Rattle.tw_generate.specs.Schedules.{alpha_name, beta_name, gamma_name, last_heard}
-use Rattle.tw_generate.specs.Playing.{HasHeardOf}
 use Rattle.tw_generate.proofs.Leading.{heard-one, heard-other, none-lead, one-leads}
 use Rattle.tw_generate.proofs.services.Services.exchange.Goals as goal
 

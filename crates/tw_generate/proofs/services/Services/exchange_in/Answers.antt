@@ -1,7 +1,7 @@
-use Rattle.std.proofs.Common.{◌≡◌, ◌∙◌, List, [], ℕ, ◌%◌, Bool, true, false, sym, subst}
+use Rattle.std.proofs.Common.{◌≡◌, [], ◌%◌, Bool, true, false, sym, subst}
 use Rattle.std.specs.Prelude.{◌==◌, OnOk, if◌then◌else◌}
 use Rattle.tw_generate.specs.Playing.{Leads}
-use Rattle.tw_generate.specs.Schedules.{Act, all_tell}
+use Rattle.tw_generate.specs.Schedules.{all_tell}
 use Rattle.tw_generate.proofs.Leading.{leads-none}
 use Rattle.tw_generate.proofs.services.Services.exchange_in.Goals as goal
 

@@ -1,4 +1,3 @@
-use Rattle.std.proofs.Common.{List, ℕ}
 use Rattle.tw_generate.specs.Schedules.{all_append, end_event, rounds_of}
 use Rattle.tw_generate.proofs.Leading.{leads-on, on-ok}
 use Rattle.tw_generate.proofs.services.Services.play.Goals as goal

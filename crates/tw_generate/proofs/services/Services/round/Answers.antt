@@ -1,4 +1,4 @@
-use Rattle.std.proofs.Common.{◌≡◌, ◌∙◌, List, [], ℕ, ◌%◌, ap, subst}
+use Rattle.std.proofs.Common.{◌∙◌, List, [], ℕ, ◌%◌, ap, subst}
 use Rattle.std.specs.Prelude.{◌==◌, if◌then◌else◌}
 use Rattle.tw_generate.specs.Draws.{after_step, step_events}
 use Rattle.tw_generate.specs.Playing.{Leads}

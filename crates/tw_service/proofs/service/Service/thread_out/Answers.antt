@@ -2,17 +2,19 @@ use Rattle.std.proofs.Common.{◌≡◌, ◌∙◌, ℕ, Bool, ap, subst, sym, r
 use Rattle.std.specs.Prelude.{is_some, Option, None, Some, Result}
 use Rattle.tw_disk.specs.Found.{Found}
 use Rattle.tw_pages.specs.StoreValue.{opening_of}
-use Rattle.tw_skipproof.specs.declared.path.Path.{Path}
+use Rattle.tw_msg.specs.declared.message.Message.{Message}
+use Rattle.tw_msg.specs.Messages.{message_bytes}
 use Rattle.tw_answers.specs.declared.refusal.Refusal.{Refusal}
-use Rattle.tw_answers.specs.Finds.{IsRefusalOf, found_message, path_down, unless}
+use Rattle.tw_answers.specs.Finds.{IsRefusalOf, unless}
 use Rattle.tw_answers.specs.Limits.{thread_refusal}
-use Rattle.tw_service.specs.Machine.Call.{TellThread}
-use Rattle.tw_service.specs.Machine.Reply.{OfPath}
-use Rattle.tw_answers.proofs.TableAnswers.{IsTold, NoFault, of_some, thread_no_fault, thread_told}
-use Rattle.tw_service.proofs.Answering.{thread_refused, thread_told_so}
-use Rattle.tw_service.proofs.Asked.{asked_err, asked_ok, asked_refused}
 use Rattle.tw_answers.proofs.FoundAnswers.{of_disk_fault}
-use Rattle.tw_service.proofs.KeptAnswers.{path_answer, path_good}
+use Rattle.tw_answers.proofs.TableAnswers.{IsTold, NoFault, of_some, thread_no_fault, thread_told}
+use Rattle.tw_base.specs.declared.history.question.Question.TheVariants.{ThreadOut}
+use Rattle.tw_service.specs.Machine.Call.{Ask}
+use Rattle.tw_service.specs.Machine.Reply.{OfBytes}
+use Rattle.tw_service.specs.Questions.{message_told, told_answer}
+use Rattle.tw_service.proofs.Asked.{asked_err, asked_ok, asked_refused}
+use Rattle.tw_service.proofs.Questions.{ask_made, ask_refused, message_makes, thread_whole, told_good, told_own}
 use Rattle.tw_service.proofs.Serving.{told_list}
 use Rattle.tw_service.proofs.service.Service.thread_out.Goals as goal
 
@@ -25,22 +27,23 @@ returns-in-Some-clause-asks g c =
     let d = g.D.Disk in
     let s = c.args.self.now in
     let since = c.args.since in
-    let last = s.recorded.root.head.step in
+    let r = s.recorded.root in
     let is = sym c.in-Some.is ∙ c.thread_refusal.ensures.answer in
-    asked_refused d.view g.met.D.Disk.only_now g.H.Hasher.dig (λ why. ⊥) (TellThread since) (λ (p : Path). OfPath p) (thread_refusal s.is_broken last since) (λ ps. found_message g.H.Hasher.dig ps s.recorded.root.head s.is_broken since) s c.in-Some.refusal is
-    (of_some NoFault _ c.in-Some.refusal is (thread_no_fault s.is_broken last since))
-    (λ ps list. ap (λ (o : Option Refusal). unless o (path_down g.H.Hasher.dig ps s.recorded.root.head since)) (sym is))
+    asked_refused d.view g.met.D.Disk.only_now g.H.Hasher.dig (λ why. ⊥) (Ask (ThreadOut since)) (λ (m : Message). OfBytes (message_bytes m)) (thread_refusal s.is_broken r.head.step since)
+    (λ ps. told_answer g.H.Hasher.dig ps r.name r.head s.is_broken since) s c.in-Some.refusal is
+    (of_some NoFault _ c.in-Some.refusal is (thread_no_fault s.is_broken r.head.step since))
+    (λ ps list. ap (λ (o : Option Refusal). unless o (message_told g.H.Hasher.dig ps r.name r.head since)) (sym is))
     (λ whole h served.
-    let told = to_table s.is_broken last since _ (Some c.in-Some.refusal) is whole served.has.keeps.steps.step in
-    (of_some IsTold _ c.in-Some.refusal told (thread_told _ since), thread_refused g.H.Hasher.dig h since c.in-Some.refusal told))
+    let told = to_table s.is_broken r.head.step since _ (Some c.in-Some.refusal) is whole served.has.keeps.steps.step in
+    (of_some IsTold _ c.in-Some.refusal told (thread_told _ since), ask_refused g.H.Hasher.dig h (ThreadOut since) c.in-Some.refusal (thread_whole h since (Some c.in-Some.refusal) told)))
 
 pub returns-in-Ok-clause-made : goal.returns-in-Ok-clause-made
 returns-in-Ok-clause-made g c = λ h served.
     let d = g.D.Disk in
     let r = c.args.self.now.recorded in
     let list = told_list d.view g.met.D.Disk.only_now g.H.Hasher.dig r.store r.root h served in
-    path_answer g.H.Hasher.dig (λ text. (g.met.H.Hasher.size text, g.met.H.Hasher.bytes text)) (opening_of r.store served.image).pages h r.root.head c.args.since served.has.keeps.steps
-    (c.thread_refusal.ensures.order (ap is_some c.in_default.is)).1 c.in-Ok.path (c.in-Ok.ensures.reads.answer _ list)
+    told_own g.H.Hasher.dig (λ text. (g.met.H.Hasher.size text, g.met.H.Hasher.bytes text)) (opening_of r.store served.image).pages h r.root served.has.keeps served.has.sound r.root.name served.has.named
+    c.args.since (c.thread_refusal.ensures.order (ap is_some c.in_default.is)) c.in-Ok.message (c.in-Ok.ensures.reads.answer _ list)
 
 pub returns-in-Ok-clause-asks : goal.returns-in-Ok-clause-asks
 returns-in-Ok-clause-asks g c =
@@ -48,16 +51,17 @@ returns-in-Ok-clause-asks g c =
     let s = c.args.self.now in
     let r = s.recorded in
     let since = c.args.since in
-    let last = r.root.head.step in
     let none = sym c.in_default.is ∙ c.thread_refusal.ensures.answer in
-    asked_ok d.view g.met.D.Disk.only_now g.H.Hasher.dig (λ why. ⊥) (TellThread since) (λ (p : Path). OfPath p) (thread_refusal s.is_broken last since) (λ ps. found_message g.H.Hasher.dig ps r.root.head s.is_broken since) s _ none refl
-    c.in-Ok.ensures.reads.kept.same_kept c.in-Ok.ensures.reads.kept.used_kept c.in-Ok.ensures.reads.faults.later c.in-Ok.path refl
-    (λ ps list. ap (λ (o : Option Refusal). unless o (path_down g.H.Hasher.dig ps r.root.head since)) (sym none) ∙ c.in-Ok.ensures.reads.answer ps list)
+    asked_ok d.view g.met.D.Disk.only_now g.H.Hasher.dig (λ why. ⊥) (Ask (ThreadOut since)) (λ (m : Message). OfBytes (message_bytes m)) (thread_refusal s.is_broken r.root.head.step since)
+    (λ ps. told_answer g.H.Hasher.dig ps r.root.name r.root.head s.is_broken since) s _ none refl
+    c.in-Ok.ensures.reads.kept.same_kept c.in-Ok.ensures.reads.kept.used_kept c.in-Ok.ensures.reads.faults.later c.in-Ok.message refl
+    (λ ps list. ap (λ (o : Option Refusal). unless o (message_told g.H.Hasher.dig ps r.root.name r.root.head since)) (sym none) ∙ c.in-Ok.ensures.reads.answer ps list)
     (λ whole h served.
     let list = told_list d.view g.met.D.Disk.only_now g.H.Hasher.dig r.store r.root h served in
-    let path = path_answer g.H.Hasher.dig (λ text. (g.met.H.Hasher.size text, g.met.H.Hasher.bytes text)) (opening_of r.store served.image).pages h r.root.head since served.has.keeps.steps
-    (c.thread_refusal.ensures.order (ap is_some c.in_default.is)).1 c.in-Ok.path (c.in-Ok.ensures.reads.answer _ list) in
-    thread_told_so g.H.Hasher.dig h since c.in-Ok.path (to_table s.is_broken last since _ None none whole served.has.keeps.steps.step) path)
+    let mine = told_own g.H.Hasher.dig (λ text. (g.met.H.Hasher.size text, g.met.H.Hasher.bytes text)) (opening_of r.store served.image).pages h r.root served.has.keeps served.has.sound r.root.name served.has.named
+    since (c.thread_refusal.ensures.order (ap is_some c.in_default.is)) c.in-Ok.message (c.in-Ok.ensures.reads.answer _ list) in
+    ask_made g.H.Hasher.dig h (ThreadOut since) (message_bytes c.in-Ok.message) (thread_whole h since None (to_table s.is_broken r.root.head.step since _ None none whole served.has.keeps.steps.step))
+    (message_makes g.H.Hasher.dig (λ text. (g.met.H.Hasher.size text, g.met.H.Hasher.bytes text)) (opening_of r.store served.image).pages h r.root served.has.keeps served.has.sound r.root.name served.has.named since c.in-Ok.message mine))
 
 pub returns-in-Err-clause-asks : goal.returns-in-Err-clause-asks
 returns-in-Err-clause-asks g c =
@@ -65,13 +69,13 @@ returns-in-Err-clause-asks g c =
     let s = c.args.self.now in
     let r = s.recorded in
     let since = c.args.since in
-    let last = r.root.head.step in
     let none = sym c.in_default.is ∙ c.thread_refusal.ensures.answer in
-    asked_err d.view g.met.D.Disk.only_now g.H.Hasher.dig (λ why. ⊥) (TellThread since) (λ (p : Path). OfPath p) (thread_refusal s.is_broken last since) (λ ps. found_message g.H.Hasher.dig ps r.root.head s.is_broken since) s _ none refl
+    asked_err d.view g.met.D.Disk.only_now g.H.Hasher.dig (λ why. ⊥) (Ask (ThreadOut since)) (λ (m : Message). OfBytes (message_bytes m)) (thread_refusal s.is_broken r.root.head.step since)
+    (λ ps. told_answer g.H.Hasher.dig ps r.root.name r.root.head s.is_broken since) s _ none refl
     c.in-Err.ensures.reads.kept.same_kept c.in-Err.ensures.reads.kept.used_kept c.in-Err.ensures.reads.faults.later c.in-Err.refusal c.in-Err.ensures.reads.own (c.thread_refusal.ensures.whole (ap is_some c.in_default.is)) c.is_disk_fault-self.ensures
-    (λ ps list. subst (λ (f : Found (Result Path Refusal)). IsRefusalOf c.in-Err.refusal f) (ap (λ (o : Option Refusal). unless o (path_down g.H.Hasher.dig ps r.root.head since)) none) (c.in-Err.ensures.reads.answer ps list))
+    (λ ps list. subst (λ (f : Found (Result Message Refusal)). IsRefusalOf c.in-Err.refusal f) (ap (λ (o : Option Refusal). unless o (message_told g.H.Hasher.dig ps r.root.name r.root.head since)) none) (c.in-Err.ensures.reads.answer ps list))
     (λ h served.
     let list = told_list d.view g.met.D.Disk.only_now g.H.Hasher.dig r.store r.root h served in
-    path_good g.H.Hasher.dig (λ text. (g.met.H.Hasher.size text, g.met.H.Hasher.bytes text)) (opening_of r.store served.image).pages h r.root.head since served.has.keeps.steps
-    (c.thread_refusal.ensures.order (ap is_some c.in_default.is)).1 c.in-Err.refusal (c.in-Err.ensures.reads.answer _ list))
+    told_good g.H.Hasher.dig (λ text. (g.met.H.Hasher.size text, g.met.H.Hasher.bytes text)) (opening_of r.store served.image).pages h r.root served.has.keeps served.has.sound r.root.name served.has.named
+    since (c.thread_refusal.ensures.order (ap is_some c.in_default.is)) c.in-Err.refusal (c.in-Err.ensures.reads.answer _ list))
     (λ is. c.in-Err.ensures.reads.faults.rose (of_disk_fault c.in-Err.refusal is))

@@ -1,15 +1,14 @@
 use Rattle.std.proofs.Common.{◌≡◌, ℕ, List, sym, subst}
 use Rattle.std.specs.Prelude.{Result, None}
 use Rattle.tw_answers.specs.declared.refusal.Refusal.{Refusal}
+use Rattle.tw_base.specs.declared.history.question.Question.TheVariants.{Link}
 use Rattle.tw_base.specs.format.Formats.{Spells}
 use Rattle.tw_chain.specs.Proofs.{proof_layout}
 use Rattle.tw_chain.specs.declared.proof.LinkProof.{LinkProof}
 use Rattle.tw_chain.specs.declared.proof.Proof.TheVariants.{Linked}
-use Rattle.tw_script.specs.declared.line.AskedProof.TheVariants.{OfLink}
 use Rattle.tw_script.specs.declared.line.Line.TheVariants.{Anchor}
 use Rattle.sha2.specs.Sha256.{sha256}
 use Rattle.tw_world.specs.Hosts.{Gives, claims_none}
-use Rattle.tw_world.specs.Hosts.Asked.{ForProof}
 use Rattle.tw_world.specs.Players.{Follows, Plays, thread_of}
 use Rattle.tw_world.specs.Runs.{IsTold}
 use Rattle.tw_world.specs.Worlds.{World, after_line, with_anchor}
@@ -24,13 +23,13 @@ use Rattle.tw_world.proofs.player.Player.anchor.Goals as goal
 pub returns-in-Err : goal.returns-in-Err
 returns-in-Err c w f one =
     let given = c.in_ok-refusal.ensures w f in
-    let gives = subst (λ (r : Result (List ℕ) Refusal). Gives given.0.history (ForProof (OfLink c.args.step None)) r) c.in-Err.is given.2 in
-    (after_line w, told-unanchored w c.args.service.now c.args.step given.0 given.1 one c.in-Err.refusal gives, later c.proof.new.self w given.3)
+    let gives = subst (λ (r : Result (List ℕ) Refusal). Gives given.0.history (Link c.args.step None) r) c.in-Err.is given.2 in
+    (after_line w, told-unanchored w c.args.service.now c.args.step given.0 given.1 one c.in-Err.refusal gives, later c.ask.new.self w given.3)
 
 pub returns-in-Ok : goal.returns-in-Ok
 returns-in-Ok c =
     let bytes : List ℕ = c.in-Ok.bytes in
-    let mid = c.proof.new.self in
+    let mid = c.ask.new.self in
     let new = c.hold_linked.new.self in
     let name = c.args.service.now in
     let step = c.args.step in
@@ -40,7 +39,7 @@ returns-in-Ok c =
     (Plays c.args.self.now new (Anchor name step))
     (λ told held w f one.
     let given = c.in_ok-refusal.ensures w f in
-    let gives = subst (λ (r : Result (List ℕ) Refusal). Gives given.0.history (ForProof (OfLink step None)) r) c.in-Ok.is given.2 in
+    let gives = subst (λ (r : Result (List ℕ) Refusal). Gives given.0.history (Link step None) r) c.in-Ok.is given.2 in
     let done = held.1 w given.3 in
     let spells = subst (λ b. Spells proof_layout b (Linked done.0)) c.as_slice.ensures done.1 in
     let next : World = after_line (with_anchor w (thread_of done.0)) in

@@ -9,7 +9,7 @@ use Rattle.tw_world.specs.Playing.{lines_of}
 use Rattle.tw_world.specs.Runs.{Runs}
 use Rattle.tw_world.specs.Worlds.{no_world}
 use Rattle.tw_world.specs.declared.told.Told.{Told}
-use Rattle.tw_world.proofs.PlayedRuns.{may-next, runs-more, runs-none}
+use Rattle.tw_world.proofs.PlayedRuns.{asks-next, may-next, runs-more, runs-none}
 use Rattle.tw_world.proofs.player.Player.play_lines.Goals as goal
 
 pub loop-numbered-init : goal.loop-numbered-init
@@ -18,6 +18,12 @@ loop-numbered-init c = (
   subst (λ (told : List Told). Runs sha256 claims_none no_world [] told no_world) (sym c.new-told.ensures) (runs-none sha256 claims_none no_world),
   c.requires.nothing,
 )
+
+pub play_next-requires : goal.play_next-requires
+play_next-requires c =
+    let lines : List NumberedLine = c.as_slice-lines.result.now in
+    let read : IsRead lines = subst IsRead (sym c.as_slice-lines.ensures) c.requires.read in
+    asks-next lines c.loop-numbered.numbered-index c.numbered-item.result read c.loop-numbered-test.true (sym c.numbered-item.is)
 
 pub loop-numbered-preserved : goal.loop-numbered-preserved
 loop-numbered-preserved c =
