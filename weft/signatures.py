@@ -68,7 +68,7 @@ def sign(line: Line, key: AnyPath) -> Signed:
     """The line, signed with this key, a private one or the public one of a key that an agent has."""
     if not os.path.exists(key):
         raise Trouble(Status.NO_INPUT, f"there is no key {name_of(key)}", "Make one: ssh-keygen -t ed25519 -f FILE.")
-    os.close(files.opened(key))
+    files.read(key, MOST_BYTES)  # ssh-keygen would read a file of any size to its end
     text = f"{line.text}\n".encode()
     status, told, signature = keygen("-Y", "sign", "-q", "-n", NAMESPACE, "-f", os.fspath(key), given=text)
     if status or BEGIN.encode() not in signature:

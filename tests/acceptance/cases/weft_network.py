@@ -184,7 +184,7 @@ def forge(loom):
 
 def fork_on(weave, number):
     """The liar's other history goes to one peer, and the squatter's message to another."""
-    loom, victim = weave.loom, weave.peers[LIAR][-1]
+    loom, victim = weave.loom, weave.peers[LIAR][0]
     box = loom.folder / "tmp/false"
     loom.append("tmp/false/false", b"other %d" % number)
     loom.put("tmp/false/box-false/box.conf", f"key = {loom.folder}/{LIAR}.key\n")
@@ -209,7 +209,7 @@ def cases():
 
 if __name__ == "__main__":
     with tempfile.TemporaryDirectory() as place:
-        nights_, seed_ = (int(word) for word in [*sys.argv[2:4], "30", "1"][:2])
+        nights_, seed_ = (int(word) for word in (sys.argv[2:4] + ["30", "1"][len(sys.argv[2:4]) :]))
         found = play(SimpleNamespace(folder=place, program=os.path.abspath(sys.argv[1])), nights_, seed_)
         connected(found)
         by_requests(found, nights_)
