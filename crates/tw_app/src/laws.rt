@@ -45,7 +45,7 @@ pub fn status_laws<D: Disk>()
     // Status 0 of `thread`: what the disk read as opens as a service's store, which has a step, and whose last one isn't
     // below the step that is named. The bytes written are the message of the last step that is found in its pages,
     // whatever these keep. And where the disk read as a history, with writes pending or not, they spell the message that
-    // this history has of its last step since that step, whose path is a step of the machine; its link climbs from the
+    // this history has of its last step since that step, and are a step of the machine; its link climbs from the
     // history's authenticator of that step to that of the last one; and the disk stands for the history, at rest: so no
     // loss of power takes what was told.
     // Status 0 of `init`: no store was there. The line written is that of step 0 of the history of that name without
