@@ -19,7 +19,9 @@ use tw_base::{Hop, HopList, Key, Name};
 /// on which a leg ends and for the start's own, each with the least step and the first leg that has it.
 /// The legs need not stand in rounds. Takes no memory.
 pub fn check_atlas(hops: &HopList, from: &Name, step: u64, atlas: &Atlas) -> bool
-    // It is true exactly where all of this holds.
+    // It is true exactly where what is told is an atlas of the hops from that step: no hop is a leg twice; each leg is one of the hops, and
+    // goes on from the start or an earlier leg as it says; each hop that goes on from the start or a leg is a leg; and the arrivals stand
+    // by name, one for each service on which a leg ends and for the start's own, each with the least step and the first leg that has it.
     ensures exact { IsTrue result ↔ IsAtlas hops.now (record { from = from.now; step = step }) atlas.now }
     // Where it is true, each arrival is at the least step of its service to which a chain leads, with the legs as the way
     // there, and to a service without an arrival no chain leads.

@@ -15,6 +15,7 @@ mod rounds;
 pub use atlas::{Arrival, ArrivalList, Atlas, Leg, LegList};
 pub use checking::check_atlas;
 pub use laws::{atlas_laws, receipt_file_laws};
+pub use limits::limit_laws;
 pub use planning::plan;
 pub use printing::print_atlas;
 pub use reading::{add_hops, receipt_hop};

@@ -235,6 +235,7 @@ impl MemDisk {
     /// Makes the k-th write or barrier from now on fail, and every later call of any kind; k is at least 1.
     ///
     /// A write at which the disk is stopped counts among the pages written since the last good barrier, with the bytes of that write.
+    /// No clause says so, since one that finds no memory counts for nothing; scripts with `crash` lines show it.
     pub fn stop_at(&mut self, k: u64)
         requires { 1 ≤ k }
         ensures stop { IsPlanned self.new (failing_of self.old) (failing_reads_of self.old) (Some (min (made_of self.old + k) (2 ^ 64 - 1))) }

@@ -10,5 +10,6 @@ mod showing;
 mod verifying;
 
 pub use joining::{Joined, join_files};
+pub use limits::limit_laws;
 pub use showing::show;
 pub use verifying::{verify_file, verify_one};

@@ -8,4 +8,4 @@ mod limits;
 
 pub use joining::{JoinFault, join};
 pub use laws::joining_laws;
-pub use limits::MOST_PARTS;
+pub use limits::{MOST_PARTS, limit_laws};

@@ -19,5 +19,6 @@ mod staged;
 mod store;
 
 pub use laws::image_laws;
+pub use limits::limit_laws;
 pub use open::StoreFault;
 pub use store::{CommitFault, Store};

@@ -18,6 +18,7 @@ pub use asking::{after, before, get};
 pub use fault::TreeFault;
 pub use inserting::insert;
 pub use laws::{keeping_laws, listing_laws, size_laws, standing_laws};
+pub use limits::limit_laws;
 pub use listing::fresh;
 pub use new_node::{NewNode, NewNodes, Side};
 pub use proving::path;

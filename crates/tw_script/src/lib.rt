@@ -15,5 +15,6 @@ mod there;
 mod word_values;
 
 pub use laws::script_laws;
+pub use limits::limit_laws;
 pub use line::{CrashChoice, Line};
 pub use script::{NumberedLine, Script, ScriptFault, read_script};

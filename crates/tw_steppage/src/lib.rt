@@ -9,6 +9,7 @@ mod page;
 
 pub use fields::{StepFields, StreamRef};
 pub use laws::page_laws;
+pub use limits::limit_laws;
 pub use link::StepRef;
 pub use page::{
     StepPage, event_page, event_piece, is_event_page, keeps_rules, step_page, take_step,

@@ -10,4 +10,5 @@ mod store_forms;
 mod words;
 
 pub use command::Command;
+pub use limits::limit_laws;
 pub use words::{WordFault, read_words};
