@@ -66,6 +66,10 @@ module _ (is_timed : Bool) (r : RootRecord) (fits : (root_codec is_timed).Fits r
   unfolding root_codec seen pair name_codec
   root-name = fits.0
 
+  pub root-short : r.head.step ≤ LAST_STEP
+  unfolding root_codec seen pair number_codec
+  root-short = fits.1.0.1
+
   -- a record has a time where the codec has one
   pub root-timed : is_some r.time ≡ is_timed
   unfolding root_codec seen pair

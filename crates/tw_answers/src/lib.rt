@@ -5,6 +5,7 @@
 mod laws;
 mod limits;
 mod proving;
+mod record;
 mod refusal;
 mod root;
 mod showing;
@@ -12,8 +13,8 @@ mod showing;
 pub use laws::record_laws;
 pub use limits::{
     MOST_PAGES_OF_A_STEP, ROOT_BYTES, TIMED_ROOT_BYTES, append_refusal, archive_refusal,
-    event_refusal, limits_refusal, link_refusal, order_refusal, own_refusal, thread_refusal,
-    top_refusal,
+    event_refusal, limit_laws, limits_refusal, link_refusal, order_refusal, own_refusal,
+    thread_refusal, top_refusal,
 };
 pub use proving::{make_link, make_proof, part_under, path_down};
 pub use refusal::{Refusal, is_disk_fault, refusal_of_tree};

@@ -1,7 +1,8 @@
 // The limits of stores, and the lines of the tables of refusals that need no page.
 
-ghost use Rattle.std.specs.Prelude.{◌≡◌, ◌≢◌, ◌+◌, ◌≤◌, ◌<◌, ◌^◌, length, false, IsNone, None};
+ghost use Rattle.std.specs.Prelude.{◌≡◌, ◌≢◌, ◌+◌, ◌-◌, ◌≤◌, ◌<◌, ◌^◌, length, false, IsNone, None};
 ghost use Rattle.std.specs.Option.{option_map};
+ghost use Rattle.tw_base.specs.declared.kinds.limits.TheConstants.{LAST_TIME};
 ghost use Rattle.tw_base.specs.kinds.Bytes.{AreBytes};
 ghost use Rattle.tw_base.specs.kinds.Lists.{Each};
 ghost use Rattle.tw_answers.specs.Limits.{bytes_of, clock_refusal as clock_refusal_of, first_long, append_refusal as append_refusal_of, archive_refusal as archive_refusal_of, event_refusal as event_refusal_of, limits_refusal as limits_refusal_of, link_refusal as link_refusal_of, order_refusal as order_refusal_of, own_refusal as own_refusal_of, thread_refusal as thread_refusal_of, top_refusal as top_refusal_of};
@@ -19,6 +20,26 @@ pub const TIMED_ROOT_BYTES: u64 = 120;
 
 /// The most pages that a step adds to a store; one of events adds at most 19, one of a thread at most 42.
 pub const MOST_PAGES_OF_A_STEP: u64 = 64;
+
+/// The limits of a history and of its root record, by number.
+pub fn limit_laws()
+    // `LAST_STEP`, the greatest number of a step, is 2^40 - 1.
+    ensures step { LAST_STEP ≡ 2 ^ 40 - 1 }
+    // `LAST_TIME`, the greatest time that a step may claim, is 2^40 - 1.
+    ensures time { LAST_TIME ≡ 2 ^ 40 - 1 }
+    // `MOST_EVENTS`, the most events of a step, is 1,024.
+    ensures events { MOST_EVENTS ≡ 1024 }
+    // `MOST_EVENT_BYTES`, the most bytes of an event, is 1,024.
+    ensures event { MOST_EVENT_BYTES ≡ 1024 }
+    // `MOST_STEP_BYTES`, the most bytes of the events of a step together, is 65,536.
+    ensures bytes { MOST_STEP_BYTES ≡ 65536 }
+    // `MOST_PAGES_OF_A_STEP`, the most pages that a step adds to a store, is 64.
+    ensures pages { MOST_PAGES_OF_A_STEP ≡ 64 }
+    // `ROOT_BYTES`, the bytes of a root record of a history whose steps have no time, is 112.
+    ensures root { ROOT_BYTES ≡ 112 }
+    // `TIMED_ROOT_BYTES`, the bytes of one with a time, is 120.
+    ensures timed { TIMED_ROOT_BYTES ≡ 120 }
+{}
 
 /// The length of an event.
 fn event_size(event: &[u8]) -> u64

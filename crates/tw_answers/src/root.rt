@@ -31,8 +31,8 @@ pub struct RootRecord {
 }
 
 /// Puts a number of eight bytes at the record's end.
-fn put_number(text: &mut ArrayVec<u8, 120>, number: u64)
-    requires { array_vec_len text.old ≤ 112 }
+fn put_number(text: &mut ArrayVec<u8, 512>, number: u64)
+    requires { array_vec_len text.old ≤ 504 }
     ensures bytes { text.new.items ≡ text.old.items ++ number_bytes 8 number }
     ensures size { array_vec_len text.new ≡ array_vec_len text.old + 8 }
 {
@@ -40,8 +40,8 @@ fn put_number(text: &mut ArrayVec<u8, 120>, number: u64)
 }
 
 /// Puts a digest at the record's end.
-fn put_digest(text: &mut ArrayVec<u8, 120>, digest: &Digest)
-    requires { array_vec_len text.old ≤ 88 }
+fn put_digest(text: &mut ArrayVec<u8, 512>, digest: &Digest)
+    requires { array_vec_len text.old ≤ 480 }
     ensures bytes { text.new.items ≡ text.old.items ++ digest.now }
     ensures size { array_vec_len text.new ≡ array_vec_len text.old + 32 }
 {
@@ -50,10 +50,10 @@ fn put_digest(text: &mut ArrayVec<u8, 120>, digest: &Digest)
 
 /// Puts a time at the record's end, where there is one.
 #[tactic(auto, unfolding(tw_base::specs::format::Seen::codecs))]
-fn put_time(text: &mut ArrayVec<u8, 120>, time: Option<u64>)
-    requires { array_vec_len text.old ≤ 112 }
+fn put_time(text: &mut ArrayVec<u8, 512>, time: Option<u64>)
+    requires { array_vec_len text.old ≤ 504 }
     ensures bytes { text.new.items ≡ text.old.items ++ (optional (is_some time) time_codec).write time }
-    ensures size { array_vec_len text.new ≤ 120 }
+    ensures size { array_vec_len text.new ≤ array_vec_len text.old + 8 }
 {
     if let Some(time) = time {
         put_number(text, time);
@@ -62,12 +62,12 @@ fn put_time(text: &mut ArrayVec<u8, 120>, time: Option<u64>)
 
 /// The bytes of a root record.
 #[tactic(auto, unfolding(crate::specs::Roots::root_codec, tw_base::specs::format::Seen::codecs))]
-pub fn root_record(root: &RootRecord) -> ArrayVec<u8, 120>
+pub fn root_record(root: &RootRecord) -> ArrayVec<u8, 512>
     ensures bytes { result.items ≡ root_bytes root.now }
     ensures size { length result.items ≤ TIMED_ROOT_BYTES }
     ensures name { IsName root.now.name }
 {
-    let mut text: ArrayVec<u8, 120> = ArrayVec::new();
+    let mut text: ArrayVec<u8, 512> = ArrayVec::new();
     put(&mut text, root.name.as_bytes());
     put_number(&mut text, root.head.step);
     put_digest(&mut text, &root.head.auth);

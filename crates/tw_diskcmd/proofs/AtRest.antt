@@ -8,13 +8,16 @@ use Rattle.tw_disk.specs.Disk.{DiskView, IsAtRest, LeavesOnly, Reads}
 use Rattle.tw_disk.specs.Image.{Image}
 use Rattle.tw_disk.proofs.Moments.{goes_on, leaves_weaker, no_call}
 use Rattle.tw_base.specs.kinds.Faults.{Rose}
+use Rattle.tw_kept.specs.Records.{Written}
+use Rattle.tw_kept.proofs.AtRest as kept
+use Rattle.tw_answers.specs.declared.root.RootRecord.{RootRecord}
 use Rattle.tw_pages.specs.Slots.{IsOpen, IsTaken}
 use Rattle.tw_service.specs.declared.service.Service.{Service}
 use Rattle.tw_service.specs.Serves.{HasSameDisk, disk_of}
 use Rattle.tw_service.specs.Stands.{StandsFor, StandsForOneOf, no_history}
 use Rattle.tw_text.specs.declared.fault.CommandFault.{CommandFault}
 use Rattle.tw_text.specs.declared.fault.CommandFault.TheVariants.{DiskFault}
-use Rattle.tw_diskcmd.specs.Disks.{IsLeft, IsOf, IsOldOrBegun, Keeps, LeavesOldOrOneOf, MayBegin, ReadsAs, ReadsAsOneOf, Rests, Stands}
+use Rattle.tw_diskcmd.specs.Disks.{IsLeft, IsOf, IsOldOrBegun, IsService, Keeps, KeepsHistory, LeavesOldOrOneOf, MayBegin, ReadsAs, ReadsAsOneOf, Rests, Stands}
 use Rattle.tw_diskcmd.specs.WorkSteps.{LeavesStep}
 
 -- a history that an image stands for has its own name
@@ -24,9 +27,9 @@ own_name name h image stands = subst (λ (n : List ℕ). StandsFor sha256 image 
 pub own_names : (name : List ℕ) (h : History) (next : History) (image : Image) → h.name ≡ name → StandsForOneOf sha256 name h next image → StandsForOneOf sha256 h.name h next image
 own_names name h next image named stands = subst (λ (n : List ℕ). StandsForOneOf sha256 n h next image) (sym named) stands
 
--- an image that stands for a history has four pages and an open gate
-pub stands_taken : (h : History) (image : Image) → IsOf h image → IsTaken image
-stands_taken h image is =
+-- an image that opens as a service's store has four pages and an open gate
+pub opens_taken : (w : Written RootRecord) (image : Image) → IsService w image → IsTaken image
+opens_taken w image is =
     let opens = is.opens.stands in
     let low : is.opening.slot < 2 = opens.which in (
       omega (arith, opens.room),
@@ -36,6 +39,10 @@ stands_taken h image is =
       ],
     )
 
+-- and so has one that stands for a history
+pub stands_taken : (h : History) (image : Image) → IsOf h image → IsTaken image
+stands_taken h image is = opens_taken is.stands.w image is.stands.is
+
 -- a count that rose since a later moment rose since an earlier one
 pub rose_since : (before mid after : ℕ) → before ≤ mid → Rose mid after → Rose before after
 rose_since before mid after le rose = omega (arith, le, rose)
@@ -43,7 +50,7 @@ rose_since before mid after le rose = omega (arith, le, rose)
 module _ {D : Type 0} (view : D → DiskView) where
   -- a run that leaves nothing new, over a disk that reads the same at its end, keeps the history
   pub kept_where : (old new : D) → ((h : History) → Stands view old h → IsLeft view old new)
-      → Keeps view old new
+      → KeepsHistory view old new
   kept_where old new leaves = λ h. (
     λ stands. (
       leaves_weaker (view old) (view new) (view old).may_leave (IsOf h) stands.each (leaves h stands).1,
@@ -60,7 +67,7 @@ module _ {D : Type 0} (view : D → DiskView) where
       }
 
   pub left_keeps : (old new : D) → IsLeft view old new → Keeps view old new
-  left_keeps old new left = kept_where old new (λ h stands. left)
+  left_keeps old new left = (kept_where old new (λ h stands. left), kept.left_keeps IsService view old new left)
 
   -- the content of a disk that stands for a history stands for it, and so has a store
   module _ (as_it_reads : (d : D) (image : Image) → (view d).content ≡ Some image → (view d).may_leave image) where
@@ -96,11 +103,16 @@ module _ {D : Type 0} (view : D → DiskView) where
     pub held_keeps : (old new : D)
         → ((image : Image) → (view old).content ≡ Some image → IsTaken image → ((view new).content ≡ Some image) × LeavesOnly (view old) (view new) (view old).may_leave)
         → Keeps view old new
-    held_keeps old new held = kept_where old new (λ h stands.
-        let left = held stands.image stands.told (has_store old h stands) in (left.0 ∙ sym stands.told, left.1))
+    held_keeps old new held = (
+      kept_where old new (λ h stands. let left = held stands.image stands.told (has_store old h stands) in (left.0 ∙ sym stands.told, left.1)),
+      kept.held_keeps IsService view as_it_reads opens_taken old new held,
+    )
 
     pub free_keeps : (old new : D) → ((image : Image) → (view old).content ≡ Some image → IsTaken image → ⊥) → Keeps view old new
-    free_keeps old new free = kept_where old new (λ h stands. absurd (free stands.image stands.told (has_store old h stands)))
+    free_keeps old new free = (
+      kept_where old new (λ h stands. absurd (free stands.image stands.told (has_store old h stands))),
+      kept.free_keeps IsService view as_it_reads opens_taken old new free,
+    )
 
   -- one run after another
   pub left_on : (old mid new : D) → IsLeft view old mid → IsLeft view mid new

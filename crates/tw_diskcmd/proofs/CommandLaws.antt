@@ -1,7 +1,6 @@
 -- What holds of each command over a disk: each of its faults has its cause, and whatever it leaves is safe.
-use Rattle.std.proofs.Common.{◌≡◌, ◌∙◌, ℕ, List, ap, inl, inr}
+use Rattle.std.proofs.Common.{◌≡◌, ◌∙◌, ℕ, List, ap, inl, inr, ⊎_elim}
 use Rattle.std.specs.Prelude.{Option, Some, Result, Ok, Err}
-use Rattle.sha2.specs.Sha256.{sha256}
 use Rattle.tw_base.specs.declared.history.thread.Thread.{Thread}
 use Rattle.tw_base.specs.kinds.Faults.{Rose}
 use Rattle.tw_base.specs.history.History.{History}
@@ -19,10 +18,17 @@ use Rattle.tw_text.specs.declared.fault.CommandFault.{CommandFault}
 use Rattle.tw_text.specs.declared.fault.CommandFault.TheVariants.{Refused, Unserved, Unreadable, InputFault, DiskFault, NoMemory}
 use Rattle.tw_diskcmd.specs.Appending.{AppendComes, AppendLeaves, AppendSafe, AreEventsOf}
 use Rattle.tw_diskcmd.specs.Asking.{AskComes}
-use Rattle.tw_diskcmd.specs.Disks.{AddsSafe, FoundDisk, IsLeft, Keeps, ReadLeaves, ReadsAs}
+use Rattle.sha2.specs.Sha256.{sha256}
+use Rattle.tw_kept.specs.Disks.{AddsSafe as AddsSafely}
+use Rattle.tw_kept.specs.Records.{Written}
+use Rattle.tw_kept.proofs.AtRest as kept
+use Rattle.tw_answers.specs.declared.root.RootRecord.{RootRecord}
+use Rattle.tw_service.specs.Writing.{AppendsTo, ArchivesTo, IsReceiptOf, IsThreadOfNext}
+use Rattle.tw_diskcmd.specs.Disks.{AddsSafe, FoundDisk, IsLeft, IsService, Keeps, ReadLeaves, ReadsAs, SparesOther, StaysOr}
 use Rattle.tw_diskcmd.specs.Making.{InitComes, InitLeaves, InitSafe}
 use Rattle.tw_diskcmd.specs.Receiving.{IsMessageIn, ReceiveComes, ReceiveLeaves, ReceiveSafe}
 use Rattle.tw_diskcmd.specs.WorkSteps.{WritesNothing}
+use Rattle.tw_diskcmd.proofs.Writing.{adds_weaker}
 use Rattle.tw_diskcmd.proofs.AtRest.{left_begins, left_keeps, reads_as, rests_reads, untouched_left}
 
 -- ---- what it comes to
@@ -96,21 +102,41 @@ module _ {D : Type 0} (view : D → DiskView) (old new : D) where
     init_safe name _ left = left_safe name left
 
     left_adds : {X : Type 0} → (Has : X → Type 0) → (call : X → Call) → IsLeft view old new → AddsSafe view Has call old new
-    left_adds Has call left = λ h. (λ reads. inl (left.1, record { image = reads.image; told = left.0 ∙ reads.told; stands = reads.stands }), λ stands. inl ((left_keeps view old new left h).0 stands).0)
+    left_adds Has call left = λ h. (λ reads. inl (left.1, record { image = reads.image; told = left.0 ∙ reads.told; stands = reads.stands }), λ stands. inl (((left_keeps view old new left).0 h).0 stands).0)
+
+    left_safely : {X : Type 0} → (Has : X → Type 0) → (call : X → Call) → (Next : X → (w next : Written RootRecord) → Type 0) → IsLeft view old new
+        → SparesOther view old new × AddsSafe view Has call old new × AddsSafely IsService view Has Next old new
+    left_safely Has call Next left = (λ image why told not. left, left_adds Has call left, kept.left_adds IsService view Has Next old new left)
+
+    -- the next record of an answer is a next one
+    thread_next : (events : List (List ℕ)) (time : Option ℕ) (thread : Thread) (w next : Written RootRecord) → IsThreadOfNext sha256 events time thread w next → StaysOr (AppendsTo sha256 events time) w next
+    thread_next events time thread w next is = inr is.1
+
+    receipt_next : (m : Message) (time : Option ℕ) (receipt : Receipt) (w next : Written RootRecord) → IsReceiptOf sha256 m time receipt w next → StaysOr (ArchivesTo sha256 m time) w next
+    receipt_next m time receipt w next is = ⊎_elim (λ same. inl same.0) (λ made. inr made.1) is
 
     append_safe : (told : Option Files) (file : List ℕ) (time : Option ℕ) (came : Result Thread CommandFault) → AppendLeaves view old new told file time came → AppendSafe view old new told file time
-    append_safe told file time (Ok thread) left = λ h. (
-      λ reads. let adds = left.2.1 h reads in inr (left.0, left.1, adds.0, adds.1, adds.2.1.0, rests_reads view as_it_reads new adds.0 h (ap (λ (n : History). n.name) adds.1) adds.2.0),
-      λ stands. let adds = left.2.1 h (reads_as view as_it_reads old h stands) in inr (left.0, left.1, adds.0, adds.1, adds.2.1.1 stands),
+    append_safe told file time (Ok thread) left = (
+      left.1,
+      λ h. (
+        λ reads. let adds = left.0.2.1 h reads in inr (left.0.0, left.0.1, adds.0, adds.1, adds.2.1.0, rests_reads view as_it_reads new adds.0 h (ap (λ (n : History). n.name) adds.1) adds.2.0),
+        λ stands. let adds = left.0.2.1 h (reads_as view as_it_reads old h stands) in inr (left.0.0, left.0.1, adds.0, adds.1, adds.2.1.1 stands),
+      ),
+      kept.adds_safe IsService view as_it_reads (AreEventsOf told file) (λ events. StaysOr (AppendsTo sha256 events time)) old new left.0.0 left.0.1
+          (adds_weaker IsService view (IsThreadOfNext sha256 left.0.0 time thread) (StaysOr (AppendsTo sha256 left.0.0 time)) (thread_next left.0.0 time thread) old new left.0.2.2),
     )
-    append_safe told file time (Err DiskFault) left = λ h. (
-      λ reads. let adds = left.2 h reads in inr (left.0, left.1, adds.0, adds.1, adds.2.1.0, adds.2.0),
-      λ stands. let adds = left.2 h (reads_as view as_it_reads old h stands) in inr (left.0, left.1, adds.0, adds.1, adds.2.1.1 stands),
+    append_safe told file time (Err DiskFault) left = (
+      left.1,
+      λ h. (
+        λ reads. let adds = left.0.2.0 h reads in inr (left.0.0, left.0.1, adds.0, adds.1, adds.2.1.0, adds.2.0),
+        λ stands. let adds = left.0.2.0 h (reads_as view as_it_reads old h stands) in inr (left.0.0, left.0.1, adds.0, adds.1, adds.2.1.1 stands),
+      ),
+      kept.keeps_or_adds_safe IsService view as_it_reads (AreEventsOf told file) (λ events. StaysOr (AppendsTo sha256 events time)) old new left.0.0 left.0.1 left.0.2.1,
     )
-    append_safe told file time (Err (Refused refusal)) left = left_adds (AreEventsOf told file) (λ events. Append events time) left.0
-    append_safe told file time (Err (Unreadable bad)) left = left_adds (AreEventsOf told file) (λ events. Append events time) (untouched_left view old new only_now left)
-    append_safe told file time (Err InputFault) left = left_adds (AreEventsOf told file) (λ events. Append events time) (untouched_left view old new only_now left)
-    append_safe told file time _ left = left_adds (AreEventsOf told file) (λ events. Append events time) left
+    append_safe told file time (Err (Refused refusal)) left = left_safely (AreEventsOf told file) (λ events. Append events time) (λ events. StaysOr (AppendsTo sha256 events time)) left.0
+    append_safe told file time (Err (Unreadable bad)) left = left_safely (AreEventsOf told file) (λ events. Append events time) (λ events. StaysOr (AppendsTo sha256 events time)) (untouched_left view old new only_now left)
+    append_safe told file time (Err InputFault) left = left_safely (AreEventsOf told file) (λ events. Append events time) (λ events. StaysOr (AppendsTo sha256 events time)) (untouched_left view old new only_now left)
+    append_safe told file time _ left = left_safely (AreEventsOf told file) (λ events. Append events time) (λ events. StaysOr (AppendsTo sha256 events time)) left
 
     -- a next history by the receiving of a message has its name
     next_named : (m : Message) (time : Option ℕ) (h next : History) → NextOf sha256 (Receive m time) h next → next.name ≡ h.name
@@ -118,18 +144,27 @@ module _ {D : Type 0} (view : D → DiskView) (old new : D) where
     next_named m time h next (inr more) = ap (λ (n : History). n.name) more.1.1
 
     receive_safe : (told : Option Files) (file : List ℕ) (time : Option ℕ) (came : Result Receipt CommandFault) → ReceiveLeaves view old new told file time came → ReceiveSafe view old new told file time
-    receive_safe told file time (Ok receipt) left = λ h. (
-      λ reads. let adds = left.2.1 h reads in inr (left.0, left.1, adds.0, adds.1, adds.2.2.0, rests_reads view as_it_reads new adds.0 h (next_named left.0 time h adds.0 adds.1) adds.2.1),
-      λ stands. let adds = left.2.1 h (reads_as view as_it_reads old h stands) in inr (left.0, left.1, adds.0, adds.1, adds.2.2.1 stands),
+    receive_safe told file time (Ok receipt) left = (
+      left.1,
+      λ h. (
+        λ reads. let adds = left.0.2.1 h reads in inr (left.0.0, left.0.1, adds.0, adds.1, adds.2.2.0, rests_reads view as_it_reads new adds.0 h (next_named left.0.0 time h adds.0 adds.1) adds.2.1),
+        λ stands. let adds = left.0.2.1 h (reads_as view as_it_reads old h stands) in inr (left.0.0, left.0.1, adds.0, adds.1, adds.2.2.1 stands),
+      ),
+      kept.adds_safe IsService view as_it_reads (IsMessageIn told file) (λ m. StaysOr (ArchivesTo sha256 m time)) old new left.0.0 left.0.1
+          (adds_weaker IsService view (IsReceiptOf sha256 left.0.0 time receipt) (StaysOr (ArchivesTo sha256 left.0.0 time)) (receipt_next left.0.0 time receipt) old new left.0.2.2),
     )
-    receive_safe told file time (Err DiskFault) left = λ h. (
-      λ reads. let adds = left.2 h reads in inr (left.0, left.1, adds.0, adds.1, adds.2.1.0, adds.2.0),
-      λ stands. let adds = left.2 h (reads_as view as_it_reads old h stands) in inr (left.0, left.1, adds.0, adds.1, adds.2.1.1 stands),
+    receive_safe told file time (Err DiskFault) left = (
+      left.1,
+      λ h. (
+        λ reads. let adds = left.0.2.0 h reads in inr (left.0.0, left.0.1, adds.0, adds.1, adds.2.1.0, adds.2.0),
+        λ stands. let adds = left.0.2.0 h (reads_as view as_it_reads old h stands) in inr (left.0.0, left.0.1, adds.0, adds.1, adds.2.1.1 stands),
+      ),
+      kept.keeps_or_adds_safe IsService view as_it_reads (IsMessageIn told file) (λ m. StaysOr (ArchivesTo sha256 m time)) old new left.0.0 left.0.1 left.0.2.1,
     )
-    receive_safe told file time (Err (Refused refusal)) left = left_adds (IsMessageIn told file) (λ m. Receive m time) left.0
-    receive_safe told file time (Err (Unreadable bad)) left = left_adds (IsMessageIn told file) (λ m. Receive m time) (untouched_left view old new only_now left)
-    receive_safe told file time (Err InputFault) left = left_adds (IsMessageIn told file) (λ m. Receive m time) (untouched_left view old new only_now left)
-    receive_safe told file time _ left = left_adds (IsMessageIn told file) (λ m. Receive m time) left
+    receive_safe told file time (Err (Refused refusal)) left = left_safely (IsMessageIn told file) (λ m. Receive m time) (λ m. StaysOr (ArchivesTo sha256 m time)) left.0
+    receive_safe told file time (Err (Unreadable bad)) left = left_safely (IsMessageIn told file) (λ m. Receive m time) (λ m. StaysOr (ArchivesTo sha256 m time)) (untouched_left view old new only_now left)
+    receive_safe told file time (Err InputFault) left = left_safely (IsMessageIn told file) (λ m. Receive m time) (λ m. StaysOr (ArchivesTo sha256 m time)) (untouched_left view old new only_now left)
+    receive_safe told file time _ left = left_safely (IsMessageIn told file) (λ m. Receive m time) (λ m. StaysOr (ArchivesTo sha256 m time)) left
 
     pub init_is_safe : (name : List ℕ) → IsSafe (InitLeaves view old new name) (InitSafe view old new name)
     init_is_safe name = record { idle = idle; no_memory = λ left. left; safe = init_safe name }

@@ -17,11 +17,14 @@ use Rattle.tw_service.specs.EventSteps.{with_events}
 use Rattle.tw_text.specs.declared.fault.CommandFault.{CommandFault}
 use Rattle.tw_text.specs.declared.fault.CommandFault.TheVariants.{Refused, Unserved, Unreadable, InputFault, DiskFault, NoMemory}
 use Rattle.tw_diskcmd.specs.Appending.{AppendComes, AppendLeaves, AreEventsOf, StepComes}
-use Rattle.tw_diskcmd.specs.Disks.{FoundDisk, IsLeft, ReadLeaves, ReadsAs, Settles, found_disk}
+use Rattle.tw_diskcmd.specs.Disks.{FoundDisk, IsLeft, ReadLeaves, ReadsAs, Settles, SparesOther, found_disk}
 use Rattle.tw_diskcmd.specs.Faults.{fault_of_store}
 use Rattle.tw_diskcmd.specs.Making.{InitComes, InitLeaves, InitSafe}
 use Rattle.tw_diskcmd.specs.Receiving.{IsMessageIn, MessageComes, ReceiveComes, ReceiveLeaves}
 use Rattle.tw_diskcmd.specs.WorkSteps.{IsStop, LeavesReceived, LeavesStep, WritesNothing}
+use Rattle.tw_diskcmd.specs.Writing.{Writes}
+use Rattle.sha2.specs.Sha256.{sha256}
+use Rattle.tw_service.specs.Writing.{AppendsTo, ArchivesTo, IsReceiptOf, IsThreadOfNext}
 use Rattle.tw_diskcmd.proofs.AtRest.{no_call_left, old_or_one, one_of}
 
 -- ---- what the work comes to is what its command comes to
@@ -66,60 +69,80 @@ module _ {D : Type 0} (view : D → DiskView) where
     pub leaves_of_step : (told : Option Files) (before after : ℕ) (file : List ℕ) (events : List (List ℕ)) (time : Option ℕ) (came : Result Thread CommandFault) → AreEventsOf told file events
         → StepComes (found_disk (view old).content before after) events time came
         → ((h : History) → ReadsAs (view old).content h → LeavesStep view old new h (with_events h events time) came)
-        → (WritesNothing came → IsLeft view old new)
+        → Writes view old new (AppendsTo sha256 events time) (IsThreadOfNext sha256 events time) came → (WritesNothing came → IsLeft view old new) → SparesOther view old new
         → AppendLeaves view old new told file time came
-    leaves_of_step told before after file events time (Ok thread) are comes leaves nothing = (
-      events,
-      are,
+    leaves_of_step told before after file events time (Ok thread) are comes leaves writes nothing spares = (
       (
-        comes,
-        λ h reads.
-            let left = leaves h reads in (
-              with_events h events time,
-              refl,
-              (left.0, (left.1, λ stands. one_of view old new (with_events h events time) h stands left.1)),
-            ),
+        events,
+        are,
+        (
+          comes,
+          λ h reads.
+              let left = leaves h reads in (
+                with_events h events time,
+                refl,
+                (left.0, (left.1, λ stands. one_of view old new (with_events h events time) h stands left.1)),
+              ),
+          writes,
+        ),
       ),
+      spares,
     )
-    leaves_of_step told before after file events time (Err DiskFault) are comes leaves nothing = (
-      events,
-      are,
-      λ h reads.
-          let left = leaves h reads in (
-            with_events h events time,
-            refl,
-            (left.1, (left.0, λ stands. one_of view old new (with_events h events time) h stands left.0)),
-          ),
+    leaves_of_step told before after file events time (Err DiskFault) are comes leaves writes nothing spares = (
+      (
+        events,
+        are,
+        (
+          λ h reads.
+              let left = leaves h reads in (
+                with_events h events time,
+                refl,
+                (left.1, (left.0, λ stands. one_of view old new (with_events h events time) h stands left.0)),
+              ),
+          writes,
+        ),
+      ),
+      spares,
     )
-    leaves_of_step told before after file events time (Err (Refused refusal)) are comes leaves nothing = (nothing tt, λ h reads. leaves h reads)
-    leaves_of_step told before after file events time (Err (Unserved cause)) are comes leaves nothing = nothing tt
-    leaves_of_step told before after file events time (Err NoMemory) are comes leaves nothing = nothing tt
-    leaves_of_step told before after file events time _ are comes leaves nothing = absurd comes
+    leaves_of_step told before after file events time (Err (Refused refusal)) are comes leaves writes nothing spares = (nothing tt, (λ h reads. leaves h reads, writes))
+    leaves_of_step told before after file events time (Err (Unserved cause)) are comes leaves writes nothing spares = nothing tt
+    leaves_of_step told before after file events time (Err NoMemory) are comes leaves writes nothing spares = nothing tt
+    leaves_of_step told before after file events time _ are comes leaves writes nothing spares = absurd comes
 
     pub leaves_of_message : (told : Option Files) (before after : ℕ) (file : List ℕ) (m : Message) (time : Option ℕ) (came : Result Receipt CommandFault) → IsMessageIn told file m
         → MessageComes m time (found_disk (view old).content before after) came
         → ((h : History) → ReadsAs (view old).content h → LeavesReceived view old new m time h came)
-        → (WritesNothing came → IsLeft view old new)
+        → Writes view old new (ArchivesTo sha256 m time) (IsReceiptOf sha256 m time) came → (WritesNothing came → IsLeft view old new) → SparesOther view old new
         → ReceiveLeaves view old new told file time came
-    leaves_of_message told before after file m time (Ok receipt) is comes leaves nothing = (
-      m,
-      is,
+    leaves_of_message told before after file m time (Ok receipt) is comes leaves writes nothing spares = (
       (
-        comes,
-        λ h reads.
-            let left = leaves h reads in (left.0, left.1, (left.2, left.3.0, (left.3.1, λ stands. one_of view old new left.0 h stands left.3.1))),
+        m,
+        is,
+        (
+          comes,
+          λ h reads.
+              let left = leaves h reads in (left.0, left.1, (left.2, left.3.0, (left.3.1, λ stands. one_of view old new left.0 h stands left.3.1))),
+          writes,
+        ),
       ),
+      spares,
     )
-    leaves_of_message told before after file m time (Err DiskFault) is comes leaves nothing = (
-      m,
-      is,
-      λ h reads.
-          let left = leaves h reads in (left.0, left.1, (left.3.1, (left.3.0, λ stands. one_of view old new left.0 h stands left.3.0))),
+    leaves_of_message told before after file m time (Err DiskFault) is comes leaves writes nothing spares = (
+      (
+        m,
+        is,
+        (
+          λ h reads.
+              let left = leaves h reads in (left.0, left.1, (left.3.1, (left.3.0, λ stands. one_of view old new left.0 h stands left.3.0))),
+          writes,
+        ),
+      ),
+      spares,
     )
-    leaves_of_message told before after file m time (Err (Refused refusal)) is comes leaves nothing = (nothing tt, λ h reads. let left = leaves h reads in left.3)
-    leaves_of_message told before after file m time (Err (Unserved cause)) is comes leaves nothing = nothing tt
-    leaves_of_message told before after file m time (Err NoMemory) is comes leaves nothing = nothing tt
-    leaves_of_message told before after file m time _ is comes leaves nothing = absurd comes
+    leaves_of_message told before after file m time (Err (Refused refusal)) is comes leaves writes nothing spares = (nothing tt, (λ h reads. let left = leaves h reads in left.3, writes))
+    leaves_of_message told before after file m time (Err (Unserved cause)) is comes leaves writes nothing spares = nothing tt
+    leaves_of_message told before after file m time (Err NoMemory) is comes leaves writes nothing spares = nothing tt
+    leaves_of_message told before after file m time _ is comes leaves writes nothing spares = absurd comes
 
     -- a command that only reads leaves a disk that settles, or that wasn't opened
     pub leaves_of_reading : {X : Type 0} → (came : Result X CommandFault) → IsLeft view old new → Settles view old new → ReadLeaves view old new came

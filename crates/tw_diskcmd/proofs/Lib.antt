@@ -1,5 +1,6 @@
 pub mod EventFiles
 pub mod AtRest
+pub mod Writing
 pub mod Results
 pub mod Steps
 pub mod Landings

@@ -152,8 +152,7 @@ module _ {X : Type 0} (Over : Served → Result X CommandFault → Type 0) (ByTa
   module _ (t : FoundDisk) (root : RootRecord) (pages : Option Image) (opens : IsOpened t.found root pages) where
     pub opened_result : (r : Result X CommandFault) → ((ps : Image) → pages ≡ Some ps → Over (Opened root ps) r) → ByTable r → ((h : History) → ReadsAs t.found h → ByMachine h r) → IsOneOver t.found r
     opened_result r is table machine = record {
-      answer = λ image told. let o = opens image told in
-          (Opened root o.opening.pages, record { opening = o.opening; opens = o.opens; has = o.has; pages = refl }, is o.opening.pages o.pages);
+      answer = λ image told. let o = opens image told in (Opened root o.0, o.1, is o.0 o.2);
       table = table;
       machine = machine;
     }

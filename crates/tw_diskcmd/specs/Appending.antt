@@ -24,7 +24,9 @@ use Rattle.tw_diskcmd.specs.declared.limits.TheConstants.{EVENTS_LIMIT}
 use Rattle.tw_text.specs.declared.fault.CommandFault.{CommandFault}
 use Rattle.tw_text.specs.declared.fault.CommandFault.TheVariants as fault
 use Rattle.tw_diskcmd.specs.Answers.{ComesTo, IsResult, MachineRefuses, TableRefuses, TellsContent}
-use Rattle.tw_diskcmd.specs.Disks.{Adds, AddsSafe, FoundDisk, IsLeft, KeepsOrAdds, Settles}
+use Rattle.tw_kept.specs.Disks.{Adds as AddsEach, AddsSafe as AddsSafely, KeepsOrAdds as KeepsOrAddsEach}
+use Rattle.tw_service.specs.Writing.{AppendsTo, IsThreadOfNext}
+use Rattle.tw_diskcmd.specs.Disks.{Adds, AddsSafe, FoundDisk, IsLeft, IsService, KeepsOrAdds, Settles, SparesOther, StaysOr}
 
 -- the file is there; where the inputs tell its bytes, they are the events file of these events
 pub record AreEventsOf (told : Option Files) (file : List ℕ) (events : List (List ℕ)) : Type 0 where
@@ -84,16 +86,23 @@ TellsOfFile (Err fault.InputFault) = ⊥
 TellsOfFile result = TellsContent result
 
 module _ {D : Type 0} (view : D → DiskView) (old new : D) where
-  -- the step is added, or a disk fault came and it may be; where it was refused, nothing was written and the disk became stable; where
-  -- the file wasn't read or is none, no device call was made; at every other result nothing was written
+  -- the step is added, or a disk fault came and it may be, of a history and of whatever record and pages, and what is opened as no service is left as it was; where it was refused,
+  -- nothing was written and the disk became stable; where the file wasn't read or is none, no device call was made; at every other result
+  -- nothing was written
   abbrev pub AppendLeaves : (told : Option Files) (file : List ℕ) (time : Option ℕ) → Result Thread CommandFault → Type 0
-  AppendLeaves told file time (Ok thread) = OfEvents told file (λ events. IsStepResult (view old).content events time (Ok thread) × Adds view (Append events time) old new)
-  AppendLeaves told file time (Err fault.DiskFault) = OfEvents told file (λ events. KeepsOrAdds view (Append events time) old new)
+  AppendLeaves told file time (Ok thread) =
+      OfEvents told file (λ events. IsStepResult (view old).content events time (Ok thread) × Adds view (Append events time) old new
+      × AddsEach IsService view (IsThreadOfNext sha256 events time thread) old new) × SparesOther view old new
+  AppendLeaves told file time (Err fault.DiskFault) =
+      OfEvents told file (λ events. KeepsOrAdds view (Append events time) old new
+      × KeepsOrAddsEach IsService view (StaysOr (AppendsTo sha256 events time)) old new) × SparesOther view old new
   AppendLeaves told file time (Err (fault.Refused refusal)) = IsLeft view old new × Settles view old new
   AppendLeaves told file time (Err (fault.Unreadable bad)) = new ≡ old
   AppendLeaves told file time (Err fault.InputFault) = new ≡ old
   AppendLeaves told file time _ = IsLeft view old new
 
-  -- the next history is one by the machine's adding of the file's events
+  -- what is opened as no service is left as it was; the next history is one by the machine's adding of the file's events
   abbrev pub AppendSafe : (told : Option Files) (file : List ℕ) (time : Option ℕ) → Type 0
-  AppendSafe told file time = AddsSafe view (AreEventsOf told file) (λ events. Append events time) old new
+  AppendSafe told file time =
+      SparesOther view old new × AddsSafe view (AreEventsOf told file) (λ events. Append events time) old new
+      × AddsSafely IsService view (AreEventsOf told file) (λ events. StaysOr (AppendsTo sha256 events time)) old new

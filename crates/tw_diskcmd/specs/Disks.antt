@@ -1,12 +1,17 @@
--- What a disk reads as, what it stands for, and what a run leaves of it.
+-- What a disk reads as, what it stands for, whatever record and pages it opens with, and what a run leaves of it.
 use Rattle.std.specs.Prelude.{◌≡◌, ◌⊎◌, ℕ, List, Option, Some, Result, Ok, Err}
 use Rattle.sha2.specs.Sha256.{sha256}
 use Rattle.tw_base.specs.history.History.{History}
 use Rattle.tw_disk.specs.Disk.{DiskView, LeavesOnly, Only, Reads}
 use Rattle.tw_disk.specs.Image.{Image}
+use Rattle.tw_kept.specs.Disks.{Keeps as KeepsEach, Settles as SettlesEach}
+use Rattle.tw_kept.specs.Records.{IsWritten, Written}
 use Rattle.tw_pages.specs.Slots.{IsTaken}
 use Rattle.tw_service.specs.Machine.{Call, NextOf}
-use Rattle.tw_service.specs.Stands.{IsBlankOrNew, StandsFor, StandsForOneOf, no_history}
+use Rattle.tw_pages.specs.declared.open.StoreFault.{StoreFault}
+use Rattle.tw_answers.specs.declared.root.RootRecord.{RootRecord}
+use Rattle.tw_answers.specs.Roots.{root_kind}
+use Rattle.tw_service.specs.Stands.{IsBlankOrNew, IsNotOpenedFor, StandsFor, StandsForOneOf, no_history}
 use Rattle.tw_text.specs.declared.fault.CommandFault.{CommandFault}
 use Rattle.tw_text.specs.declared.fault.CommandFault.TheVariants.{Refused}
 
@@ -22,6 +27,14 @@ found_disk found before after = record { found = found; before = before; after =
 -- the image stands for the history, under its name
 abbrev pub IsOf : History → Image → Type 0
 IsOf h image = StandsFor sha256 image h.name h
+
+-- the image opens as a service's store with this record and these pages, whatever they keep
+abbrev pub IsService : Written RootRecord → Image → Type 0
+IsService w image = IsWritten root_kind w image
+
+-- record and pages stay, or these are next
+abbrev pub StaysOr : (IsNext : (w next : Written RootRecord) → Type 0) → (w next : Written RootRecord) → Type 0
+StaysOr IsNext w next = (next ≡ w) ⊎ IsNext w next
 
 -- what the disk reads as is told, and stands for the history
 pub record ReadsAs (found : Option Image) (h : History) : Type 0 where
@@ -44,13 +57,17 @@ module _ {D : Type 0} (view : D → DiskView) where
 
   -- the history that the disk stood for stands in each image that a crash since the start may leave, and now for good, at rest where
   -- it was at rest
-  abbrev pub Keeps : (old new : D) → Type 0
-  Keeps old new =
+  abbrev pub KeepsHistory : (old new : D) → Type 0
+  KeepsHistory old new =
       (h : History) → (Stands old h → LeavesOnly (view old) (view new) (IsOf h) × Stands new h) × (Rests old h → Rests new h)
 
-  -- the disk has become stable: it stands for the history that it read as, at rest
+  -- and so do the record and pages that it opened with, whatever they keep
+  abbrev pub Keeps : (old new : D) → Type 0
+  Keeps old new = KeepsHistory old new × KeepsEach IsService view old new
+
+  -- the disk has become stable: it stands for the history, or for whatever record and pages, that it read as, at rest
   abbrev pub Settles : (old new : D) → Type 0
-  Settles old new = (h : History) → ReadsAs (view old).content h → Rests new h
+  Settles old new = ((h : History) → ReadsAs (view old).content h → Rests new h) × SettlesEach IsService view old new
 
   -- each image since is one that a crash might have left before, or stands for this history or for the next one
   abbrev pub LeavesOldOrOneOf : (old new : D) → (h next : History) → Type 0
@@ -114,3 +131,7 @@ module _ {D : Type 0} (view : D → DiskView) where
   -- a store that is there, that of a service or not, is left so, with writes pending or not
   abbrev pub SparesStore : (old new : D) → Type 0
   SparesStore old new = (image : Image) → (view old).content ≡ Some image → IsTaken image → IsLeft old new
+
+  -- what is opened as no service, a follower's store among it, is left so, with writes pending or not
+  abbrev pub SparesOther : (old new : D) → Type 0
+  SparesOther old new = (image : Image) (why : StoreFault) → (view old).content ≡ Some image → IsNotOpenedFor image why → IsLeft old new

@@ -6,3 +6,4 @@ pub mod Receiving
 pub mod Appending
 pub mod WorkSteps
 pub mod Asking
+pub mod Writing

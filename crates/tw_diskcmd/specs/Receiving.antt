@@ -29,7 +29,9 @@ use Rattle.tw_text.specs.declared.refusal.BadInput.TheVariants.{BadByte}
 use Rattle.tw_text.specs.declared.fault.CommandFault.{CommandFault}
 use Rattle.tw_text.specs.declared.fault.CommandFault.TheVariants as fault
 use Rattle.tw_diskcmd.specs.Answers.{ComesOver, IsRefusal, IsResultOver, MachineRefuses, TellsContent}
-use Rattle.tw_diskcmd.specs.Disks.{AddsSafe, FoundDisk, IsLeft, KeepsOrAdds, LeavesOneOf, OfNext, Rests, Settles}
+use Rattle.tw_kept.specs.Disks.{Adds as AddsEach, AddsSafe as AddsSafely, KeepsOrAdds as KeepsOrAddsEach}
+use Rattle.tw_service.specs.Writing.{ArchivesTo, IsReceiptOf}
+use Rattle.tw_diskcmd.specs.Disks.{AddsSafe, FoundDisk, IsLeft, IsService, KeepsOrAdds, LeavesOneOf, OfNext, Rests, Settles, SparesOther, StaysOr}
 use Rattle.tw_diskcmd.specs.Faults.{fault_of_service, fault_of_store}
 
 -- ---- the file
@@ -130,16 +132,23 @@ module _ {D : Type 0} (view : D → DiskView) (old new : D) where
   Receipts m time receipt =
       OfNext view (Receive m time) old (λ h next. IsStepOf sha256 h (Receive m time) (OfReceipt receipt) next × Rests view new next × LeavesOneOf view old new h next)
 
-  -- the thread is archived or was known, or a disk fault came and it may be archived; where it was refused, nothing was written and the
-  -- disk became stable; where the file wasn't read or is none, no device call was made; at every other result nothing was written
+  -- the thread is archived or was known, or a disk fault came and it may be archived, and what is opened as no service is left as it was;
+  -- where it was refused, nothing was written and the disk became stable; where the file wasn't read or is none, no device call was made;
+  -- at every other result nothing was written
   abbrev pub ReceiveLeaves : (told : Option Files) (file : List ℕ) (time : Option ℕ) → Result Receipt CommandFault → Type 0
-  ReceiveLeaves told file time (Ok receipt) = OfMessage told file (λ m. IsReceived m time (view old).content (Ok receipt) × Receipts m time receipt)
-  ReceiveLeaves told file time (Err fault.DiskFault) = OfMessage told file (λ m. KeepsOrAdds view (Receive m time) old new)
+  ReceiveLeaves told file time (Ok receipt) =
+      OfMessage told file (λ m. IsReceived m time (view old).content (Ok receipt) × Receipts m time receipt
+      × AddsEach IsService view (IsReceiptOf sha256 m time receipt) old new) × SparesOther view old new
+  ReceiveLeaves told file time (Err fault.DiskFault) =
+      OfMessage told file (λ m. KeepsOrAdds view (Receive m time) old new
+      × KeepsOrAddsEach IsService view (StaysOr (ArchivesTo sha256 m time)) old new) × SparesOther view old new
   ReceiveLeaves told file time (Err (fault.Refused refusal)) = IsLeft view old new × Settles view old new
   ReceiveLeaves told file time (Err (fault.Unreadable bad)) = new ≡ old
   ReceiveLeaves told file time (Err fault.InputFault) = new ≡ old
   ReceiveLeaves told file time _ = IsLeft view old new
 
-  -- the next history is one by the machine's receiving of the file's message
+  -- what is opened as no service is left as it was; the next history is one by the machine's receiving of the file's message
   abbrev pub ReceiveSafe : (told : Option Files) (file : List ℕ) (time : Option ℕ) → Type 0
-  ReceiveSafe told file time = AddsSafe view (IsMessageIn told file) (λ m. Receive m time) old new
+  ReceiveSafe told file time =
+      SparesOther view old new × AddsSafe view (IsMessageIn told file) (λ m. Receive m time) old new
+      × AddsSafely IsService view (IsMessageIn told file) (λ m. StaysOr (ArchivesTo sha256 m time)) old new

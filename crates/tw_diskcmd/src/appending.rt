@@ -7,11 +7,14 @@ ghost use Rattle.tw_disk.specs.Image.{Image};
 ghost use Rattle.tw_outside.specs.Asked.{asked};
 ghost use Rattle.tw_service.specs.Adding.{Appends};
 ghost use Rattle.tw_service.specs.EventSteps.{with_events};
-ghost use Rattle.tw_service.specs.Serves.{Serves, disk_of, has_failed, pages_of, record_of};
+ghost use Rattle.tw_service.specs.Serves.{IsOver, Serves, disk_of, has_failed, pages_of, record_of};
 ghost use Rattle.tw_diskcmd.specs.Appending.{AppendComes, AppendLeaves, AreEventsOf, StepComes};
 ghost use Rattle.tw_diskcmd.specs.Answers.{IsOpened};
-ghost use Rattle.tw_diskcmd.specs.Disks.{IsLeft, ReadsAs, found_disk};
+ghost use Rattle.tw_diskcmd.specs.Disks.{IsLeft, ReadsAs, SparesOther, found_disk};
 ghost use Rattle.tw_diskcmd.specs.WorkSteps.{ComesOfFile, LeavesStep, WritesNothing};
+ghost use Rattle.tw_diskcmd.specs.Writing.{Writes, WritesFrom};
+ghost use Rattle.tw_kept.specs.Records.{written};
+ghost use Rattle.tw_service.specs.Writing.{AppendsTo, IsThreadOfNext};
 
 use crate::faults::{bad_byte, fault_of_service, fault_of_store};
 use crate::limits::{EVENTS_LIMIT, EVENTS_READ};
@@ -38,7 +41,10 @@ pub fn append<D: Disk, I: Inputs>(
     // a fault with its cause.
     ensures comes { AppendComes (asked (I.told inputs.old) (I.faults inputs.old) (I.faults inputs.new))
         (found_disk (D.view disk).content (D.view disk).faults (D.view result.disk).faults) file.now time result.outcome }
-    // It leaves the disk as is right for what it came to.
+    // It leaves the disk as is right for what it came to. So it does whatever the pages of the service's store keep: after the
+    // answer the disk rests with the record of the step that is found in them and the pages that are found with it; after a disk
+    // fault its content opens with these, or with the record and pages that were there; and each image since is one that a crash
+    // might have left before, or opens so. What is opened as no service, a follower's store among it, it leaves as it was.
     ensures leaves { AppendLeaves D.view disk result.disk (I.told inputs.old) file.now time result.outcome }
 {
     match read_step(alloc, inputs, file) {
@@ -82,6 +88,8 @@ fn append_events<D: Disk>(
     ensures leaves { (h : History) → ReadsAs (D.view disk).content h
         → LeavesStep D.view disk result.disk h (with_events h events.now time) result.outcome }
     ensures unwritten { WritesNothing result.outcome → IsLeft D.view disk result.disk }
+    ensures spares { SparesOther D.view disk result.disk }
+    ensures writes { Writes D.view disk result.disk (AppendsTo sha256 events.now time) (IsThreadOfNext sha256 events.now time) result.outcome }
 {
     match Service::<D, Sha>::open(alloc, disk) {
         Ok(service) => append_to(service, events, time),
@@ -119,6 +127,8 @@ fn append_to<D: Disk>(
     ensures leaves { (h : History) → Serves sha256 D.view service h
         → LeavesStep D.view (disk_of service) result.disk h (with_events h events.now time) result.outcome }
     ensures unwritten { WritesNothing result.outcome → IsLeft D.view (disk_of service) result.disk }
+    ensures writes { (ps : Image) → IsOver D.view service ps → WritesFrom D.view (disk_of service) result.disk
+        (AppendsTo sha256 events.now time) (IsThreadOfNext sha256 events.now time) (written (record_of service) ps) result.outcome }
 {
     let mut service = service;
     match add(&mut service, events, time) {

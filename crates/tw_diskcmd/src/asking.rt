@@ -5,10 +5,12 @@ ghost use Rattle.sha2.specs.Sha256.{sha256};
 ghost use Rattle.tw_base.specs.history.History.{History};
 ghost use Rattle.tw_disk.specs.Image.{Image};
 ghost use Rattle.tw_base.specs.history.Questions.{MayAsk};
-ghost use Rattle.tw_service.specs.Serves.{Serves, disk_of, has_failed, pages_of, record_of};
+ghost use Rattle.tw_service.specs.Serves.{IsOver, Serves, disk_of, has_failed, pages_of, record_of};
 ghost use Rattle.tw_diskcmd.specs.Answers.{IsOpened};
 ghost use Rattle.tw_diskcmd.specs.Asking.{AskComes, came_of};
-ghost use Rattle.tw_diskcmd.specs.Disks.{IsLeft, ReadLeaves, ReadsAs, Rests, found_disk};
+ghost use Rattle.tw_kept.specs.Disks.{Rests as RestsAs};
+ghost use Rattle.tw_kept.specs.Records.{written};
+ghost use Rattle.tw_diskcmd.specs.Disks.{IsLeft, IsService, ReadLeaves, ReadsAs, Rests, found_disk};
 
 use crate::faults::{fault_of_service, fault_of_store};
 use crate::worked::Worked;
@@ -23,7 +25,8 @@ pub fn ask<D: Disk>(alloc: Global, disk: D, question: &Question) -> Worked<D, By
     requires { MayAsk question.now }
     // What asking comes to is what the disk and its count of faults allow: the bytes, or a fault with its cause.
     ensures comes { AskComes (found_disk (D.view disk).content (D.view disk).faults (D.view result.disk).faults) question.now result.outcome }
-    // It writes nothing. Where it answered or was refused, the disk stands for the history that it read as, at rest.
+    // It writes nothing. Where it answered or was refused, the disk stands for the history that it read as, at rest, and rests
+    // with whatever record and pages it opened with.
     ensures leaves { ReadLeaves D.view disk result.disk result.outcome }
 {
     match Service::<D, Sha>::open(alloc, disk) {
@@ -54,6 +57,7 @@ fn ask_by<D: Disk>(service: Service<D, Sha>, question: &Question) -> Worked<D, B
         → AskComes (found_disk found before (D.view result.disk).faults) question.now result.outcome }
     ensures leaves { IsLeft D.view (disk_of service) result.disk }
     ensures rests { (h : History) → Serves sha256 D.view service h → Rests D.view result.disk h }
+    ensures over { (ps : Image) → IsOver D.view service ps → RestsAs IsService D.view result.disk (written (record_of service) ps) }
 {
     let mut service = service;
     let outcome = came(service.ask(question));

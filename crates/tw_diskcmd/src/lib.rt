@@ -14,6 +14,7 @@ mod worked;
 pub use appending::append;
 pub use asking::ask;
 pub use laws::{idle_laws, told_laws};
+pub use limits::limit_laws;
 pub use making::make;
 pub use receiving::receive;
 pub use worked::Worked;

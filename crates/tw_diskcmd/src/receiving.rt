@@ -7,11 +7,15 @@ ghost use Rattle.tw_base.specs.history.Limits.{IsThread, IsTimeWithinLimits};
 ghost use Rattle.tw_disk.specs.Image.{Image};
 ghost use Rattle.tw_msg.specs.Messages.{IsLinked};
 ghost use Rattle.tw_outside.specs.Asked.{asked};
-ghost use Rattle.tw_service.specs.Serves.{Serves, disk_of, has_failed, pages_of, record_of};
+ghost use Rattle.tw_service.specs.Serves.{IsOver, Serves, disk_of, has_failed, pages_of, record_of};
 ghost use Rattle.tw_diskcmd.specs.Answers.{IsOpened};
-ghost use Rattle.tw_diskcmd.specs.Disks.{IsLeft, ReadsAs, found_disk};
+ghost use Rattle.tw_diskcmd.specs.Disks.{IsLeft, ReadsAs, SparesOther, found_disk};
 ghost use Rattle.tw_diskcmd.specs.Receiving.{IsMessageIn, MessageComes, ReceiveComes, ReceiveLeaves};
 ghost use Rattle.tw_diskcmd.specs.WorkSteps.{ComesOfMessageFile, LeavesReceived, WritesNothing};
+ghost use Rattle.tw_diskcmd.specs.Writing.{Writes, WritesFrom};
+ghost use Rattle.tw_disk.specs.Image.{Image};
+ghost use Rattle.tw_kept.specs.Records.{written};
+ghost use Rattle.tw_service.specs.Writing.{ArchivesTo, IsReceiptOf};
 
 use crate::faults::{bad_byte, fault_of_service, fault_of_store};
 use crate::worked::Worked;
@@ -39,7 +43,11 @@ pub fn receive<D: Disk, I: Inputs>(
     // cause.
     ensures comes { ReceiveComes (asked (I.told inputs.old) (I.faults inputs.old) (I.faults inputs.new))
         (found_disk (D.view disk).content (D.view disk).faults (D.view result.disk).faults) file.now time result.outcome }
-    // It leaves the disk as is right for what it came to.
+    // It leaves the disk as is right for what it came to. So it does whatever the pages of the service's store keep: after the
+    // receipt the disk rests with the record and pages that were there, where an earlier step received the thread, or with those of
+    // the step that archives it; after a disk fault its content opens with the ones or with the others; and each image since is one
+    // that a crash might have left before, or opens so. What is opened as no service, a follower's store among it, it leaves as it
+    // was.
     ensures leaves { ReceiveLeaves D.view disk result.disk (I.told inputs.old) file.now time result.outcome }
 {
     match read_thread(alloc, inputs, file) {
@@ -84,6 +92,8 @@ fn receive_message<D: Disk>(
     ensures comes { MessageComes message.now time (found_disk (D.view disk).content (D.view disk).faults (D.view result.disk).faults) result.outcome }
     ensures leaves { (h : History) → ReadsAs (D.view disk).content h → LeavesReceived D.view disk result.disk message.now time h result.outcome }
     ensures unwritten { WritesNothing result.outcome → IsLeft D.view disk result.disk }
+    ensures spares { SparesOther D.view disk result.disk }
+    ensures writes { Writes D.view disk result.disk (ArchivesTo sha256 message.now time) (IsReceiptOf sha256 message.now time) result.outcome }
 {
     match Service::<D, Sha>::open(alloc, disk) {
         Ok(service) => receive_by(service, message, time),
@@ -120,6 +130,8 @@ fn receive_by<D: Disk>(
     ensures leaves { (h : History) → Serves sha256 D.view service h
         → LeavesReceived D.view (disk_of service) result.disk message.now time h result.outcome }
     ensures unwritten { WritesNothing result.outcome → IsLeft D.view (disk_of service) result.disk }
+    ensures writes { (ps : Image) → IsOver D.view service ps → WritesFrom D.view (disk_of service) result.disk
+        (ArchivesTo sha256 message.now time) (IsReceiptOf sha256 message.now time) (written (record_of service) ps) result.outcome }
 {
     let mut service = service;
     match service.take(message, seconds_of(time)) {

@@ -14,6 +14,10 @@ mod file_inputs;
 #[cfg(test)]
 mod folders;
 #[cfg(test)]
+mod followers;
+#[cfg(test)]
+mod kept;
+#[cfg(test)]
 mod runs;
 #[cfg(test)]
 mod stores;

@@ -1,6 +1,6 @@
 -- What the calls of a follower answer.
 use Rattle.std.proofs.Common.{◌≡◌, ◌≢◌, ℕ, ◌≤◌, List, Bool, true, false, length, refl, ap, sym, ◌∙◌, subst, arith, inl, inr, ◌⊎◌, ⊎_elim}
-use Rattle.std.specs.Prelude.{◌↔◌, IfErr, IfOk, IsTrue, MatchResult, Result, Ok, Err, Some}
+use Rattle.std.specs.Prelude.{◌↔◌, IfErr, IfOk, IsTrue, MatchResult, OnOk, Result, Ok, Err, Some}
 use Rattle.tw_base.specs.declared.history.thread.Thread.{Thread}
 use Rattle.tw_base.specs.history.Auth.{auth}
 use Rattle.tw_base.specs.history.History.{History}
@@ -12,7 +12,6 @@ use Rattle.tw_disk.proofs.FoundLaws.{same_found}
 use Rattle.tw_msg.specs.HistoryMessages.{MakesMessage, thread_at_step}
 use Rattle.tw_pages.specs.Same.{IsSameStore, count_of}
 use Rattle.tw_pages.specs.SameSteps.{is_same_itself}
-use Rattle.tw_pages.specs.StoreValue.{opening_of}
 use Rattle.tw_follow.specs.declared.follower.Follower.{Follower}
 use Rattle.tw_follow.specs.declared.judging.Offered.{Offered}
 use Rattle.tw_follow.specs.declared.judging.Offered.TheVariants.{Known, Moves}
@@ -20,14 +19,21 @@ use Rattle.tw_follow.specs.declared.refusal.FollowRefusal.{FollowRefusal}
 use Rattle.tw_follow.specs.declared.refusal.FollowRefusal.TheVariants.{Malformed, BadPage, DiskFault, Reopen, NoMemory}
 use Rattle.tw_follow.specs.declared.root.RootRecord.{RootRecord}
 use Rattle.tw_follow.specs.Calls.{Offers, Tells}
-use Rattle.tw_follow.specs.Follows.{Follows, HasSameDisk, KeepsHeads, disk_of, has_failed, head_of, pages_of, record_of}
+use Rattle.tw_follow.specs.Writing.{moved_to}
+use Rattle.tw_follow.specs.Follows.{Follows, HasSameDisk, IsOver, disk_of, has_failed, head_of, pages_of, record_of}
 use Rattle.tw_follow.specs.HeadLists.{HasHead, Kept, with_head}
 use Rattle.tw_follow.specs.HeadPages.{found_heads}
 use Rattle.tw_follow.specs.Offers.{AnswersOffer, Judges, answer_to, judged}
 use Rattle.tw_follow.specs.Refusals.{IsFault, refusals}
 use Rattle.tw_follow.specs.Runs.{MovesBy}
-use Rattle.tw_follow.specs.Stands.{StandsFor, StandsForOneOf}
-use Rattle.tw_follow.proofs.Following.{read_keeps, read_leaves, rest_head, rest_stands, same_leaves, same_tells, still_keeps, told_list}
+use Rattle.tw_follow.specs.Stands.{KeepsList, StandsFor, StandsForOneOf, root_kind}
+use Rattle.tw_kept.specs.Records.{IsOneOf, IsWritten, Written, written}
+use Rattle.tw_kept.specs.Rests.{RestsWith}
+use Rattle.tw_kept.specs.States.{Serves}
+use Rattle.tw_kept.proofs.Staged.{leaves_before, reads_before}
+use Rattle.tw_kept.proofs.Written.{still_rests, told_list}
+use Rattle.tw_follow.proofs.Following.{read_leaves, rest_head, same_leaves, still_keeps}
+use Rattle.tw_follow.proofs.Moved.{none_leaves, none_reads}
 use Rattle.tw_follow.proofs.Offering.{IsJudged, IsMoved, judges-once, judges-table, moved-is, one-message, own-judged, sort_of}
 
 -- ---- refusals
@@ -73,11 +79,20 @@ module _ {D H : Type 0} {g : _} {k : _} (view : D → DiskView) (only_now : (d :
     still kept follows = read_leaves view only_now dig f.recorded.store f.recorded.store f.recorded.root kept (is_same_itself view f.recorded.store) follows
 
     still_one_of : (kept next : Kept) → Follows dig view f kept → LeavesOnly (view (disk_of f)) (view (disk_of f)) (StandsForOneOf dig kept next)
-    still_one_of kept next follows = same_leaves view only_now dig f.recorded.store f.recorded.store (StandsForOneOf dig kept next) (is_same_itself view f.recorded.store)
-        (λ i left. inl (rest_stands view only_now dig f.recorded.store f.recorded.root kept follows i left))
+    still_one_of kept next follows = none_leaves view only_now dig f.recorded.store f.recorded.store f.recorded.root kept next (is_same_itself view f.recorded.store) follows
 
     reads : (kept next : Kept) → Follows dig view f kept → Reads (view (disk_of f)) (StandsForOneOf dig kept next)
-    reads kept next follows = same_tells view only_now dig f.recorded.store f.recorded.store f.recorded.root kept next (is_same_itself view f.recorded.store) follows
+    reads kept next follows = none_reads view only_now dig f.recorded.store f.recorded.store f.recorded.root kept next (is_same_itself view f.recorded.store) follows
+
+    -- whatever its pages keep, it opens as before
+    as_before : (ps : Image) → IsOver dig view f ps → LeavesOnly (view (disk_of f)) (view (disk_of f)) (IsWritten (root_kind dig) (written (record_of f) ps))
+    as_before ps over = same_leaves view only_now dig f.recorded.store f.recorded.store f.recorded.root ps (is_same_itself view f.recorded.store) over
+
+    either_before : (ps : Image) → IsOver dig view f ps → LeavesOnly (view (disk_of f)) (view (disk_of f)) (IsOneOf (root_kind dig) (written (record_of f) ps) (written (record_of f) ps))
+    either_before ps over = leaves_before view only_now (root_kind dig) f.recorded.store f.recorded.store (written f.recorded.root ps) (written f.recorded.root ps) (is_same_itself view f.recorded.store) over
+
+    reads_either : (ps : Image) → IsOver dig view f ps → Reads (view (disk_of f)) (IsOneOf (root_kind dig) (written (record_of f) ps) (written (record_of f) ps))
+    reads_either ps over = reads_before view only_now (root_kind dig) f.recorded.store f.recorded.store (written f.recorded.root ps) (written f.recorded.root ps) (is_same_itself view f.recorded.store) over
 
     -- a refused offer
     pub refused_offer : (bytes : List ℕ) (r : FollowRefusal) → AnswersOffer dig (has_failed f) (head_of f) bytes (Err r) → r ≢ DiskFault → Offers dig view bytes f f (Err r)
@@ -90,6 +105,14 @@ module _ {D H : Type 0} {g : _} {k : _} (view : D → DiskView) (only_now : (d :
         told = reads kept kept follows;
         done = tt;
         refused = inr (follows, still kept follows);
+      };
+      written = λ ps over. record {
+        next = written (record_of f) ps;
+        is_next = inl refl;
+        any_moment = either_before ps over;
+        told = reads_either ps over;
+        done = tt;
+        refused = inr (over, as_before ps over);
       };
       head = tt;
       same = tt;
@@ -114,6 +137,14 @@ module _ {D H : Type 0} {g : _} {k : _} (view : D → DiskView) (only_now : (d :
             done = (inl ((subst (λ (t : Thread). Judges dig t bytes (Ok Known)) (sym is) judges, sym is), refl), follows);
             refused = tt;
           };
+      written = λ ps over. record {
+        next = written (record_of f) ps;
+        is_next = inl refl;
+        any_moment = either_before ps over;
+        told = reads_either ps over;
+        done = ((Known, judges, refl, refl), refl, over);
+        refused = tt;
+      };
       head = (refl, refl);
       same = λ e. (refl, is_same_itself view f.recorded.store);
       kept = tt;
@@ -147,6 +178,13 @@ module _ {D H : Type 0} {g : _} {k : _} (view : D → DiskView) (only_now : (d :
       (any_moment : (kept : Kept) → Follows dig view old kept → LeavesOnly (view (disk_of old)) (view (disk_of new)) (StandsForOneOf dig kept (with_head kept head)))
       (told : (kept : Kept) → Follows dig view old kept → Reads (view (disk_of new)) (StandsForOneOf dig kept (with_head kept head)))
       (later : (view (disk_of old)).faults ≤ (view (disk_of new)).faults) where
+    -- what is written, whatever the pages keep
+    abbrev pub IsWrittenBy : (Done : Written RootRecord → Type 0) → Type 0
+    IsWrittenBy Done = (ps : Image) → IsOver dig view old ps
+        → LeavesOnly (view (disk_of old)) (view (disk_of new)) (IsOneOf (root_kind dig) (written (record_of old) ps) (moved_to (written (record_of old) ps) head))
+        × Reads (view (disk_of new)) (IsOneOf (root_kind dig) (written (record_of old) ps) (moved_to (written (record_of old) ps) head))
+        × Done (moved_to (written (record_of old) ps) head)
+
     is : IsMoved dig (head_of old) judges.0 head
     is = moved-is dig (head_of old) judges.0 head judges.2
 
@@ -160,8 +198,9 @@ module _ {D H : Type 0} {g : _} {k : _} (view : D → DiskView) (only_now : (d :
         }
 
     pub moved_offer : (thread : Thread) → (thread ≡ head) × (head_of new ≡ head) → ((kept : Kept) → Follows dig view old kept → Follows dig view new (with_head kept head))
-        → (IsTrue (has_failed new) ↔ (◌≡◌ {A = Result Thread FollowRefusal} (Ok thread) (Err DiskFault))) → Offers dig view bytes old new (Ok thread)
-    moved_offer thread heads done broken = record {
+        → (IsTrue (has_failed new) ↔ (◌≡◌ {A = Result Thread FollowRefusal} (Ok thread) (Err DiskFault)))
+        → IsWrittenBy (λ w. (record_of new ≡ w.root) × RestsWith view (root_kind dig) new.recorded.store w) → Offers dig view bytes old new (Ok thread)
+    moved_offer thread heads done broken writes = record {
       table = subst (λ (b : Bool). AnswersOffer dig b (head_of old) bytes (Ok thread)) (sym whole) (Moves head, judges, heads.0);
       steps = λ kept follows. record {
         next = with_head kept head;
@@ -171,6 +210,16 @@ module _ {D H : Type 0} {g : _} {k : _} (view : D → DiskView) (only_now : (d :
         done = (inr (judges.0, (by kept follows, heads.0 ∙ is.thread_is)), done kept follows);
         refused = tt;
       };
+      written = λ ps over.
+          let it = writes ps over in
+          record {
+            next = moved_to (written (record_of old) ps) head;
+            is_next = inr (head, judges, refl);
+            any_moment = it.0;
+            told = it.1;
+            done = ((Moves head, judges, heads.0, refl), it.2.0, it.2.1);
+            refused = tt;
+          };
       head = (heads.0 ∙ sym heads.1, ap (λ (t : Thread). t.from) (heads.0 ∙ is.thread_is) ∙ is.from);
       same = λ e. absurd (later_differs (ap (λ (t : Thread). t.step) (sym (heads.0 ∙ is.thread_is) ∙ e)));
       kept = tt;
@@ -185,8 +234,9 @@ module _ {D H : Type 0} {g : _} {k : _} (view : D → DiskView) (only_now : (d :
 
     pub stopped_offer : (r : FollowRefusal) → (r ≡ DiskFault) ⊎ (r ≡ NoMemory) → (record_of new ≡ record_of old) × ((r ≡ DiskFault) ⊎ HasSameDisk view old new)
         → (IsTrue (has_failed new) ↔ (◌≡◌ {A = Result Thread FollowRefusal} (Err r) (Err DiskFault)))
-        → (◌≡◌ {A = Result Thread FollowRefusal} (Err r) (Err DiskFault) → Rose (view (disk_of old)).faults (view (disk_of new)).faults) → Offers dig view bytes old new (Err r)
-    stopped_offer r which kept_is broken fault = record {
+        → (◌≡◌ {A = Result Thread FollowRefusal} (Err r) (Err DiskFault) → Rose (view (disk_of old)).faults (view (disk_of new)).faults)
+        → IsWrittenBy (λ w. Unit {0}) → Offers dig view bytes old new (Err r)
+    stopped_offer r which kept_is broken fault writes = record {
       table = subst (λ (b : Bool). AnswersOffer dig b (head_of old) bytes (Err r)) (sym whole) (answers r which);
       steps = λ kept follows. record {
         next = with_head kept head;
@@ -195,11 +245,24 @@ module _ {D H : Type 0} {g : _} {k : _} (view : D → DiskView) (only_now : (d :
         told = told kept follows;
         done = tt;
         refused = ⊎_elim (λ e. inl e) (λ same. inr (
-          subst (λ (x : RootRecord). IsAtRest (view (disk_of new)) (KeepsHeads dig new.recorded.store x kept)) (sym kept_is.0)
-              (still_keeps view only_now dig old.recorded.store new.recorded.store old.recorded.root kept same new.recorded.clean follows),
+          subst (λ (x : RootRecord). Serves (root_kind dig) KeepsList view new.recorded.store x kept) (sym kept_is.0)
+              (still_keeps view only_now dig old.recorded.store new.recorded.store old.recorded.root kept same follows),
           read_leaves view only_now dig old.recorded.store new.recorded.store old.recorded.root kept same follows,
         )) kept_is.1;
       };
+      written = λ ps over.
+          let it = writes ps over in
+          record {
+            next = moved_to (written (record_of old) ps) head;
+            is_next = inr (head, judges, refl);
+            any_moment = it.0;
+            told = it.1;
+            done = tt;
+            refused = ⊎_elim (λ e. inl e) (λ same. inr (
+              still_rests view (root_kind dig) old.recorded.store new.recorded.store (written old.recorded.root ps) same over,
+              same_leaves view only_now dig old.recorded.store new.recorded.store old.recorded.root ps same over,
+            )) kept_is.1;
+          };
       head = tt;
       same = tt;
       kept = kept_is.0;
@@ -216,9 +279,10 @@ module _ {D H : Type 0} {g : _} {k : _} (view : D → DiskView) (only_now : (d :
     pub moves_answer : (result : Result Thread FollowRefusal) → IfOk result (λ thread. (thread ≡ head) × (head_of new ≡ head)) → IfErr result (λ r. (r ≡ DiskFault) ⊎ (r ≡ NoMemory))
         → IfOk result (λ _. (kept : Kept) → Follows dig view old kept → Follows dig view new (with_head kept head))
         → IfErr result (λ r. (record_of new ≡ record_of old) × ((r ≡ DiskFault) ⊎ HasSameDisk view old new))
-        → (IsTrue (has_failed new) ↔ (result ≡ Err DiskFault)) → (result ≡ Err DiskFault → Rose (view (disk_of old)).faults (view (disk_of new)).faults) → Offers dig view bytes old new result
-    moves_answer (Ok thread) heads answers done kept_is broken fault = moved_offer thread heads done broken
-    moves_answer (Err r) heads answers done kept_is broken fault = stopped_offer r answers kept_is broken fault
+        → (IsTrue (has_failed new) ↔ (result ≡ Err DiskFault)) → (result ≡ Err DiskFault → Rose (view (disk_of old)).faults (view (disk_of new)).faults)
+        → IsWrittenBy (λ w. OnOk result ((record_of new ≡ w.root) × RestsWith view (root_kind dig) new.recorded.store w)) → Offers dig view bytes old new result
+    moves_answer (Ok thread) heads answers done kept_is broken fault writes = moved_offer thread heads done broken writes
+    moves_answer (Err r) heads answers done kept_is broken fault writes = stopped_offer r answers kept_is broken fault writes
 
   -- ---- telling the heads
 
@@ -226,8 +290,8 @@ module _ {D H : Type 0} {g : _} {k : _} (view : D → DiskView) (only_now : (d :
       (record_is : record_of new ≡ record_of old) (later : (view (disk_of old)).faults ≤ (view (disk_of new)).faults) where
     kept_on : (kept : Kept) → Follows dig view old kept → Follows dig view new kept × LeavesOnly (view (disk_of old)) (view (disk_of new)) (λ i. StandsFor dig i kept)
     kept_on kept follows = (
-      subst (λ (x : RootRecord). IsAtRest (view (disk_of new)) (KeepsHeads dig new.recorded.store x kept)) (sym record_is)
-          (read_keeps view only_now dig old.recorded.store new.recorded.store old.recorded.root kept same count follows),
+      subst (λ (x : RootRecord). Serves (root_kind dig) KeepsList view new.recorded.store x kept) (sym record_is)
+          (still_keeps view only_now dig old.recorded.store new.recorded.store old.recorded.root kept same follows),
       read_leaves view only_now dig old.recorded.store new.recorded.store old.recorded.root kept same follows,
     )
 
@@ -238,7 +302,7 @@ module _ {D H : Type 0} {g : _} {k : _} (view : D → DiskView) (only_now : (d :
       faults = tt;
       answer = λ _. answer;
       heads = λ kept follows.
-          same_found heads kept.heads (sym (answer (opening_of old.recorded.store follows.image).pages (told_list view only_now dig old.recorded.store old.recorded.root kept follows)) ∙ follows.has.keeps.found);
+          same_found heads kept.heads (sym (answer follows.pages (told_list view (root_kind dig) old.recorded.store (written old.recorded.root follows.pages) follows.rests old.clean)) ∙ follows.keeps.found);
       still = kept_on;
       unwritten = same;
       record_ = record_is;

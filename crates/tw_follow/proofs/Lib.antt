@@ -5,9 +5,10 @@ pub mod Lists
 pub mod Growing
 pub mod Offering
 pub mod Running
-pub mod Counted
-pub mod Opened
-pub mod Beginning
+pub mod Moving
+pub mod Moved
+pub mod Starting
 pub mod Following
 pub mod Standing
 pub mod Answering
+pub mod DiskRunning

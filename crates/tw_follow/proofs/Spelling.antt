@@ -33,6 +33,10 @@ module _ (r : RootRecord) (fits : root_codec.Fits r) where
   unfolding root_codec seen pair name_codec
   root-name = fits.0
 
+  pub root-short : r.head.step ≤ LAST_STEP
+  unfolding root_codec seen pair number_codec
+  root-short = fits.1.0.1
+
   pub root-size : length (root_codec.write r) ≡ 64
   unfolding root_codec seen pair name_codec number_codec bytes_codec
   root-size =

@@ -8,14 +8,16 @@ use Rattle.tw_disk.specs.Image.{Image}
 use Rattle.tw_follow.specs.declared.follower.Follower.{Follower}
 use Rattle.tw_follow.specs.declared.refusal.FollowRefusal.{FollowRefusal}
 use Rattle.tw_follow.specs.declared.refusal.FollowRefusal.TheVariants.{DiskFault, Reopen}
-use Rattle.tw_follow.specs.Follows.{Follows, HasSameDisk, disk_of, has_failed, head_of, pages_of, record_of}
+use Rattle.tw_kept.specs.Commits.{Commits}
+use Rattle.tw_follow.specs.Follows.{Follows, HasSameDisk, IsOver, disk_of, has_failed, head_of, pages_of, record_of}
 use Rattle.tw_follow.specs.HeadLists.{Kept}
 use Rattle.tw_follow.specs.HeadPages.{found_heads}
 use Rattle.tw_follow.specs.Offers.{AnswersOffer}
 use Rattle.tw_follow.specs.Refusals.{IsFault, refusals}
 use Rattle.tw_follow.specs.Runs.{Goes}
 use Rattle.tw_follow.specs.Runs.Move.{Answered, Stopped}
-use Rattle.tw_follow.specs.Stands.{StandsFor, StandsForOneOf}
+use Rattle.tw_follow.specs.Stands.{StandsFor, StandsForOneOf, root_kind}
+use Rattle.tw_follow.specs.Writing.{IsAnsweredTo, IsMovedBy}
 
 module _ {D H : Type 0} {g : _} {k : _} (dig : List ℕ → List ℕ) (view : D → DiskView) where
   -- Of a list that was kept there is a next one: the same, or with the head to which the bytes move. Each image that a crash since may
@@ -36,6 +38,9 @@ module _ {D H : Type 0} {g : _} {k : _} (dig : List ℕ → List ℕ) (view : D 
     pub table : AnswersOffer dig (has_failed old) (head_of old) bytes result
     -- of each list that was kept
     pub steps : (kept : Kept) → Follows dig view old kept → Steps bytes old new result kept
+    -- of whatever pages: the record and pages that the table makes of them are next
+    pub written : (ps : Image) → IsOver dig view old ps
+        → Commits view (root_kind dig) DiskFault (IsMovedBy dig bytes) (IsAnsweredTo dig bytes) old.recorded.store new.recorded.store (record_of old) (record_of new) result ps
     -- the answer is the head, which is the old one or a later one of the same service; where it is the old one, nothing was written
     pub head : IfOk result (λ thread. (thread ≡ head_of new) × (thread.from ≡ (head_of old).from))
     pub same : IfOk result (λ thread. thread ≡ head_of old → (record_of new ≡ record_of old) × HasSameDisk view old new)

@@ -6,4 +6,6 @@ pub mod Offers
 pub mod Runs
 pub mod Stands
 pub mod Follows
+pub mod Writing
 pub mod Calls
+pub mod DiskRuns

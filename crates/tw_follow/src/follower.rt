@@ -1,31 +1,47 @@
 // Followers.
-ghost use Rattle.std.specs.Prelude.{◌≡◌, ◌⊎◌, ◌≤◌, ◌<◌, ◌+◌, true, false};
-ghost use Rattle.tw_pages.specs.StoreValue.{is_broken as store_is_broken};
+ghost use Rattle.std.specs.Prelude.{◌≡◌, ◌⊎◌, ◌≤◌, ◌<◌, ◌+◌, [], true, false};
+ghost use Rattle.tw_base.specs.declared.kinds.limits.TheConstants.{LAST_STEP};
+ghost use Rattle.tw_base.specs.kinds.Names.{IsName};
+ghost use Rattle.tw_disk.specs.declared.limits.TheConstants.{FIRST_PAGE};
+ghost use Rattle.tw_pages.specs.Same.{count_of};
+ghost use Rattle.tw_pages.specs.StoreValue.{generation_of, staged_of, is_broken as store_is_broken};
 
+use crate::head_page::{HeadPage, head_page};
 use crate::judging::{Offered, judge};
 use crate::reading::read_heads;
-use crate::recorded::Recorded;
 use crate::refusal::{FollowRefusal, is_disk_fault};
-use crate::root::{RootRecord, read_root, root_record};
+use crate::root::RootRecord;
 use std::alloc::Global;
 use std::marker::PhantomData;
 use tw_base::{Hasher, Name, ReadFault, Thread, Threads, genesis};
 use tw_disk::{Disk, Pages};
+use tw_kept::Recorded;
 use tw_msg::{Message, message_laws, read_message};
 use tw_pages::{Store, StoreFault};
+
+/// A name has letters, and zeros behind them.
+fn name_law(name: &Name)
+    ensures { IsName name.now }
+{
+    name.as_bytes();
+}
 
 /// A follower: the heads of one service, oldest first, on a disk, where its pages keep such a list.
 #[derive(Drop)]
 pub struct Follower<D: Disk, H: Hasher> {
     alloc: Global,
-    recorded: Recorded<D>,
+    recorded: Recorded<D, RootRecord>,
     is_broken: bool,
     hasher: PhantomData<H>,
     ghost tells_faults: { is_broken ≡ false → store_is_broken recorded.store ≡ false },
+    ghost short: { recorded.root.head.step ≤ LAST_STEP },
+    ghost few_pages: { count_of recorded.store ≤ FIRST_PAGE + recorded.root.head.step },
+    ghost few_commits: { generation_of recorded.store ≤ recorded.root.head.step + 1 },
+    ghost clean: { staged_of recorded.store ≡ [] },
 }
 
 impl<D: Disk, H: Hasher> Follower<D, H> {
-    ghost use Rattle.std.specs.Prelude.{◌↔◌, ◌≢◌, ℕ, List, length, Some, Err, IfOk, IfErr, IsErrAnd, IsTrue, MatchResult};
+    ghost use Rattle.std.specs.Prelude.{◌↔◌, ◌≢◌, ℕ, List, length, Some, Err, IfOk, IfErr, IsErrAnd, IsTrue, MatchResult, OnOk};
     ghost use Rattle.tw_base.specs.history.Auth.{auth};
     ghost use Rattle.tw_base.specs.history.History.{History};
     ghost use Rattle.tw_base.specs.history.Limits.{IsThread};
@@ -39,9 +55,12 @@ impl<D: Disk, H: Hasher> Follower<D, H> {
     ghost use Rattle.tw_msg.specs.HistoryMessages.{MakesMessage};
     ghost use Rattle.tw_msg.specs.Messages.{IsLinked, message_layout};
     ghost use Rattle.tw_follow.specs.Calls.{Offers, Steps, Tells};
-    ghost use Rattle.tw_follow.specs.Follows.{Follows, HasSameDisk, disk_of, has_failed, head_of, pages_of, record_of};
+    ghost use Rattle.tw_follow.specs.Follows.{Follows, HasSameDisk, IsOver, disk_of, has_failed, head_of, pages_of, record_of};
     ghost use Rattle.tw_follow.specs.HeadLists.{HasHead, Kept, first_thread, head_of as last_head, no_heads, with_head};
-    ghost use Rattle.tw_follow.specs.Stands.{IsBlankOrNew, IsNotOpenedFor, OpensWith, StandsFor, StandsForOneOf};
+    ghost use Rattle.tw_follow.specs.Stands.{IsBlankOrNew, IsNotOpenedFor, OpensWith, StandsFor, StandsForOneOf, root_kind};
+    ghost use Rattle.tw_follow.specs.Writing.{moved_to};
+    ghost use Rattle.tw_kept.specs.Records.{IsOneOf, IsWritten, written};
+    ghost use Rattle.tw_kept.specs.Rests.{RestsWith};
 
     /// Makes a follower of the service of this name, without a head, on a disk that has no store.
     ///
@@ -93,6 +112,7 @@ impl<D: Disk, H: Hasher> Follower<D, H> {
         ensures told { IfErr result (λ e. (c : Image) → (D.view disk).content ≡ Some c
             → Reads (D.view e.0) (λ i. (D.view disk).may_leave i ⊎ IsBlankOrNew H.dig name i)) }
     {
+        name_law(&name);
         let auth = genesis::<H>(&name);
         let root = RootRecord {
             head: Thread {
@@ -102,12 +122,11 @@ impl<D: Disk, H: Hasher> Follower<D, H> {
             },
             page: 0,
         };
-        let bytes = root_record(&root);
-        match Store::init(alloc, disk, bytes.as_slice()) {
+        match Recorded::init::<H>(alloc, disk, root) {
             Err((disk, fault)) => Err((disk, fault)),
-            Ok(store) => Ok(Follower {
+            Ok(recorded) => Ok(Follower {
                 alloc,
-                recorded: Recorded { store, root },
+                recorded,
                 is_broken: false,
                 hasher: PhantomData,
             }),
@@ -135,6 +154,10 @@ impl<D: Disk, H: Hasher> Follower<D, H> {
         ensures opened { IfOk result (λ f. (c : Image) → (D.view disk).content ≡ Some c
             → OpensWith H.dig c (record_of f) (λ ps. pages_of D.view f ≡ Some ps)) }
 
+        // Over a disk that told what it reads as the value's disk is at rest with its record and pages, whatever they keep.
+        ensures over { IfOk result (λ f. (c : Image) → (D.view disk).content ≡ Some c
+            → (ps : Image) × (pages_of D.view f ≡ Some ps) × IsWritten (root_kind H.dig) (written (record_of f) ps) c × IsOver H.dig D.view f ps) }
+
         // `Blank` and `NotAStore` come only where their reasons stand.
         ensures refused { IfErr result (λ e. (c : Image) → (D.view disk).content ≡ Some c
             → (e.1 ≡ StoreFault.DiskFault) ⊎ IsNotOpenedFor H.dig c e.1) }
@@ -159,20 +182,14 @@ impl<D: Disk, H: Hasher> Follower<D, H> {
         // Where opening fails, it wrote nothing either.
         ensures any_moment_err { IfErr result (λ e. LeavesOnly (D.view disk) (D.view e.0) ((D.view disk).may_leave)) }
     {
-        match Store::open(alloc, disk) {
+        match Recorded::<D, RootRecord>::open::<H>(alloc, disk) {
             Err((disk, fault)) => Err((disk, fault)),
-            Ok(store) => match read_root::<H>(store.root(), store.used(), store.generation()) {
-                None => {
-                    let slot = store.slot();
-                    Err((store.close(), StoreFault::NotAStore { slot }))
-                }
-                Some(root) => Ok(Follower {
-                    alloc,
-                    recorded: Recorded { store, root },
-                    is_broken: false,
-                    hasher: PhantomData,
-                }),
-            },
+            Ok(recorded) => Ok(Follower {
+                alloc,
+                recorded,
+                is_broken: false,
+                hasher: PhantomData,
+            }),
         }
     }
 
@@ -229,7 +246,8 @@ impl<D: Disk, H: Hasher> Follower<D, H> {
         // `DiskFault` and `NoMemory` are left. Where a list is kept, there is a next one: the same, or with the head
         // that the bytes move to. Every image that a crash since the start may leave stands for one of the two, and so
         // does the content, which is told still, after `DiskFault` too; after `Ok` the next one is kept, at rest; after
-        // a refusal but `DiskFault` nothing was written, and the list is kept as before. The answer is the head, which
+        // a refusal but `DiskFault` nothing was written, and the list is kept as before. Whatever the pages keep, the same holds
+        // of the record and pages: those of the moved head, its page behind the others, are next. The answer is the head, which
         // is the old one or a later one of the same service; where it is the old one, nothing was written. After each
         // refusal the root record is as before. The value remembers that a call answered `DiskFault`, which comes only
         // where the disk's count of faults rose.
@@ -277,6 +295,12 @@ impl<D: Disk, H: Hasher> Follower<D, H> {
         requires whole { has_failed self.old ≡ false }
         ensures head { IfOk result (λ thread. (thread ≡ head.now) × (head_of self.new ≡ head.now)) }
         ensures answers { IfErr result (λ refusal. (refusal ≡ FollowRefusal.DiskFault) ⊎ (refusal ≡ FollowRefusal.NoMemory)) }
+        ensures written { (ps : Image) → IsOver H.dig D.view self.old ps
+            → LeavesOnly (D.view (disk_of self.old)) (D.view (disk_of self.new)) (IsOneOf (root_kind H.dig) (written (record_of self.old) ps)
+            (moved_to (written (record_of self.old) ps) head.now))
+            × Reads (D.view (disk_of self.new)) (IsOneOf (root_kind H.dig) (written (record_of self.old) ps) (moved_to (written (record_of self.old) ps) head.now))
+            × OnOk result ((record_of self.new ≡ (moved_to (written (record_of self.old) ps) head.now).root)
+            × RestsWith D.view (root_kind H.dig) self.new.recorded.store (moved_to (written (record_of self.old) ps) head.now)) }
         ensures done { IfOk result (λ _. (k : Kept) → Follows H.dig D.view self.old k → Follows H.dig D.view self.new (with_head k head.now)) }
         ensures any_moment { (k : Kept) → Follows H.dig D.view self.old k
             → LeavesOnly (D.view (disk_of self.old)) (D.view (disk_of self.new)) (StandsForOneOf H.dig k (with_head k head.now)) }
@@ -289,11 +313,25 @@ impl<D: Disk, H: Hasher> Follower<D, H> {
             → Rose ((D.view (disk_of self.old)).faults) ((D.view (disk_of self.new)).faults) }
         ensures later { (D.view (disk_of self.old)).faults ≤ (D.view (disk_of self.new)).faults }
     {
-        match self.recorded.add_head::<H>(head) {
-            Ok(()) => Ok(*head),
-            Err(refusal) => {
-                self.is_broken = is_disk_fault(&refusal);
-                Err(refusal)
+        let page = head_page(&HeadPage {
+            step: head.step,
+            auth: head.auth,
+            before: self.recorded.root.page,
+        });
+        match self.recorded.store.stage(&page) {
+            Err(_) => Err(FollowRefusal::NoMemory),
+            Ok(number) => {
+                let next = RootRecord {
+                    head: *head,
+                    page: number,
+                };
+                match self.recorded.commit::<H>(next) {
+                    Ok(()) => Ok(*head),
+                    Err(_) => {
+                        self.is_broken = true;
+                        Err(FollowRefusal::DiskFault)
+                    }
+                }
             }
         }
     }
@@ -305,6 +343,9 @@ impl<D: Disk, H: Hasher> Follower<D, H> {
         // The disk that is given back stands for the list that was kept, at rest.
         ensures stands { (k : Kept) → Follows H.dig D.view self k
             → IsAtRest (D.view result) (λ i. StandsFor H.dig i k) }
+        // So it opens with the record and pages that there were, whatever these keep.
+        ensures over { (ps : Image) → IsOver H.dig D.view self ps
+            → IsAtRest (D.view result) (IsWritten (root_kind H.dig) (written (record_of self) ps)) }
     {
         let Follower {
             alloc: _,
@@ -312,7 +353,6 @@ impl<D: Disk, H: Hasher> Follower<D, H> {
             is_broken: _,
             hasher: _,
         } = self;
-        let Recorded { store, root: _ } = recorded;
-        store.close()
+        recorded.close()
     }
 }

@@ -5,17 +5,20 @@
 //! later head only by a message whose link climbs from the head that it has.
 #![tactic(auto)]
 
+mod disk_laws;
 mod follower;
 mod head_page;
 mod judging;
 mod laws;
 mod limits;
 mod reading;
-mod recorded;
+mod record;
 mod refusal;
 mod root;
 
+pub use disk_laws::disk_run_laws;
 pub use follower::Follower;
 pub use judging::Offered;
 pub use laws::{image_laws, offer_laws, root_laws, run_laws};
+pub use limits::limit_laws;
 pub use refusal::FollowRefusal;

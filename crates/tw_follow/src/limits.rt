@@ -1,4 +1,12 @@
 // The size of a follower's root record.
 
+ghost use Rattle.std.specs.Prelude.{◌≡◌};
+
 /// The bytes of the root record of a follower.
 pub const ROOT_BYTES: usize = 64;
+
+/// The size of the root record of a follower, by number.
+pub fn limit_laws()
+    // `ROOT_BYTES`, the bytes of the root record of a follower, is 64.
+    ensures root { ROOT_BYTES ≡ 64 }
+{}

@@ -26,8 +26,8 @@ pub(crate) struct RootRecord {
 }
 
 /// Puts a number of eight bytes at the record's end.
-fn put_number(text: &mut ArrayVec<u8, 64>, number: u64)
-    requires { array_vec_len text.old ≤ 56 }
+fn put_number(text: &mut ArrayVec<u8, 512>, number: u64)
+    requires { array_vec_len text.old ≤ 504 }
     ensures bytes { text.new.items ≡ text.old.items ++ number_bytes 8 number }
     ensures size { array_vec_len text.new ≡ array_vec_len text.old + 8 }
 {
@@ -35,8 +35,8 @@ fn put_number(text: &mut ArrayVec<u8, 64>, number: u64)
 }
 
 /// Puts a digest at the record's end.
-fn put_digest(text: &mut ArrayVec<u8, 64>, digest: &Digest)
-    requires { array_vec_len text.old ≤ 32 }
+fn put_digest(text: &mut ArrayVec<u8, 512>, digest: &Digest)
+    requires { array_vec_len text.old ≤ 480 }
     ensures bytes { text.new.items ≡ text.old.items ++ digest.now }
     ensures size { array_vec_len text.new ≡ array_vec_len text.old + 32 }
 {
@@ -45,12 +45,12 @@ fn put_digest(text: &mut ArrayVec<u8, 64>, digest: &Digest)
 
 /// The bytes of a root record.
 #[tactic(auto, unfolding(crate::specs::Roots::root_codec, tw_base::specs::format::Seen::codecs))]
-pub(crate) fn root_record(root: &RootRecord) -> ArrayVec<u8, 64>
+pub(crate) fn root_record(root: &RootRecord) -> ArrayVec<u8, 512>
     ensures bytes { result.items ≡ root_bytes root.now }
     ensures size { length result.items ≤ ROOT_BYTES }
     ensures name { IsName root.now.head.from }
 {
-    let mut text: ArrayVec<u8, 64> = ArrayVec::new();
+    let mut text: ArrayVec<u8, 512> = ArrayVec::new();
     put(&mut text, root.head.from.as_bytes());
     put_number(&mut text, root.head.step);
     put_digest(&mut text, &root.head.auth);

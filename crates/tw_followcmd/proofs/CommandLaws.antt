@@ -11,9 +11,10 @@ use Rattle.tw_follow.specs.HeadLists.{Kept}
 use Rattle.tw_text.specs.declared.refusal.StoreCause.{StoreCause}
 use Rattle.tw_text.specs.declared.fault.CommandFault.{CommandFault}
 use Rattle.tw_text.specs.declared.fault.CommandFault.TheVariants.{Refused, Unserved, Unreadable, InputFault, DiskFault, NoMemory}
-use Rattle.tw_followcmd.specs.Disks.{IsLeft, ReadsAs}
+use Rattle.tw_kept.proofs.AtRest.{adds_safe, keeps_or_adds_safe, left_adds}
+use Rattle.tw_followcmd.specs.Disks.{IsFollower, IsLeft, ReadsAs}
 use Rattle.tw_followcmd.specs.Listing.{HeadsComes, HeadsLeaves, HeadsSafe}
-use Rattle.tw_followcmd.specs.Offering.{OfferComes, OfferLeaves, OfferSafe}
+use Rattle.tw_followcmd.specs.Offering.{IsMessageIn, IsNextBy, OfferComes, OfferLeaves, OfferSafe}
 use Rattle.tw_followcmd.specs.OfferSteps.{WritesNothing}
 use Rattle.tw_followcmd.specs.Watching.{WatchComes, WatchLeaves, WatchSafe}
 use Rattle.tw_followcmd.proofs.AtRest.{left_begins, left_keeps, reads_as, rests_reads, untouched_left}
@@ -90,15 +91,17 @@ module _ {D : Type 0} (view : D → DiskView) (old new : D) where
     left_offers : (told : Option Files) (file : List ℕ) → IsLeft view old new → OfferSafe view old new told file
     left_offers told file left = (
       λ image why told not. left,
+      left_adds IsFollower view (IsMessageIn told file) IsNextBy old new left,
       λ k. (
         λ reads. inl (left.1, record { image = reads.image; told = left.0 ∙ reads.told; stands = reads.stands }),
-        λ stands. inl ((left_keeps view old new left k).0 stands).0,
+        λ stands. inl (((left_keeps view old new left).0 k).0 stands).0,
       ),
     )
 
     offer_safe : (told : Option Files) (file : List ℕ) (came : Result Thread CommandFault) → OfferLeaves view old new told file came → OfferSafe view old new told file
     offer_safe told file (Ok thread) left = (
       left.1,
+      adds_safe IsFollower view as_it_reads (IsMessageIn told file) IsNextBy old new left.0.0 left.0.1 left.0.2.2,
       λ k. (
         λ reads. let moved = left.0.2.1 k reads in inr (left.0.0, left.0.1, (moved.1.0, rests_reads view as_it_reads new k _ moved.0)),
         λ stands. let moved = left.0.2.1 k (reads_as view as_it_reads old k stands) in inr (left.0.0, left.0.1, moved.1.1 stands),
@@ -106,9 +109,10 @@ module _ {D : Type 0} (view : D → DiskView) (old new : D) where
     )
     offer_safe told file (Err DiskFault) left = (
       left.1,
+      keeps_or_adds_safe IsFollower view as_it_reads (IsMessageIn told file) IsNextBy old new left.0.0 left.0.1 left.0.2.1,
       λ k. (
-        λ reads. let either = left.0.2 k reads in inr (left.0.0, left.0.1, (either.1.0, either.0)),
-        λ stands. let either = left.0.2 k (reads_as view as_it_reads old k stands) in inr (left.0.0, left.0.1, either.1.1 stands),
+        λ reads. let either = left.0.2.0 k reads in inr (left.0.0, left.0.1, (either.1.0, either.0)),
+        λ stands. let either = left.0.2.0 k (reads_as view as_it_reads old k stands) in inr (left.0.0, left.0.1, either.1.1 stands),
       ),
     )
     offer_safe told file (Err (Refused refusal)) left = left_offers told file left.0

@@ -20,6 +20,7 @@ use Rattle.tw_followcmd.specs.Listing.{HeadsLeaves}
 use Rattle.tw_followcmd.specs.Offering.{IsMessageIn, MessageComes, OfferComes, OfferLeaves, next_list}
 use Rattle.tw_followcmd.specs.OfferSteps.{IsStop, LeavesOffered, WritesNothing}
 use Rattle.tw_followcmd.specs.Watching.{WatchComes, WatchLeaves, WatchSafe}
+use Rattle.tw_followcmd.specs.Writing.{WritesMessage}
 use Rattle.tw_followcmd.proofs.AtRest.{both_of, no_call_left, old_or_one}
 
 -- ---- what the work comes to is what its command comes to
@@ -53,15 +54,15 @@ module _ {D : Type 0} (view : D → DiskView) where
 
     pub leaves_of_message : (told : Option Files) (before after : ℕ) (file : List ℕ) (m : Message) (came : Result Thread CommandFault) → IsMessageIn told file m
         → MessageComes (view old).content before after m came → ((k : Kept) → ReadsAs (view old).content k → LeavesOffered view old new m k came)
-        → (WritesNothing came → IsLeft view old new) → SparesOther view old new → OfferLeaves view old new told file came
-    leaves_of_message told before after file m (Ok thread) is comes leaves nothing spares =
-        ((m, is, (comes, λ k reads. let left = leaves k reads in (left.0, both_of view old new k (next_list k m) left.1))), spares)
-    leaves_of_message told before after file m (Err DiskFault) is comes leaves nothing spares =
-        ((m, is, λ k reads. let left = leaves k reads in (left.1, both_of view old new k (next_list k m) left.0)), spares)
-    leaves_of_message told before after file m (Err (Refused refusal)) is comes leaves nothing spares = (nothing tt, λ k reads. leaves k reads)
-    leaves_of_message told before after file m (Err (Unserved cause)) is comes leaves nothing spares = nothing tt
-    leaves_of_message told before after file m (Err NoMemory) is comes leaves nothing spares = nothing tt
-    leaves_of_message told before after file m _ is comes leaves nothing spares = absurd comes
+        → WritesMessage view old new m came → (WritesNothing came → IsLeft view old new) → SparesOther view old new → OfferLeaves view old new told file came
+    leaves_of_message told before after file m (Ok thread) is comes leaves writes nothing spares =
+        ((m, is, (comes, λ k reads. let left = leaves k reads in (left.0, both_of view old new k (next_list k m) left.1), writes)), spares)
+    leaves_of_message told before after file m (Err DiskFault) is comes leaves writes nothing spares =
+        ((m, is, (λ k reads. let left = leaves k reads in (left.1, both_of view old new k (next_list k m) left.0), writes)), spares)
+    leaves_of_message told before after file m (Err (Refused refusal)) is comes leaves writes nothing spares = (nothing tt, (λ k reads. leaves k reads, writes))
+    leaves_of_message told before after file m (Err (Unserved cause)) is comes leaves writes nothing spares = nothing tt
+    leaves_of_message told before after file m (Err NoMemory) is comes leaves writes nothing spares = nothing tt
+    leaves_of_message told before after file m _ is comes leaves writes nothing spares = absurd comes
 
     -- the telling of the heads leaves a disk that settles, or that wasn't opened
     pub leaves_of_heads : (came : Result (List ℕ) CommandFault) → IsLeft view old new → Settles view old new → HeadsLeaves view old new came

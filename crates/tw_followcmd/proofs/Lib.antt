@@ -5,3 +5,4 @@ pub mod Landings
 pub mod Listed
 pub mod CommandLaws
 pub mod OneResult
+pub mod Writing

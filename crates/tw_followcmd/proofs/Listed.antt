@@ -38,7 +38,7 @@ module _ (found : Option Image) (before after : ℕ) where
     is_listed : (result : Result (List ℕ) CommandFault) → ((ps : Image) → pages ≡ Some ps → result ≡ as_lines (found_heads ps root)) → IsListed found result
     is_listed result is = record {
       answer = λ image told. let o = opens image told in
-          (Opened root o.opening.pages, record { opening = o.opening; opens = o.opens; has = o.has; pages = refl }, is o.opening.pages o.pages);
+          (Opened root o.0, o.1, is o.0 o.2);
       list = λ k reads. let own = lists k reads in is own.0 own.1 ∙ ap as_lines own.2;
     }
 

@@ -76,7 +76,7 @@ module _ (bytes : List ℕ) (m : Message) (spells : Spells message_layout bytes 
     is_offered : (result : Result Thread CommandFault) → result ≡ offered_to root.head m → TableOffers m result → IsOffered found m result
     is_offered result is table = record {
       answer = λ image told. let o = opens image told in
-          (Opened root o.opening.pages, record { opening = o.opening; opens = o.opens; has = o.has; pages = refl }, is);
+          (Opened root o.0, o.1, is);
       table = table;
       list = λ k reads. is ∙ ap (λ (head : Thread). offered_to head m) (sym (list_head k reads));
     }

@@ -1,80 +1,61 @@
--- Which list of heads a disk reads as and stands for, and what a run leaves of it.
-use Rattle.std.specs.Prelude.{◌≡◌, ◌⊎◌, ℕ, List, Option, Some}
+-- Which list of heads, and which record and pages whatever these keep, a disk reads as and stands for, and what a run leaves of them.
+use Rattle.std.specs.Prelude.{◌⊎◌, ℕ, List, Option}
 use Rattle.sha2.specs.Sha256.{sha256}
-use Rattle.tw_disk.specs.Disk.{DiskView, LeavesOnly, Only, Reads}
+use Rattle.tw_disk.specs.Disk.{DiskView}
 use Rattle.tw_disk.specs.Image.{Image}
-use Rattle.tw_pages.specs.Slots.{IsTaken}
+use Rattle.tw_kept.specs.Disks.{Begins as BeginsWith, IsOldOrBegun as IsOldOrBegunWith, Keeps as KeepsEach, LeavesOldOrOneOf as LeavesOldOrOneOfThese}
+use Rattle.tw_kept.specs.Disks.{LeavesOneOf as LeavesOneOfThese, MayBegin as MayBeginWith, ReadsAs as ReadsAsThis, ReadsAsOneOf as ReadsAsOneOfThese}
+use Rattle.tw_kept.specs.Disks.{Rests as RestsAs, Settles as SettlesEach, SparesOther as SparesOthers, Stands as StandsAs}
+pub use Rattle.tw_kept.specs.Disks.{IsLeft, SparesStore}
+use Rattle.tw_kept.specs.Records.{IsWritten, Written}
+use Rattle.tw_follow.specs.declared.root.RootRecord.{RootRecord}
 use Rattle.tw_follow.specs.HeadLists.{Kept, no_heads}
-use Rattle.tw_pages.specs.declared.open.StoreFault.{StoreFault}
-use Rattle.tw_follow.specs.Stands.{IsBlankOrNew, IsNotOpenedFor, StandsFor, StandsForOneOf}
+use Rattle.tw_follow.specs.Stands.{IsNotOpenedFor, StandsFor, root_kind}
 
 -- the image stands for the list
 abbrev pub IsOf : Kept → Image → Type 0
 IsOf kept image = StandsFor sha256 image kept
 
--- what the disk reads as is told, and stands for the list
-pub record ReadsAs (found : Option Image) (kept : Kept) : Type 0 where
-  pub image : Image
-  pub told : found ≡ Some image
-  pub stands : IsOf kept image
+-- the image opens as a follower's store with this record and these pages, whatever they keep
+abbrev pub IsFollower : Written RootRecord → Image → Type 0
+IsFollower w image = IsWritten (root_kind sha256) w image
+
+abbrev pub ReadsAs : (found : Option Image) (kept : Kept) → Type 0
+ReadsAs found kept = ReadsAsThis IsOf found kept
 
 module _ {D : Type 0} (view : D → DiskView) where
-  -- the disk stands for the list for good: its content is told, and each image that a crash now may leave, of which the content is one,
-  -- stands for it
-  pub record Stands (disk : D) (kept : Kept) : Type 0 where
-    pub image : Image
-    pub told : (view disk).content ≡ Some image
-    pub each : (i : Image) → (view disk).may_leave i → IsOf kept i
+  abbrev pub Stands : (disk : D) (kept : Kept) → Type 0
+  Stands disk kept = StandsAs IsOf view disk kept
 
-  -- the same, and a crash now leaves nothing but the content
-  pub record Rests (disk : D) (kept : Kept) : Type 0 where
-    pub stands : Stands disk kept
-    pub only : Only stands.image (view disk).may_leave
+  abbrev pub Rests : (disk : D) (kept : Kept) → Type 0
+  Rests disk kept = RestsAs IsOf view disk kept
 
-  -- the list that the disk stood for stands in each image that a crash since the start may leave, and now for good, at rest where it was
-  -- at rest
+  -- the list that the disk stood for stands; and so do the record and pages that it opened with, whatever they keep
   abbrev pub Keeps : (old new : D) → Type 0
-  Keeps old new =
-      (kept : Kept) → (Stands old kept → LeavesOnly (view old) (view new) (IsOf kept) × Stands new kept) × (Rests old kept → Rests new kept)
+  Keeps old new = KeepsEach IsOf view old new × KeepsEach IsFollower view old new
 
-  -- the disk has become stable: it stands for the list that it read as, at rest
+  -- the disk has become stable: it stands for the list, or for whatever record and pages, that it read as, at rest
   abbrev pub Settles : (old new : D) → Type 0
-  Settles old new = (kept : Kept) → ReadsAs (view old).content kept → Rests new kept
+  Settles old new = SettlesEach IsOf view old new × SettlesEach IsFollower view old new
 
-  -- each image since is one that a crash might have left before, or stands for this list or for the next one
   abbrev pub LeavesOldOrOneOf : (old new : D) → (kept next : Kept) → Type 0
-  LeavesOldOrOneOf old new kept next = LeavesOnly (view old) (view new) (λ i. (view old).may_leave i ⊎ StandsForOneOf sha256 kept next i)
+  LeavesOldOrOneOf old new kept next = LeavesOldOrOneOfThese IsOf view old new kept next
 
-  -- the content is told, and stands for this list or for the next one
   abbrev pub ReadsAsOneOf : (disk : D) → (kept next : Kept) → Type 0
-  ReadsAsOneOf disk kept next = Reads (view disk) (StandsForOneOf sha256 kept next)
+  ReadsAsOneOf disk kept next = ReadsAsOneOfThese IsOf view disk kept next
 
-  -- each image since is one that a crash might have left before, or stands for one of the two; and where the disk stood for this list
-  -- for good, each stands for one of the two
   abbrev pub LeavesOneOf : (old new : D) → (kept next : Kept) → Type 0
-  LeavesOneOf old new kept next = LeavesOldOrOneOf old new kept next × (Stands old kept → LeavesOnly (view old) (view new) (StandsForOneOf sha256 kept next))
+  LeavesOneOf old new kept next = LeavesOneOfThese IsOf view old new kept next
 
-  -- an image that a crash might have left before, or a blank one, or one that stands for the list of this name that has no head
   abbrev pub IsOldOrBegun : (name : List ℕ) → (old : D) → Image → Type 0
-  IsOldOrBegun name old image = (view old).may_leave image ⊎ IsBlankOrNew sha256 name image
+  IsOldOrBegun name old image = IsOldOrBegunWith IsOf view (no_heads name) old image
 
-  -- where the content is told, each image since is such a one, and the content is told still and is one
   abbrev pub MayBegin : (name : List ℕ) → (old new : D) → Type 0
-  MayBegin name old new =
-      (image : Image) → (view old).content ≡ Some image → LeavesOnly (view old) (view new) (IsOldOrBegun name old) × Reads (view new) (IsOldOrBegun name old)
+  MayBegin name old new = MayBeginWith IsOf view (no_heads name) old new
 
-  -- the same, and now it stands for that list, at rest
   abbrev pub Begins : (name : List ℕ) → (old new : D) → Type 0
-  Begins name old new = MayBegin name old new × ((image : Image) → (view old).content ≡ Some image → Rests new (no_heads name))
-
-  -- it reads as before, and a crash leaves nothing else than before
-  abbrev pub IsLeft : (old new : D) → Type 0
-  IsLeft old new = ((view new).content ≡ (view old).content) × LeavesOnly (view old) (view new) (view old).may_leave
+  Begins name old new = BeginsWith IsOf view (no_heads name) old new
 
   -- what is opened as no follower, a service's store among it, is left so, with writes pending or not
   abbrev pub SparesOther : (old new : D) → Type 0
-  SparesOther old new = (image : Image) (why : StoreFault) → (view old).content ≡ Some image → IsNotOpenedFor sha256 image why → IsLeft old new
-
-  -- a store that is there, that of a follower or not, is left so, with writes pending or not
-  abbrev pub SparesStore : (old new : D) → Type 0
-  SparesStore old new = (image : Image) → (view old).content ≡ Some image → IsTaken image → IsLeft old new
+  SparesOther old new = SparesOthers view (IsNotOpenedFor sha256) old new

@@ -5,3 +5,4 @@ pub mod Offering
 pub mod OfferSteps
 pub mod Listing
 pub mod Telling
+pub mod Writing

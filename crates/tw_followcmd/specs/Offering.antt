@@ -10,17 +10,21 @@ use Rattle.tw_msg.specs.declared.message.Message.{Message}
 use Rattle.tw_msg.specs.Messages.{message_layout}
 use Rattle.tw_outside.specs.Asked.{Asked}
 use Rattle.tw_outside.specs.Files.{Files, IsThere, Tells}
+use Rattle.tw_kept.specs.Disks.{Adds, AddsSafe, KeepsOrAdds}
+use Rattle.tw_kept.specs.Records.{Written}
 use Rattle.tw_follow.specs.declared.judging.Offered.{Offered}
 use Rattle.tw_follow.specs.declared.judging.Offered.TheVariants.{Moves}
 use Rattle.tw_follow.specs.declared.refusal.FollowRefusal.{FollowRefusal}
+use Rattle.tw_follow.specs.declared.root.RootRecord.{RootRecord}
 use Rattle.tw_follow.specs.HeadLists.{Kept, head_of, with_head}
 use Rattle.tw_follow.specs.Offers.{answer_to, judged}
 use Rattle.tw_follow.specs.Stands.{IsServed, Served, StandsForOneOf}
+use Rattle.tw_follow.specs.Writing.{record_after}
 use Rattle.tw_follow.specs.Stands.Served.{Opened, Unopened}
 use Rattle.tw_text.specs.declared.refusal.BadInput.TheVariants.{BadByte}
 use Rattle.tw_text.specs.declared.fault.CommandFault.{CommandFault}
 use Rattle.tw_text.specs.declared.fault.CommandFault.TheVariants as fault
-use Rattle.tw_followcmd.specs.Disks.{IsLeft, IsOf, LeavesOldOrOneOf, LeavesOneOf, ReadsAs, ReadsAsOneOf, Rests, Settles, SparesOther, Stands}
+use Rattle.tw_followcmd.specs.Disks.{IsFollower, IsLeft, IsOf, LeavesOldOrOneOf, LeavesOneOf, ReadsAs, ReadsAsOneOf, Rests, Settles, SparesOther, Stands}
 use Rattle.tw_followcmd.specs.Faults.{fault_of_follower, fault_of_store}
 
 -- ---- the file
@@ -81,6 +85,15 @@ OfferComes a found before after file (Err fault.InputFault) = Rose a.before a.af
 OfferComes a found before after file (Err fault.NoMemory) = Unit {0}
 OfferComes a found before after file result = OfMessage a.told file (λ m. MessageComes found before after m result)
 
+-- ---- the store, whatever its pages keep
+
+-- the record and pages with the message's thread, where it moves the record's head, and else the same
+abbrev pub next_record : Written RootRecord → Message → Written RootRecord
+next_record w m = record_after w (judged sha256 w.root.head m)
+
+abbrev pub IsNextBy : Message → (w next : Written RootRecord) → Type 0
+IsNextBy m w next = next ≡ next_record w m
+
 -- ---- the disk
 
 -- the list with the message's thread, where it moves the head, and else the same
@@ -100,12 +113,13 @@ module _ {D : Type 0} (view : D → DiskView) (old new : D) where
   abbrev pub KeepsOrMoves : Message → Type 0
   KeepsOrMoves m = (kept : Kept) → ReadsAs (view old).content kept → ReadsAsOneOf view new kept (next_list kept m) × LeavesOneOf view old new kept (next_list kept m)
 
-  -- the message moved the head or is it, or a disk fault came and it may have, of a follower's list alone; where it was refused, nothing
-  -- was written and the disk became stable; where the file wasn't read or is none, no device call was made; at every other result nothing
-  -- was written
+  -- the message moved the head or is it, or a disk fault came and it may have, of a follower's store alone: its list, and, whatever the
+  -- pages keep, its record and pages; where it was refused, nothing was written and the disk became stable; where the file wasn't read or
+  -- is none, no device call was made; at every other result nothing was written
   abbrev pub OfferLeaves : (told : Option Files) (file : List ℕ) → Result Thread CommandFault → Type 0
-  OfferLeaves told file (Ok thread) = OfMessage told file (λ m. IsOffered (view old).content m (Ok thread) × Moved m) × SparesOther view old new
-  OfferLeaves told file (Err fault.DiskFault) = OfMessage told file KeepsOrMoves × SparesOther view old new
+  OfferLeaves told file (Ok thread) =
+      OfMessage told file (λ m. IsOffered (view old).content m (Ok thread) × Moved m × Adds IsFollower view (IsNextBy m) old new) × SparesOther view old new
+  OfferLeaves told file (Err fault.DiskFault) = OfMessage told file (λ m. KeepsOrMoves m × KeepsOrAdds IsFollower view (IsNextBy m) old new) × SparesOther view old new
   OfferLeaves told file (Err (fault.Refused refusal)) = IsLeft view old new × Settles view old new
   OfferLeaves told file (Err (fault.Unreadable bad)) = new ≡ old
   OfferLeaves told file (Err fault.InputFault) = new ≡ old
@@ -114,9 +128,9 @@ module _ {D : Type 0} (view : D → DiskView) (old new : D) where
   -- Of a list that the disk read as, each image since is one that a crash might have left before, and the content is told still and
   -- stands for it; or the file has a message, and each image stands for it or for the next one, or is one that might have been left
   -- before, and the content stands for one of the two. Of a list that it stood for for good, each image stands for it, or for one of
-  -- the two. What is opened as no follower is left as it was.
+  -- the two. The same holds of whatever record and pages. What is opened as no follower is left as it was.
   abbrev pub OfferSafe : (told : Option Files) (file : List ℕ) → Type 0
-  OfferSafe told file = SparesOther view old new × ((kept : Kept) →
+  OfferSafe told file = SparesOther view old new × AddsSafe IsFollower view (IsMessageIn told file) IsNextBy old new × ((kept : Kept) →
       (ReadsAs (view old).content kept → (LeavesOnly (view old) (view new) (view old).may_leave × ReadsAs (view new).content kept)
       ⊎ OfMessage told file (λ m. LeavesOldOrOneOf view old new kept (next_list kept m) × ReadsAsOneOf view new kept (next_list kept m)))
       × (Stands view old kept → LeavesOnly (view old) (view new) (IsOf kept)

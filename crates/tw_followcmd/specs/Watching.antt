@@ -27,7 +27,7 @@ WatchComes found before after name _ = ⊥
 
 module _ {D : Type 0} (view : D → DiskView) (old new : D) where
   -- each image that a crash may leave is such that there might have been, a blank one or the empty list; a store that is there is left
-  -- as it was, and a list is kept
+  -- as it was, and a list, or whatever record and pages, is kept
   abbrev pub WatchSafe : (name : List ℕ) → Type 0
   WatchSafe name = MayBegin view name old new × Keeps view old new × SparesStore view old new
 

@@ -26,9 +26,9 @@ pub fn told_laws()
         HeadsComes (Some image) before after one → HeadsComes (Some image) before after other → one ≡ other }
 {}
 
-/// A disk that is left as it was keeps the list of heads that it stands for.
+/// A disk that is left as it was keeps the list of heads that it stands for, and whatever record and pages it opens with.
 pub fn idle_laws<D: Disk>()
     // A run that leaves a disk as it was keeps the list of heads that the disk stood for: it stands for it still, for good,
-    // and one at rest is still at rest.
+    // and one at rest is still at rest. So it keeps the record and pages that the disk opened with, whatever they keep.
     ensures kept { (old new : D) → IsLeft D.view old new → Keeps D.view old new }
 {}

@@ -3,12 +3,14 @@
 ghost use Rattle.std.specs.Prelude.{◌≡◌, ◌≤◌, ◌++◌, ℕ, Option, Some, IfErr, IfOk, OnOk, false};
 ghost use Rattle.sha2.specs.Sha256.{sha256};
 ghost use Rattle.tw_disk.specs.Image.{Image};
-ghost use Rattle.tw_follow.specs.Follows.{Follows, disk_of, has_failed, pages_of, record_of};
+ghost use Rattle.tw_follow.specs.Follows.{Follows, IsOver, disk_of, has_failed, pages_of, record_of};
 ghost use Rattle.tw_follow.specs.HeadLists.{Kept};
 ghost use Rattle.tw_follow.specs.Stands.{OpensWith};
+ghost use Rattle.tw_kept.specs.Disks.{Rests as RestsAs};
+ghost use Rattle.tw_kept.specs.Records.{written};
 ghost use Rattle.tw_text.specs.Lines.{anchor_text};
 ghost use Rattle.tw_text.specs.declared.fault.CommandFault.TheVariants.{NoMemory as WantedMemory};
-ghost use Rattle.tw_followcmd.specs.Disks.{IsLeft, ReadsAs, Rests};
+ghost use Rattle.tw_followcmd.specs.Disks.{IsFollower, IsLeft, ReadsAs, Rests};
 ghost use Rattle.tw_followcmd.specs.Listing.{HeadsComes, HeadsLeaves, lines_of};
 
 use crate::faults::{fault_of_follower, fault_of_store};
@@ -23,8 +25,8 @@ use tw_text::{CommandFault, anchor_line};
 pub fn list_heads<D: Disk>(alloc: Global, disk: D) -> Worked<D, Bytes>
     // What `heads` comes to is what the disk and its count of faults allow: the lines, or a fault with its cause.
     ensures comes { HeadsComes (D.view disk).content (D.view disk).faults (D.view result.disk).faults result.outcome }
-    // It writes nothing. Where the heads are told, the disk stands for the list that it read as, at rest: so no head that
-    // was told can be lost any more.
+    // It writes nothing. Where the heads are told, the disk stands for the list that it read as, at rest, and with whatever
+    // record and pages: so no head that was told can be lost any more.
     ensures leaves { HeadsLeaves D.view disk result.disk result.outcome }
 {
     match Follower::<D, Sha>::open(alloc, disk) {
@@ -45,6 +47,8 @@ fn list_by<D: Disk>(alloc: Global, follower: Follower<D, Sha>) -> Worked<D, Byte
         → HeadsComes found before (D.view result.disk).faults result.outcome }
     ensures leaves { IsLeft D.view (disk_of follower) result.disk }
     ensures rests { (k : Kept) → Follows sha256 D.view follower k → Rests D.view result.disk k }
+    ensures over { (ps : Image) → IsOver sha256 D.view follower ps
+        → RestsAs IsFollower D.view result.disk (written (record_of follower) ps) }
 {
     let mut follower = follower;
     match follower.heads() {

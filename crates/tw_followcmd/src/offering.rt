@@ -5,7 +5,7 @@ ghost use Rattle.sha2.specs.Sha256.{sha256};
 ghost use Rattle.tw_base.specs.format.Formats.{Spells};
 ghost use Rattle.tw_base.specs.history.Limits.{IsThread};
 ghost use Rattle.tw_disk.specs.Image.{Image};
-ghost use Rattle.tw_follow.specs.Follows.{Follows, disk_of, has_failed, pages_of, record_of};
+ghost use Rattle.tw_follow.specs.Follows.{Follows, IsOver, disk_of, has_failed, pages_of, record_of};
 ghost use Rattle.tw_follow.specs.HeadLists.{Kept};
 ghost use Rattle.tw_follow.specs.Stands.{OpensWith};
 ghost use Rattle.tw_msg.specs.Messages.{IsLinked, message_layout};
@@ -13,6 +13,8 @@ ghost use Rattle.tw_outside.specs.Asked.{asked};
 ghost use Rattle.tw_followcmd.specs.Disks.{IsLeft, ReadsAs, SparesOther};
 ghost use Rattle.tw_followcmd.specs.Offering.{IsMessageIn, MessageComes, OfferComes, OfferLeaves};
 ghost use Rattle.tw_followcmd.specs.OfferSteps.{ComesOfFile, LeavesOffered, WritesNothing};
+ghost use Rattle.tw_followcmd.specs.Writing.{WritesFrom, WritesMessage};
+ghost use Rattle.tw_kept.specs.Records.{written};
 
 use crate::faults::{bad_byte, fault_of_follower, fault_of_store};
 use crate::worked::Worked;
@@ -38,7 +40,10 @@ pub fn offer<D: Disk, I: Inputs>(
     // cause.
     ensures comes { OfferComes (asked (I.told inputs.old) (I.faults inputs.old) (I.faults inputs.new))
         (D.view disk).content (D.view disk).faults (D.view result.disk).faults file.now result.outcome }
-    // It leaves the disk as is right for what it came to.
+    // It leaves the disk as is right for what it came to. So it does whatever the pages of the follower's store keep: after
+    // the answer the disk rests with the record and pages that the message makes of those that it opened with, which are those of
+    // its thread, with the page of that head behind the others, where it moves the head, and else the same; after a disk fault the
+    // content is one of the two; and each image since is one that a crash might have left before, or opens so.
     ensures leaves { OfferLeaves D.view disk result.disk (I.told inputs.old) file.now result.outcome }
 {
     message_laws();
@@ -75,6 +80,7 @@ fn offer_message<D: Disk>(alloc: Global, disk: D, message: &Message) -> Worked<D
         → LeavesOffered D.view disk result.disk message.now k result.outcome }
     ensures unwritten { (bytes : List ℕ) → Spells message_layout bytes message.now → WritesNothing result.outcome → IsLeft D.view disk result.disk }
     ensures spares { SparesOther D.view disk result.disk }
+    ensures writes { (bytes : List ℕ) → Spells message_layout bytes message.now → WritesMessage D.view disk result.disk message.now result.outcome }
 {
     match Follower::<D, Sha>::open(alloc, disk) {
         Ok(follower) => offer_to(follower, message),
@@ -98,6 +104,8 @@ fn offer_to<D: Disk>(follower: Follower<D, Sha>, message: &Message) -> Worked<D,
         → LeavesOffered D.view (disk_of follower) result.disk message.now k result.outcome }
     ensures unwritten { (bytes : List ℕ) → Spells message_layout bytes message.now → WritesNothing result.outcome
         → IsLeft D.view (disk_of follower) result.disk }
+    ensures writes { (bytes : List ℕ) → Spells message_layout bytes message.now → (ps : Image) → IsOver sha256 D.view follower ps
+        → WritesFrom D.view (disk_of follower) result.disk message.now (written (record_of follower) ps) result.outcome }
 {
     let mut follower = follower;
     match follower.take(message) {

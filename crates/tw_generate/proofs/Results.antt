@@ -28,5 +28,5 @@ held dig view s d h serves rest = record {
   image = rest.image;
   told = rest.told;
   only = rest.only;
-  has = subst (λ n. StandsFor dig rest.image n h) (sym serves.has.named) rest.has;
+  has = subst (λ n. StandsFor dig rest.image n h) (sym serves.keeps.named) rest.has;
 }

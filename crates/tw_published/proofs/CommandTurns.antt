@@ -47,7 +47,7 @@ made_undone t f is = cc
 -- what the answer of a history to a question publishes
 answer_told : (t : FoundDisk) (h : History) (reads : ReadsAs t.found h) (q : Question) (bytes : List ℕ) (u : Thread) → AskComes t q (Ok bytes) → IsInAnswer sha256 q bytes u → IsThreadOf sha256 h u
 unfolding AskComes
-answer_told t h reads q bytes u comes told = told_own sha256 h reads.stands.sound (Ask q) (OfBytes bytes) h tt (comes.machine h reads).machine u told
+answer_told t h reads q bytes u comes told = told_own sha256 h reads.stands.stands.keeps.sound (Ask q) (OfBytes bytes) h tt (comes.machine h reads).machine u told
 
 module _ {D : Type 0} (view : D → DiskView) (name : List ℕ)
     (only_now : (d : D) (image : Image) → (view d).left_since (view d).moment image → (view d).may_leave image)
@@ -168,7 +168,7 @@ module _ {D : Type 0} (view : D → DiskView) (name : List ℕ)
               → Behind h (IsOutByAnswer q outcome)
           of_result (Ok bytes) may is =
               subst (λ (x : Outcome). Behind h (IsOutByAnswer q x)) (sym is)
-              (settled_behind (IsOutByAnswer q (Written bytes)) may.1.0 (may.1.1 read reads) (λ t told. answer_told (found_of view o) read reads q bytes t may.0 told))
+              (settled_behind (IsOutByAnswer q (Written bytes)) may.1.0 (may.1.1.0 read reads) (λ t told. answer_told (found_of view o) read reads q bytes t may.0 told))
           of_result (Err f) may is =
               subst (λ (x : Outcome). Behind h (IsOutByAnswer q x)) (sym is)
               (left_behind (IsOutByAnswer q (Undone f)) ((reading_is_safe view o.disk.before o.disk.after {X = List ℕ}).safe (Err f) may.1).0 (λ t told. told))
@@ -195,16 +195,16 @@ module _ {D : Type 0} (view : D → DiskView) (name : List ℕ)
           of_result : (r : Result Thread CommandFault) → AppendComes o.inputs (found_of view o) file time r × AppendLeaves view o.disk.before o.disk.after o.inputs.told file time r
               → outcome ≡ outcome_by Made r → By (command.Append file time) outcome
           of_result (Ok thread) may is =
-              let events = may.1.0 in
-              let step = may.1.2.0.machine read reads in
-              let added = may.1.2.1 read reads in
+              let events = may.1.0.0 in
+              let step = may.1.0.2.0.machine read reads in
+              let added = may.1.0.2.1 read reads in
               let last : thread ≡ last_thread sha256 added.0 = step.0 ∙ ap (λ (n : History). last_thread sha256 n) (sym added.1) in
               subst (λ (x : Outcome). By (command.Append file time) x) (sym is)
-              (added_behind (AreEventsOf o.inputs.told file) (λ events. Appending events time) safe (IsOutBy (command.Append file time) (Made thread)) (Appending events time) added.0 added.1 added.2.0
+              (added_behind (AreEventsOf o.inputs.told file) (λ events. Appending events time) safe.1 (IsOutBy (command.Append file time) (Made thread)) (Appending events time) added.0 added.1 added.2.0
               (λ t told. subst (λ (u : Thread). IsThreadOf sha256 added.0 u) (sym (told ∙ last)) (last_own sha256 added.0)))
           of_result (Err f) may is =
               subst (λ (x : Outcome). By (command.Append file time) x) (sym is)
-              (adds_behind (AreEventsOf o.inputs.told file) (λ events. Appending events time) safe (IsOutBy (command.Append file time) (Undone f)) (λ t told. told))
+              (adds_behind (AreEventsOf o.inputs.told file) (λ events. Appending events time) safe.1 (IsOutBy (command.Append file time) (Undone f)) (λ t told. told))
 
       receiving : (file : List ℕ) (time : Option ℕ) (outcome : Outcome) → Does (command.Receive file time) outcome → By (command.Receive file time) outcome
       receiving file time outcome came = of_result came.0 came.1 came.2
@@ -215,14 +215,14 @@ module _ {D : Type 0} (view : D → DiskView) (name : List ℕ)
           of_result : (r : Result Receipt CommandFault) → ReceiveComes o.inputs (found_of view o) file time r × ReceiveLeaves view o.disk.before o.disk.after o.inputs.told file time r
               → outcome ≡ outcome_by Received r → By (command.Receive file time) outcome
           of_result (Ok receipt) may is =
-              let m = may.1.0 in
-              let added = may.1.2.1 read reads in
+              let m = may.1.0.0 in
+              let added = may.1.0.2.1 read reads in
               subst (λ (x : Outcome). By (command.Receive file time) x) (sym is)
-              (added_behind (IsMessageIn o.inputs.told file) (λ m. Receiving m time) safe (IsOutBy (command.Receive file time) (Received receipt)) (Receiving m time) added.0 added.1 added.2.1
-              (λ t told. told_own sha256 read reads.stands.sound (Receiving m time) (OfReceipt receipt) added.0 tt added.2.0 t told))
+              (added_behind (IsMessageIn o.inputs.told file) (λ m. Receiving m time) safe.1 (IsOutBy (command.Receive file time) (Received receipt)) (Receiving m time) added.0 added.1 added.2.1
+              (λ t told. told_own sha256 read reads.stands.stands.keeps.sound (Receiving m time) (OfReceipt receipt) added.0 tt added.2.0 t told))
           of_result (Err f) may is =
               subst (λ (x : Outcome). By (command.Receive file time) x) (sym is)
-              (adds_behind (IsMessageIn o.inputs.told file) (λ m. Receiving m time) safe (IsOutBy (command.Receive file time) (Undone f)) (λ t told. told))
+              (adds_behind (IsMessageIn o.inputs.told file) (λ m. Receiving m time) safe.1 (IsOutBy (command.Receive file time) (Undone f)) (λ t told. told))
 
       -- a follower's command over a service's disk
       offering : (file : List ℕ) (outcome : Outcome) → Does (command.Offer file) outcome → IsLeft view o.disk.before o.disk.after

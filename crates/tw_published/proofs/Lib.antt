@@ -1,3 +1,4 @@
 mod OtherStores
 mod CommandTurns
 mod TurnLaws
+mod FollowerTurnLaws

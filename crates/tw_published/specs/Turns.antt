@@ -19,8 +19,8 @@ use Rattle.tw_runs.specs.Runs.{Happening, HasOneAuthenticator, HoldsOnly, IsPubl
 use Rattle.tw_runs.specs.Runs.State.{Closed}
 use Rattle.tw_published.specs.Publishing.{IsOutBy}
 
--- What comes to a disk. A run of the program writes when its work on the disk is done. No clause says so, but no text could go out
--- earlier: on a disk that fails from there on, the run would have to end with another one.
+-- What comes to a disk. A run of the program writes when its work on the disk is done: that it is stopped before that means that nothing is
+-- out. No clause says so; but on a disk that fails from there on, a run whose text went out earlier would have to end with another one.
 pub data Turn (D S : Type 0) : Type 0 where
   -- the program is run, and some of its text is out, be it all of it: what is around the run, its status, and what it comes to
   Runs : Around D → (status : ℕ) → Outcome → Turn D S

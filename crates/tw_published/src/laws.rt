@@ -18,8 +18,10 @@ pub fn published_laws<D: Disk>(service: &Service<D, Sha>)
     // the service: any two threads of one step are equal, of those of that first history and of those published. These are
     // the one whose line `init` or `append` writes, the one by which `receive` gives its receipt, that of the message of `thread`, those
     // of its own history that stand in a proof of `prove` or in a file of `map`, each of the history that `export` writes,
-    // be it written whole or in part; and what a service tells. At the end the disk tells what it reads as; that,
-    // and each image that a crash may then leave, stands for a history of that name which has all of them.
+    // be it written whole or in part; and what a service tells. Of a run that is taken as stopped in its work nothing is
+    // out: that a run's text goes out only behind its work on the disk, this supposes, and no clause says it. At the end
+    // the disk tells what it reads as; that, and each image that a crash may then leave, stands for a history of that name
+    // which has all of them.
     ensures runs { (disk : D) (first : History) (moves : _) → AreTurnsOf service.now moves → StartsAs D.view first disk moves →
         AreTurnsFrom D.view disk moves → HasOne D.view first disk moves }
 {}

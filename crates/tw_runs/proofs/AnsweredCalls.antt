@@ -119,8 +119,8 @@ module _ {D H : Type 0} {g : _} {k : _} (dig : List ℕ → List ℕ) (view : D 
       → (IsTaken image → IsErrAnd result (λ e. (e.1 ≡ Taken) ⊎ (e.1 ≡ DiskFailed)))
       → (IsTaken image → IfErr result (λ e. ((view e.0).content ≡ Some image) × LeavesOnly (view disk) (view e.0) (view disk).may_leave))
       → IsErrAnd result (λ e. StaysAs view disk e.0)
-  spared (Ok s) image of h told stands exact held = absurd (exact (opened_taken stands.opening image stands.opens))
-  spared (Err e) image of h told stands exact held = let left = held (opened_taken stands.opening image stands.opens) in (left.0 ∙ sym told, left.1)
+  spared (Ok s) image of h told stands exact held = absurd (exact (opened_taken stands.stands.is.opening image stands.stands.is.opens))
+  spared (Err e) image of h told stands exact held = let left = held (opened_taken stands.stands.is.opening image stands.stands.is.opens) in (left.0 ∙ sym told, left.1)
 
 -- ---- calls
 
@@ -199,7 +199,7 @@ module _ {D H : Type 0} {g : _} {k : _} (dig : List ℕ → List ℕ) (view : D 
         → (h : History) → Serves dig view old h → Steps dig view call reply old new result h
     read_steps (Ok x) reopen machine same kept h served =
         let on = same h served in
-        let rest = rest_for_good view only_now dig new.recorded.store new.recorded.root h on.0 in
+        let rest = rest_for_good view only_now dig new.recorded.kept.store new.recorded.kept.root h on.0 in
         record {
           next = h;
           is_next = stays h;
@@ -211,7 +211,7 @@ module _ {D H : Type 0} {g : _} {k : _} (dig : List ℕ → List ℕ) (view : D 
         }
     read_steps (Err r) reopen machine same kept h served =
         let on = same h served in
-        let rest = rest_for_good view only_now dig new.recorded.store new.recorded.root h on.0 in
+        let rest = rest_for_good view only_now dig new.recorded.kept.store new.recorded.kept.root h on.0 in
         record {
           next = h;
           is_next = stays h;

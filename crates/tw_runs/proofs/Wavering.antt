@@ -79,18 +79,18 @@ module _ {D : Type 0} (dig : List ℕ → List ℕ) (view : D → DiskView) (nam
 
     head_is : (service : Service D H g k) (h : History) → Serves dig view service h → thread_of service ≡ last_thread dig h
     head_is service h served =
-        let named = sym served.has.named in
-        let step = served.has.keeps.steps.step in
-        let auths = served.has.keeps.steps.auth in
+        let named = sym served.keeps.named in
+        let step = served.keeps.whole.steps.step in
+        let auths = served.keeps.whole.steps.auth in
         λ j. record { from = named j; step = step j; auth = auths j }
 
     -- a service that serves the history, of this name
     opened_at : (service : Service D H g k) (h : History) → h.name ≡ name → Serves dig view service h → IsOpenAt service h
     opened_at service h named served =
-        let own : name_of service ≡ name = sym served.has.named ∙ named in
+        let own : name_of service ≡ name = sym served.keeps.named ∙ named in
         record {
           disk = rests (disk_of service) h
-              (subst (λ (n : List ℕ). IsAtRest (view (disk_of service)) (λ i. StandsFor dig i n h)) own (rest_for_good view only_now dig service.recorded.store service.recorded.root h served));
+              (subst (λ (n : List ℕ). IsAtRest (view (disk_of service)) (λ i. StandsFor dig i n h)) own (rest_for_good view only_now dig service.recorded.kept.store service.recorded.kept.root h served));
           named = own;
           head = head_is service h served;
           serves = λ whole. served;
@@ -130,7 +130,7 @@ module _ {D : Type 0} (dig : List ℕ → List ℕ) (view : D → DiskView) (nam
           same ∙ is.head
 
       own_name : Serves dig view old h → h.name ≡ name
-      own_name served = served.has.named ∙ is.named
+      own_name served = served.keeps.named ∙ is.named
 
       unwritten_by : (answer : Result Reply Refusal) → answer ≡ Err Reopen → IfErr answer (λ refusal. (refusal ≡ DiskFault) ⊎ HasSameDisk view old new) → HasSameDisk view old new
       unwritten_by answer reopen unwritten =
@@ -165,7 +165,7 @@ module _ {D : Type 0} (dig : List ℕ → List ℕ) (view : D → DiskView) (nam
             now = s.next;
             keeps = next_has dig call h s.next s.is_next;
             is = opened_at new s.next (next_name dig call h s.next s.is_next ∙ own_name served) s.done.1;
-            tells = λ t told. told_own dig h served.has.sound call reply s.next a.kind s.done.0 t told;
+            tells = λ t told. told_own dig h served.keeps.sound call reply s.next a.kind s.done.0 t told;
           }
       goes_on (Err refusal) served a =
           let s = a.steps h served in

@@ -3,11 +3,14 @@ use Rattle.std.proofs.Common.{◌≡◌, ◌⊎◌, ℕ, ◌≤◌, List, refl, 
 use Rattle.std.specs.Prelude.{◌↔◌, IsTrue, MatchOption, Option, Some, None, Result, Ok, Err, IfErr}
 use Rattle.tw_base.specs.history.History.{History}
 use Rattle.tw_base.specs.kinds.Faults.{Rose}
-use Rattle.tw_disk.specs.Disk.{DiskView, IsAtRest}
+use Rattle.tw_disk.specs.Disk.{DiskView, LeavesOnly}
 use Rattle.tw_disk.specs.Found.{Found}
 use Rattle.tw_disk.specs.Found.Found.{Is}
 use Rattle.tw_disk.specs.Image.{Image}
-use Rattle.tw_pages.specs.Same.{IsSameStore, count_of}
+use Rattle.tw_kept.specs.Records.{IsWritten, written}
+use Rattle.tw_kept.specs.Rests.{RestsWith}
+use Rattle.tw_kept.proofs.Written.{only_same, still_rests}
+use Rattle.tw_pages.specs.Same.{IsSameStore}
 use Rattle.tw_pages.specs.SameSteps.{is_same_itself}
 use Rattle.tw_answers.specs.declared.refusal.Refusal.{Refusal}
 use Rattle.tw_answers.specs.declared.refusal.Refusal.TheVariants.{DiskFault}
@@ -15,21 +18,31 @@ use Rattle.tw_answers.specs.declared.root.RootRecord.{RootRecord}
 use Rattle.tw_service.specs.declared.service.Service.{Service}
 use Rattle.tw_service.specs.Asking.{AsksOr}
 use Rattle.tw_answers.specs.Finds.{IsRefusalOf}
-use Rattle.tw_service.specs.Keeps.{KeepsHistory}
+use Rattle.tw_service.specs.Keeps.{StoreServes}
 use Rattle.tw_service.specs.Machine.{Call, IsStepOf, Reply}
 use Rattle.tw_service.specs.Machine.Reply.{Refused}
 use Rattle.tw_answers.specs.Refusals.{IsBadPage, IsFault}
-use Rattle.tw_service.specs.Serves.{Serves, disk_of, has_failed, pages_of, record_of}
+use Rattle.tw_answers.specs.Roots.{root_kind}
+use Rattle.tw_service.specs.Serves.{IsOver, Serves, disk_of, has_failed, pages_of, record_of}
 use Rattle.tw_answers.proofs.TableAnswers.{IsTold}
 use Rattle.tw_service.proofs.Answering.{answers_fault, answers_refusal, is_disk_fault}
 use Rattle.tw_answers.proofs.FoundAnswers.{table_found}
-use Rattle.tw_service.proofs.Serving.{read_keeps, read_leaves}
+use Rattle.tw_service.proofs.Serving.{read_leaves, read_serves}
 
 abbrev fails : (T : Type 0) → Refusal → Result T Refusal
 fails T why = Err why
 
 module _ {D H : Type 0} {g : _} {k : _} (view : D → DiskView) (only_now : (d : D) (c : Image) → (view d).left_since (view d).moment c → (view d).may_leave c) (dig : List ℕ → List ℕ) {T : Type 0} (Own : Refusal → Type 0) (call : Call) (reply : T → Reply)
     (table : Option Refusal) (found : Image → Found (Result T Refusal)) where
+  -- a store that was only read
+  over_on : (s t : Service D H g k) → record_of t ≡ record_of s → IsSameStore view s.recorded.kept.store t.recorded.kept.store
+      → (ps : Image) → IsOver view s ps → IsOver view t ps × LeavesOnly (view (disk_of s)) (view (disk_of t)) (IsWritten root_kind (written (record_of s) ps))
+  over_on s t root same ps over = (
+    subst (λ (r : RootRecord). RestsWith view root_kind t.recorded.kept.store (written r ps)) (sym root)
+        (still_rests view root_kind s.recorded.kept.store t.recorded.kept.store (written s.recorded.kept.root ps) same over),
+    only_same view root_kind only_now s.recorded.kept.store t.recorded.kept.store (written s.recorded.kept.root ps) (IsWritten root_kind (written s.recorded.kept.root ps)) same over (λ i was. was),
+  )
+
   -- the table's refusal
   pub asked_refused : (s : Service D H g k) (r : Refusal) → Some r ≡ table → (IsFault r → ⊥) → ((ps : Image) → pages_of view s ≡ Some ps → found ps ≡ Is (Err r))
       → (has_failed s ≡ false → (h : History) → Serves dig view s h → IsTold r × IsStepOf dig h call (Refused r) h) → AsksOr dig view Own call reply table found s s (Err r)
@@ -37,8 +50,9 @@ module _ {D H : Type 0} {g : _} {k : _} (view : D → DiskView) (only_now : (d :
     table = subst (λ (o : Option Refusal). MatchOption o (IfErr (fails T r) (λ why. IsFault why ⊎ Own why)) (λ why. fails T r ≡ Err why)) is refl;
     answer = λ ps list. table_found r (found ps) told (finds ps list);
     machine = λ whole h served. let own = step whole h served in answers_refusal dig h call reply (Serves dig view s) r own.0 own.1 served;
-    same = λ h served. (served, read_leaves view only_now dig s.recorded.store s.recorded.store s.recorded.root h (is_same_itself view s.recorded.store) served);
-    unwritten = is_same_itself view s.recorded.store;
+    same = λ h served. (served, read_leaves view only_now dig s.recorded.kept.store s.recorded.kept.store s.recorded.kept.root h (is_same_itself view s.recorded.kept.store) served);
+    unwritten = is_same_itself view s.recorded.kept.store;
+    over = over_on s s refl (is_same_itself view s.recorded.kept.store);
     kept = refl;
     broken = ((λ failed. inl failed), (λ either. ⊎_elim (λ failed. failed) (λ fault. absurd (told (is_disk_fault T r fault))) either));
     fault = λ fault. absurd (told (is_disk_fault T r fault));
@@ -46,10 +60,10 @@ module _ {D H : Type 0} {g : _} {k : _} (view : D → DiskView) (only_now : (d :
   }
 
   -- the pages were read
-  module _ (s t : Service D H g k) (none : None ≡ table) (root : record_of t ≡ record_of s) (same : IsSameStore view s.recorded.store t.recorded.store) (count : count_of t.recorded.store ≡ count_of s.recorded.store)
+  module _ (s t : Service D H g k) (none : None ≡ table) (root : record_of t ≡ record_of s) (same : IsSameStore view s.recorded.kept.store t.recorded.kept.store)
       (later : (view (disk_of s)).faults ≤ (view (disk_of t)).faults) where
     serves_on : (h : History) → Serves dig view s h → Serves dig view t h
-    serves_on h served = subst (λ (r : RootRecord). IsAtRest (view (disk_of t)) (KeepsHistory dig t.recorded.store r h)) (sym root) (read_keeps view only_now dig s.recorded.store t.recorded.store s.recorded.root h same count served)
+    serves_on h served = subst (λ (r : RootRecord). StoreServes dig view t.recorded.kept.store r h) (sym root) (read_serves view only_now dig s.recorded.kept.store t.recorded.kept.store s.recorded.kept.root h same served)
 
     pub asked_ok : (x : T) → t.is_broken ≡ s.is_broken → ((ps : Image) → pages_of view s ≡ Some ps → found ps ≡ Is (Ok x))
         → (has_failed s ≡ false → (h : History) → Serves dig view s h → IsStepOf dig h call (reply x) h) → AsksOr dig view Own call reply table found s t (Ok x)
@@ -57,8 +71,9 @@ module _ {D H : Type 0} {g : _} {k : _} (view : D → DiskView) (only_now : (d :
       table = subst (λ (o : Option Refusal). MatchOption o (Unit {0}) (λ why. ◌≡◌ {A = Result T Refusal} (Ok x) (Err why))) none tt;
       answer = finds;
       machine = λ whole h served. (h, step whole h served, serves_on h served);
-      same = λ h served. (serves_on h served, read_leaves view only_now dig s.recorded.store t.recorded.store s.recorded.root h same served);
+      same = λ h served. (serves_on h served, read_leaves view only_now dig s.recorded.kept.store t.recorded.kept.store s.recorded.kept.root h same served);
       unwritten = same;
+      over = over_on s t root same;
       kept = root;
       broken = ((λ failed. inl (subst (λ b. IsTrue b) flag failed)), (λ either. ⊎_elim (λ failed. subst (λ b. IsTrue b) (sym flag) failed) (λ fault. cc) either));
       fault = λ fault. cc;
@@ -72,8 +87,9 @@ module _ {D H : Type 0} {g : _} {k : _} (view : D → DiskView) (only_now : (d :
       table = subst (λ (o : Option Refusal). MatchOption o (IsFault r ⊎ Own r) (λ why. fails T r ≡ Err why)) none (inr own);
       answer = finds;
       machine = λ good h served. answers_refusal dig h call reply (Serves dig view t) r told (step good h served) (serves_on h served);
-      same = λ h served. (serves_on h served, read_leaves view only_now dig s.recorded.store t.recorded.store s.recorded.root h same served);
+      same = λ h served. (serves_on h served, read_leaves view only_now dig s.recorded.kept.store t.recorded.kept.store s.recorded.kept.root h same served);
       unwritten = same;
+      over = over_on s t root same;
       kept = root;
       broken = ((λ failed. absurd (no_fault (flag.0 failed))), (λ either. ⊎_elim (λ failed. let was = subst (λ b. IsTrue b) whole failed in absurd cc) (λ is. absurd (told.0 (is_disk_fault T r is))) either));
       fault = λ is. absurd (told.0 (is_disk_fault T r is));
@@ -89,8 +105,9 @@ module _ {D H : Type 0} {g : _} {k : _} (view : D → DiskView) (only_now : (d :
       table = subst (λ (o : Option Refusal). MatchOption o (IsFault r ⊎ Own r) (λ why. fails T r ≡ Err why)) none (inl fault);
       answer = finds;
       machine = λ whole h served. answers_fault dig h call reply (Serves dig view t) r fault (good h served) (inr (serves_on h served));
-      same = λ h served. (serves_on h served, read_leaves view only_now dig s.recorded.store t.recorded.store s.recorded.root h same served);
+      same = λ h served. (serves_on h served, read_leaves view only_now dig s.recorded.kept.store t.recorded.kept.store s.recorded.kept.root h same served);
       unwritten = same;
+      over = over_on s t root same;
       kept = root;
       broken = ((λ failed. inr (ap (fails T) (flag.0 failed))), (λ either. ⊎_elim (λ failed. let was = subst (λ b. IsTrue b) whole failed in absurd cc) (λ is. flag.1 (of_fails is)) either));
       fault = λ is. rose (of_fails is);

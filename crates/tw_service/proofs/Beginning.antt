@@ -1,7 +1,7 @@
 -- The history that has no step yet.
-use Rattle.std.proofs.Common.{◌≡◌, ℕ, ◌<◌, ◌≤◌, List, [], length, refl, ap, sym, ◌∙◌, arith, subst, lit≤, inl, inr, ⊎_elim, ◌⊎◌}
+use Rattle.std.proofs.Common.{◌≡◌, ℕ, ◌<◌, ◌≤◌, List, [], length, refl, ap, sym, ◌∙◌, arith, subst, inl, inr, ⊎_elim, ◌⊎◌}
 use Rattle.tw_disk.specs.Image.{Image}
-use Rattle.tw_disk.specs.Disk.{DiskView, IsAtRest, LeavesOnly, Reads}
+use Rattle.tw_disk.specs.Disk.{DiskView, LeavesOnly, Reads}
 use Rattle.tw_disk.proofs.Moments.{leaves_weaker}
 use Rattle.tw_base.specs.history.Auth.{auth, auths, tree_label}
 use Rattle.std.specs.Prelude.{IfSome, Option, None}
@@ -14,17 +14,18 @@ use Rattle.tw_base.specs.history.Tree.{Tree, tree}
 use Rattle.tw_base.specs.history.Tree.Tree.{Empty}
 use Rattle.tw_base.proofs.lemmas.kinds.DigestBytes.{IsDigest}
 use Rattle.tw_base.proofs.lemmas.history.Plus.{tree-first}
-use Rattle.tw_pages.specs.Init.{first_opening, second_opening}
-use Rattle.tw_pages.specs.Init.{IsBlankOrNew as IsBlankOrNewStore}
-use Rattle.tw_pages.specs.StoreValue.{IsKept, disk_of, opening_of, staged_of}
-use Rattle.tw_pages.specs.Store.{Opening, OpensAs, used_of}
+use Rattle.tw_kept.specs.Records.{written}
+use Rattle.tw_kept.specs.Records.{IsBlankOrNew as IsBlankOrNewWith}
+use Rattle.tw_kept.specs.Rests.{RestsWith}
+use Rattle.tw_kept.specs.States.{IsBlankOrFirst}
+use Rattle.tw_kept.proofs.States.{leaves_begun, reads_begun, serves_first}
 use Rattle.tw_pages.specs.declared.store.Store.{Store}
 use Rattle.tw_skiplist.proofs.Growing.{Keeps-first}
 use Rattle.tw_answers.specs.declared.root.RootRecord.{RootRecord}
-use Rattle.tw_service.specs.Keeps.{KeepsHistory}
-use Rattle.tw_answers.specs.Roots.{FitsStore, root_bytes}
+use Rattle.tw_service.specs.Keeps.{StoreServes}
+use Rattle.tw_answers.specs.Roots.{FitsStore, IsAllowed, root_kind}
 use Rattle.tw_answers.proofs.RootLaws.{root-fits}
-use Rattle.tw_service.specs.Stands.{HasRoot, IsBlankOrNew, KeepsWhole, StandsFor, greatest, no_history}
+use Rattle.tw_service.specs.Stands.{IsBlankOrNew, KeepsHistory, KeepsWhole, greatest, no_history}
 
 pub sound_none : (name : List ℕ) → IsName name → IsSound (no_history name)
 sound_none name is = record { name = is; length = omega arith; steps = λ i s there. cc }
@@ -71,57 +72,29 @@ module _ (dig : List ℕ → List ℕ) (size : (text : List ℕ) → IsDigest (d
     timed = subst (λ (o : Option ℕ). IfSome o (λ time. 0 < r.head.step)) (sym untimed) tt;
   }
 
-  pub has_root : (root : List ℕ) → root ≡ root_bytes r → (o : Opening) → o.root ≡ root → o.pages ≡ [] → o.generation ≤ 1 → HasRoot o r
-  has_root root is o root_is pages_is low = record {
-    bytes = root_is ∙ is;
-    allowed = record {
-      spelled = root-fits r is_name (omega (arith, first)) (subst IsDigest (sym label) (size (genesis_text r.name))) (omega (arith, no_page)) (omega (arith, no_archive)) (subst IsDigest (sym empty) (size empty_tree_text)) (omega (arith, no_threads)) (subst IsTimeWithinLimits (sym untimed) tt);
-      fits = fits_none (used_of o) o.generation (let none = ap length pages_is in omega (arith, none)) low;
-    };
+  -- the record may stand in a store without a page, at its first generation or before it
+  pub may_none : (generation : ℕ) → generation ≤ 1 → IsAllowed 4 generation r
+  may_none generation low = record {
+    spelled = root-fits r is_name (omega (arith, first)) (subst IsDigest (sym label) (size (genesis_text r.name))) (omega (arith, no_page)) (omega (arith, no_archive)) (subst IsDigest (sym empty) (size empty_tree_text)) (omega (arith, no_threads)) (subst IsTimeWithinLimits (sym untimed) tt);
+    fits = fits_none 4 generation refl low;
   }
 
-  new_stands : (root : List ℕ) → root ≡ root_bytes r → (o : Opening) (c : Image) → o.root ≡ root → o.pages ≡ [] → o.generation ≤ 1 → OpensAs o c → StandsFor dig c r.name (no_history r.name)
-  new_stands root is o c root_is pages_is low opens = record {
-    sound = sound_none r.name is_name;
-    named = refl;
-    opening = o;
-    opens = opens;
-    root = r;
-    has = has_root root is o root_is pages_is low;
-    of_name = refl;
-    keeps = keeps_none o.pages;
-  }
+  pub keeps_first : KeepsHistory dig [] r (no_history r.name)
+  keeps_first = record { sound = sound_none r.name is_name; named = refl; whole = keeps_none [] }
 
-  pub serves_none : {D : Type 0} {g : _} (view : D → DiskView) (store : Store D g) (root : List ℕ) → root ≡ root_bytes r → staged_of store ≡ []
-      → IsAtRest (view (disk_of store)) (λ i. IsKept store i × (opening_of store i ≡ first_opening root))
-      → IsAtRest (view (disk_of store)) (KeepsHistory dig store r (no_history r.name))
-  serves_none view store root is clean rest =
-      let o = rest.has.1 in
-      record {
-        image = rest.image;
-        told = rest.told;
-        only = rest.only;
-        has = record {
-          sound = sound_none r.name is_name;
-          named = refl;
-          kept = rest.has.0;
-          clean = clean;
-          has = has_root root is (opening_of store rest.image) (ap (λ (p : Opening). p.root) o) (ap (λ (p : Opening). p.pages) o) (let one = ap (λ (p : Opening). p.generation) o in omega (arith, one));
-          keeps = keeps_none (opening_of store rest.image).pages;
-        };
-      }
+  -- ---- a store in the making, of the history without a step
 
-  -- what is left of a store in the making
-  begun : (root : List ℕ) → root ≡ root_bytes r → (i : Image) → IsBlankOrNewStore root i → IsBlankOrNew dig r.name i
-  begun root is i made = ⊎_elim (λ blank. inl blank) (λ opens. inr (⊎_elim
-      (λ one. new_stands root is (first_opening root) i refl refl (lit≤ tt) one) (λ two. new_stands root is (second_opening root) i refl refl (lit≤ tt) two) opens)) made
+  begun : (i : Image) → IsBlankOrFirst root_kind (KeepsHistory dig) (no_history r.name) i → IsBlankOrNew dig r.name i
+  begun i made = ⊎_elim (λ blank. inl blank) (λ stands. inr (record { named = refl; stands = stands })) made
 
-  pub leaves_none : (old new : DiskView) (root : List ℕ) → root ≡ root_bytes r
-      → LeavesOnly old new (λ i. old.may_leave i ⊎ IsBlankOrNewStore root i)
-      → LeavesOnly old new (λ i. old.may_leave i ⊎ IsBlankOrNew dig r.name i)
-  leaves_none old new root is run = leaves_weaker old new (λ i. old.may_leave i ⊎ IsBlankOrNewStore root i) (λ i. old.may_leave i ⊎ IsBlankOrNew dig r.name i)
-      (λ i either. ⊎_elim (λ was. inl was) (λ made. inr (begun root is i made)) either) run
+  pub leaves_none : (old new : DiskView) → LeavesOnly old new (λ i. old.may_leave i ⊎ IsBlankOrNewWith root_kind r i) → LeavesOnly old new (λ i. old.may_leave i ⊎ IsBlankOrNew dig r.name i)
+  leaves_none old new run = leaves_weaker old new (λ i. old.may_leave i ⊎ IsBlankOrFirst root_kind (KeepsHistory dig) (no_history r.name) i) (λ i. old.may_leave i ⊎ IsBlankOrNew dig r.name i)
+      (λ i either. ⊎_elim (λ was. inl was) (λ made. inr (begun i made)) either) (leaves_begun root_kind (KeepsHistory dig) r (no_history r.name) keeps_first old new run)
 
-  pub tells_none : (old new : DiskView) (root : List ℕ) → root ≡ root_bytes r
-      → Reads new (λ i. old.may_leave i ⊎ IsBlankOrNewStore root i) → Reads new (λ i. old.may_leave i ⊎ IsBlankOrNew dig r.name i)
-  tells_none old new root is tells = record { image = tells.image; told = tells.told; has = ⊎_elim (λ was. inl was) (λ made. inr (begun root is tells.image made)) tells.has }
+  pub tells_none : (old new : DiskView) → Reads new (λ i. old.may_leave i ⊎ IsBlankOrNewWith root_kind r i) → Reads new (λ i. old.may_leave i ⊎ IsBlankOrNew dig r.name i)
+  tells_none old new tells =
+      let reads = reads_begun root_kind (KeepsHistory dig) r (no_history r.name) keeps_first old new tells in
+      record { image = reads.image; told = reads.told; has = ⊎_elim (λ was. inl was) (λ made. inr (begun reads.image made)) reads.has }
+
+  pub serves_none : {D : Type 0} {g : _} (view : D → DiskView) (store : Store D g) (now : RootRecord) → now ≡ r → RestsWith view root_kind store (written r []) → StoreServes dig view store now (no_history r.name)
+  serves_none view store now is rests = serves_first root_kind (KeepsHistory dig) r (no_history r.name) keeps_first view store now is rests

@@ -3,8 +3,6 @@ pub mod GreatestTimes
 pub mod Answering
 pub mod Asked
 pub mod Beginning
-pub mod Counted
-pub mod Opened
 pub mod WholePages
 pub mod Receptions
 pub mod RoomAnswers
@@ -14,6 +12,7 @@ pub mod ReceivingLaws
 pub mod KeptThreads
 pub mod Archived
 pub mod Serving
+pub mod Staging
 pub mod Standing
 pub mod KeptAnswers
 pub mod KeptMaps

@@ -6,12 +6,12 @@ use Rattle.tw_base.specs.history.History.{History}
 use Rattle.tw_base.specs.history.Limits.{IsStep}
 use Rattle.tw_base.specs.history.Tree.{entries, tree}
 use Rattle.tw_base.specs.kinds.Faults.{Rose}
-use Rattle.tw_disk.specs.Disk.{DiskView, IsAtRest}
+use Rattle.tw_disk.specs.Disk.{DiskView}
 use Rattle.tw_disk.specs.Image.{Image}
 use Rattle.tw_msg.specs.declared.message.Message.{Message}
 use Rattle.tw_msg.specs.declared.receipt.Receipt.{Receipt}
 use Rattle.tw_pages.specs.declared.store.Store.{Store}
-use Rattle.tw_pages.specs.Same.{IsSameStore, count_of, list_of}
+use Rattle.tw_pages.specs.Same.{IsSameStore, list_of}
 use Rattle.tw_pages.specs.SameSteps.{is_same_itself}
 use Rattle.tw_pages.specs.StoreValue.{disk_of as disk_below, is_broken}
 use Rattle.tw_archive.specs.Judging.{judged}
@@ -25,17 +25,18 @@ use Rattle.tw_service.specs.declared.service.Service.{Service}
 use Rattle.tw_service.specs.Adding.{Receives, Steps}
 use Rattle.tw_service.specs.Archiving.{ReceivesAs}
 use Rattle.tw_service.specs.Finds.{found_reception, receipt_at}
-use Rattle.tw_service.specs.Keeps.{KeepsHistory}
+use Rattle.tw_service.specs.Keeps.{StoreServes}
 use Rattle.tw_service.specs.Machine.{IsStepOf, RepliesTo}
 use Rattle.tw_service.specs.Machine.Call.{Receive}
 use Rattle.tw_service.specs.Machine.Reply.{OfReceipt, Refused}
 use Rattle.tw_service.specs.NextRecords.{next_record}
 use Rattle.tw_service.specs.Receiving.{TellsOf, reception, refuse_or}
 use Rattle.tw_service.specs.Serves.{HasSameDisk, Serves, head_of, name_of, record_of, steps_of, thread_of}
-use Rattle.tw_service.specs.Stands.{StandsForOneOf, greatest_time}
+use Rattle.tw_service.specs.Stands.{greatest_time}
 use Rattle.tw_service.specs.TakingIn.{StepsIn, TakesIn}
+use Rattle.tw_service.specs.Writing.{ArchivesTo, IsReceiptOf}
 use Rattle.tw_service.proofs.Answering.{answers_fault, answers_refusal, is_disk_fault}
-use Rattle.tw_service.proofs.Serving.{read_keeps, read_leaves, rest_stands, same_leaves, same_tells}
+use Rattle.tw_service.proofs.Serving.{read_leaves, read_serves, same_leaves, same_tells, nothing_written}
 
 abbrev fails : Refusal → Result Receipt Refusal
 fails why = Err why
@@ -77,11 +78,11 @@ module _ (dig : List ℕ → List ℕ) (h : History) (m : Message) (time : Optio
 
 module _ {D H : Type 0} {g : _} {k : _} (view : D → DiskView) (only_now : (d : D) (c : Image) → (view d).left_since (view d).moment c → (view d).may_leave c) (dig : List ℕ → List ℕ) (m : Message) (time : Option ℕ) where
   abbrev Taken : (s t : Service D H g k) → Result Receipt Refusal → Type 0
-  Taken s t result = TakesIn dig view m time s.recorded.store t.recorded.store s.recorded.root t.recorded.root result
+  Taken s t result = TakesIn dig view m time s.recorded.kept.store t.recorded.kept.store s.recorded.kept.root t.recorded.kept.root result
 
   module _ (s t : Service D H g k) (h : History) (served : Serves dig view s h) where
     abbrev Stepped : Result Receipt Refusal → Type 0
-    Stepped result = StepsIn dig view m time s.recorded.store t.recorded.store s.recorded.root t.recorded.root result h
+    Stepped result = StepsIn dig view m time s.recorded.kept.store t.recorded.kept.store s.recorded.kept.root t.recorded.kept.root result h
 
     steps_on : (result : Result Receipt Refusal) → Taken s t result → Stepped result → Steps dig view (Receive m time) (λ (x : Receipt). OfReceipt x) s t result h
     steps_on (Ok receipt) taken x = record { next = x.next; is_next = x.is_next; any_moment = x.any_moment; told = x.told; done = x.done; refused = tt; machine = λ whole. tt }
@@ -91,11 +92,11 @@ module _ {D H : Type 0} {g : _} {k : _} (view : D → DiskView) (only_now : (d :
       any_moment = x.any_moment;
       told = x.told;
       done = tt;
-      refused = ⊎_elim (λ fault. inl fault) (λ rest. ⊎_elim (λ fault. inl fault) (λ same. inr (rest, read_leaves view only_now dig s.recorded.store t.recorded.store s.recorded.root h same served)) taken.same) x.kept;
+      refused = ⊎_elim (λ fault. inl fault) (λ rest. ⊎_elim (λ fault. inl fault) (λ same. inr (rest, read_leaves view only_now dig s.recorded.kept.store t.recorded.kept.store s.recorded.kept.root h same served)) taken.same) x.kept;
       machine = λ whole. ⊎_elim
           (λ fault. answers_fault dig h (Receive m time) (λ (y : Receipt). OfReceipt y) (Serves dig view t) r fault x.good x.kept)
           (λ tells.
-          let told = tells_told dig s.recorded.root.head.step s.recorded.root.time time m r tells in
+          let told = tells_told dig s.recorded.kept.root.head.step s.recorded.kept.root.time time m r tells in
           answers_refusal dig h (Receive m time) (λ (y : Receipt). OfReceipt y) (Serves dig view t) r told (x.refused told.0)
           (⊎_elim (λ fault. absurd (told.0 (subst IsFault (sym fault) tt))) (λ rest. rest) x.kept))
           taken.tells;
@@ -104,26 +105,27 @@ module _ {D H : Type 0} {g : _} {k : _} (view : D → DiskView) (only_now : (d :
   -- the record after a step
   record_on : (s t : Service D H g k) (receipt : Receipt)
       → (IsStep receipt.by.step × (receipt.by.step ≤ steps_of s) × (record_of t ≡ record_of s) × HasSameDisk view s t)
-      ⊎ ((receipt ≡ receipt_at (name_of s) (head_of t) m.thread) × (steps_of t ≡ steps_of s + 1) × (record_of t ≡ next_record (record_of s) (head_of t) t.recorded.root.archive (s.recorded.root.threads + 1) time))
+      ⊎ ((receipt ≡ receipt_at (name_of s) (head_of t) m.thread) × (steps_of t ≡ steps_of s + 1) × (record_of t ≡ next_record (record_of s) (head_of t) t.recorded.kept.root.archive (s.recorded.kept.root.threads + 1) time))
       → (IsStep receipt.by.step × (receipt.by.step ≤ steps_of s) × (record_of t ≡ record_of s) × HasSameDisk view s t)
-      ⊎ ((receipt.by ≡ thread_of t) × (steps_of t ≡ steps_of s + 1) × (record_of t ≡ next_record (record_of s) (head_of t) t.recorded.root.archive (s.recorded.root.threads + 1) time))
+      ⊎ ((receipt.by ≡ thread_of t) × (steps_of t ≡ steps_of s + 1) × (record_of t ≡ next_record (record_of s) (head_of t) t.recorded.kept.root.archive (s.recorded.kept.root.threads + 1) time))
   record_on s t receipt either =
       ⊎_elim (λ known. inl known)
       (λ made. let names = ap (λ (r : RootRecord). r.name) made.2 in
-      inr (ap (λ (x : Receipt). x.by) made.0 ∙ (λ j. record { from = sym names j; step = steps_of t; auth = t.recorded.root.head.auth }), made.1, made.2)) either
+      inr (ap (λ (x : Receipt). x.by) made.0 ∙ (λ j. record { from = sym names j; step = steps_of t; auth = t.recorded.kept.root.head.auth }), made.1, made.2)) either
 
   record_if : (s t : Service D H g k) (result : Result Receipt Refusal) → Taken s t result
       → IfOk result (λ receipt. (IsStep receipt.by.step × (receipt.by.step ≤ steps_of s) × (record_of t ≡ record_of s) × HasSameDisk view s t)
-      ⊎ ((receipt.by ≡ thread_of t) × (steps_of t ≡ steps_of s + 1) × (record_of t ≡ next_record (record_of s) (head_of t) t.recorded.root.archive (s.recorded.root.threads + 1) time)))
+      ⊎ ((receipt.by ≡ thread_of t) × (steps_of t ≡ steps_of s + 1) × (record_of t ≡ next_record (record_of s) (head_of t) t.recorded.kept.root.archive (s.recorded.kept.root.threads + 1) time)))
   record_if s t (Ok receipt) taken = record_on s t receipt taken.record_is
   record_if s t (Err r) taken = tt
 
-  pub received_taken : (s t : Service D H g k) (result : Result Receipt Refusal) → None ≡ own_refusal s.is_broken s.recorded.root.name m.thread.from → s.is_broken ≡ false → m.thread.from ≢ s.recorded.root.name
-      → TakesIn dig view m time s.recorded.store t.recorded.store s.recorded.root t.recorded.root result → IsTrue t.is_broken ↔ (result ≡ Err DiskFault) → Receives dig view m time s t result
+  pub received_taken : (s t : Service D H g k) (result : Result Receipt Refusal) → None ≡ own_refusal s.is_broken s.recorded.kept.root.name m.thread.from → s.is_broken ≡ false → m.thread.from ≢ s.recorded.kept.root.name
+      → TakesIn dig view m time s.recorded.kept.store t.recorded.kept.store s.recorded.kept.root t.recorded.kept.root result → IsTrue t.is_broken ↔ (result ≡ Err DiskFault) → Receives dig view m time s t result
   received_taken s t result none whole other taken flag = record {
-    table = subst (λ (o : Option Refusal). MatchOption o (IfErr result (λ why. IsFault why ⊎ TellsOf dig (steps_of s) s.recorded.root.time time m why)) (λ why. result ≡ Err why)) none taken.tells;
+    table = subst (λ (o : Option Refusal). MatchOption o (IfErr result (λ why. IsFault why ⊎ TellsOf dig (steps_of s) s.recorded.kept.root.time time m why)) (λ why. result ≡ Err why)) none taken.tells;
     answer = λ is ps list. taken.answer ps list;
     steps = λ h served. steps_on s t h served result taken (taken.steps h served other);
+    written = taken.written;
     receipt = taken.receipt;
     record_is = record_if s t result taken;
     kept = taken.kept;
@@ -134,10 +136,10 @@ module _ {D H : Type 0} {g : _} {k : _} (view : D → DiskView) (only_now : (d :
   }
 
   -- the first lines refuse it
-  pub received_refused : (s : Service D H g k) (r : Refusal) → Some r ≡ own_refusal s.is_broken s.recorded.root.name m.thread.from → Receives dig view m time s s (Err r)
+  pub received_refused : (s : Service D H g k) (r : Refusal) → Some r ≡ own_refusal s.is_broken s.recorded.kept.root.name m.thread.from → Receives dig view m time s s (Err r)
   received_refused s r is =
-      let store = s.recorded.store in
-      let root = s.recorded.root in
+      let store = s.recorded.kept.store in
+      let root = s.recorded.kept.root in
       let told : IsFault r → ⊥ = of_some NoFault _ r is (own_no_fault s.is_broken root.name m.thread.from) in
       record {
         table = subst (λ (o : Option Refusal). MatchOption o (IfErr (fails r) (λ why. IsFault why ⊎ TellsOf dig (steps_of s) root.time time m why)) (λ why. fails r ≡ Err why)) is refl;
@@ -145,14 +147,15 @@ module _ {D H : Type 0} {g : _} {k : _} (view : D → DiskView) (only_now : (d :
         steps = λ h served. record {
           next = h;
           is_next = inl refl;
-          any_moment = same_leaves view only_now dig store store (StandsForOneOf dig root.name h h) (is_same_itself view store) (λ i left. inl (rest_stands view only_now dig store root h served i left));
+          any_moment = same_leaves view only_now dig store store root h h (is_same_itself view store) served;
           told = same_tells view only_now dig store store root h h (is_same_itself view store) served;
           done = tt;
           refused = inr (served, read_leaves view only_now dig store store root h (is_same_itself view store) served);
           machine = λ whole.
-              let own : Some r ≡ own_refusal false h.name m.thread.from = is ∙ (λ j. own_refusal (whole j) (sym served.has.named j) m.thread.from) in
+              let own : Some r ≡ own_refusal false h.name m.thread.from = is ∙ (λ j. own_refusal (whole j) (sym served.keeps.named j) m.thread.from) in
               answers_refusal dig h (Receive m time) (λ (x : Receipt). OfReceipt x) (Serves dig view s) r (of_some IsTold _ r own (own_told h.name m.thread.from)) (receive_refused dig h m time r own) served;
         };
+        written = λ ps over. nothing_written view only_now (ArchivesTo dig m time) (IsReceiptOf dig m time) store store root root (Err r) ps (is_same_itself view store) over refl tt;
         receipt = tt;
         record_is = tt;
         kept = refl;
@@ -165,13 +168,13 @@ module _ {D H : Type 0} {g : _} {k : _} (view : D → DiskView) (only_now : (d :
 -- ---- a store that was only read
 
 module _ {D : Type 0} {g : _} (view : D → DiskView) (only_now : (d : D) (c : Image) → (view d).left_since (view d).moment c → (view d).may_leave c) (dig : List ℕ → List ℕ) (m : Message) (time : Option ℕ)
-    (old new : Store D g) (root : RootRecord) (same : IsSameStore view old new) (count : count_of new ≡ count_of old) where
+    (old new : Store D g) (root : RootRecord) (same : IsSameStore view old new) where
   abbrev finds_as : Result Receipt Refusal → Type 0
   finds_as result = (ps : Image) → list_of view old ≡ Some ps → ReceivesAs dig ps root m time root.head root.archive result (found_reception dig ps root.name root.head root.archive root.time m time)
 
   -- it is refused
   pub taken_err : (r : Refusal) → (IsFault r ⊎ TellsOf dig root.head.step root.time time m r) → finds_as (Err r) → (r ≡ DiskFault) ⊎ (is_broken new ≡ false)
-      → ((h : History) → IsAtRest (view (disk_below old)) (KeepsHistory dig old root h) → m.thread.from ≢ root.name → ((IsFault r → ⊥) → IsStepOf dig h (Receive m time) (Refused r) h) × (IsBadPage r → ⊥))
+      → ((h : History) → StoreServes dig view old root h → m.thread.from ≢ root.name → ((IsFault r → ⊥) → IsStepOf dig h (Receive m time) (Refused r) h) × (IsBadPage r → ⊥))
       → (r ≡ DiskFault → Rose (view (disk_below old)).faults (view (disk_below new)).faults) → (view (disk_below old)).faults ≤ (view (disk_below new)).faults → TakesIn dig view m time old new root root (Err r)
   taken_err r tells answer whole step rose later = record {
     tells = tells;
@@ -179,13 +182,14 @@ module _ {D : Type 0} {g : _} (view : D → DiskView) (only_now : (d : D) (c : I
     steps = λ h rest other. record {
       next = h;
       is_next = inl refl;
-      any_moment = same_leaves view only_now dig old new (StandsForOneOf dig root.name h h) same (λ i left. inl (rest_stands view only_now dig old root h rest i left));
+      any_moment = same_leaves view only_now dig old new root h h same rest;
       told = same_tells view only_now dig old new root h h same rest;
       done = tt;
-      kept = inr (read_keeps view only_now dig old new root h same count rest);
+      kept = inr (read_serves view only_now dig old new root h same rest);
       refused = (step h rest other).0;
       good = (step h rest other).1;
     };
+    written = λ ps over. nothing_written view only_now (ArchivesTo dig m time) (IsReceiptOf dig m time) old new root root (Err r) ps same over refl tt;
     receipt = tt;
     record_is = tt;
     kept = refl;
@@ -200,7 +204,7 @@ module _ {D : Type 0} {g : _} (view : D → DiskView) (only_now : (d : D) (c : I
 
   -- its thread is known
   pub taken_known : (receipt : Receipt) → finds_as (Ok receipt) → is_broken new ≡ false → (receipt.thread ≡ m.thread) × (receipt.by.from ≡ root.name) → IsStep receipt.by.step → receipt.by.step ≤ root.head.step
-      → ((h : History) → IsAtRest (view (disk_below old)) (KeepsHistory dig old root h) → m.thread.from ≢ root.name → IsStepOf dig h (Receive m time) (OfReceipt receipt) h)
+      → ((h : History) → StoreServes dig view old root h → m.thread.from ≢ root.name → IsStepOf dig h (Receive m time) (OfReceipt receipt) h)
       → (view (disk_below old)).faults ≤ (view (disk_below new)).faults → TakesIn dig view m time old new root root (Ok receipt)
   taken_known receipt answer whole of_thread is_step below step later = record {
     tells = tt;
@@ -208,13 +212,14 @@ module _ {D : Type 0} {g : _} (view : D → DiskView) (only_now : (d : D) (c : I
     steps = λ h rest other. record {
       next = h;
       is_next = inl refl;
-      any_moment = same_leaves view only_now dig old new (StandsForOneOf dig root.name h h) same (λ i left. inl (rest_stands view only_now dig old root h rest i left));
+      any_moment = same_leaves view only_now dig old new root h h same rest;
       told = same_tells view only_now dig old new root h h same rest;
-      done = (step h rest other, read_keeps view only_now dig old new root h same count rest);
+      done = (step h rest other, read_serves view only_now dig old new root h same rest);
       kept = tt;
       refused = tt;
       good = tt;
     };
+    written = λ ps over. nothing_written view only_now (ArchivesTo dig m time) (IsReceiptOf dig m time) old new root root (Ok receipt) ps same over refl (inl (refl, below));
     receipt = of_thread;
     record_is = inl (is_step, below, refl, same);
     kept = tt;

@@ -1,62 +1,60 @@
 -- What an image stands for.
-use Rattle.std.proofs.Common.{◌≡◌, ℕ, ◌+◌, ◌^◌, ◌≤◌, List, length, ap, arith, sym, ◌∙◌, subst, inl, inr, ⊎_elim}
+use Rattle.std.proofs.Common.{◌≡◌, ℕ, ◌+◌, ◌^◌, ◌≤◌, List, length, ap, refl, sym, ◌∙◌, subst}
 use Rattle.tw_base.specs.history.History.{History}
 use Rattle.tw_base.proofs.lemmas.kinds.DigestBytes.{IsDigest}
 use Rattle.tw_disk.specs.Image.{Image}
-use Rattle.tw_pages.specs.Store.{Opening, OpensAs, used_of}
+use Rattle.tw_kept.specs.Records.{IsOnce, Written, written}
+use Rattle.tw_kept.specs.Records.{Served as ServedAs}
+use Rattle.tw_kept.specs.Records.Served.{Opened as OpenedAs, Unopened as UnopenedAs}
+use Rattle.tw_kept.specs.Records.{IsServed as IsServedAs}
+use Rattle.tw_kept.proofs.Standing.{has_numbers as numbers_written, never_refused, served_once as once_served, written_once}
 use Rattle.tw_pages.specs.declared.open.StoreFault.{StoreFault}
-use Rattle.tw_pages.specs.declared.open.StoreFault.TheVariants.{NotAStore}
-use Rattle.tw_pages.proofs.Once.{opens_once}
-use Rattle.tw_pages.proofs.NotRefused.{not_refused, refused_once}
 use Rattle.tw_skiplist.proofs.Once.{keeps_alike}
 use Rattle.tw_answers.specs.declared.root.RootRecord.{RootRecord}
-use Rattle.tw_service.specs.Stands.{HasRoot, IsNotOpenedFor, IsServed, KeepsWhole, Served, StandsFor}
-use Rattle.tw_service.specs.Stands.Served.{Opened, Unopened}
-use Rattle.tw_pages.proofs.Bodies.{used_fits}
-use Rattle.tw_service.proofs.NextHistories.{one_history}
+use Rattle.tw_answers.specs.Roots.{root_kind}
 use Rattle.tw_answers.proofs.RootLaws.{root_once}
+use Rattle.tw_service.specs.Stands.{IsNotOpenedFor, IsServed, KeepsHistory, Served, StandsFor}
+use Rattle.tw_service.specs.Stands.Served.{Opened, Unopened}
+use Rattle.tw_service.proofs.NextHistories.{one_history}
 
--- an image that opens with a root record has no other one, and is refused for no reason
-module _ (image : Image) (o : Opening) (opens : OpensAs o image) (r : RootRecord) (has : HasRoot o r) where
-  one_root : (p : Opening) → OpensAs p image → (other : RootRecord) → HasRoot p other → r ≡ other
-  one_root p opens_too other has_too =
-      let root = subst (λ (x : Opening). HasRoot x r) (opens_once o p image opens opens_too) has in
-      root_once (used_of p) p.generation p.root r other root.bytes root.allowed has_too.bytes has_too.allowed
-
-  never_refused : (fault : StoreFault) → IsNotOpenedFor image fault → ⊥
-  never_refused fault why = ⊎_elim (not_refused o image opens fault)
-      (λ other. other.2 r (subst (λ (p : Opening). HasRoot p r) (opens_once o other.0 image opens other.1) has)) why
+pub once : IsOnce root_kind
+once root used generation r s is may also would = root_once used generation root r s is may also would
 
 -- the pages of a service have numbers that fit
 pub has_numbers : (image : Image) (root : RootRecord) (pages : Image) → IsServed image (Opened root pages) → 4 + length pages ≤ 2 ^ 64
-has_numbers image root pages a =
-    omega (arith, used_fits a.opening.generation (used_of a.opening) a.opening.root a.opens.stands.body.is.fits, ap length a.pages)
-
--- an image isn't opened for one reason at most
-not_opened_once : (image : Image) (f g : StoreFault) → IsNotOpenedFor image f → IsNotOpenedFor image g → f ≡ g
-not_opened_once image f g (inl one) (inl two) = refused_once image f g one two
-not_opened_once image f g (inl one) (inr two) = absurd (not_refused two.0 image two.1 f one)
-not_opened_once image f g (inr one) (inl two) = absurd (not_refused one.0 image one.1 g two)
-not_opened_once image f g (inr one) (inr two) =
-    one.3 ∙ ap (λ (o : Opening). NotAStore o.slot) (opens_once one.0 two.0 image one.1 two.1) ∙ sym two.3
+has_numbers image root pages is = numbers_written root_kind image (written root pages) is
 
 -- an image is served as one thing at most
+abbrev as_kept : Served → ServedAs RootRecord
+as_kept (Opened root pages) = OpenedAs (written root pages)
+as_kept (Unopened fault) = UnopenedAs fault
+
+abbrev of_kept : ServedAs RootRecord → Served
+of_kept (OpenedAs w) = Opened w.root w.pages
+of_kept (UnopenedAs fault) = Unopened fault
+
+of_same : (one : Served) → of_kept (as_kept one) ≡ one
+of_same (Opened root pages) = refl
+of_same (Unopened fault) = refl
+
+is_kept : (image : Image) (one : Served) → IsServed image one → IsServedAs root_kind image (as_kept one)
+is_kept image (Opened root pages) is = is
+is_kept image (Unopened fault) is = is
+
 pub served_once : (image : Image) (one other : Served) → IsServed image one → IsServed image other → one ≡ other
-served_once image (Opened root pages) (Opened last others) a b =
-    ap (λ (r : RootRecord). Opened r pages) (one_root image a.opening a.opens root a.has b.opening b.opens last b.has)
-    ∙ ap (λ (ps : Image). Opened last ps) (sym a.pages ∙ ap (λ (o : Opening). o.pages) (opens_once a.opening b.opening image a.opens b.opens) ∙ b.pages)
-served_once image (Opened root pages) (Unopened fault) a b = absurd (never_refused image a.opening a.opens root a.has fault b)
-served_once image (Unopened fault) (Opened root pages) a b = absurd (never_refused image b.opening b.opens root b.has fault a)
-served_once image (Unopened fault) (Unopened other) a b = ap (λ (f : StoreFault). Unopened f) (not_opened_once image fault other a b)
+served_once image one other a b =
+    sym (of_same one) ∙ ap of_kept (once_served root_kind once image (as_kept one) (as_kept other) (is_kept image one a) (is_kept image other b)) ∙ of_same other
 
 module _ (dig : List ℕ → List ℕ) where
+  -- pages keep one history at most under a record
+  pub keeps_once : ((text : List ℕ) → IsDigest (dig text)) → (pages : Image) (r : RootRecord) (h g : History) → KeepsHistory dig pages r h → KeepsHistory dig pages r g → h ≡ g
+  keeps_once size pages r h g s t =
+      one_history dig pages h g s.whole.steps.places t.whole.steps.places s.whole.trees t.whole.trees (keeps_alike dig size pages h g r.head s.whole.steps t.whole.steps) (s.named ∙ sym t.named)
+
   pub stands_once : ((text : List ℕ) → IsDigest (dig text)) → (image : Image) (one other : List ℕ) (h g : History) → StandsFor dig image one h → StandsFor dig image other g → h ≡ g
   stands_once size image one other h g s t =
-      let same = opens_once s.opening t.opening image s.opens t.opens in
-      let root = one_root image s.opening s.opens s.root s.has t.opening t.opens t.root t.has in
-      let keeps = subst (λ (r : RootRecord). KeepsWhole dig t.opening.pages h r) root (subst (λ (o : Opening). KeepsWhole dig o.pages h s.root) same s.keeps) in
-      one_history dig t.opening.pages h g keeps.steps.places t.keeps.steps.places keeps.trees t.keeps.trees (keeps_alike dig size t.opening.pages h g t.root.head keeps.steps t.keeps.steps)
-      (s.named ∙ sym s.of_name ∙ ap (λ (r : RootRecord). r.name) root ∙ t.of_name ∙ sym t.named)
+      let same = written_once root_kind once image s.stands.w t.stands.w s.stands.is t.stands.is in
+      keeps_once size t.stands.w.pages t.stands.w.root h g (subst (λ (w : Written RootRecord). KeepsHistory dig w.pages w.root h) same s.stands.keeps) t.stands.keeps
 
   pub stands_opened : (image : Image) (name : List ℕ) (h : History) (fault : StoreFault) → StandsFor dig image name h → IsNotOpenedFor image fault → ⊥
-  stands_opened image name h fault s why = never_refused image s.opening s.opens s.root s.has fault why
+  stands_opened image name h fault s why = never_refused root_kind image s.stands.w s.stands.is fault why

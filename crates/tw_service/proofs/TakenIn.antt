@@ -7,26 +7,28 @@ use Rattle.std.proofs.lemmas.Slice.Eq.{bytes_eq-Decides}
 use Rattle.tw_base.specs.declared.kinds.limits.TheConstants.{LAST_STEP}
 use Rattle.tw_base.specs.declared.history.root.Root.{Root}
 use Rattle.tw_base.specs.history.Auth.{auth}
-use Rattle.tw_base.specs.history.History.{History}
+use Rattle.tw_base.specs.history.History.{History, plus}
 use Rattle.tw_base.specs.history.Limits.{IsStep, IsThread, IsTimeWithinLimits}
 use Rattle.tw_base.specs.history.Sound.{IsSound}
 use Rattle.tw_base.specs.history.Tree.{entries, tree}
 use Rattle.tw_base.specs.kinds.Faults.{Rose}
 use Rattle.tw_base.proofs.lemmas.kinds.DigestBytes.{IsDigest}
 use Rattle.tw_disk.specs.Answers.{IsShared, SaysOf, has_failed, is_of_disk}
-use Rattle.tw_disk.specs.Disk.{DiskView, IsAtRest, LeavesOnly, Reads}
+use Rattle.tw_disk.specs.Disk.{DiskView}
 use Rattle.tw_disk.specs.Found.{Found}
 use Rattle.tw_disk.specs.Found.Found.{Is, Bad}
 use Rattle.tw_disk.specs.Image.{Image}
 use Rattle.tw_disk.proofs.FoundLaws.{same_found}
-use Rattle.tw_disk.proofs.Moments.{goes_on}
 use Rattle.tw_msg.specs.declared.message.Message.{Message}
 use Rattle.tw_msg.specs.declared.receipt.Receipt.{Receipt}
 use Rattle.tw_msg.specs.Messages.{IsLinked}
 use Rattle.tw_pages.specs.declared.store.Store.{Store}
-use Rattle.tw_pages.specs.Same.{IsSameStore, count_of, list_of}
+use Rattle.tw_kept.specs.Records.{Written, written}
+use Rattle.tw_kept.specs.Rests.{RestsWith}
+use Rattle.tw_kept.proofs.Written.{still_rests, told_list}
+use Rattle.tw_pages.specs.Same.{IsSameStore, list_of}
 use Rattle.tw_pages.specs.SameSteps.{is_same_on}
-use Rattle.tw_pages.specs.StoreValue.{disk_of, is_broken, opening_of, staged_of}
+use Rattle.tw_pages.specs.StoreValue.{disk_of, is_broken, staged_of}
 use Rattle.tw_archive.specs.Archives.{MayArchive}
 use Rattle.tw_archive.specs.Judging.{judged}
 use Rattle.tw_skiplist.specs.declared.head.Head.{Head}
@@ -35,6 +37,7 @@ use Rattle.tw_answers.specs.declared.refusal.Refusal.TheVariants.{Own, BadPage, 
 use Rattle.tw_answers.specs.declared.root.RootRecord.{RootRecord}
 use Rattle.tw_answers.specs.Finds.{IsAnswer}
 use Rattle.tw_answers.specs.Limits.{clock_refusal, own_refusal}
+use Rattle.tw_answers.specs.Roots.{root_kind}
 use Rattle.tw_answers.specs.Refusals.{IsBadPage, IsFault, refusals}
 use Rattle.tw_answers.proofs.FoundAnswers.{table_found}
 use Rattle.tw_answers.proofs.TableAnswers.{is_bad_fault}
@@ -42,17 +45,18 @@ use Rattle.tw_service.specs.declared.receiving.Reception.{Reception}
 use Rattle.tw_service.specs.declared.receiving.Reception.TheVariants.{Refuse, Known, Archive}
 use Rattle.tw_service.specs.Archiving.{AnswersArchived, ReceivesAs}
 use Rattle.tw_service.specs.Finds.{found_receipt, found_reception, receipt_at, receipt_of}
-use Rattle.tw_service.specs.Keeps.{KeepsHistory}
+use Rattle.tw_service.specs.Keeps.{StoreServes}
 use Rattle.tw_service.specs.Machine.{Archives, IsStepOf, RepliesTo, receipt_by, received_as}
 use Rattle.tw_service.specs.Machine.Call.{Receive}
 use Rattle.tw_service.specs.Machine.Reply.{OfReceipt, Refused}
 use Rattle.tw_service.specs.NextRecords.{next_record}
 use Rattle.tw_service.specs.Receiving.{TellsOf, reception, refuse_or}
-use Rattle.tw_service.specs.Stands.{KeepsWhole, StandsForOneOf, greatest_time}
-use Rattle.tw_service.specs.TakingIn.{TakesIn}
+use Rattle.tw_service.specs.Stands.{KeepsHistory, KeepsWhole, greatest_time}
+use Rattle.tw_service.specs.TakingIn.{StepsIn, TakesIn}
+use Rattle.tw_service.specs.Writing.{AddsThread, ArchivesTo, Commits, IsReceiptOf, IsReceiptOfNext}
 use Rattle.tw_service.proofs.Received.{taken_err, taken_known, tells_told}
 use Rattle.tw_service.proofs.Receptions.{answer-knows, archive-accepts, may_archive, receipt_kept, reception_kept}
-use Rattle.tw_service.proofs.Serving.{read_keeps, rest_stands, same_leaves, still_keeps, told_list}
+use Rattle.tw_service.proofs.Serving.{KeepsThread, few_written, keeps_thread, read_serves, since_read, written_leaves, written_serves, written_tells}
 
 abbrev fails : Refusal → Result Receipt Refusal
 fails why = Err why
@@ -154,7 +158,7 @@ module _ (dig : List ℕ → List ℕ) (ps : Image) (h : History) (r : RootRecor
 -- ---- the archive was read
 
 module _ {D : Type 0} {g : _} (view : D → DiskView) (only_now : (d : D) (c : Image) → (view d).left_since (view d).moment c → (view d).may_leave c) (dig : List ℕ → List ℕ) (size : (text : List ℕ) → IsDigest (dig text))
-    (m : Message) (time : Option ℕ) (old mid : Store D g) (root : RootRecord) (same : IsSameStore view old mid) (count : count_of mid ≡ count_of old) (later : (view (disk_of old)).faults ≤ (view (disk_of mid)).faults) where
+    (m : Message) (time : Option ℕ) (old mid : Store D g) (root : RootRecord) (same : IsSameStore view old mid) (clean : staged_of old ≡ []) (later : (view (disk_of old)).faults ≤ (view (disk_of mid)).faults) where
   abbrev finds : Image → Found Reception
   finds ps = found_reception dig ps root.name root.head root.archive root.time m time
 
@@ -162,10 +166,10 @@ module _ {D : Type 0} {g : _} (view : D → DiskView) (only_now : (d : D) (c : I
   pub taken_fault : (r : Refusal) → IsFault r → ((ps : Image) → list_of view old ≡ Some ps → SaysOf refusals (refusals r) (finds ps)) → (is_of_disk (refusals r) ≡ false → is_broken mid ≡ false)
       → (is_of_disk (refusals r) ≡ true → Rose (view (disk_of old)).faults (view (disk_of mid)).faults) → TakesIn dig view m time old mid root root (Err r)
   taken_fault r fault says good rose =
-      taken_err view only_now dig m time old mid root same count r (inl fault) (λ ps list. fault_answered dig ps root m time root.head root.archive r fault (finds ps) (says ps list)) (still_whole r fault (is_broken mid) good)
+      taken_err view only_now dig m time old mid root same r (inl fault) (λ ps list. fault_answered dig ps root m time root.head root.archive r fault (finds ps) (says ps list)) (still_whole r fault (is_broken mid) good)
       (λ h rest other. (
         (λ no. absurd (no fault)),
-        (λ bad. no_bad r (finds (opening_of old rest.image).pages) _ (reception_kept dig (opening_of old rest.image).pages h root rest.has.keeps m root.name time) (says (opening_of old rest.image).pages (told_list view only_now dig old root h rest)) bad),
+        (λ bad. no_bad r (finds rest.pages) _ (reception_kept dig rest.pages h root rest.keeps.whole m root.name time) (says rest.pages (told_list view root_kind old (written root rest.pages) rest.rests clean)) bad),
       ))
       (λ is. rose (ap (λ (q : Refusal). is_of_disk (refusals q)) is)) later
 
@@ -174,17 +178,17 @@ module _ {D : Type 0} {g : _} (view : D → DiskView) (only_now : (d : D) (c : I
     pub taken_refused : (r : Refusal) → x ≡ Refuse r → TellsOf dig root.head.step root.time time m r → TakesIn dig view m time old mid root root (Err r)
     taken_refused r is tells =
         let told = tells_told dig root.head.step root.time time m r tells in
-        taken_err view only_now dig m time old mid root same count r (inr tells)
+        taken_err view only_now dig m time old mid root same r (inr tells)
         (λ ps list. subst (ReceivesAs dig ps root m time root.head root.archive (Err r)) (sym (found ps list ∙ ap (λ (y : Reception). Is y) is)) (table_found r (Is (Err r)) told.0 refl))
         (inr unbroken)
         (λ h rest other. (
-          (λ no. refused_so dig (opening_of old rest.image).pages h root rest.has.keeps m time rest.has.named other x (found (opening_of old rest.image).pages (told_list view only_now dig old root h rest)) r is),
+          (λ no. refused_so dig rest.pages h root rest.keeps.whole m time rest.keeps.named other x (found rest.pages (told_list view root_kind old (written root rest.pages) rest.rests clean)) r is),
           (λ bad. told.0 (is_bad_fault r bad)),
         ))
         (λ fault. absurd (told.0 (subst IsFault (sym fault) tt))) later
 
     -- its thread is known, and the receipt was read
-    module _ (archived : ℕ) (is : x ≡ Known archived) (is_step : IsStep archived) (new : Store D g) (same_now : IsSameStore view old new) (count_now : count_of new ≡ count_of old)
+    module _ (archived : ℕ) (is : x ≡ Known archived) (is_step : IsStep archived) (new : Store D g) (same_now : IsSameStore view old new)
         (later_now : (view (disk_of old)).faults ≤ (view (disk_of new)).faults) where
       as_known : (result : Result Receipt Refusal) (ps : Image) → list_of view old ≡ Some ps → IsAnswer result (found_receipt dig ps root.name root.head archived m.thread) → ReceivesAs dig ps root m time root.head root.archive result (finds ps)
       as_known result ps list answer = subst (ReceivesAs dig ps root m time root.head root.archive result) (sym (found ps list ∙ ap (λ (y : Reception). Is y) is)) answer
@@ -193,66 +197,73 @@ module _ {D : Type 0} {g : _} (view : D → DiskView) (only_now : (d : D) (c : I
           → IfOk result (λ receipt. (receipt.thread ≡ m.thread) × (receipt.by.from ≡ root.name) × (receipt.by.step ≡ archived) × (archived ≤ root.head.step))
           → (has_failed refusals result ≡ false → is_broken new ≡ false) → (has_failed refusals result ≡ true → Rose (view (disk_of old)).faults (view (disk_of new)).faults) → TakesIn dig view m time old new root root result
       taken_receipt (Ok receipt) answer own by good rose =
-          taken_known view only_now dig m time old new root same_now count_now receipt (λ ps list. as_known (Ok receipt) ps list (answer ps list)) (good refl) (by.0, by.1) (subst IsStep (sym by.2) is_step)
+          taken_known view only_now dig m time old new root same_now receipt (λ ps list. as_known (Ok receipt) ps list (answer ps list)) (good refl) (by.0, by.1) (subst IsStep (sym by.2) is_step)
           (let step = by.2 in let low = by.3 in omega (arith, step, low))
           (λ h rest other.
-          let list = told_list view only_now dig old root h rest in
-          let ps = (opening_of old rest.image).pages in
-          (known_so dig ps h root rest.has.keeps m time rest.has.named other x (found ps list) size archived is).1 receipt (answer ps list))
+          let list = told_list view root_kind old (written root rest.pages) rest.rests clean in
+          let ps = rest.pages in
+          (known_so dig ps h root rest.keeps.whole m time rest.keeps.named other x (found ps list) size archived is).1 receipt (answer ps list))
           later_now
       taken_receipt (Err r) answer own by good rose =
-          taken_err view only_now dig m time old new root same_now count_now r (inl own) (λ ps list. as_known (Err r) ps list (answer ps list)) (still_whole r own (is_broken new) good)
+          taken_err view only_now dig m time old new root same_now r (inl own) (λ ps list. as_known (Err r) ps list (answer ps list)) (still_whole r own (is_broken new) good)
           (λ h rest other. (
             (λ no. absurd (no own)),
             (λ bad.
-                let list = told_list view only_now dig old root h rest in
-                let ps = (opening_of old rest.image).pages in
-                no_bad_receipt r (found_receipt dig ps root.name root.head archived m.thread) _ (known_so dig ps h root rest.has.keeps m time rest.has.named other x (found ps list) size archived is).0 (answer ps list) bad),
+                let list = told_list view root_kind old (written root rest.pages) rest.rests clean in
+                let ps = rest.pages in
+                no_bad_receipt r (found_receipt dig ps root.name root.head archived m.thread) _ (known_so dig ps h root rest.keeps.whole m time rest.keeps.named other x (found ps list) size archived is).0 (answer ps list) bad),
           ))
           (λ fault. rose (ap (λ (q : Refusal). is_of_disk (refusals q)) fault)) later_now
 
     -- it was archived
     module _ (is : x ≡ Archive) (linked : IsLinked m) (is_thread : IsThread m.thread) (within : IsTimeWithinLimits time) (room : (root.head.step < LAST_STEP) × (clock_refusal root.time time ≡ None))
-        (list_kept : list_of view mid ≡ list_of view old) (new : Store D g) (after : RootRecord) (clean : staged_of new ≡ []) where
-      may : (h : History) → IsAtRest (view (disk_of old)) (KeepsHistory dig old root h) → m.thread.from ≢ root.name → MayArchive h m.thread time
+        (list_kept : list_of view mid ≡ list_of view old) (new : Store D g) (after : RootRecord) where
+      may : (h : History) → StoreServes dig view old root h → m.thread.from ≢ root.name → MayArchive h m.thread time
       may h rest other =
-          may_so dig (opening_of old rest.image).pages h root rest.has.keeps m time rest.has.named other x (found (opening_of old rest.image).pages (told_list view only_now dig old root h rest)) is linked is_thread within room
+          may_so dig rest.pages h root rest.keeps.whole m time rest.keeps.named other x (found rest.pages (told_list view root_kind old (written root rest.pages) rest.rests clean)) is linked is_thread within room
 
-      becomes_so : (h : History) → IsAtRest (view (disk_of old)) (KeepsHistory dig old root h) → m.thread.from ≢ root.name → received_as dig h m time ≡ Archive
+      becomes_so : (h : History) → StoreServes dig view old root h → m.thread.from ≢ root.name → received_as dig h m time ≡ Archive
       becomes_so h rest other =
-          received_is dig (opening_of old rest.image).pages h root rest.has.keeps m time rest.has.named other x (found (opening_of old rest.image).pages (told_list view only_now dig old root h rest)) ∙ is
-
-      mid_rest : (h : History) → IsAtRest (view (disk_of old)) (KeepsHistory dig old root h) → IsAtRest (view (disk_of mid)) (KeepsHistory dig mid root h)
-      mid_rest h rest = read_keeps view only_now dig old mid root h same count rest
+          received_is dig rest.pages h root rest.keeps.whole m time rest.keeps.named other x (found rest.pages (told_list view root_kind old (written root rest.pages) rest.rests clean)) ∙ is
 
       abbrev OfResult : Result Receipt Refusal → Type 0
       OfResult result = IfOk result (λ receipt. (after ≡ next_record root after.head after.archive (root.threads + 1) time) × (after.head.step ≡ root.head.step + 1) × (receipt ≡ receipt_at root.name after.head m.thread))
 
-      abbrev OfSteps : Result Receipt Refusal → Type 0
-      OfSteps result = (h : History) → IsAtRest (view (disk_of mid)) (KeepsHistory dig mid root h) → MayArchive h m.thread time
-          → (next : History) × ((next ≡ h) ⊎ (Archives m.thread time h next × IsSound next))
-          × LeavesOnly (view (disk_of mid)) (view (disk_of new)) (StandsForOneOf dig root.name h next)
-          × Reads (view (disk_of new)) (StandsForOneOf dig root.name h next)
-          × IfOk result (λ receipt. Archives m.thread time h next × IsSound next × IsAtRest (view (disk_of new)) (KeepsHistory dig new after next))
+      abbrev IsNext : (w next : Written RootRecord) → Type 0
+      IsNext = AddsThread dig m.thread time
+
+      abbrev OfWritten : Result Receipt Refusal → Type 0
+      OfWritten result = (ps : Image) → RestsWith view root_kind mid (written root ps) → Commits view IsNext (IsReceiptOfNext dig m.thread time) mid new root after result ps
+
+      -- since before the archive was read
+      wrote : (result : Result Receipt Refusal) → OfWritten result → (ps : Image) → RestsWith view root_kind old (written root ps) → Commits view IsNext (IsReceiptOfNext dig m.thread time) old new root after result ps
+      wrote result commits ps rest = since_read view only_now IsNext (IsReceiptOfNext dig m.thread time) old mid new root after result ps same rest (λ next to. to) (λ receipt next of. of) (commits ps (still_rests view root_kind old mid (written root ps) same rest))
+
+      is_written : (result : Result Receipt Refusal) → OfWritten result → (ps : Image) → RestsWith view root_kind old (written root ps) → Commits view (ArchivesTo dig m time) (IsReceiptOf dig m time) old new root after result ps
+      is_written result commits ps rest =
+          let accepted : finds ps ≡ Is Archive = found ps (told_list view root_kind old (written root ps) rest clean) ∙ ap (λ (y : Reception). Is y) is in
+          let archives : (next : Written RootRecord) → AddsThread dig m.thread time (written root ps) next → ArchivesTo dig m time (written root ps) next = λ next adds. record { accepted = accepted; adds = adds } in
+          since_read view only_now (ArchivesTo dig m time) (IsReceiptOf dig m time) old mid new root after result ps same rest archives (λ receipt next of. inr (of.0, archives next of.1))
+          (commits ps (still_rests view root_kind old mid (written root ps) same rest))
+
+      -- the next history
+      kept_thread : (h : History) (rest : StoreServes dig view old root h) → m.thread.from ≢ root.name → (next : Written RootRecord) → AddsThread dig m.thread time (written root rest.pages) next → KeepsThread dig size (written root rest.pages) next h rest.keeps m.thread time
+      kept_thread h rest other next to =
+          keeps_thread dig size (written root rest.pages) next h rest.keeps m.thread time to (may h rest other) room.0 (few_written view old (written root rest.pages) rest.rests)
 
       -- the receipt is that of the next history's last step
-      own_receipt : (h next : History) (receipt : Receipt) → length h.steps ≡ root.head.step → OfResult (Ok receipt) → IsAtRest (view (disk_of new)) (KeepsHistory dig new after next) → receipt ≡ receipt_by dig next (suc (length h.steps)) m.thread
+      own_receipt : (h next : History) (receipt : Receipt) → length h.steps ≡ root.head.step → OfResult (Ok receipt) → StoreServes dig view new after next → receipt ≡ receipt_by dig next (suc (length h.steps)) m.thread
       own_receipt h next receipt ends of rest =
-          let step : length next.steps ≡ suc (length h.steps) = (let own = rest.has.keeps.steps.step in let one = of.1 in omega (arith, own, one, ends)) in
-          let named : root.name ≡ next.name = sym (rest.has.named ∙ ap (λ (r : RootRecord). r.name) of.0) in
+          let step : length next.steps ≡ suc (length h.steps) = (let own = rest.keeps.whole.steps.step in let one = of.1 in omega (arith, own, one, ends)) in
+          let named : root.name ≡ next.name = sym (rest.keeps.named ∙ ap (λ (r : RootRecord). r.name) of.0) in
           of.2
-          ∙ (λ j. record { by = record { from = named j; step = (rest.has.keeps.steps.step ∙ step) j; auth = (rest.has.keeps.steps.auth ∙ ap (auth dig next) step) j }; thread = m.thread })
-
-      any_moment : (h next : History) → IsAtRest (view (disk_of old)) (KeepsHistory dig old root h) → LeavesOnly (view (disk_of mid)) (view (disk_of new)) (StandsForOneOf dig root.name h next)
-          → LeavesOnly (view (disk_of old)) (view (disk_of new)) (StandsForOneOf dig root.name h next)
-      any_moment h next rest run = goes_on (view (disk_of old)) (view (disk_of mid)) (view (disk_of new)) (StandsForOneOf dig root.name h next)
-          (same_leaves view only_now dig old mid (StandsForOneOf dig root.name h next) same (λ i left. inl (rest_stands view only_now dig old root h rest i left))) run
+          ∙ (λ j. record { by = record { from = named j; step = (rest.keeps.whole.steps.step ∙ step) j; auth = (rest.keeps.whole.steps.auth ∙ ap (auth dig next) step) j }; thread = m.thread })
 
       -- after a refusal
-      still : (r : Refusal) → after ≡ root → (r ≡ DiskFault) ⊎ IsSameStore view mid new → (h : History) → IsAtRest (view (disk_of old)) (KeepsHistory dig old root h) → (r ≡ DiskFault) ⊎ IsAtRest (view (disk_of new)) (KeepsHistory dig new after h)
+      still : (r : Refusal) → after ≡ root → (r ≡ DiskFault) ⊎ IsSameStore view mid new → (h : History) → StoreServes dig view old root h → (r ≡ DiskFault) ⊎ StoreServes dig view new after h
       still r stays either h rest =
           ⊎_elim (λ is_fault. inl is_fault)
-          (λ same_too. inr (subst (λ (x : RootRecord). IsAtRest (view (disk_of new)) (KeepsHistory dig new x h)) (sym stays) (still_keeps view only_now dig mid new root h same_too clean (mid_rest h rest)))) either
+          (λ same_too. inr (subst (λ (x : RootRecord). StoreServes dig view new x h) (sym stays) (read_serves view only_now dig old new root h (is_same_on view old mid new same same_too) rest))) either
 
       same_so : (r : Refusal) → (r ≡ DiskFault) ⊎ IsSameStore view mid new → (r ≡ DiskFault) ⊎ IsSameStore view old new
       same_so r either = ⊎_elim (λ is_fault. inl is_fault) (λ same_too. inr (is_same_on view old mid new same same_too)) either
@@ -266,35 +277,56 @@ module _ {D : Type 0} {g : _} (view : D → DiskView) (only_now : (d : D) (c : I
       rose_on : Rose (view (disk_of mid)).faults (view (disk_of new)).faults → Rose (view (disk_of old)).faults (view (disk_of new)).faults
       rose_on rose = omega (arith, rose, later)
 
-      -- the next history, of which the message is accepted
-      is_next : (h next : History) → received_as dig h m time ≡ Archive → (next ≡ h) ⊎ (Archives m.thread time h next × IsSound next) → (next ≡ h) ⊎ ((received_as dig h m time ≡ Archive) × Archives m.thread time h next × IsSound next)
-      is_next h next accepted either = ⊎_elim (λ stays. inl stays) (λ more. inr (accepted, more.0, more.1)) either
+      -- what is said of a refused step by the next history
+      module _ (r : Refusal) (own : IsFault r) (stays : after ≡ root) (same_after : (r ≡ DiskFault) ⊎ IsSameStore view mid new) (good : IsBadPage r → (h : History) → StoreServes dig view mid root h → MayArchive h m.thread time → ⊥)
+          (h : History) (rest : StoreServes dig view old root h) (other : m.thread.from ≢ root.name) (it : Commits view IsNext (IsReceiptOfNext dig m.thread time) old new root after (fails r) rest.pages) where
+        refused_with : (next : History) → (next ≡ h) ⊎ ((received_as dig h m time ≡ Archive) × Archives m.thread time h next × IsSound next)
+            → (it.next ≡ written root rest.pages) ⊎ KeepsHistory dig it.next.pages it.next.root next → next.name ≡ root.name → StepsIn dig view m time old new root after (Err r) h
+        refused_with next goes either named = record {
+          next = next;
+          is_next = goes;
+          any_moment = written_leaves view only_now IsNext (IsReceiptOfNext dig m.thread time) dig old new root after (Err r) h next rest it either named;
+          told = written_tells view only_now IsNext (IsReceiptOfNext dig m.thread time) dig old new root after (Err r) h next rest it either named;
+          done = tt;
+          kept = still r stays same_after h rest;
+          refused = λ no. absurd (no own);
+          good = λ bad. good bad h (read_serves view only_now dig old mid root h same rest) (may h rest other);
+        }
 
-      pub taken_archived : (result : Result Receipt Refusal) → OfResult result → IfErr result IsFault → OnErr result (after ≡ root) → OfSteps result → IfErr result (λ r. (r ≡ DiskFault) ⊎ IsSameStore view mid new) → Archived result
-          → IfErr result (λ r. IsBadPage r → (h : History) → IsAtRest (view (disk_of mid)) (KeepsHistory dig mid root h) → MayArchive h m.thread time → ⊥)
+        refused_steps : StepsIn dig view m time old new root after (Err r) h
+        refused_steps = ⊎_elim
+            (λ stayed. refused_with h (inl refl) (inl stayed) rest.keeps.named)
+            (λ to. let next = kept_thread h rest other it.next to in
+            refused_with (plus h next.step) (inr (becomes_so h rest other, (next.step, refl, next.content, next.at_time), next.keeps_next.sound)) (inr next.keeps_next) rest.keeps.named) it.is_next
+
+      pub taken_archived : (result : Result Receipt Refusal) → OfResult result → IfErr result IsFault → OnErr result (after ≡ root) → OfWritten result → IfErr result (λ r. (r ≡ DiskFault) ⊎ IsSameStore view mid new) → Archived result
+          → IfErr result (λ r. IsBadPage r → (h : History) → StoreServes dig view mid root h → MayArchive h m.thread time → ⊥)
           → (result ≡ Err DiskFault) ⊎ (is_broken new ≡ false) → (result ≡ Err DiskFault → Rose (view (disk_of mid)).faults (view (disk_of new)).faults)
           → (view (disk_of mid)).faults ≤ (view (disk_of new)).faults → TakesIn dig view m time old new root after result
-      taken_archived (Ok receipt) of own kept steps same_after answer good whole fault later_on = record {
+      taken_archived (Ok receipt) of own kept commits same_after answer good whole fault later_on = record {
         tells = tt;
         answer = as_archive (Ok receipt) answer;
         steps = λ h rest other.
             let accepted = becomes_so h rest other in
-            let run = steps h (mid_rest h rest) (may h rest other) in
-            let done = run.4 in
+            let it = wrote (Ok receipt) commits rest.pages rest.rests in
+            let next = kept_thread h rest other it.next it.done.0.1 in
+            let served = written_serves view only_now IsNext (IsReceiptOfNext dig m.thread time) dig old new root after (Ok receipt) h (plus h next.step) rest it (inr next.keeps_next) rest.keeps.named next.keeps_next (it.done.1, it.done.2) in
+            let archives : Archives m.thread time h (plus h next.step) = (next.step, refl, next.content, next.at_time) in
             record {
-              next = run.0;
-              is_next = is_next h run.0 accepted run.1;
-              any_moment = any_moment h run.0 rest run.2;
-              told = run.3;
+              next = plus h next.step;
+              is_next = inr (accepted, archives, next.keeps_next.sound);
+              any_moment = written_leaves view only_now IsNext (IsReceiptOfNext dig m.thread time) dig old new root after (Ok receipt) h (plus h next.step) rest it (inr next.keeps_next) rest.keeps.named;
+              told = written_tells view only_now IsNext (IsReceiptOfNext dig m.thread time) dig old new root after (Ok receipt) h (plus h next.step) rest it (inr next.keeps_next) rest.keeps.named;
               done = (
-                subst (λ (y : Reception). RepliesTo dig h m time (OfReceipt receipt) run.0 y) (sym accepted)
-                    (done.0, done.1, ap OfReceipt (own_receipt h run.0 receipt (sym rest.has.keeps.steps.step) of done.2)),
-                done.2,
+                subst (λ (y : Reception). RepliesTo dig h m time (OfReceipt receipt) (plus h next.step) y) (sym accepted)
+                    (archives, next.keeps_next.sound, ap OfReceipt (own_receipt h (plus h next.step) receipt (sym rest.keeps.whole.steps.step) of served)),
+                served,
               );
               kept = tt;
               refused = tt;
               good = tt;
             };
+        written = is_written (Ok receipt) commits;
         receipt = (ap (λ (x : Receipt). x.thread) of.2, ap (λ (x : Receipt). x.by.from) of.2);
         record_is = inr (of.2, of.1, of.0);
         kept = tt;
@@ -303,22 +335,11 @@ module _ {D : Type 0} {g : _} (view : D → DiskView) (only_now : (d : D) (c : I
         fault = λ e. rose_on (fault e);
         later = omega (arith, later, later_on);
       }
-      taken_archived (Err r) of own kept steps same_after answer good whole fault later_on = record {
+      taken_archived (Err r) of own kept commits same_after answer good whole fault later_on = record {
         tells = inl own;
         answer = as_archive (Err r) answer;
-        steps = λ h rest other.
-            let accepted = becomes_so h rest other in
-            let run = steps h (mid_rest h rest) (may h rest other) in
-            record {
-              next = run.0;
-              is_next = is_next h run.0 accepted run.1;
-              any_moment = any_moment h run.0 rest run.2;
-              told = run.3;
-              done = tt;
-              kept = still r kept same_after h rest;
-              refused = λ no. absurd (no own);
-              good = λ bad. good bad h (mid_rest h rest) (may h rest other);
-            };
+        steps = λ h rest other. refused_steps r own kept same_after good h rest other (wrote (Err r) commits rest.pages rest.rests);
+        written = is_written (Err r) commits;
         receipt = tt;
         record_is = tt;
         kept = kept;

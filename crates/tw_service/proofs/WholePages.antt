@@ -24,7 +24,7 @@ use Rattle.tw_archive.specs.Numbering.{new_from, numbered}
 use Rattle.tw_archive.proofs.Growing.{archived-keeps, archived-sound, grown-nodes, grown-tree}
 use Rattle.tw_archive.proofs.Keeping.{kept-named, stands-at}
 use Rattle.tw_archive.proofs.Resting.{events-keep}
-use Rattle.tw_archive.proofs.RootPages.{no-page, own-page, some-entry}
+use Rattle.tw_archive.proofs.RootPages.{some-entry}
 use Rattle.tw_skiplist.specs.declared.head.Head.{Head}
 use Rattle.tw_skiplist.specs.Appended.{appended}
 use Rattle.tw_skiplist.specs.Keeping.{GoOn, Keeps, Place, archive_at, place_of}
@@ -33,9 +33,8 @@ use Rattle.tw_skiplist.proofs.KeptAppended.{Grown, grown}
 use Rattle.tw_answers.specs.declared.root.RootRecord.{RootRecord}
 use Rattle.tw_service.specs.EventSteps.{event_step, with_events}
 use Rattle.tw_service.specs.NextRecords.{event_record, next_record}
-use Rattle.tw_answers.specs.Roots.{HasLastPage}
 use Rattle.tw_service.specs.Stands.{KeepsWhole, greater, step_pages}
-use Rattle.tw_service.proofs.NextHistories.{few-received, longer-length, longer-time, none-received, one-received, same_tree}
+use Rattle.tw_service.proofs.NextHistories.{longer-length, longer-time, none-received, one-received, same_tree}
 
 -- ---- what holds of such pages
 
@@ -83,18 +82,6 @@ module _ (dig : List ℕ → List ℕ) (ps : Image) (h : History) (r : RootRecor
   tree_at i within =
       any (named_at dig ps h (step_pages places) (archive_at dig h places) i) (archive_at dig h places i) (tree h i)
       (stands-at dig ps h (step_pages places) (archive_at dig h places) whole.trees i within (λ none. refl))
-
-  -- the record's archive has a page exactly where a thread was received, of which there are no more than steps
-  pub threads_page : IsSound h → HasLastPage (4 + length ps) r.threads r.archive.page
-  threads_page sound = record {
-    none = λ none. ap (λ (root : Root). root.page) whole.archive
-        ∙ no-page dig ps h (step_pages places) (archive_at dig h places) whole.trees sound any (length h.steps) (omega arith) (sym whole.threads ∙ none);
-    some = λ some. subst (λ (root : Root). (4 ≤ root.page) × (root.page < 4 + length ps)) (sym whole.archive)
-        (own-page dig ps h (step_pages places) (archive_at dig h places) whole.trees sound any (length h.steps) (omega arith) (subst (λ (k : ℕ). 0 < k) whole.threads some));
-  }
-
-  pub threads_few : r.threads ≤ r.head.step
-  threads_few = let few = few-received h (length h.steps) in omega (arith, few, whole.threads, whole.steps.step)
 
   -- ---- one more step, in these pages and those behind them
 

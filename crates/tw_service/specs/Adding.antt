@@ -23,8 +23,9 @@ use Rattle.tw_service.specs.Machine.Call.{Append, Receive}
 use Rattle.tw_service.specs.Machine.Reply.{OfReceipt, OfThread}
 use Rattle.tw_service.specs.NextRecords.{next_record}
 use Rattle.tw_answers.specs.Refusals.{IsFault}
-use Rattle.tw_service.specs.Serves.{HasSameDisk, Serves, archive_of, clock_of, disk_of, has_failed, head_of, name_of, pages_of, record_of, steps_of, thread_of, threads_of}
+use Rattle.tw_service.specs.Serves.{HasSameDisk, IsOver, Serves, archive_of, clock_of, disk_of, has_failed, head_of, name_of, pages_of, record_of, steps_of, thread_of, threads_of}
 use Rattle.tw_service.specs.Stands.{StandsFor, StandsForOneOf, greater}
+use Rattle.tw_service.specs.Writing.{AppendsTo, ArchivesTo, Commits, IsReceiptOf, IsThreadOfNext}
 
 module _ {D H : Type 0} {g : _} {k : _} (dig : List ℕ → List ℕ) (view : D → DiskView) where
   -- Of a history that was served there is a next one by the call. Each image that a crash since may leave stands for one of the two,
@@ -51,6 +52,9 @@ module _ {D H : Type 0} {g : _} {k : _} (dig : List ℕ → List ℕ) (view : D 
         → IsAnswer result (found_thread dig ps (name_of old) (head_of old) (has_failed old) (clock_of old) events time (archive_of old))
     -- of each history that was served
     pub steps : (h : History) → Serves dig view old h → Steps (Append events time) OfThread old new result h
+    -- whatever its pages keep
+    pub written : (ps : Image) → IsOver view old ps
+        → Commits view (AppendsTo dig events time) (IsThreadOfNext dig events time) old.recorded.kept.store new.recorded.kept.store (record_of old) (record_of new) result ps
     -- the answer is the thread of the new head, which is that of the next step of the value's name
     pub thread : IfOk result (λ thread. (thread ≡ thread_of new) × (thread.from ≡ name_of old) × (thread.step ≡ steps_of old + 1))
     -- archive and number of threads stay as they were, over whatever store; and the record then has the greater time
@@ -77,6 +81,9 @@ module _ {D H : Type 0} {g : _} {k : _} (dig : List ℕ → List ℕ) (view : D 
         → ReceivesAs dig ps (record_of old) m time (head_of new) (archive_of new) result (found_reception dig ps (name_of old) (head_of old) (archive_of old) (clock_of old) m time)
     -- of each history that was served
     pub steps : (h : History) → Serves dig view old h → Steps (Receive m time) OfReceipt old new result h
+    -- whatever its pages keep
+    pub written : (ps : Image) → IsOver view old ps
+        → Commits view (ArchivesTo dig m time) (IsReceiptOf dig m time) old.recorded.kept.store new.recorded.kept.store (record_of old) (record_of new) result ps
     -- the receipt is of the message's thread; either it is by a step up to the last one, nothing was written and the record is as before,
     -- or it is by the step of the new head, the next one, and the record has one thread more and the greater time
     pub receipt : IfOk result (λ receipt. (receipt.thread ≡ m.thread) × (receipt.by.from ≡ name_of old))

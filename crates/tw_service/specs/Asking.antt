@@ -5,7 +5,9 @@ use Rattle.tw_base.specs.kinds.Faults.{Rose}
 use Rattle.tw_disk.specs.Disk.{DiskView, LeavesOnly}
 use Rattle.tw_disk.specs.Found.{Found}
 use Rattle.tw_disk.specs.Image.{Image}
+use Rattle.tw_kept.specs.Records.{IsWritten, written}
 use Rattle.tw_answers.specs.declared.refusal.Refusal.{Refusal}
+use Rattle.tw_answers.specs.Roots.{root_kind}
 use Rattle.tw_answers.specs.declared.refusal.Refusal.TheVariants.{DiskFault}
 use Rattle.tw_service.specs.declared.service.Service.{Service}
 use Rattle.tw_answers.specs.Finds.{IsAnswer}
@@ -16,7 +18,7 @@ use Rattle.tw_service.specs.Machine.Reply.{OfBytes}
 use Rattle.tw_base.specs.declared.history.question.Question.{Question}
 use Rattle.tw_service.specs.Questions.{Besides, found_answer, question_refusal}
 use Rattle.tw_answers.specs.Refusals.{IsFault}
-use Rattle.tw_service.specs.Serves.{HasSameDisk, Serves, disk_of, has_failed, head_of, name_of, pages_of, record_of, steps_of}
+use Rattle.tw_service.specs.Serves.{HasSameDisk, IsOver, Serves, disk_of, has_failed, head_of, name_of, pages_of, record_of, steps_of}
 use Rattle.tw_service.specs.Stands.{StandsFor}
 
 module _ {D H : Type 0} {g : _} {k : _} (dig : List ℕ → List ℕ) (view : D → DiskView) where
@@ -32,6 +34,8 @@ module _ {D H : Type 0} {g : _} {k : _} (dig : List ℕ → List ℕ) (view : D 
     -- whatever the answer, the history is served as before, at rest, and nothing is written
     pub same : (h : History) → Serves dig view old h → Serves dig view new h × LeavesOnly (view (disk_of old)) (view (disk_of new)) (λ i. StandsFor dig i (name_of old) h)
     pub unwritten : HasSameDisk view old new
+    -- whatever its pages keep, it is at rest as before, and each image opens with its record and them
+    pub over : (ps : Image) → IsOver view old ps → IsOver view new ps × LeavesOnly (view (disk_of old)) (view (disk_of new)) (IsWritten root_kind (written (record_of old) ps))
     -- the root record, and with it name, head, archive and greatest time, is as before
     pub kept : record_of new ≡ record_of old
     -- that a call answered a disk fault is remembered, and nothing else is remembered so

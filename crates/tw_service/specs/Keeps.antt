@@ -1,18 +1,14 @@
--- The history that a store keeps.
-use Rattle.std.specs.Prelude.{◌≡◌, ℕ, List, []}
+-- The history that a store serves.
+use Rattle.std.specs.Prelude.{ℕ, List}
 use Rattle.tw_base.specs.history.History.{History}
-use Rattle.tw_base.specs.history.Sound.{IsSound}
-use Rattle.tw_disk.specs.Image.{Image}
+use Rattle.tw_disk.specs.Disk.{DiskView}
+use Rattle.tw_kept.specs.States.{Serves as ServesState}
 use Rattle.tw_pages.specs.declared.store.Store.{Store}
-use Rattle.tw_pages.specs.StoreValue.{IsKept, opening_of, staged_of}
 use Rattle.tw_answers.specs.declared.root.RootRecord.{RootRecord}
-use Rattle.tw_service.specs.Stands.{HasRoot, KeepsWhole}
+use Rattle.tw_answers.specs.Roots.{root_kind}
+use Rattle.tw_service.specs.Stands.{KeepsHistory}
 
--- the store, over this content of its disk, keeps this history under this root record, and nothing is staged
-pub record KeepsHistory {D : Type 0} {g : _} (dig : List ℕ → List ℕ) (store : Store D g) (root : RootRecord) (h : History) (image : Image) : Type 0 where
-  pub sound : IsSound h
-  pub named : h.name ≡ root.name
-  pub kept : IsKept store image
-  pub clean : staged_of store ≡ []
-  pub has : HasRoot (opening_of store image) root
-  pub keeps : KeepsWhole dig (opening_of store image).pages h root
+-- its disk is at rest, that is, it tells its content and every image that a crash now may leave is this content; and the store over it keeps
+-- the history under this root record
+abbrev pub StoreServes : {D : Type 0} {g : _} → (dig : List ℕ → List ℕ) (view : D → DiskView) → Store D g → RootRecord → History → Type 0
+StoreServes dig view store root h = ServesState root_kind (KeepsHistory dig) view store root h

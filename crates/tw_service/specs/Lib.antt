@@ -10,6 +10,7 @@ pub mod Archiving
 pub mod Machine
 pub mod NextRecords
 pub mod Keeps
+pub mod Writing
 pub mod TakingIn
 pub mod Serves
 pub mod Adding

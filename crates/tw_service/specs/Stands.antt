@@ -3,14 +3,15 @@ use Rattle.std.specs.Prelude.{◌≡◌, ◌⊎◌, ℕ, List, [], ◌∷◌, le
 use Rattle.tw_base.specs.history.History.{History, received, times}
 use Rattle.tw_base.specs.history.Sound.{IsSound}
 use Rattle.tw_disk.specs.Image.{Image}
-use Rattle.tw_pages.specs.Store.{Opening, OpensAs, used_of}
-use Rattle.tw_pages.specs.Slots.{IsBlank, IsRefusedFor}
+use Rattle.tw_pages.specs.Slots.{IsBlank}
 use Rattle.tw_pages.specs.declared.open.StoreFault.{StoreFault}
-use Rattle.tw_pages.specs.declared.open.StoreFault.TheVariants.{NotAStore}
+use Rattle.tw_kept.specs.Records.{IsWritten, written}
+use Rattle.tw_kept.specs.Records.{IsNotOpenedFor as IsNotOpenedAs}
+use Rattle.tw_kept.specs.States.{StandsFor as StandsForState}
 use Rattle.tw_archive.specs.Archives.{KeepsTrees}
 use Rattle.tw_skiplist.specs.Keeping.{Keeps, Place, archive_at, place_of}
 use Rattle.tw_answers.specs.declared.root.RootRecord.{RootRecord}
-use Rattle.tw_answers.specs.Roots.{IsAllowed, root_bytes}
+use Rattle.tw_answers.specs.Roots.{root_kind}
 
 -- the history of this name that has no step
 abbrev pub no_history : (name : List ℕ) → History
@@ -18,23 +19,13 @@ no_history name = record { name = name; steps = [] }
 
 -- ---- images that open as a service
 
--- the store's root record is this one, and is allowed in it
-pub record HasRoot (o : Opening) (r : RootRecord) : Type 0 where
-  pub bytes : o.root ≡ root_bytes r
-  pub allowed : IsAllowed (used_of o) o.generation r
-
 -- the image opens as a store with this root record, and P holds of the store's pages
-pub record OpensWith (image : Image) (root : RootRecord) (P : Image → Type 0) : Type 0 where
-  pub opening : Opening
-  pub opens : OpensAs opening image
-  pub has : HasRoot opening root
-  pub pages : P opening.pages
+abbrev pub OpensWith : (image : Image) (root : RootRecord) (P : Image → Type 0) → Type 0
+OpensWith image root P = (pages : Image) × IsWritten root_kind (written root pages) image × P pages
 
 -- why an image isn't opened: it opens as no store, or its root record is none of a service
 abbrev pub IsNotOpenedFor : Image → StoreFault → Type 0
-IsNotOpenedFor image fault =
-    IsRefusedFor image fault
-    ⊎ ((o : Opening) × OpensAs o image × ((r : RootRecord) → HasRoot o r → ⊥) × (fault ≡ NotAStore o.slot))
+IsNotOpenedFor image fault = IsNotOpenedAs root_kind image fault
 
 -- what an image is served as: the service of this root record and these pages, or, for this reason, none
 pub data Served : Type 0 where
@@ -42,7 +33,7 @@ pub data Served : Type 0 where
   Unopened : StoreFault → Served
 
 abbrev pub IsServed : Image → Served → Type 0
-IsServed image (Opened root pages) = OpensWith image root (λ ps. ps ≡ pages)
+IsServed image (Opened root pages) = IsWritten root_kind (written root pages) image
 IsServed image (Unopened fault) = IsNotOpenedFor image fault
 
 -- ---- images that stand for a history
@@ -76,16 +67,16 @@ module _ (dig : List ℕ → List ℕ) where
     pub threads : r.threads ≡ length (received h (length h.steps))
     pub time : r.time ≡ greatest_time h
 
+  -- the same of a sound history that has the record's name
+  pub record KeepsHistory (pages : Image) (r : RootRecord) (h : History) : Type 0 where
+    pub sound : IsSound h
+    pub named : h.name ≡ r.name
+    pub whole : KeepsWhole pages h r
+
   -- the image opens as a store that keeps this history of this name
   pub record StandsFor (image : Image) (name : List ℕ) (h : History) : Type 0 where
-    pub sound : IsSound h
     pub named : h.name ≡ name
-    pub opening : Opening
-    pub opens : OpensAs opening image
-    pub root : RootRecord
-    pub has : HasRoot opening root
-    pub of_name : root.name ≡ name
-    pub keeps : KeepsWhole opening.pages h root
+    pub stands : StandsForState root_kind KeepsHistory h image
 
   -- for the history, or for the next one
   abbrev pub StandsForOneOf : (name : List ℕ) → (h next : History) → Image → Type 0

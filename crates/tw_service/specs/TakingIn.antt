@@ -3,7 +3,9 @@ use Rattle.std.specs.Prelude.{◌≡◌, ◌≢◌, ◌⊎◌, ℕ, ◌+◌, ◌
 use Rattle.tw_base.specs.history.History.{History}
 use Rattle.tw_base.specs.history.Limits.{IsStep}
 use Rattle.tw_base.specs.kinds.Faults.{Rose}
-use Rattle.tw_disk.specs.Disk.{DiskView, IsAtRest, LeavesOnly, Reads}
+use Rattle.tw_disk.specs.Disk.{DiskView, LeavesOnly, Reads}
+use Rattle.tw_kept.specs.Records.{written}
+use Rattle.tw_kept.specs.Rests.{RestsWith}
 use Rattle.tw_disk.specs.Image.{Image}
 use Rattle.tw_msg.specs.declared.message.Message.{Message}
 use Rattle.tw_msg.specs.declared.receipt.Receipt.{Receipt}
@@ -13,16 +15,18 @@ use Rattle.tw_pages.specs.StoreValue.{disk_of, is_broken}
 use Rattle.tw_answers.specs.declared.refusal.Refusal.{Refusal}
 use Rattle.tw_answers.specs.declared.refusal.Refusal.TheVariants.{DiskFault}
 use Rattle.tw_answers.specs.declared.root.RootRecord.{RootRecord}
+use Rattle.tw_answers.specs.Roots.{root_kind}
 use Rattle.tw_service.specs.Archiving.{ReceivesAs}
 use Rattle.tw_service.specs.Finds.{found_reception, receipt_at}
 use Rattle.tw_service.specs.Receiving.{TellsOf}
-use Rattle.tw_service.specs.Keeps.{KeepsHistory}
+use Rattle.tw_service.specs.Keeps.{StoreServes}
 use Rattle.tw_service.specs.Machine.{IsStepOf, NextOf}
 use Rattle.tw_service.specs.Machine.Call.{Receive}
 use Rattle.tw_service.specs.Machine.Reply.{OfReceipt, Refused}
 use Rattle.tw_service.specs.NextRecords.{next_record}
 use Rattle.tw_answers.specs.Refusals.{IsBadPage, IsFault}
 use Rattle.tw_service.specs.Stands.{StandsForOneOf}
+use Rattle.tw_service.specs.Writing.{ArchivesTo, Commits, IsReceiptOf}
 
 module _ {D : Type 0} {g : _} (dig : List ℕ → List ℕ) (view : D → DiskView) where
   -- Of a history that was kept at rest, and isn't the message's, there is a next one by the call. Each image that a crash since may leave
@@ -33,8 +37,8 @@ module _ {D : Type 0} {g : _} (dig : List ℕ → List ℕ) (view : D → DiskVi
     pub is_next : NextOf dig (Receive m time) h next
     pub any_moment : LeavesOnly (view (disk_of old)) (view (disk_of new)) (StandsForOneOf dig before.name h next)
     pub told : Reads (view (disk_of new)) (StandsForOneOf dig before.name h next)
-    pub done : IfOk result (λ receipt. IsStepOf dig h (Receive m time) (OfReceipt receipt) next × IsAtRest (view (disk_of new)) (KeepsHistory dig new after next))
-    pub kept : IfErr result (λ refusal. (refusal ≡ DiskFault) ⊎ IsAtRest (view (disk_of new)) (KeepsHistory dig new after h))
+    pub done : IfOk result (λ receipt. IsStepOf dig h (Receive m time) (OfReceipt receipt) next × StoreServes dig view new after next)
+    pub kept : IfErr result (λ refusal. (refusal ≡ DiskFault) ⊎ StoreServes dig view new after h)
     pub refused : IfErr result (λ refusal. (IsFault refusal → ⊥) → IsStepOf dig h (Receive m time) (Refused refusal) h)
     pub good : IfErr result (λ refusal. IsBadPage refusal → ⊥)
 
@@ -43,7 +47,8 @@ module _ {D : Type 0} {g : _} (dig : List ℕ → List ℕ) (view : D → DiskVi
     pub tells : IfErr result (λ refusal. IsFault refusal ⊎ TellsOf dig before.head.step before.time time m refusal)
     pub answer : (ps : Image) → list_of view old ≡ Some ps
         → ReceivesAs dig ps before m time after.head after.archive result (found_reception dig ps before.name before.head before.archive before.time m time)
-    pub steps : (h : History) → IsAtRest (view (disk_of old)) (KeepsHistory dig old before h) → m.thread.from ≢ before.name → StepsIn m time old new before after result h
+    pub steps : (h : History) → StoreServes dig view old before h → m.thread.from ≢ before.name → StepsIn m time old new before after result h
+    pub written : (ps : Image) → RestsWith view root_kind old (written before ps) → Commits view (ArchivesTo dig m time) (IsReceiptOf dig m time) old new before after result ps
     pub receipt : IfOk result (λ receipt. (receipt.thread ≡ m.thread) × (receipt.by.from ≡ before.name))
     pub record_is : IfOk result (λ receipt. (IsStep receipt.by.step × (receipt.by.step ≤ before.head.step) × (after ≡ before) × IsSameStore view old new)
         ⊎ ((receipt ≡ receipt_at before.name after.head m.thread) × (after.head.step ≡ before.head.step + 1)

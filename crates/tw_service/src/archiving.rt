@@ -15,9 +15,9 @@ ghost use Rattle.tw_service.specs.Finds.{found_room};
 ghost use Rattle.tw_answers.specs.Refusals.{IsFault, refusals};
 
 use crate::receiving::receipt_by;
-use crate::recorded::{Recorded, next_root};
+use crate::recorded::{Unstaged, next_root};
 use std::alloc::Global;
-use tw_answers::{Refusal, RootRecord, refusal_of_tree, root_record};
+use tw_answers::{Refusal, RootRecord, refusal_of_tree};
 use tw_archive::insert_near;
 use tw_base::limits::LAST_STEP;
 use tw_base::{Entry, Hasher, Root, Thread};
@@ -65,6 +65,7 @@ fn stage_tree<P: Pages, H: Hasher>(
         IfOk result (λ new. (now : Image) × (grown : Tree) × ((P.view pages.new).list ≡ Some now)
         × StandsWith H.dig (HasNamed named) now new grown × (entries grown ≡ with_entry (entries t) (entry_of root.now.head.step thread.now))) }
     ensures behind { IfOk result (λ new. (P.view pages.old).used ≤ new.page) }
+    ensures page { IfOk result (λ new. new.page < (P.view pages.new).used) }
     ensures few { (P.view pages.new).used ≤ (P.view pages.old).used + 23 }
 {
     let entry = next_entry(root, thread);
@@ -92,6 +93,8 @@ pub(crate) fn stage_thread<P: Pages, H: Hasher>(
     ensures page { (ps : Image) → (P.view pages.old).list ≡ Some ps → IfErr result (ArchivesAs H.dig ps root.now thread.now time) }
     ensures own { IfErr result IsFault }
     ensures behind { IfOk result (λ new. (P.view pages.old).used ≤ new.archive.page) }
+    ensures below { IfOk result (λ new. new.archive.page < (P.view pages.new).used) }
+    ensures last { IfOk result (λ new. new.head.page < (P.view pages.new).used) }
     ensures step { IfOk result (λ new. new.head.step ≡ root.now.head.step + 1) }
     ensures few { (P.view pages.new).used ≤ (P.view pages.old).used + 42 }
     ensures kept { OnlyAdds P.view P.same pages.old pages.new (has_failed refusals result ≡ false) }
@@ -102,27 +105,25 @@ pub(crate) fn stage_thread<P: Pages, H: Hasher>(
     Ok(Staged { head, archive })
 }
 
-impl<D: Disk> Recorded<D> {
-    ghost use Rattle.std.specs.Prelude.{OnErr, None, Err};
+impl<D: Disk> Unstaged<D> {
+    ghost use Rattle.std.specs.Prelude.{OnErr, Err};
     ghost use Rattle.tw_base.specs.history.History.{History};
-    ghost use Rattle.tw_base.specs.history.Sound.{IsSound};
     ghost use Rattle.tw_base.specs.kinds.Faults.{Rose};
     ghost use Rattle.tw_archive.specs.Archives.{MayArchive};
-    ghost use Rattle.tw_disk.specs.Disk.{IsAtRest, LeavesOnly, Reads};
+    ghost use Rattle.tw_kept.specs.Records.{written};
+    ghost use Rattle.tw_kept.specs.Rests.{RestsWith};
     ghost use Rattle.tw_pages.specs.StoreValue.{disk_of, is_broken};
     ghost use Rattle.tw_pages.specs.Same.{IsSameStore, list_of};
     ghost use Rattle.tw_service.specs.Archiving.{AnswersArchived};
     ghost use Rattle.tw_service.specs.Finds.{receipt_at};
-    ghost use Rattle.tw_service.specs.Keeps.{KeepsHistory};
-    ghost use Rattle.tw_answers.specs.Limits.{clock_refusal};
-    ghost use Rattle.tw_service.specs.Machine.{Archives};
+    ghost use Rattle.tw_service.specs.Keeps.{StoreServes};
     ghost use Rattle.tw_service.specs.NextRecords.{next_record};
+    ghost use Rattle.tw_service.specs.Writing.{AddsThread, Commits, IsReceiptOfNext};
     ghost use Rattle.tw_answers.specs.Refusals.{IsBadPage};
-    ghost use Rattle.tw_service.specs.Stands.{StandsForOneOf};
+    ghost use Rattle.tw_answers.specs.Roots.{root_kind};
 
-    /// Adds the step that archives the thread, at this time or none, to the history that the store keeps, and commits it with the next
-    /// record; answers the step's receipt. All memory is taken before the first write. Where it refuses, nothing is staged, and the
-    /// record is as before.
+    /// Adds the step that archives the thread, at this time or none, and commits it with the next record; answers the step's receipt. All
+    /// memory is taken before the first write. Where it refuses, nothing is staged, and the record is as before.
     pub(crate) fn archive<H: Hasher>(
         &mut self,
         alloc: Global,
@@ -130,55 +131,45 @@ impl<D: Disk> Recorded<D> {
         thread: &Thread,
         time: Option<u64>,
     ) -> Result<Receipt, Refusal>
-        requires step { self.old.root.head.step < LAST_STEP }
+        requires step { self.old.kept.root.head.step < LAST_STEP }
         requires thread { IsThread thread.now }
         requires time { IsTimeWithinLimits time }
-        requires whole { is_broken self.old.store ≡ false }
-        requires shelf { AreOf (list_of D.view self.old.store) (kept_on shelf.old) }
-        ensures root { IfOk result (λ receipt. (self.new.root ≡ next_record self.old.root self.new.root.head self.new.root.archive (self.old.root.threads + 1) time)
-            × (self.new.root.head.step ≡ self.old.root.head.step + 1) × (receipt ≡ receipt_at self.old.root.name self.new.root.head thread.now)) }
-        ensures kept { OnErr result (self.new.root ≡ self.old.root) }
-        ensures whole { (result ≡ Err Refusal.DiskFault) ⊎ (is_broken self.new.store ≡ false) }
+        requires whole { is_broken self.old.kept.store ≡ false }
+        requires shelf { AreOf (list_of D.view self.old.kept.store) (kept_on shelf.old) }
+        ensures root { IfOk result (λ receipt. (self.new.kept.root ≡ next_record self.old.kept.root self.new.kept.root.head self.new.kept.root.archive (self.old.kept.root.threads + 1) time)
+            × (self.new.kept.root.head.step ≡ self.old.kept.root.head.step + 1) × (receipt ≡ receipt_at self.old.kept.root.name self.new.kept.root.head thread.now)) }
+        ensures kept { OnErr result (self.new.kept.root ≡ self.old.kept.root) }
+        ensures whole { (result ≡ Err Refusal.DiskFault) ⊎ (is_broken self.new.kept.store ≡ false) }
         ensures answers { IfErr result IsFault }
-        ensures steps { (h : History) → IsAtRest (D.view (disk_of self.old.store)) (KeepsHistory H.dig self.old.store self.old.root h) → MayArchive h thread.now time
-            → (next : History) × ((next ≡ h) ⊎ (Archives thread.now time h next × IsSound next))
-            × LeavesOnly (D.view (disk_of self.old.store)) (D.view (disk_of self.new.store)) (StandsForOneOf H.dig self.old.root.name h next)
-            × Reads (D.view (disk_of self.new.store)) (StandsForOneOf H.dig self.old.root.name h next)
-            × IfOk result (λ receipt. Archives thread.now time h next × IsSound next × IsAtRest (D.view (disk_of self.new.store)) (KeepsHistory H.dig self.new.store self.new.root next)) }
-        ensures same { IfErr result (λ refusal. (refusal ≡ Refusal.DiskFault) ⊎ IsSameStore D.view self.old.store self.new.store) }
-        ensures answer { (ps : Image) → list_of D.view self.old.store ≡ Some ps → AnswersArchived H.dig ps self.old.root thread.now time self.new.root.head self.new.root.archive result }
-        ensures good { IfErr result (λ refusal. IsBadPage refusal → (h : History) → IsAtRest (D.view (disk_of self.old.store)) (KeepsHistory H.dig self.old.store self.old.root h)
+        ensures written { (ps : Image) → RestsWith D.view root_kind self.old.kept.store (written self.old.kept.root ps)
+            → Commits D.view (AddsThread H.dig thread.now time) (IsReceiptOfNext H.dig thread.now time) self.old.kept.store self.new.kept.store self.old.kept.root self.new.kept.root result ps }
+        ensures same { IfErr result (λ refusal. (refusal ≡ Refusal.DiskFault) ⊎ IsSameStore D.view self.old.kept.store self.new.kept.store) }
+        ensures answer { (ps : Image) → list_of D.view self.old.kept.store ≡ Some ps → AnswersArchived H.dig ps self.old.kept.root thread.now time self.new.kept.root.head self.new.kept.root.archive result }
+        ensures good { IfErr result (λ refusal. IsBadPage refusal → (h : History) → StoreServes H.dig D.view self.old.kept.store self.old.kept.root h
             → MayArchive h thread.now time → ⊥) }
-        ensures fault { result ≡ Err Refusal.DiskFault → Rose ((D.view (disk_of self.old.store)).faults) ((D.view (disk_of self.new.store)).faults) }
-        ensures later { (D.view (disk_of self.old.store)).faults ≤ (D.view (disk_of self.new.store)).faults }
+        ensures fault { result ≡ Err Refusal.DiskFault → Rose ((D.view (disk_of self.old.kept.store)).faults) ((D.view (disk_of self.new.kept.store)).faults) }
+        ensures later { (D.view (disk_of self.old.kept.store)).faults ≤ (D.view (disk_of self.new.kept.store)).faults }
     {
         let added = stage_thread::<Store<D>, H>(
             alloc,
-            &mut self.store,
+            &mut self.kept.store,
             shelf,
-            &self.root,
+            &self.kept.root,
             thread,
             time,
         );
         match added {
             Err(refusal) => {
-                self.store.discard();
+                self.kept.store.discard();
                 Err(refusal)
             }
             Ok(staged) => {
-                let root = &self.root;
+                let root = &self.kept.root;
                 let next = next_root(root, staged.head, staged.archive, root.threads + 1, time);
-                let bytes = root_record(&next);
                 let receipt = receipt_by(&next, next.head.step, &next.head.auth, thread);
-                match self.store.commit(bytes.as_slice()) {
-                    Ok(()) => {
-                        self.root = next;
-                        Ok(receipt)
-                    }
-                    Err(_) => {
-                        self.store.discard();
-                        Err(Refusal::DiskFault)
-                    }
+                match self.kept.commit::<H>(next) {
+                    Ok(()) => Ok(receipt),
+                    Err(_) => Err(Refusal::DiskFault),
                 }
             }
         }

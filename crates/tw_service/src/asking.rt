@@ -194,15 +194,15 @@ impl<D: Disk, H: Hasher> Service<D, H> {
         ensures { AsksFor H.dig D.view question.now self.old self.new result }
     {
         see_names(question);
-        let last = self.recorded.root.head.step;
+        let last = self.recorded.kept.root.head.step;
         if let Some(refusal) = question_refusal(self.is_broken, last, question) {
             return Err(refusal);
         }
         match answer_bytes::<Store<D>, H>(
             self.alloc,
-            &mut self.recorded.store,
-            &self.recorded.root.name,
-            &self.recorded.root.head,
+            &mut self.recorded.kept.store,
+            &self.recorded.kept.root.name,
+            &self.recorded.kept.root.head,
             question,
         ) {
             Ok(bytes) => Ok(bytes),
@@ -341,14 +341,18 @@ impl<D: Disk, H: Hasher> Service<D, H> {
         // Over any pages, told or not, its path has at most twice as many links as the last step has binary digits.
         ensures bound { IfOk result (λ m. (digits : ℕ) → steps_of self.old < 2 ^ digits → length m.link.links ≤ 2 * digits) }
     {
-        if let Some(refusal) = thread_refusal(self.is_broken, self.recorded.root.head.step, since) {
+        if let Some(refusal) = thread_refusal(
+            self.is_broken,
+            self.recorded.kept.root.head.step,
+            since,
+        ) {
             return Err(refusal);
         }
         match tell_message::<Store<D>, H>(
             self.alloc,
-            &mut self.recorded.store,
-            &self.recorded.root.name,
-            &self.recorded.root.head,
+            &mut self.recorded.kept.store,
+            &self.recorded.kept.root.name,
+            &self.recorded.kept.root.head,
             since,
         ) {
             Ok(message) => Ok(message),

@@ -1,38 +1,37 @@
 // A store with the root record of its service, and one more step of the history that it keeps.
 
 ghost use Rattle.std.specs.Prelude.{◌≡◌, ◌⊎◌, ℕ, ◌+◌, ◌*◌, ◌<◌, ◌≤◌, [], IfOk, IfErr, OnErr, false, Some, None, Err};
+ghost use Rattle.tw_base.specs.format.Codecs.{HasBytes};
 ghost use Rattle.tw_base.specs.declared.kinds.limits.TheConstants.{LAST_STEP};
 ghost use Rattle.tw_base.specs.history.Limits.{IsThread, IsTimeWithinLimits, MayRecord};
 ghost use Rattle.tw_disk.specs.declared.limits.TheConstants.{FIRST_PAGE};
-ghost use Rattle.tw_pages.specs.StoreValue.{generation_of, is_broken, root_of, staged_of};
+ghost use Rattle.tw_pages.specs.StoreValue.{generation_of, is_broken, staged_of};
 ghost use Rattle.tw_pages.specs.Same.{count_of};
-ghost use Rattle.tw_answers.specs.Limits.{clock_refusal};
+ghost use Rattle.tw_answers.specs.Limits.{append_refusal};
 ghost use Rattle.tw_service.specs.NextRecords.{AddsAs, event_record, next_record};
-ghost use Rattle.tw_answers.specs.Roots.{root_bytes};
 ghost use Rattle.tw_service.specs.Stands.{greater};
 ghost use Rattle.tw_answers.specs.declared.limits.TheConstants.{MOST_PAGES_OF_A_STEP};
 
 use crate::receiving::{Reception, receipt_of_step, receive_by};
 use std::alloc::Global;
-use tw_answers::{Refusal, RootRecord, root_record};
-use tw_base::{EventList, Hasher, Root};
+use tw_answers::{Refusal, RootRecord};
+use tw_base::{EventList, Hasher, Root, see_digest};
 use tw_cache::Shelf;
 use tw_disk::Disk;
+use tw_kept::Recorded;
 use tw_msg::{Message, Receipt};
 use tw_pages::Store;
 use tw_skiplist::{Head, append};
 
 /// A store in which nothing is staged, with its root record, which is that of a service.
 #[derive(Drop)]
-pub(crate) struct Recorded<D: Disk> {
-    pub(crate) store: Store<D>,
-    pub(crate) root: RootRecord,
-    ghost short: { root.head.step ≤ LAST_STEP },
-    ghost few_threads: { root.threads ≤ root.head.step },
-    ghost recorded: { root_of store ≡ root_bytes root },
-    ghost few_pages: { count_of store ≤ FIRST_PAGE + MOST_PAGES_OF_A_STEP * root.head.step },
-    ghost few_commits: { generation_of store ≤ root.head.step + 1 },
-    ghost clean: { staged_of store ≡ [] },
+pub(crate) struct Unstaged<D: Disk> {
+    pub(crate) kept: Recorded<D, RootRecord>,
+    ghost short: { kept.root.head.step ≤ LAST_STEP },
+    ghost few_threads: { kept.root.threads ≤ kept.root.head.step },
+    ghost few_pages: { count_of kept.store ≤ FIRST_PAGE + MOST_PAGES_OF_A_STEP * kept.root.head.step },
+    ghost few_commits: { generation_of kept.store ≤ kept.root.head.step + 1 },
+    ghost clean: { staged_of kept.store ≡ [] },
 }
 
 /// The greater one of two times, where there is one.
@@ -56,8 +55,12 @@ pub(crate) fn next_root(
     threads: u64,
     time: Option<u64>,
 ) -> RootRecord
-    ensures { result ≡ next_record root.now head archive threads time }
+    ensures next { result ≡ next_record root.now head archive threads time }
+    ensures auth { HasBytes 32 head.auth }
+    ensures label { HasBytes 32 archive.label }
 {
+    see_digest(&head.auth);
+    see_digest(&archive.label);
     RootRecord {
         name: root.name,
         head,
@@ -67,77 +70,68 @@ pub(crate) fn next_root(
     }
 }
 
-impl<D: Disk> Recorded<D> {
+impl<D: Disk> Unstaged<D> {
     ghost use Rattle.tw_base.specs.history.History.{History};
     ghost use Rattle.tw_base.specs.kinds.Faults.{Rose};
     ghost use Rattle.tw_base.specs.declared.history.content.Content.TheVariants.{Events};
-    ghost use Rattle.tw_disk.specs.Disk.{IsAtRest, LeavesOnly, Reads};
     ghost use Rattle.tw_disk.specs.Image.{Image};
+    ghost use Rattle.tw_kept.specs.Records.{written};
+    ghost use Rattle.tw_kept.specs.Rests.{RestsWith};
     ghost use Rattle.tw_pages.specs.StoreValue.{disk_of};
     ghost use Rattle.tw_pages.specs.Same.{IsSameStore, list_of};
     ghost use Rattle.tw_answers.specs.Refusals.{IsBadPage, IsFault};
+    ghost use Rattle.tw_answers.specs.Roots.{root_kind};
     ghost use Rattle.tw_msg.specs.Messages.{IsLinked};
     ghost use Rattle.tw_skiplist.specs.Appended.{appended};
     ghost use Rattle.tw_service.specs.TakingIn.{TakesIn};
-    ghost use Rattle.tw_service.specs.EventSteps.{with_events};
-    ghost use Rattle.tw_service.specs.Keeps.{KeepsHistory};
-    ghost use Rattle.tw_service.specs.Stands.{StandsForOneOf};
+    ghost use Rattle.tw_service.specs.Keeps.{StoreServes};
+    ghost use Rattle.tw_service.specs.Writing.{AppendsTo, Commits};
 
-    /// Adds a step of these events, with this time or none, to the history that the store keeps, and commits it with the next record. All
-    /// memory is taken before the first write. Where it refuses, nothing is staged, and the record is as before.
+    /// Adds a step of these events, with this time or none, and commits it with the next record. All memory is taken before the first
+    /// write. Where it refuses, nothing is staged, and the record is as before.
     pub(crate) fn add_step<H: Hasher>(
         &mut self,
         alloc: Global,
         events: &EventList,
         time: Option<u64>,
     ) -> Result<(), Refusal>
-        requires step { self.old.root.head.step < LAST_STEP }
+        requires allowed { append_refusal false self.old.kept.root.head.step self.old.kept.root.time events.now time ≡ None }
+        requires step { self.old.kept.root.head.step < LAST_STEP }
         requires limits { MayRecord events.now }
         requires time { IsTimeWithinLimits time }
-        requires clock { clock_refusal self.old.root.time time ≡ None }
-        requires whole { is_broken self.old.store ≡ false }
-        ensures root { IfOk result (λ _. (self.new.root ≡ event_record self.old.root self.new.root.head time) × (self.new.root.head.step ≡ self.old.root.head.step + 1)) }
-        ensures kept { OnErr result (self.new.root ≡ self.old.root) }
-        ensures whole { (result ≡ Err Refusal.DiskFault) ⊎ (is_broken self.new.store ≡ false) }
+        requires whole { is_broken self.old.kept.store ≡ false }
+        ensures root { IfOk result (λ _. (self.new.kept.root ≡ event_record self.old.kept.root self.new.kept.root.head time) × (self.new.kept.root.head.step ≡ self.old.kept.root.head.step + 1)) }
+        ensures kept { OnErr result (self.new.kept.root ≡ self.old.kept.root) }
+        ensures whole { (result ≡ Err Refusal.DiskFault) ⊎ (is_broken self.new.kept.store ≡ false) }
         ensures answers { IfErr result IsFault }
-        ensures done { IfOk result (λ _. (h : History) → IsAtRest (D.view (disk_of self.old.store)) (KeepsHistory H.dig self.old.store self.old.root h)
-            → IsAtRest (D.view (disk_of self.new.store)) (KeepsHistory H.dig self.new.store self.new.root (with_events h events.now time))) }
-        ensures any_moment { (h : History) → IsAtRest (D.view (disk_of self.old.store)) (KeepsHistory H.dig self.old.store self.old.root h)
-            → LeavesOnly (D.view (disk_of self.old.store)) (D.view (disk_of self.new.store)) (StandsForOneOf H.dig self.old.root.name h (with_events h events.now time)) }
-        ensures told { (h : History) → IsAtRest (D.view (disk_of self.old.store)) (KeepsHistory H.dig self.old.store self.old.root h)
-            → Reads (D.view (disk_of self.new.store)) (StandsForOneOf H.dig self.old.root.name h (with_events h events.now time)) }
-        ensures same { IfErr result (λ refusal. (refusal ≡ Refusal.DiskFault) ⊎ IsSameStore D.view self.old.store self.new.store) }
-        ensures answer { (ps : Image) → list_of D.view self.old.store ≡ Some ps → AddsAs result self.new.root.head (appended H.dig ps self.old.root.head (Events events.now) self.old.root.archive time) }
-        ensures good { IfErr result (λ refusal. IsBadPage refusal → (h : History) → IsAtRest (D.view (disk_of self.old.store)) (KeepsHistory H.dig self.old.store self.old.root h) → ⊥) }
-        ensures fault { result ≡ Err Refusal.DiskFault → Rose ((D.view (disk_of self.old.store)).faults) ((D.view (disk_of self.new.store)).faults) }
-        ensures later { (D.view (disk_of self.old.store)).faults ≤ (D.view (disk_of self.new.store)).faults }
+        ensures written { (ps : Image) → RestsWith D.view root_kind self.old.kept.store (written self.old.kept.root ps)
+            → Commits D.view (AppendsTo H.dig events.now time) (λ _ w next. AppendsTo H.dig events.now time w next) self.old.kept.store self.new.kept.store self.old.kept.root self.new.kept.root result ps }
+        ensures same { IfErr result (λ refusal. (refusal ≡ Refusal.DiskFault) ⊎ IsSameStore D.view self.old.kept.store self.new.kept.store) }
+        ensures answer { (ps : Image) → list_of D.view self.old.kept.store ≡ Some ps
+            → AddsAs result self.new.kept.root.head (appended H.dig ps self.old.kept.root.head (Events events.now) self.old.kept.root.archive time) }
+        ensures good { IfErr result (λ refusal. IsBadPage refusal → (h : History) → StoreServes H.dig D.view self.old.kept.store self.old.kept.root h → ⊥) }
+        ensures fault { result ≡ Err Refusal.DiskFault → Rose ((D.view (disk_of self.old.kept.store)).faults) ((D.view (disk_of self.new.kept.store)).faults) }
+        ensures later { (D.view (disk_of self.old.kept.store)).faults ≤ (D.view (disk_of self.new.kept.store)).faults }
     {
         let added = append::<Store<D>, H>(
             alloc,
-            &mut self.store,
-            &self.root.head,
+            &mut self.kept.store,
+            &self.kept.root.head,
             events,
-            &self.root.archive,
+            &self.kept.root.archive,
             time,
         );
         match added {
             Err(fault) => {
-                self.store.discard();
+                self.kept.store.discard();
                 Err(Refusal::from(fault))
             }
             Ok(head) => {
-                let root = &self.root;
+                let root = &self.kept.root;
                 let next = next_root(root, head, root.archive, root.threads, time);
-                let bytes = root_record(&next);
-                match self.store.commit(bytes.as_slice()) {
-                    Ok(()) => {
-                        self.root = next;
-                        Ok(())
-                    }
-                    Err(_) => {
-                        self.store.discard();
-                        Err(Refusal::DiskFault)
-                    }
+                match self.kept.commit::<H>(next) {
+                    Ok(()) => Ok(()),
+                    Err(_) => Err(Refusal::DiskFault),
                 }
             }
         }
@@ -153,16 +147,17 @@ impl<D: Disk> Recorded<D> {
         requires linked { IsLinked message.now }
         requires thread { IsThread message.now.thread }
         requires time { IsTimeWithinLimits time }
-        requires whole { is_broken self.old.store ≡ false }
-        ensures receives { TakesIn H.dig D.view message.now time self.old.store self.new.store self.old.root self.new.root result }
+        requires whole { is_broken self.old.kept.store ≡ false }
+        ensures receives { TakesIn H.dig D.view message.now time self.old.kept.store self.new.kept.store self.old.kept.root self.new.kept.root result }
     {
         let mut shelf = Shelf::new(alloc);
-        match receive_by::<Store<D>, H>(&mut self.store, &mut shelf, &self.root, message, time)? {
+        let root = &self.kept.root;
+        match receive_by::<Store<D>, H>(&mut self.kept.store, &mut shelf, root, message, time)? {
             Reception::Refuse(refusal) => Err(refusal),
             Reception::Known { archived } => receipt_of_step::<Store<D>, H>(
                 alloc,
-                &mut self.store,
-                &self.root,
+                &mut self.kept.store,
+                &self.kept.root,
                 archived,
                 &message.thread,
             ),

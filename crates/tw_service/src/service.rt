@@ -3,26 +3,25 @@ ghost use Rattle.std.specs.Prelude.{◌≡◌, ◌⊎◌, ◌≤◌, ◌*◌, �
 ghost use Rattle.tw_base.specs.kinds.Names.{IsName};
 ghost use Rattle.tw_pages.specs.StoreValue.{is_broken as store_is_broken};
 
-use crate::recorded::Recorded;
+use crate::recorded::Unstaged;
 use std::alloc::Global;
 use std::marker::PhantomData;
-use tw_answers::{
-    Refusal, RootRecord, append_refusal, is_disk_fault, own_refusal, read_root, root_record,
-};
+use tw_answers::{Refusal, RootRecord, append_refusal, is_disk_fault, own_refusal};
 use tw_base::{EventList, Hasher, Name, ReadFault, Root, Thread, empty_tree, genesis};
-use tw_disk::{Disk, Pages};
+use tw_disk::Disk;
+use tw_kept::Recorded;
 use tw_msg::{Message as MessageRead, Receipt, message_laws, read_message};
-use tw_pages::{Store, StoreFault};
+use tw_pages::StoreFault;
 use tw_skiplist::Head;
 
 /// A service: one sound history on a disk, where its pages keep one.
 #[derive(Drop)]
 pub struct Service<D: Disk, H: Hasher> {
     pub(crate) alloc: Global,
-    pub(crate) recorded: Recorded<D>,
+    pub(crate) recorded: Unstaged<D>,
     pub(crate) is_broken: bool,
     hasher: PhantomData<H>,
-    ghost tells_faults: { is_broken ≡ false → store_is_broken recorded.store ≡ false },
+    ghost tells_faults: { is_broken ≡ false → store_is_broken recorded.kept.store ≡ false },
 }
 
 /// A name has letters, and zeros behind them.
@@ -51,7 +50,10 @@ impl<D: Disk, H: Hasher> Service<D, H> {
     ghost use Rattle.tw_service.specs.Machine.{Answers, IsStepOf, last_thread};
     ghost use Rattle.tw_service.specs.Machine.Call.{Append, CountSteps, TellHead, TellName};
     ghost use Rattle.tw_service.specs.Machine.Reply.{OfName, OfNumber, OfThread};
-    ghost use Rattle.tw_service.specs.Serves.{HasSameDisk, Serves, archive_of, clock_of, disk_of, has_failed, head_of, name_of, pages_of, record_of, steps_of, thread_of, threads_of};
+    ghost use Rattle.tw_kept.specs.Records.{IsWritten, written};
+    ghost use Rattle.tw_answers.specs.Roots.{root_kind};
+    ghost use Rattle.tw_service.specs.Writing.{AppendsTo, Commits, IsThreadOfNext};
+    ghost use Rattle.tw_service.specs.Serves.{HasSameDisk, IsOver, Serves, archive_of, clock_of, disk_of, has_failed, head_of, name_of, pages_of, record_of, steps_of, thread_of, threads_of};
     ghost use Rattle.tw_service.specs.Stands.{IsBlankOrNew, IsNotOpenedFor, OpensWith, StandsFor, StandsForOneOf, greater, no_history};
 
     /// Makes a service of this name, without a step, on a disk that has no store.
@@ -106,6 +108,7 @@ impl<D: Disk, H: Hasher> Service<D, H> {
         ensures told { IfErr result (λ e. (c : Image) → (D.view disk).content ≡ Some c
             → Reads (D.view e.0) (λ i. (D.view disk).may_leave i ⊎ IsBlankOrNew H.dig name i)) }
     {
+        name_law(&name);
         let auth = genesis::<H>(&name);
         let root = RootRecord {
             name,
@@ -121,12 +124,11 @@ impl<D: Disk, H: Hasher> Service<D, H> {
             threads: 0,
             time: None,
         };
-        let bytes = root_record(&root);
-        match Store::init(alloc, disk, bytes.as_slice()) {
+        match Recorded::init::<H>(alloc, disk, root) {
             Err((disk, fault)) => Err((disk, fault)),
-            Ok(store) => Ok(Service {
+            Ok(kept) => Ok(Service {
                 alloc,
-                recorded: Recorded { store, root },
+                recorded: Unstaged { kept },
                 is_broken: false,
                 hasher: PhantomData,
             }),
@@ -153,6 +155,10 @@ impl<D: Disk, H: Hasher> Service<D, H> {
         ensures opened { IfOk result (λ s. (c : Image) → (D.view disk).content ≡ Some c
             → OpensWith c (record_of s) (λ ps. pages_of D.view s ≡ Some ps)) }
 
+        // Over a disk that told what it reads as, the value's disk is at rest with its record and pages, whatever they keep.
+        ensures over { IfOk result (λ s. (c : Image) → (D.view disk).content ≡ Some c
+            → (ps : Image) × (pages_of D.view s ≡ Some ps) × IsWritten root_kind (written (record_of s) ps) c × IsOver D.view s ps) }
+
         // `Blank` and `NotAStore` come only where their reasons stand.
         ensures refused { IfErr result (λ e. (c : Image) → (D.view disk).content ≡ Some c
             → (e.1 ≡ StoreFault.DiskFault) ⊎ IsNotOpenedFor c e.1) }
@@ -177,20 +183,14 @@ impl<D: Disk, H: Hasher> Service<D, H> {
         // Where opening fails, it wrote nothing either.
         ensures any_moment_err { IfErr result (λ e. LeavesOnly (D.view disk) (D.view e.0) ((D.view disk).may_leave)) }
     {
-        match Store::open(alloc, disk) {
+        match Recorded::<D, RootRecord>::open::<H>(alloc, disk) {
             Err((disk, fault)) => Err((disk, fault)),
-            Ok(store) => match read_root(store.root(), store.used(), store.generation()) {
-                None => {
-                    let slot = store.slot();
-                    Err((store.close(), StoreFault::NotAStore { slot }))
-                }
-                Some(root) => Ok(Service {
-                    alloc,
-                    recorded: Recorded { store, root },
-                    is_broken: false,
-                    hasher: PhantomData,
-                }),
-            },
+            Ok(kept) => Ok(Service {
+                alloc,
+                recorded: Unstaged { kept },
+                is_broken: false,
+                hasher: PhantomData,
+            }),
         }
     }
 
@@ -204,7 +204,7 @@ impl<D: Disk, H: Hasher> Service<D, H> {
         ensures machine { (h : History) → Serves H.dig D.view self.now h
             → IsStepOf H.dig h CountSteps (OfNumber result) h }
     {
-        self.recorded.root.head.step
+        self.recorded.kept.root.head.step
     }
 
     /// The thread of the last step; where there is no step, step 0 with the authenticator of the name.
@@ -218,9 +218,9 @@ impl<D: Disk, H: Hasher> Service<D, H> {
             → IsStepOf H.dig h TellHead (OfThread result) h }
     {
         Thread {
-            from: self.recorded.root.name,
-            step: self.recorded.root.head.step,
-            auth: self.recorded.root.head.auth,
+            from: self.recorded.kept.root.name,
+            step: self.recorded.kept.root.head.step,
+            auth: self.recorded.kept.root.head.auth,
         }
     }
 
@@ -233,7 +233,7 @@ impl<D: Disk, H: Hasher> Service<D, H> {
         // Telling the name is a step of the machine that changes nothing.
         ensures machine { (h : History) → Serves H.dig D.view self.now h → IsStepOf H.dig h TellName (OfName result) h }
     {
-        self.recorded.root.name
+        self.recorded.kept.root.name
     }
 
     /// Gives the disk back. Where a history was served, the disk stands for it, at rest.
@@ -243,6 +243,9 @@ impl<D: Disk, H: Hasher> Service<D, H> {
         // The disk that is given back stands for the history that was served, at rest.
         ensures stands { (h : History) → Serves H.dig D.view self h
             → IsAtRest (D.view result) (λ i. StandsFor H.dig i (name_of self) h) }
+        // Where the value was at rest with its record and pages, whatever they keep, the disk opens with these, at rest.
+        ensures over { (ps : Image) → IsOver D.view self ps
+            → IsAtRest (D.view result) (IsWritten root_kind (written (record_of self) ps)) }
     {
         let Service {
             alloc: _,
@@ -250,8 +253,8 @@ impl<D: Disk, H: Hasher> Service<D, H> {
             is_broken: _,
             hasher: _,
         } = self;
-        let Recorded { store, root: _ } = recorded;
-        store.close()
+        let Unstaged { kept } = recorded;
+        kept.close()
     }
 
     /// Adds a step of these events, which has no time, and answers its thread.
@@ -266,8 +269,10 @@ impl<D: Disk, H: Hasher> Service<D, H> {
     pub fn append(&mut self, events: &EventList) -> Result<Thread, Refusal>
         // Adding a step of events without a time. Each refusal of the table comes exactly where its line is the first that stands; else
         // only `DiskFault`, `BadPage` and `NoMemory` are left. Over told pages, whatever they keep, the answer is what is found in them,
-        // a disk fault and want of memory excepted. Where a history is served, the history with one more step of these events is the next
-        // one. Every image that a crash since the start may leave stands for one of the two, and so does the content, which is told
+        // a disk fault and want of memory excepted. Of a store at rest with a record and pages, whatever these keep, every image that a
+        // crash since the start may leave opens with them, or with the record of the step that is found in them and the pages found with
+        // it; and so does the content, which is told still, after `DiskFault` too; after `Ok` it is the latter, at rest; after a refusal
+        // but `DiskFault` it is as before. Where a history is served, the history with one more step of these events is the next one. Every image that a crash since the start may leave stands for one of the two, and so does the content, which is told
         // still, after `DiskFault` too; after `Ok` the next one is served, at rest, and the answer is the thread of its last step; after
         // a refusal but `DiskFault` nothing was written, and the history is served as before. Where no earlier call met a disk fault, the
         // call is a step of the machine. The archive and the greatest time that the root record tells stay as they were, over whatever
@@ -356,7 +361,10 @@ impl<D: Disk, H: Hasher> Service<D, H> {
         // Receiving a message. `Reopen` and `Own` come exactly where their lines are the first that stand. Over told pages, whatever they
         // keep, what becomes of the message is what the archive's pages tell of it, and the answer is by that, a disk fault and want of
         // memory excepted: `Forked`, `Stale`, `BadLink`, `Full` or `ClockBack`; the receipt of the step that received the thread; or that
-        // of the next step. Where a history is served, every image that a crash since the start may leave stands for it or for a next
+        // of the next step. Of a store at rest with a record and pages, whatever these keep, every image that a crash since the start may
+        // leave opens with them, or with the record of a step that archives the thread and the pages found with it; and so does the
+        // content, which is told still, after `DiskFault` too; after the next step's receipt it is the latter, at rest, and after any other
+        // answer but `DiskFault` it is as before. Where a history is served, every image that a crash since the start may leave stands for it or for a next
         // one, with one more step that archives the thread at this time, and so does the content, which is told still, after `DiskFault`
         // too; after `Ok` the call is a step of the machine to what is then served, at rest; after a refusal but `DiskFault` nothing was
         // written, and the history is served as before. The record has one thread more, the next head and the greater time after a step
@@ -364,7 +372,7 @@ impl<D: Disk, H: Hasher> Service<D, H> {
         // call answered `DiskFault`, which comes only where the disk's count of faults rose.
         ensures { Receives H.dig D.view message.now time self.old self.new result }
     {
-        let name = &self.recorded.root.name;
+        let name = &self.recorded.kept.root.name;
         if let Some(refusal) = own_refusal(self.is_broken, name, &message.thread.from) {
             return Err(refusal);
         }
@@ -388,6 +396,9 @@ impl<D: Disk, H: Hasher> Service<D, H> {
             (clock_of self.old) events.now time (archive_of self.old)) }
         ensures steps { (h : History) → Serves H.dig D.view self.old h
             → Steps H.dig D.view (Append events.now time) (λ thread. OfThread thread) self.old self.new result h }
+        ensures written { (ps : Image) → IsOver D.view self.old ps
+            → Commits D.view (AppendsTo H.dig events.now time) (IsThreadOfNext H.dig events.now time) self.old.recorded.kept.store self.new.recorded.kept.store
+            (record_of self.old) (record_of self.new) result ps }
         ensures thread { IfOk result (λ thread. (thread ≡ thread_of self.new) × (thread.from ≡ name_of self.old)
             × (thread.step ≡ steps_of self.old + 1)) }
         ensures archive { (archive_of self.new ≡ archive_of self.old) × (threads_of self.new ≡ threads_of self.old) }
@@ -402,7 +413,7 @@ impl<D: Disk, H: Hasher> Service<D, H> {
             → Rose ((D.view (disk_of self.old)).faults) ((D.view (disk_of self.new)).faults) }
         ensures later { (D.view (disk_of self.old)).faults ≤ (D.view (disk_of self.new)).faults }
     {
-        let root = &self.recorded.root;
+        let root = &self.recorded.kept.root;
         if let Some(refusal) = append_refusal(
             self.is_broken,
             root.head.step,

@@ -75,7 +75,7 @@ module _ {H : Type 0} {g : _} {k : _} (old new : Service MemDisk H g k) (h : His
         → None ≡ append_table h events None
     append-none table =
         let none = by-table (append_refusal (has_failed old) (steps_of old) (clock_of old) events None) table (append_no_fault (has_failed old) (steps_of old) (clock_of old) events None) in
-        sym none ∙ (λ j. append_refusal (whole j) (served.has.keeps.steps.step j) (served.has.keeps.time j) events None)
+        sym none ∙ (λ j. append_refusal (whole j) (served.keeps.whole.steps.step j) (served.keeps.whole.time j) events None)
 
     append-fault : Appends sha256 view_of events None old new (Err DiskFault) → Answered (OfEvents events) h new None
     append-fault a =

@@ -1,12 +1,12 @@
 // What a service on a disk in memory does for a line.
 
-ghost use Rattle.std.specs.Prelude.{◌≡◌, ◌⊎◌, ◌≤◌, true, false, None, is_some, IfOk, OnOk};
+ghost use Rattle.std.specs.Prelude.{◌≡◌, ◌⊎◌, ◌≤◌, true, false, None, is_some, IfOk, IsNone, IsTrue, OnOk};
 ghost use Rattle.sha2.specs.Sha256.{sha256};
 ghost use Rattle.tw_base.specs.history.History.{History};
 ghost use Rattle.tw_base.specs.history.Questions.{MayAsk};
 ghost use Rattle.tw_disk.specs.Image.{Image};
-ghost use Rattle.tw_disk.specs.MemDisk.{view_of};
-ghost use Rattle.tw_service.specs.Serves.{Serves, has_failed};
+ghost use Rattle.tw_disk.specs.MemDisk.{is_stopped, view_of};
+ghost use Rattle.tw_service.specs.Serves.{Serves, disk_of, has_failed};
 ghost use Rattle.tw_service.specs.Stands.{no_history};
 ghost use Rattle.tw_world.specs.Hosts.{Given, Answered, AnswersRefusal, Ends, Gives, GoesOn, Holds, IsGiven, RestsAs, StandsAs, StandsForGood, crash_told as crash_told_of};
 ghost use Rattle.tw_world.specs.Hosts.Given.{OfBytes, OfEvents};
@@ -115,21 +115,31 @@ fn crash_told(answer: Option<Answer>, steps: u64) -> Told
     }
 }
 
-/// Ends a line where a crash waited, with its answer, or none after a disk fault. None, where the disk isn't stopped, comes from
-/// want of memory.
+/// Sees that the disk of a line without an answer is stopped. Where it isn't, the disk's fault came from want of memory.
+fn see_stopped(answer: &Option<Answer>, disk: &MemDisk) -> Result<(), NoMemory>
+    ensures { OnOk result (IsNone answer.now → IsTrue (is_stopped disk.now)) }
+{
+    if answer.is_none() && !disk.is_stopped() {
+        return Err(NoMemory);
+    }
+    Ok(())
+}
+
+/// Ends a line where a crash waited, with its answer, or none after a disk fault: it is told its answer where it has one, and is told
+/// as stopped only where its disk is.
 fn crashed(
     alloc: Global,
     service: MemService,
     planned: Planned,
     answer: Option<Answer>,
 ) -> Result<Ended, NoMemory>
-    ensures { IfOk result (λ ended. (given : Given) (h : History) → Answered given h service answer
+    ensures ends { IfOk result (λ ended. (given : Given) (h : History) → Answered given h service answer
         → Ends given true h ended.told ended.rested.disk ended.rested.steps) }
+    ensures told { IfOk result (λ ended. ended.told ≡ crash_told_of answer ended.rested.steps) }
+    ensures stopped { IfOk result (λ _. IsNone answer → IsTrue (is_stopped (disk_of service))) }
 {
     let disk = service.close();
-    if answer.is_none() && !disk.is_stopped() {
-        return Err(NoMemory);
-    }
+    see_stopped(&answer, &disk)?;
     let rested = reopened(alloc, disk, planned)?;
     let steps = rested.steps;
     Ok(Ended {

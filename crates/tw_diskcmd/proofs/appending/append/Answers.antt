@@ -14,7 +14,9 @@ returns-in-Ok-clause-leaves g c =
     let d = g.D.Disk in
     leaves_of_step d.view c.args.disk c.append_events.result.disk (g.I.Inputs.told c.args.inputs.now)
     (d.view c.args.disk).faults (d.view c.append_events.result.disk).faults
-    c.args.file.now c.in-Ok.events c.args.time c.append_events.result.outcome c.in-Ok.ensures.read c.append_events.ensures.comes c.append_events.ensures.leaves c.append_events.ensures.unwritten
+    c.args.file.now c.in-Ok.events c.args.time c.append_events.result.outcome c.in-Ok.ensures.read c.append_events.ensures.comes c.append_events.ensures.leaves
+    c.append_events.ensures.writes c.append_events.ensures.unwritten
+    c.append_events.ensures.spares
 
 pub returns-in-Err-clause-comes : goal.returns-in-Err-clause-comes
 returns-in-Err-clause-comes g c =

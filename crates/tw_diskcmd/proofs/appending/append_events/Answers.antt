@@ -1,6 +1,16 @@
 use Rattle.tw_base.specs.declared.history.thread.Thread.{Thread}
 use Rattle.tw_service.specs.EventSteps.{with_events}
-use Rattle.tw_service.specs.Serves.{disk_of}
+use Rattle.tw_service.specs.Serves.{disk_of, record_of}
+use Rattle.std.proofs.Common.{subst}
+use Rattle.sha2.specs.Sha256.{sha256}
+use Rattle.tw_kept.specs.Records.{Written, written}
+use Rattle.tw_kept.proofs.Standing.{written_once}
+use Rattle.tw_answers.specs.declared.root.RootRecord.{RootRecord}
+use Rattle.tw_answers.specs.Roots.{root_kind}
+use Rattle.tw_service.specs.Writing.{AppendsTo, IsThreadOfNext}
+use Rattle.tw_service.proofs.Standing.{once}
+use Rattle.tw_diskcmd.specs.Writing.{WritesFrom}
+use Rattle.tw_diskcmd.proofs.Writing.{unopened_writes, writes_of}
 use Rattle.tw_diskcmd.specs.Appending.{MachineAdds, TableAdds, added}
 use Rattle.tw_diskcmd.proofs.AtRest.{leaves_from, left_on}
 use Rattle.tw_diskcmd.proofs.Landings.{unopened_leaves}
@@ -42,3 +52,24 @@ returns-in-Ok-clause-unwritten g c = λ nothing.
 
 pub returns-in-Err-clause-unwritten : goal.returns-in-Err-clause-unwritten
 returns-in-Err-clause-unwritten g c = λ nothing. (c.in-Err.ensures.unchanged, c.in-Err.ensures.any_moment_err)
+
+pub returns-in-Ok-clause-spares : goal.returns-in-Ok-clause-spares
+returns-in-Ok-clause-spares g c = λ image why told not. absurd (c.in-Ok.ensures.exact image why told not)
+
+pub returns-in-Err-clause-spares : goal.returns-in-Err-clause-spares
+returns-in-Err-clause-spares g c = λ image why told not. (c.in-Err.ensures.unchanged, c.in-Err.ensures.any_moment_err)
+
+pub returns-in-Ok-clause-writes : goal.returns-in-Ok-clause-writes
+returns-in-Ok-clause-writes g c =
+    let d = g.D.Disk in
+    let s = c.in-Ok.service in
+    writes_of d.view (AppendsTo sha256 c.args.events.now c.args.time) (IsThreadOfNext sha256 c.args.events.now c.args.time) c.args.disk (disk_of s) c.append_to.result.disk c.append_to.result.outcome c.in-Ok.ensures.any_moment
+    (λ w reads.
+    let own = c.in-Ok.ensures.over reads.image reads.told in
+    subst (λ (v : Written RootRecord). WritesFrom d.view (disk_of s) c.append_to.result.disk (AppendsTo sha256 c.args.events.now c.args.time) (IsThreadOfNext sha256 c.args.events.now c.args.time) v c.append_to.result.outcome)
+    (written_once root_kind once reads.image (written (record_of s) own.0) w own.2 reads.stands) (c.append_to.ensures.writes own.0 own.3))
+
+pub returns-in-Err-clause-writes : goal.returns-in-Err-clause-writes
+returns-in-Err-clause-writes g c =
+    unopened_writes g.D.Disk.view (AppendsTo sha256 c.args.events.now c.args.time) (IsThreadOfNext sha256 c.args.events.now c.args.time) c.args.disk c.in-Err.disk c.in-Err.fault c.fault_of_store.result c.fault_of_store.ensures
+    c.in-Err.ensures.answers c.in-Err.ensures.unchanged c.in-Err.ensures.any_moment_err

@@ -1,6 +1,13 @@
-use Rattle.std.proofs.Common.{ℕ, List}
+use Rattle.std.proofs.Common.{ℕ, List, subst}
+use Rattle.tw_kept.specs.Disks.{Rests as RestsAs}
+use Rattle.tw_kept.specs.Records.{Written, written}
+use Rattle.tw_kept.proofs.Standing.{written_once}
+use Rattle.tw_answers.specs.declared.root.RootRecord.{RootRecord}
+use Rattle.tw_answers.specs.Roots.{root_kind}
+use Rattle.tw_service.proofs.Standing.{once}
+use Rattle.tw_diskcmd.specs.Disks.{IsService}
 use Rattle.tw_service.specs.Questions.{Besides}
-use Rattle.tw_service.specs.Serves.{disk_of}
+use Rattle.tw_service.specs.Serves.{disk_of, record_of}
 use Rattle.tw_diskcmd.specs.Answers.{MachineAnswers, TableAnswersOr}
 use Rattle.tw_diskcmd.specs.Asking.{AnswersBy, AskComes, asked_bytes, asked_call, asked_table}
 use Rattle.tw_diskcmd.proofs.AtRest.{left_on}
@@ -18,8 +25,14 @@ returns-in-Ok-clause-leaves g c =
     let d = g.D.Disk in
     let mid = disk_of c.in-Ok.service in
     leaves_of_reading d.view c.args.disk c.ask_by.result.disk c.ask_by.result.outcome
-    (left_on d.view c.args.disk mid c.ask_by.result.disk (c.in-Ok.ensures.unchanged, c.in-Ok.ensures.any_moment) c.ask_by.ensures.leaves)
-    (λ h reads. c.ask_by.ensures.rests h (c.in-Ok.ensures.served reads.image h.name h reads.told reads.stands))
+    (left_on d.view c.args.disk mid c.ask_by.result.disk (c.in-Ok.ensures.unchanged, c.in-Ok.ensures.any_moment) c.ask_by.ensures.leaves) (
+      λ h reads. c.ask_by.ensures.rests h (c.in-Ok.ensures.served reads.image h.name h reads.told reads.stands),
+      λ w reads.
+          let s = c.in-Ok.service in
+          let own = c.in-Ok.ensures.over reads.image reads.told in
+          subst (λ (v : Written RootRecord). RestsAs IsService d.view c.ask_by.result.disk v)
+          (written_once root_kind once reads.image (written (record_of s) own.0) w own.2 reads.stands) (c.ask_by.ensures.over own.0 own.3),
+    )
 
 pub returns-in-Err-clause-comes : goal.returns-in-Err-clause-comes
 unfolding AskComes

@@ -2,7 +2,12 @@ use Rattle.std.proofs.Common.{sym, subst}
 use Rattle.sha2.specs.Sha256.{sha256}
 use Rattle.tw_base.specs.kinds.Faults.{Rose}
 use Rattle.tw_service.specs.Serves.{Serves, disk_of, has_failed, name_of, pages_of, record_of}
-use Rattle.tw_diskcmd.specs.Disks.{IsLeft, found_disk}
+use Rattle.tw_kept.specs.Disks.{Rests as RestsAs}
+use Rattle.tw_kept.specs.Records.{written}
+use Rattle.tw_kept.proofs.AtRest.{own_rest as own_rest_as}
+use Rattle.tw_kept.proofs.Written.{rest_for_good, still_rests}
+use Rattle.tw_answers.specs.Roots.{root_kind}
+use Rattle.tw_diskcmd.specs.Disks.{IsLeft, IsService, found_disk}
 use Rattle.tw_diskcmd.proofs.AtRest.{own_rest, rose_since, same_left}
 use Rattle.tw_diskcmd.proofs.QuestionAnswers.{asked_came}
 use Rattle.tw_diskcmd.proofs.asking.ask_by.Goals as goal
@@ -28,3 +33,13 @@ pub returns-clause-rests : goal.returns-clause-rests
 returns-clause-rests g c = λ h served.
     let d = g.D.Disk in
     own_rest d.view c.close.result (name_of c.ask.new.self) h (c.close.ensures.stands h (c.ask.ensures.asks.same h served).0)
+
+pub returns-clause-over : goal.returns-clause-over
+returns-clause-over g c = λ ps over.
+    let d = g.D.Disk in
+    let old = c.args.service in
+    let new = c.ask.new.self in
+    let w = written (record_of old) ps in
+    subst (λ disk. RestsAs IsService d.view disk w) (sym c.close.ensures.disk)
+    (own_rest_as IsService d.view (disk_of new) w (rest_for_good d.view root_kind new.recorded.kept.store w
+    (still_rests d.view root_kind old.recorded.kept.store new.recorded.kept.store w c.ask.ensures.asks.unwritten over)))

@@ -18,7 +18,7 @@ returns-in-Ok-clause-leaves g c =
     let disk = c.args.disk in
     let first = no_history name in
     let rests = λ (image : Image) (told_image : (d.view disk).content ≡ Some image).
-    own_rest d.view c.close.result c.in-Ok.service.recorded.root.name first (c.close.ensures.stands first (c.in-Ok.ensures.served image told_image)) in
+    own_rest d.view c.close.result c.in-Ok.service.recorded.kept.root.name first (c.close.ensures.stands first (c.in-Ok.ensures.served image told_image)) in
     let begins : MayBegin d.view name disk c.close.result = λ image told_image. (
       subst (λ now. LeavesOnly (d.view disk) (d.view now) (IsOldOrBegun d.view name disk)) (sym c.close.ensures.disk)
           (c.in-Ok.ensures.any_moment image told_image),

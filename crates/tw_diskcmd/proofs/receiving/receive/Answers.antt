@@ -14,7 +14,9 @@ returns-in-Ok-clause-leaves g c =
     let d = g.D.Disk in
     leaves_of_message d.view c.args.disk c.receive_message.result.disk (g.I.Inputs.told c.args.inputs.now)
     (d.view c.args.disk).faults (d.view c.receive_message.result.disk).faults
-    c.args.file.now c.in-Ok.message c.args.time c.receive_message.result.outcome c.in-Ok.ensures.read c.receive_message.ensures.comes c.receive_message.ensures.leaves c.receive_message.ensures.unwritten
+    c.args.file.now c.in-Ok.message c.args.time c.receive_message.result.outcome c.in-Ok.ensures.read c.receive_message.ensures.comes c.receive_message.ensures.leaves
+    c.receive_message.ensures.writes c.receive_message.ensures.unwritten
+    c.receive_message.ensures.spares
 
 pub returns-in-Err-clause-comes : goal.returns-in-Err-clause-comes
 returns-in-Err-clause-comes g c =

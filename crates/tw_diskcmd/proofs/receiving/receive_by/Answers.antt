@@ -6,6 +6,10 @@ use Rattle.tw_base.specs.kinds.Faults.{Rose}
 use Rattle.tw_msg.specs.declared.receipt.Receipt.{Receipt}
 use Rattle.tw_service.specs.Adding.{Receives}
 use Rattle.tw_service.specs.Serves.{Serves, archive_of, disk_of, has_failed, head_of, name_of, pages_of, record_of, steps_of}
+use Rattle.tw_service.specs.Writing.{ArchivesTo, IsReceiptOf}
+use Rattle.tw_kept.specs.Records.{written}
+use Rattle.tw_diskcmd.specs.Writing.{WritesFrom}
+use Rattle.tw_diskcmd.proofs.Writing.{answered_writes, refused_writes}
 use Rattle.tw_diskcmd.specs.Disks.{IsLeft, LeavesOldOrOneOf, ReadsAsOneOf, found_disk}
 use Rattle.tw_diskcmd.proofs.AtRest.{named_one_of, named_reads, own_rest, rose_since, same_left}
 use Rattle.tw_diskcmd.proofs.Received.{received_done, received_refused}
@@ -41,7 +45,7 @@ returns-in-Ok-clause-leaves g c = λ h served.
       (
         own_rest d.view c.close.result (name_of new) made.next (c.close.ensures.stands made.next made.done.1),
         subst (λ disk. LeavesOldOrOneOf d.view (disk_of old) disk h made.next) (sym c.close.ensures.disk)
-            (named_one_of d.view (disk_of old) (disk_of new) (name_of old) made.next h served.has.named made.any_moment),
+            (named_one_of d.view (disk_of old) (disk_of new) (name_of old) made.next h served.keeps.named made.any_moment),
       ),
     )
 
@@ -69,8 +73,8 @@ returns-in-Err-clause-leaves g c = λ h served.
       tt,
       step_leaves d.view (disk_of old) c.close-in-Err.result h made.next Receipt c.in-Err.refusal c.fault_of_service.result c.fault_of_service.ensures
           (subst (λ disk. LeavesOldOrOneOf d.view (disk_of old) disk h made.next × ReadsAsOneOf d.view disk h made.next) (sym c.close-in-Err.ensures.disk) (
-            named_one_of d.view (disk_of old) (disk_of new) (name_of old) made.next h served.has.named made.any_moment,
-            named_reads d.view (disk_of new) (name_of old) made.next h served.has.named made.told,
+            named_one_of d.view (disk_of old) (disk_of new) (name_of old) made.next h served.keeps.named made.any_moment,
+            named_reads d.view (disk_of new) (name_of old) made.next h served.keeps.named made.told,
           ))
           (⊎_elim (λ is. inl is) (λ keeps. inr (own_rest d.view c.close-in-Err.result (name_of new) h (c.close-in-Err.ensures.stands h keeps.0))) made.refused),
     )
@@ -84,3 +88,25 @@ returns-in-Err-clause-unwritten g c = λ nothing.
     subst (λ disk. IsLeft d.view (disk_of old) disk) (sym c.close-in-Err.ensures.disk)
     (step_unwritten d.view (disk_of old) (disk_of new) Receipt c.in-Err.refusal c.fault_of_service.result c.fault_of_service.ensures
     (⊎_elim (λ is. inl is) (λ same. inr (same_left d.view g.met.D.Disk.only_now old new same)) r.unwritten) nothing)
+
+pub returns-in-Ok-clause-writes : goal.returns-in-Ok-clause-writes
+returns-in-Ok-clause-writes g c = λ ps over.
+    let d = g.D.Disk in
+    let old = c.args.service in
+    let new = c.take.new.self in
+    let m = c.args.message.now in
+    let r = subst (λ (time : Option ℕ). Receives sha256 d.view c.args.message.now time old new (Ok c.in-Ok.receipt)) c.seconds_of.ensures.value c.in-Ok.ensures in
+    subst (λ disk. WritesFrom d.view (disk_of old) disk (ArchivesTo sha256 m c.args.time) (IsReceiptOf sha256 m c.args.time) (written (record_of old) ps) (Ok c.in-Ok.receipt)) (sym c.close.ensures.disk)
+    (answered_writes d.view (ArchivesTo sha256 m c.args.time) (IsReceiptOf sha256 m c.args.time) old.recorded.kept.store new.recorded.kept.store (record_of old) (record_of new) ps c.in-Ok.receipt
+    (r.written ps over))
+
+pub returns-in-Err-clause-writes : goal.returns-in-Err-clause-writes
+returns-in-Err-clause-writes g c = λ ps over.
+    let d = g.D.Disk in
+    let old = c.args.service in
+    let new = c.take.new.self in
+    let m = c.args.message.now in
+    let r = subst (λ (time : Option ℕ). Receives sha256 d.view c.args.message.now time old new (Err c.in-Err.refusal)) c.seconds_of.ensures.value c.in-Err.ensures in
+    subst (λ disk. WritesFrom d.view (disk_of old) disk (ArchivesTo sha256 m c.args.time) (IsReceiptOf sha256 m c.args.time) (written (record_of old) ps) (Err c.fault_of_service.result)) (sym c.close-in-Err.ensures.disk)
+    (refused_writes d.view (ArchivesTo sha256 m c.args.time) (IsReceiptOf sha256 m c.args.time) old.recorded.kept.store new.recorded.kept.store (record_of old) (record_of new) ps
+    c.in-Err.refusal c.fault_of_service.result c.fault_of_service.ensures (r.written ps over))

@@ -1,6 +1,14 @@
 use Rattle.std.proofs.Common.{subst, sym}
 use Rattle.std.specs.Prelude.{Err}
-use Rattle.tw_follow.specs.Follows.{disk_of}
+use Rattle.sha2.specs.Sha256.{sha256}
+use Rattle.tw_kept.specs.Disks.{Rests as RestsAs}
+use Rattle.tw_kept.specs.Records.{Written, written}
+use Rattle.tw_kept.proofs.Standing.{written_once}
+use Rattle.tw_follow.specs.Follows.{disk_of, record_of}
+use Rattle.tw_follow.specs.Stands.{root_kind}
+use Rattle.tw_follow.specs.declared.root.RootRecord.{RootRecord}
+use Rattle.tw_follow.proofs.Standing.{once}
+use Rattle.tw_followcmd.specs.Disks.{IsFollower}
 use Rattle.tw_text.specs.declared.fault.CommandFault.{CommandFault}
 use Rattle.tw_followcmd.specs.Listing.{HeadsComes}
 use Rattle.tw_followcmd.proofs.AtRest.{left_on}
@@ -17,8 +25,14 @@ pub returns-in-Ok-clause-leaves : goal.returns-in-Ok-clause-leaves
 returns-in-Ok-clause-leaves g c =
     let d = g.D.Disk in
     leaves_of_heads d.view c.args.disk c.list_by.result.disk c.list_by.result.outcome
-    (left_on d.view c.args.disk (disk_of c.in-Ok.follower) c.list_by.result.disk (c.in-Ok.ensures.unchanged, c.in-Ok.ensures.any_moment) c.list_by.ensures.leaves)
-    (λ k reads. c.list_by.ensures.rests k (c.in-Ok.ensures.follows reads.image k reads.told reads.stands))
+    (left_on d.view c.args.disk (disk_of c.in-Ok.follower) c.list_by.result.disk (c.in-Ok.ensures.unchanged, c.in-Ok.ensures.any_moment) c.list_by.ensures.leaves) (
+      λ k reads. c.list_by.ensures.rests k (c.in-Ok.ensures.follows reads.image k reads.told reads.stands),
+      λ w reads.
+          let f = c.in-Ok.follower in
+          let own = c.in-Ok.ensures.over reads.image reads.told in
+          subst (λ (v : Written RootRecord). RestsAs IsFollower d.view c.list_by.result.disk v)
+          (written_once (root_kind sha256) (once sha256) reads.image (written (record_of f) own.0) w own.2 reads.stands) (c.list_by.ensures.over own.0 own.3),
+    )
 
 pub returns-in-Err-clause-comes : goal.returns-in-Err-clause-comes
 returns-in-Err-clause-comes g c =

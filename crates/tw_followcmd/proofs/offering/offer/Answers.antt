@@ -23,7 +23,7 @@ returns-in-Ok-clause-leaves g c =
     leaves_of_message d.view c.args.disk c.offer_message.result.disk (g.I.Inputs.told c.args.inputs.now)
     (d.view c.args.disk).faults (d.view c.offer_message.result.disk).faults
     c.args.file.now c.in-Ok.message c.offer_message.result.outcome read (c.offer_message.ensures.comes read.bytes read.spelled) (c.offer_message.ensures.leaves read.bytes read.spelled)
-    (c.offer_message.ensures.unwritten read.bytes read.spelled) c.offer_message.ensures.spares
+    (c.offer_message.ensures.writes read.bytes read.spelled) (c.offer_message.ensures.unwritten read.bytes read.spelled) c.offer_message.ensures.spares
 
 pub returns-in-Err-clause-comes : goal.returns-in-Err-clause-comes
 returns-in-Err-clause-comes g c =

@@ -12,6 +12,11 @@ use Rattle.tw_followcmd.specs.Disks.{IsLeft, LeavesOldOrOneOf, ReadsAsOneOf}
 use Rattle.tw_followcmd.specs.Offering.{MessageComes, next_list}
 use Rattle.tw_followcmd.specs.OfferSteps.{LeavesOffered, WritesNothing}
 use Rattle.tw_followcmd.proofs.AtRest.{own_rest, rose_since, same_left}
+use Rattle.tw_kept.specs.Records.{written}
+use Rattle.tw_follow.specs.Follows.{record_of}
+use Rattle.tw_followcmd.specs.Faults.{fault_of_follower}
+use Rattle.tw_followcmd.specs.Writing.{WritesFrom}
+use Rattle.tw_followcmd.proofs.Writing.{answered_writes, refused_writes}
 use Rattle.tw_followcmd.proofs.Offered.{answered, answered_next, leaves_one_of, never_malformed, never_reopen, reads_one_of, refusal_leaves, refusal_writes, refused}
 use Rattle.tw_followcmd.proofs.offering.offer_to.Goals as goal
 
@@ -79,3 +84,18 @@ returns-in-Err-clause-unwritten g c = λ bytes spells nothing.
     subst (λ disk. IsLeft d.view (disk_of old) disk) (sym c.close-in-Err.ensures.disk)
     (refusal_writes c.in-Err.refusal (subst (λ (f : CommandFault). WritesNothing {X = Thread} (Err f)) c.fault_of_follower.ensures nothing) (IsLeft d.view (disk_of old) (disk_of new))
     (⊎_elim (λ is. inl is) (λ same. inr (same_left d.view g.met.D.Disk.only_now old new same)) offers.unwritten))
+
+pub returns-in-Ok-clause-writes : goal.returns-in-Ok-clause-writes
+returns-in-Ok-clause-writes g c = λ bytes spells ps over.
+    let d = g.D.Disk in
+    let old = c.args.follower in
+    subst (λ disk. WritesFrom d.view (disk_of old) disk c.args.message.now (written (record_of old) ps) (Ok c.in-Ok.head)) (sym c.close.ensures.disk)
+    (answered_writes d.view old c.take.new.self bytes c.args.message.now spells ps over c.in-Ok.head (c.in-Ok.ensures bytes spells))
+
+pub returns-in-Err-clause-writes : goal.returns-in-Err-clause-writes
+returns-in-Err-clause-writes g c = λ bytes spells ps over.
+    let d = g.D.Disk in
+    let old = c.args.follower in
+    subst (λ (f : CommandFault). WritesFrom d.view (disk_of old) c.close-in-Err.result c.args.message.now (written (record_of old) ps) (Err f)) (sym c.fault_of_follower.ensures)
+    (subst (λ disk. WritesFrom d.view (disk_of old) disk c.args.message.now (written (record_of old) ps) (Err (fault_of_follower c.in-Err.refusal))) (sym c.close-in-Err.ensures.disk)
+    (refused_writes d.view old c.take.new.self bytes c.args.message.now spells ps over c.in-Err.refusal (c.in-Err.ensures bytes spells)))

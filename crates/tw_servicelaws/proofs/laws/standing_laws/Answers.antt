@@ -5,7 +5,7 @@ pub returns-clause-once : goal.returns-clause-once
 returns-clause-once g c = stands_once g.H.Hasher.dig (λ text. (g.met.H.Hasher.size text, g.met.H.Hasher.bytes text))
 
 pub returns-clause-sound : goal.returns-clause-sound
-returns-clause-sound g c = λ image name h s. (s.sound, s.named)
+returns-clause-sound g c = λ image name h s. (s.stands.keeps.sound, s.named)
 
 pub returns-clause-never_refused : goal.returns-clause-never_refused
 returns-clause-never_refused g c = stands_opened g.H.Hasher.dig

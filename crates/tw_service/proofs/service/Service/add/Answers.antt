@@ -1,35 +1,36 @@
 use Rattle.std.proofs.Common.{◌≡◌, ◌∙◌, ℕ, List, Bool, subst, ap, inl, inr, length, refl, ⊎_elim, sym}
-use Rattle.std.specs.Prelude.{false, is_some, Option, None, Some, Result, Ok}
+use Rattle.std.specs.Prelude.{false, is_some, Option, None, Some, Result, Ok, Err}
 use Rattle.tw_base.specs.declared.history.content.Content.TheVariants.{Events}
 use Rattle.tw_base.specs.declared.history.root.Root.{Root}
 use Rattle.tw_base.specs.declared.history.thread.Thread.{Thread}
 use Rattle.tw_base.specs.history.History.{History}
 use Rattle.tw_disk.specs.Answers.{Next}
-use Rattle.tw_disk.specs.Disk.{IsAtRest}
 use Rattle.tw_disk.specs.Found.{Found, ◌>>=◌}
 use Rattle.tw_disk.specs.Found.Found.{Is}
 use Rattle.tw_disk.specs.Image.{Image}
 use Rattle.tw_disk.proofs.FoundLaws.{is_on}
+use Rattle.tw_kept.specs.Records.{written}
 use Rattle.tw_pages.specs.Same.{IsSameStore}
 use Rattle.tw_pages.specs.SameSteps.{is_same_itself}
-use Rattle.tw_pages.specs.StoreValue.{disk_of}
 use Rattle.tw_skiplist.specs.Appended.{appended}
 use Rattle.tw_skiplist.specs.declared.head.Head.{Head}
 use Rattle.tw_answers.specs.declared.refusal.Refusal.{Refusal}
+use Rattle.tw_answers.specs.declared.root.RootRecord.{RootRecord}
 use Rattle.tw_service.specs.EventSteps.{with_events}
 use Rattle.tw_answers.specs.Finds.{IsRefusalOf, unless}
 use Rattle.tw_service.specs.Finds.{found_thread, thread_at}
-use Rattle.tw_service.specs.Keeps.{KeepsHistory}
+use Rattle.tw_service.specs.Keeps.{StoreServes}
 use Rattle.tw_answers.specs.Limits.{append_refusal}
 use Rattle.tw_service.specs.Machine.{append_table}
 use Rattle.tw_service.specs.Machine.Call.{Append}
 use Rattle.tw_service.specs.Machine.Reply.{OfThread}
 use Rattle.tw_service.specs.Serves.{Serves}
 use Rattle.tw_service.specs.Stands.{greatest_time}
+use Rattle.tw_service.specs.Writing.{AppendsTo, IsThreadOfNext}
 use Rattle.tw_answers.proofs.TableAnswers.{IsTold, NoFault, append_no_fault, append_told, of_some}
 use Rattle.tw_service.proofs.Answering.{answers_fault, answers_refusal, append_done, append_refused, is_disk_fault}
 use Rattle.tw_answers.proofs.FoundAnswers.{fault_page, page_on, table_found}
-use Rattle.tw_service.proofs.Serving.{rest_stands, same_leaves, same_tells, still_keeps}
+use Rattle.tw_service.proofs.Serving.{keeps_events, read_leaves, read_serves, room_written, same_leaves, same_tells, nothing_written, written_leaves, written_serves, written_tells}
 use Rattle.tw_service.proofs.service.Service.add.Goals as goal
 
 -- the table of a served history, from that of the value
@@ -43,24 +44,19 @@ pub returns-in-Some-clause-steps : goal.returns-in-Some-clause-steps
 returns-in-Some-clause-steps g c = λ h served.
     let d = g.D.Disk in
     let s = c.args.self.now in
-    let r = s.recorded in
+    let r = s.recorded.kept in
     let events = c.args.events.now in
     let time = c.args.time in
     let is = sym c.in-Some.is ∙ c.append_refusal.ensures.answer in
     record {
       next = with_events h events time;
       is_next = refl;
-      any_moment = same_leaves d.view g.met.D.Disk.only_now g.H.Hasher.dig r.store r.store _ (is_same_itself d.view r.store)
-          (λ i left. inl (rest_stands d.view g.met.D.Disk.only_now g.H.Hasher.dig r.store r.root h served i left));
+      any_moment = same_leaves d.view g.met.D.Disk.only_now g.H.Hasher.dig r.store r.store r.root h (with_events h events time) (is_same_itself d.view r.store) served;
       told = same_tells d.view g.met.D.Disk.only_now g.H.Hasher.dig r.store r.store r.root h (with_events h events time) (is_same_itself d.view r.store) served;
       done = tt;
-      refused = inr (
-        served,
-        same_leaves d.view g.met.D.Disk.only_now g.H.Hasher.dig r.store r.store _ (is_same_itself d.view r.store)
-            (λ i left. rest_stands d.view g.met.D.Disk.only_now g.H.Hasher.dig r.store r.root h served i left),
-      );
+      refused = inr (served, read_leaves d.view g.met.D.Disk.only_now g.H.Hasher.dig r.store r.store r.root h (is_same_itself d.view r.store) served);
       machine = λ whole.
-          let told = to_table h events time s.is_broken r.root.head.step r.root.time (Some c.in-Some.refusal) is whole served.has.keeps.steps.step served.has.keeps.time in
+          let told = to_table h events time s.is_broken r.root.head.step r.root.time (Some c.in-Some.refusal) is whole served.keeps.whole.steps.step served.keeps.whole.time in
           answers_refusal g.H.Hasher.dig h (Append events time) (λ (t : Thread). OfThread t) (Serves g.H.Hasher.dig d.view s) c.in-Some.refusal
           (of_some IsTold _ c.in-Some.refusal told (append_told (length h.steps) (greatest_time h) events time)) (append_refused g.H.Hasher.dig h events time c.in-Some.refusal told) served;
     }
@@ -68,20 +64,20 @@ returns-in-Some-clause-steps g c = λ h served.
 pub returns-in-Some-clause-broken : goal.returns-in-Some-clause-broken
 returns-in-Some-clause-broken g c =
     let s = c.args.self.now in
-    let no_fault = of_some NoFault _ c.in-Some.refusal (sym c.in-Some.is ∙ c.append_refusal.ensures.answer) (append_no_fault s.is_broken s.recorded.root.head.step s.recorded.root.time c.args.events.now c.args.time) in
+    let no_fault = of_some NoFault _ c.in-Some.refusal (sym c.in-Some.is ∙ c.append_refusal.ensures.answer) (append_no_fault s.is_broken s.recorded.kept.root.head.step s.recorded.kept.root.time c.args.events.now c.args.time) in
     (λ failed. inl failed, λ either. ⊎_elim (λ failed. failed) (λ is. absurd (no_fault (is_disk_fault Thread c.in-Some.refusal is))) either)
 
 pub returns-in-Some-clause-fault : goal.returns-in-Some-clause-fault
 returns-in-Some-clause-fault g c =
     let s = c.args.self.now in
-    let no_fault = of_some NoFault _ c.in-Some.refusal (sym c.in-Some.is ∙ c.append_refusal.ensures.answer) (append_no_fault s.is_broken s.recorded.root.head.step s.recorded.root.time c.args.events.now c.args.time) in
+    let no_fault = of_some NoFault _ c.in-Some.refusal (sym c.in-Some.is ∙ c.append_refusal.ensures.answer) (append_no_fault s.is_broken s.recorded.kept.root.head.step s.recorded.kept.root.time c.args.events.now c.args.time) in
     λ is. absurd (no_fault (is_disk_fault Thread c.in-Some.refusal is))
 
 pub returns-in-Some-clause-answer : goal.returns-in-Some-clause-answer
 unfolding found_thread
 returns-in-Some-clause-answer g c = λ ps list.
     let s = c.args.self.now in
-    let r = s.recorded.root in
+    let r = s.recorded.kept.root in
     let events = c.args.events.now in
     let is = sym c.in-Some.is ∙ c.append_refusal.ensures.answer in
     let no_fault = of_some NoFault _ c.in-Some.refusal is (append_no_fault s.is_broken r.head.step r.time events c.args.time) in
@@ -89,6 +85,12 @@ returns-in-Some-clause-answer g c = λ ps list.
     (ap (λ (o : Option Refusal). unless o (appended g.H.Hasher.dig ps r.head (Events events) r.archive c.args.time >>= (λ next. Is (Ok (thread_at r.name next.value))))) (sym is))
 
 -- ---- let through by the table
+
+pub add_step-requires-clause-allowed : goal.add_step-requires-clause-allowed
+add_step-requires-clause-allowed g c =
+    let r = c.args.self.now.recorded.kept.root in
+    ap (λ (b : Bool). append_refusal b r.head.step r.time c.args.events.now c.args.time) (sym (c.append_refusal.ensures.whole (ap is_some c.in_default.is)))
+    ∙ sym (sym c.in_default.is ∙ c.append_refusal.ensures.answer)
 
 -- the step is what is found
 thread_found : (dig : List ℕ → List ℕ) (ps : Image) (name : List ℕ) (head : Head) (broken : Bool) (clock : Option ℕ) (events : List (List ℕ)) (time : Option ℕ) (archive : Root) → append_refusal broken head.step clock events time ≡ None
@@ -99,36 +101,56 @@ thread_found dig ps name head broken clock events time archive none = ap (λ (o 
 pub returns-in-Ok-clause-answer : goal.returns-in-Ok-clause-answer
 returns-in-Ok-clause-answer g c = λ ps list.
     let s = c.args.self.now in
-    let r = s.recorded.root in
+    let r = s.recorded.kept.root in
     let own = c.in-Ok.ensures.answer ps list in
     let dig = g.H.Hasher.dig in
     thread_found dig ps r.name r.head s.is_broken r.time c.args.events.now c.args.time r.archive (sym (sym c.in_default.is ∙ c.append_refusal.ensures.answer))
     ∙ is_on (appended dig ps r.head (Events c.args.events.now) r.archive c.args.time) (λ next. Is (Ok (thread_at r.name next.value))) _ own.1
-    ∙ ap (λ (n : List ℕ). Is (Ok (thread_at n c.add_step.new.self.root.head))) (sym (ap (λ q. q.name) c.in-Ok.ensures.root.0)) ∙ ap (λ (t : Thread). Is (Ok t)) (sym c.head.ensures.value)
+    ∙ ap (λ (n : List ℕ). Is (Ok (thread_at n c.add_step.new.self.kept.root.head))) (sym (ap (λ q. q.name) c.in-Ok.ensures.root.0)) ∙ ap (λ (t : Thread). Is (Ok t)) (sym c.head.ensures.value)
 
 pub returns-in-Ok-clause-steps : goal.returns-in-Ok-clause-steps
 returns-in-Ok-clause-steps g c = λ h served.
+    let d = g.D.Disk in
     let s = c.args.self.now in
-    let r = s.recorded.root in
+    let r = s.recorded.kept in
+    let t = c.add_step.new.self.kept in
     let events = c.args.events.now in
     let time = c.args.time in
-    let none = to_table h events time s.is_broken r.head.step r.time None (sym c.in_default.is ∙ c.append_refusal.ensures.answer) (c.append_refusal.ensures.whole (ap is_some c.in_default.is)) served.has.keeps.steps.step served.has.keeps.time in
-    let done = c.in-Ok.ensures.done h served in
-    let own = append_done g.H.Hasher.dig h events time c.head.result none (c.head.ensures.served (with_events h events time) done) in
+    let dig = g.H.Hasher.dig in
+    let let_through = c.append_refusal.ensures in
+    let passed = ap is_some c.in_default.is in
+    let none = to_table h events time s.is_broken r.root.head.step r.root.time None (sym c.in_default.is ∙ let_through.answer) (let_through.whole passed) served.keeps.whole.steps.step served.keeps.whole.time in
+    let it = c.in-Ok.ensures.written served.pages served.rests in
+    let keeps = keeps_events dig (λ text. (g.met.H.Hasher.size text, g.met.H.Hasher.bytes text)) (written r.root served.pages) it.next h served.keeps events time it.done.0
+    (let_through.room passed) (let_through.within passed) c.requires (let_through.clock passed) (room_written d.view r.store (written r.root served.pages) served.rests (let_through.room passed)) in
+    let next_served = written_serves d.view g.met.D.Disk.only_now (AppendsTo dig events time) (λ _ w next. AppendsTo dig events time w next) dig r.store t.store r.root t.root (Ok tt) h (with_events h events time) served it (inr keeps) served.keeps.named keeps (it.done.1, it.done.2) in
+    let own = append_done dig h events time c.head.result none (c.head.ensures.served (with_events h events time) next_served) in
     record {
       next = with_events h events time;
       is_next = refl;
-      any_moment = c.in-Ok.ensures.any_moment h served;
-      told = c.in-Ok.ensures.told h served;
-      done = (own, done);
+      any_moment = written_leaves d.view g.met.D.Disk.only_now (AppendsTo dig events time) (λ _ w next. AppendsTo dig events time w next) dig r.store t.store r.root t.root (Ok tt) h (with_events h events time) served it (inr keeps) served.keeps.named;
+      told = written_tells d.view g.met.D.Disk.only_now (AppendsTo dig events time) (λ _ w next. AppendsTo dig events time w next) dig r.store t.store r.root t.root (Ok tt) h (with_events h events time) served it (inr keeps) served.keeps.named;
+      done = (own, next_served);
       refused = tt;
       machine = λ whole. tt;
+    }
+
+pub returns-in-Ok-clause-written : goal.returns-in-Ok-clause-written
+returns-in-Ok-clause-written g c = λ ps over.
+    let it = c.in-Ok.ensures.written ps over in
+    record {
+      next = it.next;
+      is_next = it.is_next;
+      any_moment = it.any_moment;
+      told = it.told;
+      done = ((c.head.ensures.value ∙ ap (λ (r : RootRecord). thread_at r.name r.head) it.done.1, it.done.0), it.done.1, it.done.2);
+      refused = tt;
     }
 
 pub returns-in-Err-clause-answer : goal.returns-in-Err-clause-answer
 returns-in-Err-clause-answer g c = λ ps list.
     let s = c.args.self.now in
-    let r = s.recorded.root in
+    let r = s.recorded.kept.root in
     let events = c.args.events.now in
     let dig = g.H.Hasher.dig in
     let next : Next Head → Found (Result Thread Refusal) = λ next. Is (Ok (thread_at r.name next.value)) in
@@ -139,23 +161,37 @@ returns-in-Err-clause-answer g c = λ ps list.
 pub returns-in-Err-clause-steps : goal.returns-in-Err-clause-steps
 returns-in-Err-clause-steps g c = λ h served.
     let d = g.D.Disk in
-    let r = c.args.self.now.recorded in
-    let t = c.add_step.new.self in
+    let r = c.args.self.now.recorded.kept in
+    let t = c.add_step.new.self.kept in
     let events = c.args.events.now in
     let time = c.args.time in
-    let still : IsSameStore d.view r.store t.store → IsAtRest (d.view (disk_of t.store)) (KeepsHistory g.H.Hasher.dig t.store t.root h) = λ same. subst (λ q. IsAtRest (d.view (disk_of t.store)) (KeepsHistory g.H.Hasher.dig t.store q h)) (sym c.in-Err.ensures.kept)
-    (still_keeps d.view g.met.D.Disk.only_now g.H.Hasher.dig r.store t.store r.root h same t.clean served) in
+    let dig = g.H.Hasher.dig in
+    let let_through = c.append_refusal.ensures in
+    let passed = ap is_some c.in_default.is in
+    let it = c.in-Err.ensures.written served.pages served.rests in
+    let either = ⊎_elim (λ same. inl same) (λ to. inr (keeps_events dig (λ text. (g.met.H.Hasher.size text, g.met.H.Hasher.bytes text)) (written r.root served.pages) it.next h served.keeps events time to
+    (let_through.room passed) (let_through.within passed) c.requires (let_through.clock passed) (room_written d.view r.store (written r.root served.pages) served.rests (let_through.room passed)))) it.is_next in
+    let still : IsSameStore d.view r.store t.store → StoreServes dig d.view t.store t.root h = λ same. subst (λ q. StoreServes dig d.view t.store q h) (sym c.in-Err.ensures.kept) (read_serves d.view g.met.D.Disk.only_now dig r.store t.store r.root h same served) in
     record {
       next = with_events h events time;
       is_next = refl;
-      any_moment = c.in-Err.ensures.any_moment h served;
-      told = c.in-Err.ensures.told h served;
+      any_moment = written_leaves d.view g.met.D.Disk.only_now (AppendsTo dig events time) (λ _ w next. AppendsTo dig events time w next) dig r.store t.store r.root t.root (Err c.in-Err.refusal) h (with_events h events time) served it either served.keeps.named;
+      told = written_tells d.view g.met.D.Disk.only_now (AppendsTo dig events time) (λ _ w next. AppendsTo dig events time w next) dig r.store t.store r.root t.root (Err c.in-Err.refusal) h (with_events h events time) served it either served.keeps.named;
       done = tt;
-      refused = ⊎_elim (λ fault. inl fault) (λ same. inr (
-        still same,
-        same_leaves d.view g.met.D.Disk.only_now g.H.Hasher.dig r.store t.store _ same (λ i left. rest_stands d.view g.met.D.Disk.only_now g.H.Hasher.dig r.store r.root h served i left),
-      )) c.in-Err.ensures.same;
+      refused = ⊎_elim (λ fault. inl fault) (λ same. inr (still same, read_leaves d.view g.met.D.Disk.only_now dig r.store t.store r.root h same served)) c.in-Err.ensures.same;
       machine = λ whole.
-          answers_fault g.H.Hasher.dig h (Append events time) (λ (a : Thread). OfThread a) (λ k. IsAtRest (d.view (disk_of t.store)) (KeepsHistory g.H.Hasher.dig t.store t.root k)) c.in-Err.refusal c.in-Err.ensures.answers (λ bad. c.in-Err.ensures.good bad h served)
+          answers_fault dig h (Append events time) (λ (a : Thread). OfThread a) (λ k. StoreServes dig d.view t.store t.root k) c.in-Err.refusal c.in-Err.ensures.answers (λ bad. c.in-Err.ensures.good bad h served)
           (⊎_elim (λ fault. inl fault) (λ same. inr (still same)) c.in-Err.ensures.same);
     }
+
+pub returns-in-Err-clause-written : goal.returns-in-Err-clause-written
+returns-in-Err-clause-written g c = λ ps over.
+    let it = c.in-Err.ensures.written ps over in
+    record { next = it.next; is_next = it.is_next; any_moment = it.any_moment; told = it.told; done = tt; refused = it.refused }
+
+pub returns-in-Some-clause-written : goal.returns-in-Some-clause-written
+returns-in-Some-clause-written g c = λ ps over.
+    let d = g.D.Disk in
+    let r = c.args.self.now.recorded.kept in
+    let dig = g.H.Hasher.dig in
+    nothing_written d.view g.met.D.Disk.only_now (AppendsTo dig c.args.events.now c.args.time) (IsThreadOfNext dig c.args.events.now c.args.time) r.store r.store r.root r.root (Err c.in-Some.refusal) ps (is_same_itself d.view r.store) over refl tt

@@ -5,6 +5,7 @@ returns g c = record {
   table = c.add.ensures.table;
   answer = c.add.ensures.answer;
   steps = c.add.ensures.steps;
+  written = c.add.ensures.written;
   thread = c.add.ensures.thread;
   archive = c.add.ensures.archive;
   clock = c.add.ensures.clock;

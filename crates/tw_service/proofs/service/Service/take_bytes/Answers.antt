@@ -16,5 +16,5 @@ returns-then-self g c =
     let failed : s.is_broken ≡ true = c.if-self.true in
     record {
       malformed = λ nothing. (subst (λ (b : Bool). RefusesNoMessage b c.args.bytes.now (fails Reopen)) (sym failed) refl, refl);
-      message = λ m spells. inr (received_refused g.D.Disk.view g.met.D.Disk.only_now g.H.Hasher.dig m c.args.time s Reopen (own_broken s.is_broken s.recorded.root.name m.thread.from failed));
+      message = λ m spells. inr (received_refused g.D.Disk.view g.met.D.Disk.only_now g.H.Hasher.dig m c.args.time s Reopen (own_broken s.is_broken s.recorded.kept.root.name m.thread.from failed));
     }

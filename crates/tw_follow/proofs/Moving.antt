@@ -1,0 +1,84 @@
+-- One more head: its page was staged on a store that keeps a list, and the record that names it is next.
+use Rattle.std.proofs.Common.{◌≡◌, ℕ, ◌+◌, ◌^◌, ◌<◌, ◌≤◌, List, [], ◌∷◌, ◌++◌, length, refl, ap, sym, ◌∙◌, arith, subst}
+use Rattle.std.specs.Prelude.{Option, Some}
+use Rattle.std.specs.Option.{option_map}
+use Rattle.tw_base.specs.declared.history.thread.Thread.{Thread}
+use Rattle.tw_base.specs.history.Limits.{IsThread}
+use Rattle.tw_disk.specs.Disk.{DiskView}
+use Rattle.tw_disk.specs.Image.{Image}
+use Rattle.tw_pages.specs.StoreValue.{staged_of}
+use Rattle.tw_pages.specs.Same.{IsSameStore, count_of, list_of}
+use Rattle.tw_pages.specs.declared.store.Store.{Store}
+use Rattle.tw_kept.specs.Records.{written}
+use Rattle.tw_kept.specs.Rests.{RestsWith}
+use Rattle.tw_kept.proofs.Staged.{IsStaged}
+use Rattle.tw_kept.proofs.Written.{told_list}
+use Rattle.tw_follow.specs.declared.root.RootRecord.{RootRecord}
+use Rattle.tw_follow.specs.HeadLists.{Kept, with_head}
+use Rattle.tw_follow.specs.HeadPages.{head_page_bytes}
+use Rattle.tw_follow.specs.Roots.{IsAllowed}
+use Rattle.tw_follow.specs.Stands.{KeepsList, root_kind}
+use Rattle.tw_follow.specs.Writing.{moved_to}
+use Rattle.tw_follow.proofs.Growing.{grown}
+use Rattle.tw_follow.proofs.Spelling.{root-fits}
+
+-- the record of a later head may stand in the store with one page more
+pub may_next : (dig : List ℕ → List ℕ) (used generation : ℕ) (r : RootRecord) (head : Thread) (number : ℕ) → used ≡ number + 1 → 4 ≤ number → number ≤ 4 + r.head.step → generation ≤ r.head.step + 1
+    → r.head.step < head.step → IsThread head → IsAllowed dig used (generation + 1) (record { head = head; page = number })
+may_next dig used generation r head number one_more low few commits above thread = record {
+  spelled = root-fits (record { head = head; page = number }) thread.0 thread.2 (thread.3, thread.4) (let short : head.step < 2 ^ 40 = omega (arith, thread.2) in omega (arith, few, above, short));
+  fits = record {
+    page = (λ none. absurd (omega (arith, none, above)), λ none. absurd (omega (arith, none, low)));
+    begun = λ none. absurd (omega (arith, none, above));
+    few_pages = omega (arith, one_more, few, above);
+    few_commits = omega (arith, commits, above);
+  };
+}
+
+module _ {D : Type 0} {g : _} (view : D → DiskView) (dig : List ℕ → List ℕ) (old mid : Store D g) (r : RootRecord) (head : Thread) (number : ℕ) (page : List ℕ)
+    (same : IsSameStore view old mid) (clean : staged_of old ≡ []) (number_is : number ≡ count_of old) (one_more : count_of mid ≡ count_of old + 1)
+    (page_is : page ≡ head_page_bytes (record { step = head.step; auth = head.auth; before = r.page })) (list : list_of view mid ≡ option_map (λ (pages : Image). pages ++ page ∷ []) (list_of view old))
+    (few : count_of old ≤ 4 + r.head.step) (commits : old.generation ≤ r.head.step + 1) (above : r.head.step < head.step) (thread : IsThread head)
+    (ps : Image) (rest : RestsWith view (root_kind dig) old (written r ps)) (count : count_of old ≡ 4 + length ps) where
+  abbrev next : RootRecord
+  next = record { head = head; page = number }
+
+  pub put : IsStaged view (root_kind dig) old mid r next ps (ps ++ page ∷ [])
+  put = record {
+    same = same;
+    rest = rest;
+    list = list ∙ ap (λ (o : Option Image). option_map (λ (pages : Image). pages ++ page ∷ []) o) (told_list view (root_kind dig) old (written r ps) rest clean);
+    may = may_next dig (count_of mid) mid.generation r head number (omega (arith, one_more, number_is)) (omega (arith, number_is, count)) (omega (arith, number_is, few)) (omega (arith, commits, same.generation)) above thread;
+  }
+
+  -- the list with the head is kept
+  pub keeps_next : head.from ≡ r.head.from → (k : Kept) → KeepsList ps r k → KeepsList (ps ++ page ∷ []) next (with_head k head)
+  keeps_next from k keeps =
+      let short : head.step < 2 ^ 40 = omega (arith, thread.2) in
+      subst (λ (b : List ℕ). KeepsList (ps ++ b ∷ []) next (with_head k head)) (sym page_is)
+      (subst (λ (n : ℕ). KeepsList (ps ++ head_page_bytes (record { step = head.step; auth = head.auth; before = r.page }) ∷ []) (record { head = head; page = n }) (with_head k head)) (sym (number_is ∙ count))
+      (grown ps r k keeps rest.has.has.may.fits.page head from above thread (omega (arith, count, few, above, short))))
+
+-- the record and pages with a later head are these
+moved_is : (r : RootRecord) (head : Thread) (number : ℕ) (page : List ℕ) (ps : Image) → number ≡ 4 + length ps → page ≡ head_page_bytes (record { step = head.step; auth = head.auth; before = r.page })
+    → written (record { head = head; page = number }) (ps ++ page ∷ []) ≡ moved_to (written r ps) head
+moved_is r head number page ps number_is page_is =
+    ap (λ (n : ℕ). written (record { head = head; page = n }) (ps ++ page ∷ [])) number_is
+    ∙ ap (λ (b : List ℕ). written (record { head = head; page = 4 + length ps }) (ps ++ b ∷ [])) page_is
+
+-- the same of whatever pages the store has
+pub record WasPut {D : Type 0} {g : _} (view : D → DiskView) (dig : List ℕ → List ℕ) (old mid : Store D g) (r : RootRecord) (head : Thread) (number : ℕ) (page : List ℕ) : Type 0 where
+  pub staged : (ps : Image) → RestsWith view (root_kind dig) old (written r ps) → IsStaged view (root_kind dig) old mid r (record { head = head; page = number }) ps (ps ++ page ∷ [])
+  pub is : (ps : Image) → RestsWith view (root_kind dig) old (written r ps) → written (record { head = head; page = number }) (ps ++ page ∷ []) ≡ moved_to (written r ps) head
+  pub keeps : (ps : Image) → RestsWith view (root_kind dig) old (written r ps) → (k : Kept) → KeepsList ps r k → KeepsList (ps ++ page ∷ []) (record { head = head; page = number }) (with_head k head)
+
+pub was_put : {D : Type 0} {g : _} (view : D → DiskView) (dig : List ℕ → List ℕ) (old mid : Store D g) (r : RootRecord) (head : Thread) (number : ℕ) (page : List ℕ)
+    → ((ps : Image) → list_of view old ≡ Some ps → count_of old ≡ 4 + length ps)
+    → IsSameStore view old mid → staged_of old ≡ [] → number ≡ count_of old → count_of mid ≡ count_of old + 1
+    → page ≡ head_page_bytes (record { step = head.step; auth = head.auth; before = r.page }) → list_of view mid ≡ option_map (λ (pages : Image). pages ++ page ∷ []) (list_of view old)
+    → count_of old ≤ 4 + r.head.step → old.generation ≤ r.head.step + 1 → head.from ≡ r.head.from → r.head.step < head.step → IsThread head → WasPut view dig old mid r head number page
+was_put view dig old mid r head number page pages_told same clean number_is one_more page_is list few commits from above thread = record {
+  staged = λ ps rest. put view dig old mid r head number page same clean number_is one_more page_is list few commits above thread ps rest (pages_told ps (told_list view (root_kind dig) old (written r ps) rest clean));
+  is = λ ps rest. moved_is r head number page ps (number_is ∙ pages_told ps (told_list view (root_kind dig) old (written r ps) rest clean)) page_is;
+  keeps = λ ps rest k keeps. keeps_next view dig old mid r head number page same clean number_is one_more page_is list few commits above thread ps rest (pages_told ps (told_list view (root_kind dig) old (written r ps) rest clean)) from k keeps;
+}

@@ -1,0 +1,20 @@
+// The root record of a follower, as a store keeps it.
+
+ghost use Rattle.tw_follow.specs.Stands.{root_kind};
+
+use crate::root::{RootRecord, read_root, root_record};
+use arrayvec::ArrayVec;
+use tw_base::Hasher;
+use tw_kept::Record;
+
+impl Record for RootRecord {
+    ghost kind = { root_kind };
+
+    fn bytes<H: Hasher>(&self) -> ArrayVec<u8, 512> {
+        root_record(self)
+    }
+
+    fn read<H: Hasher>(bytes: &[u8], used: u64, generation: u64) -> Option<RootRecord> {
+        read_root::<H>(bytes, used, generation)
+    }
+}

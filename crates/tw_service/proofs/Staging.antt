@@ -1,0 +1,206 @@
+-- The next record, and the pages that were staged for it.
+use Rattle.std.proofs.Common.{◌≡◌, ℕ, suc, zero, ◌+◌, ◌*◌, ◌^◌, ◌<◌, ◌≤◌, List, ◌++◌, length, refl, ap, sym, ◌∙◌, arith, subst, inl, inr}
+use Rattle.std.specs.Prelude.{IfSome, Option, Some, None, Ok, Err, false, is_some}
+use Rattle.tw_base.specs.declared.kinds.limits.TheConstants.{LAST_STEP}
+use Rattle.tw_base.specs.declared.history.content.Content.{Content}
+use Rattle.tw_base.specs.declared.history.content.Content.TheVariants.{Events, Received}
+use Rattle.tw_base.specs.declared.history.root.Root.{Root}
+use Rattle.tw_base.specs.declared.history.thread.Thread.{Thread}
+use Rattle.tw_base.specs.format.Codecs.{HasBytes}
+use Rattle.tw_base.specs.history.Limits.{IsTimeWithinLimits}
+use Rattle.tw_base.specs.kinds.Names.{IsName}
+use Rattle.tw_disk.specs.Disk.{DiskView, LeavesOnly, Reads}
+use Rattle.tw_disk.specs.Answers.{Next}
+use Rattle.tw_disk.specs.Found.{Found, ◌>>=◌}
+use Rattle.tw_disk.specs.Found.Found.{Bad, Is}
+use Rattle.tw_disk.proofs.FoundLaws.{same_found}
+use Rattle.tw_disk.specs.Image.{Image}
+use Rattle.tw_kept.specs.Records.{IsOneOf, Written, written}
+use Rattle.tw_kept.specs.Rests.{RestsWith}
+use Rattle.tw_kept.proofs.Staged.{IsStaged, leaves_since, of_these}
+use Rattle.tw_pages.specs.declared.store.Store.{Store}
+use Rattle.tw_pages.specs.Same.{IsSameStore, count_of, list_of}
+use Rattle.tw_pages.specs.StoreValue.{disk_of}
+use Rattle.tw_skiplist.specs.declared.head.Head.{Head}
+use Rattle.tw_skiplist.specs.Appended.{appended, new_step, next_of, put_behind}
+use Rattle.tw_skiplist.specs.Walks.{next_links}
+use Rattle.tw_steppage.specs.declared.link.StepRef.{StepRef}
+use Rattle.tw_answers.specs.Limits.{append_refusal}
+use Rattle.tw_answers.specs.declared.refusal.Refusal.TheVariants.{DiskFault}
+use Rattle.tw_answers.specs.declared.root.RootRecord.{RootRecord}
+use Rattle.tw_answers.specs.Roots.{HasLastPage, IsAllowed, root_kind}
+use Rattle.tw_answers.proofs.RootLaws.{root-fits, root-name, root-time}
+use Rattle.tw_service.specs.Archiving.{IsStagedBehind}
+use Rattle.tw_service.specs.NextRecords.{event_record, next_record}
+use Rattle.tw_service.specs.Writing.{AddsThread, AppendsTo, Commits}
+use Rattle.tw_service.specs.Stands.{greater}
+use Rattle.tw_service.proofs.GreatestTimes.{greater-within}
+
+-- ---- the next record
+
+some_step : (o : Option ℕ) (step : ℕ) → 0 < step → IfSome o (λ time. 0 < step)
+some_step None step some = tt
+some_step (Some t) step some = some
+
+last_small : (used count page : ℕ) → HasLastPage used count page → used < 2 ^ 64 → page < 2 ^ 64
+last_small used zero page last room = let none = last.none refl in omega (arith, none)
+last_small used (suc count) page last room = let some = last.some (omega arith) in let low = some.1 in omega (arith, low, room)
+
+-- more pages have the last one of as many things still
+pub last_on : (used more count page : ℕ) → HasLastPage used count page → used ≤ more → HasLastPage more count page
+last_on used more count page last grows = record { none = last.none; some = λ some. let is = last.some some in (is.0, let low = is.1 in omega (arith, low, grows)) }
+
+-- it may stand over the pages that are used then
+module _ (r next : RootRecord) (before generation used commits : ℕ) (may : IsAllowed before generation r) (time : Option ℕ) (within : IsTimeWithinLimits time) where
+  pub record IsNextRecord : Type 0 where
+    pub named : next.name ≡ r.name
+    pub one_more : next.head.step ≡ r.head.step + 1
+    pub short : r.head.step < LAST_STEP
+    pub auth : HasBytes 32 next.head.auth
+    pub label : HasBytes 32 next.archive.label
+    pub page : (4 ≤ next.head.page) × (next.head.page < used)
+    pub archive : HasLastPage used next.threads next.archive.page
+    pub threads : next.threads ≤ next.head.step
+    pub timed : next.time ≡ greater r.time time
+    pub pages : used ≤ 4 + 64 * next.head.step
+    pub generations : commits ≤ next.head.step + 1
+
+  pub may_next : IsNextRecord → IsAllowed used commits next
+  may_next is = record {
+    spelled = root-fits next (subst IsName (sym is.named) (root-name (is_some r.time) r may.spelled)) (omega (arith, is.one_more, is.short)) is.auth
+        (let low = is.page.1 in let most = is.pages in omega (arith, low, most, is.one_more, is.short))
+        (last_small used next.threads next.archive.page is.archive (let most = is.pages in omega (arith, most, is.one_more, is.short)))
+        is.label (omega (arith, is.threads, is.one_more, is.short))
+        (subst IsTimeWithinLimits (sym is.timed) (greater-within r.time time (root-time (is_some r.time) r may.spelled) within));
+    fits = record {
+      steps = record { none = λ none. absurd (omega (arith, none, is.one_more)); some = λ some. is.page };
+      threads = is.archive;
+      few_threads = is.threads;
+      few_pages = is.pages;
+      few_commits = is.generations;
+      timed = some_step next.time next.head.step (omega (arith, is.one_more));
+    };
+  }
+
+-- ---- what was committed
+
+module _ {D T : Type 0} {g : _} (view : D → DiskView) (only_now : (d : D) (c : Image) → (view d).left_since (view d).moment c → (view d).may_leave c)
+    (IsNext : (w next : Written RootRecord) → Type 0) (IsAnswer : T → (w next : Written RootRecord) → Type 0)
+    (old mid new : Store D g) (r next : RootRecord) (ps all : Image) (put : IsStaged view root_kind old mid r next ps all) (is : IsNext (written r ps) (written next all)) where
+  -- what a clause of the commit says, for these pages
+  abbrev pub OfThese : (Image → Image → Type 0) → Type 0
+  OfThese P = (qs some : Image) → RestsWith view root_kind mid (written r qs) → list_of view mid ≡ Some some → IsAllowed (count_of mid) (mid.generation + 1) next → P qs some
+
+  abbrev pub Leaves : Image → Image → Type 0
+  Leaves qs some = LeavesOnly (view (disk_of mid)) (view (disk_of new)) (IsOneOf root_kind (written r qs) (written next some))
+
+  abbrev pub Tells : Image → Image → Type 0
+  Tells qs some = Reads (view (disk_of new)) (IsOneOf root_kind (written r qs) (written next some))
+
+  pub committed : (value : T) (after : RootRecord) → IsAnswer value (written r ps) (written next all) → after ≡ next → OfThese Leaves → OfThese Tells → OfThese (λ qs some. RestsWith view root_kind new (written next some))
+      → Commits view IsNext IsAnswer old new r after (Ok value) ps
+  committed value after answer after_is leaves tells rests = record {
+    next = written next all;
+    is_next = inr is;
+    any_moment = leaves_since view only_now root_kind old mid r next ps all put new leaves;
+    told = of_these view only_now root_kind old mid r next ps all put Tells tells;
+    done = (answer, after_is, of_these view only_now root_kind old mid r next ps all put (λ qs some. RestsWith view root_kind new (written next some)) rests);
+    refused = tt;
+  }
+
+  pub not_committed : (after : RootRecord) → OfThese Leaves → OfThese Tells → Commits view IsNext IsAnswer old new r after (Err DiskFault) ps
+  not_committed after leaves tells = record {
+    next = written next all;
+    is_next = inr is;
+    any_moment = leaves_since view only_now root_kind old mid r next ps all put new leaves;
+    told = of_these view only_now root_kind old mid r next ps all put Tells tells;
+    done = tt;
+    refused = inl refl;
+  }
+
+-- ---- what was staged
+
+-- the page of a step that is found lies behind the pages
+put-page : (ps : Image) (links : Found (List StepRef)) (next : List StepRef → Next Head) → ((ls : List StepRef) → 4 + length ps ≤ (next ls).value.page) → (n : Next Head) → (links >>= (λ ls. Is (next ls))) ≡ Is n → 4 + length ps ≤ n.value.page
+put-page ps (Is ls) next low n is = subst (λ (m : Next Head). 4 + length ps ≤ m.value.page) (same_found (next ls) n is) (low ls)
+put-page ps (Bad page) next low n is = cc
+
+behind-page : (dig : List ℕ → List ℕ) (ps : Image) (head : Head) (content : Content) (archive : Root) (time : Option ℕ) (n : Next Head) → appended dig ps head content archive time ≡ Is n → 4 + length ps ≤ n.value.page
+unfolding put_behind
+behind-page dig ps head content archive time n is = put-page ps (next_links ps head) (λ ls. next_of dig ps head (new_step dig content archive time) ls) (λ ls. omega arith) n is
+
+module _ {D : Type 0} {g : _} (view : D → DiskView) (dig : List ℕ → List ℕ) (old mid : Store D g) (r next : RootRecord) (head : Head) (time : Option ℕ) (ps more : Image)
+    (same : IsSameStore view old mid) (rest : RestsWith view root_kind old (written r ps)) (count : count_of old ≡ 4 + length ps) (grown : list_of view mid ≡ Some (ps ++ more))
+    (auth : HasBytes 32 head.auth) (one_more : head.step ≡ r.head.step + 1) (short : r.head.step < LAST_STEP) (commits : old.generation ≤ r.head.step + 1) (within : IsTimeWithinLimits time)
+    (page : head.page < count_of mid) where
+  may_old : IsAllowed (count_of old) old.generation r
+  may_old = subst (λ (n : ℕ). IsAllowed n old.generation r) (ap (λ (qs : Image). 4 + length qs) rest.has.pages_are ∙ sym count) rest.has.has.may
+
+  all_told : (pages : Image) → list_of view mid ≡ Some pages → pages ≡ ps ++ more
+  all_told pages told = let both : Some pages ≡ Some (ps ++ more) = sym told ∙ grown in cc
+
+  -- for a step of events
+  module _ (events : List (List ℕ)) (next_is : next ≡ event_record r head time) (label : HasBytes 32 r.archive.label) (few : count_of mid ≤ count_of old + 19) (grows : count_of old ≤ count_of mid)
+      (pages : Image) (told : list_of view mid ≡ Some pages) (found : appended dig ps r.head (Events events) r.archive time ≡ Is (record { pages = pages; value = head })) where
+    may_events : IsAllowed (count_of mid) (mid.generation + 1) (event_record r head time)
+    may_events = may_next r (event_record r head time) (count_of old) old.generation (count_of mid) (mid.generation + 1) may_old time within (record {
+      named = refl;
+      one_more = one_more;
+      short = short;
+      auth = auth;
+      label = label;
+      page = (let low = behind-page dig ps r.head (Events events) r.archive time (record { pages = pages; value = head }) found in omega (arith, low), page);
+      archive = last_on (count_of old) (count_of mid) r.threads r.archive.page may_old.fits.threads grows;
+      threads = let less = may_old.fits.few_threads in omega (arith, less, one_more);
+      timed = refl;
+      pages = let most = may_old.fits.few_pages in omega (arith, few, most, one_more);
+      generations = omega (arith, commits, same.generation, one_more);
+    })
+
+    pub staged_events : IsStaged view root_kind old mid r next ps (ps ++ more)
+    staged_events = record { same = same; rest = rest; list = grown; may = subst (λ (x : RootRecord). IsAllowed (count_of mid) (mid.generation + 1) x) (sym next_is) may_events }
+
+    pub appends_events : append_refusal false r.head.step r.time events time ≡ None → AppendsTo dig events time (written r ps) (written next (ps ++ more))
+    appends_events allowed =
+        let is : head ≡ next.head = sym (ap (λ (x : RootRecord). x.head) next_is) in
+        record {
+          allowed = allowed;
+          more = more;
+          behind = refl;
+          root = next_is ∙ ap (λ (x : Head). event_record r x time) is;
+          is = found ∙ (λ j. Is (record { pages = all_told pages told j; value = is j }));
+        }
+
+  -- for a step that archives a thread
+  module _ (t : Thread) (archive : Root) (next_is : next ≡ next_record r head archive (r.threads + 1) time) (label : HasBytes 32 archive.label) (few : count_of mid ≤ count_of old + 42)
+      (tree : (count_of old ≤ archive.page) × (archive.page < count_of mid)) (staged : IsStagedBehind dig ps r t time (list_of view mid) head archive) where
+    may_thread : IsAllowed (count_of mid) (mid.generation + 1) (next_record r head archive (r.threads + 1) time)
+    may_thread = may_next r (next_record r head archive (r.threads + 1) time) (count_of old) old.generation (count_of mid) (mid.generation + 1) may_old time within (record {
+      named = refl;
+      one_more = one_more;
+      short = short;
+      auth = auth;
+      label = label;
+      page = (let low = behind-page dig (ps ++ staged.tree_pages) r.head (Received t) archive time (record { pages = staged.pages; value = head }) staged.is in omega (arith, low), page);
+      archive = record { none = λ none. absurd (omega (arith, none)); some = λ some. (let low = tree.0 in omega (arith, low, count), tree.1) };
+      threads = let less = may_old.fits.few_threads in omega (arith, less, one_more);
+      timed = refl;
+      pages = let most = may_old.fits.few_pages in omega (arith, few, most, one_more);
+      generations = omega (arith, commits, same.generation, one_more);
+    })
+
+    pub staged_thread : IsStaged view root_kind old mid r next ps (ps ++ more)
+    staged_thread = record { same = same; rest = rest; list = grown; may = subst (λ (x : RootRecord). IsAllowed (count_of mid) (mid.generation + 1) x) (sym next_is) may_thread }
+
+    pub adds_thread : AddsThread dig t time (written r ps) (written next (ps ++ more))
+    adds_thread =
+        let is : head ≡ next.head = sym (ap (λ (x : RootRecord). x.head) next_is) in
+        let tree_is : archive ≡ next.archive = sym (ap (λ (x : RootRecord). x.archive) next_is) in
+        record {
+          more = more;
+          behind = refl;
+          root = next_is ∙ (λ j. next_record r (is j) (tree_is j) (r.threads + 1) time);
+          staged = subst (λ (x : Root). IsStagedBehind dig ps r t time (Some (ps ++ more)) next.head x) tree_is
+              (subst (λ (x : Head). IsStagedBehind dig ps r t time (Some (ps ++ more)) x archive) is (subst (λ (o : Option Image). IsStagedBehind dig ps r t time o head archive) grown staged));
+          new_tree = subst (λ (x : Root). 4 + length ps ≤ x.page) tree_is (let low = tree.0 in omega (arith, low, count));
+        }
