@@ -1,7 +1,8 @@
-/* Timeweave's verifier in one process: judges proofs under anchors that you hold, as the program's `verify` and `strict` do.
+/* Timeweave's verifier in one process: judges proofs, maps and evidence under anchors that you hold, as the program's `verify`, `strict`,
+ * `checkmap` and `checkfork` do, and tells whether two accepted files show that a service broke a rule.
  *
  * What these functions answer is proved: the status and the text are those of the verdict on the bytes handed in, with the theorem that
- * an accepted proof's claim holds in every list of sound histories that has the authenticators held, or two different texts have one
+ * what an accepted file shows is so of every list of sound histories that has the authenticators held, or two different texts have one
  * SHA-256 digest. The proofs cover the library; that your program keeps the conditions below is for you to see to:
  *
  * - No pointer is NULL, also where the size beside it is 0. Each points to as many bytes as that size says, at most PTRDIFF_MAX.
@@ -21,12 +22,13 @@
 extern "C" {
 #endif
 
-/* What timeweave_verify and timeweave_strict answer: the exit statuses of the program. */
+/* What the judging functions answer: the exit statuses of the program. */
 enum {
-    TIMEWEAVE_ACCEPTED = 0,   /* the text is the report: what the proof claims, line by line */
-    TIMEWEAVE_REJECTED = 1,   /* the text is `rejected`, the number, name and fields of the lowest reason that stands */
-    TIMEWEAVE_NO_MEMORY = 6,  /* the text is `no memory` */
-    TIMEWEAVE_BAD_ANCHORS = 9 /* the text is `unreadable anchors line` and the number of the first bad line, from 1 */
+    TIMEWEAVE_ACCEPTED = 0,    /* the text is the report: what is shown, line by line */
+    TIMEWEAVE_REJECTED = 1,    /* the text is `rejected` and the reason: its number, name and fields */
+    TIMEWEAVE_NO_MEMORY = 6,   /* the text is `no memory` */
+    TIMEWEAVE_BAD_ANCHORS = 9, /* the text is `unreadable anchors line` and the number of the first bad line, from 1 */
+    TIMEWEAVE_UNREADABLE = 9   /* the same status, of a map file too: the text is `unreadable low byte` or `unreadable high byte` and a place */
 };
 
 /* Judges the bytes of a proof under the anchors in the bytes of an anchors file: lines NAME STEP HEX, at most 64, one a service.
@@ -41,6 +43,46 @@ uint32_t timeweave_verify(const uint8_t *proof, size_t proof_size, const uint8_t
 /* The same in the strict form, as `timeweave strict` judges: a proof that carries threads is rejected. */
 uint32_t timeweave_strict(const uint8_t *proof, size_t proof_size, const uint8_t *anchors, size_t anchors_size, uint8_t *out, size_t room,
                           size_t *text_size);
+
+/* Judges the bytes of a low and of a high map file under those of an anchors file, as `timeweave checkmap low high anchors` judges files of
+ * these bytes; the buffer is as with timeweave_verify.
+ *
+ * Accepted: `accepted map`, and the lines `low L`, `high H` or `high none`, and `upto U`: L is the greatest step of the peer that the service
+ * received before its step, H the least step of the peer up to U that received the service's step or a later one. Rejected: `rejected Gap 2`
+ * where the two files don't speak of one step and of one peer, else the lowest reason (part 0 is the low file, part 1 the high one).
+ * Unreadable: the first of `low` and `high` that is no map file of its kind, with the first byte at which none goes on, else the first bad
+ * line of the anchors. */
+uint32_t timeweave_checkmap(const uint8_t *low, size_t low_size, const uint8_t *high, size_t high_size, const uint8_t *anchors,
+                            size_t anchors_size, uint8_t *out, size_t room, size_t *text_size);
+
+/* Judges the bytes of the evidence of a fork under those of an anchors file, as `timeweave checkfork evidence anchors` judges files of these
+ * bytes; the buffer is as with timeweave_verify.
+ *
+ * Accepted: `accepted fork`, and the lines `first` and `second`, each with the thread that was received (service, step, authenticator), the
+ * service that received it, and the step that did. Rejected: `Malformed` and a place; `Part`, 1 or 2, and the number of the reason against
+ * that proof; `NoConflict`; `BadLink`. */
+uint32_t timeweave_checkfork(const uint8_t *evidence, size_t evidence_size, const uint8_t *anchors, size_t anchors_size, uint8_t *out,
+                             size_t room, size_t *text_size);
+
+/* Tells whether two files that are accepted, each under the anchors handed in beside it, show that the service whose archive they are of
+ * broke a rule of histories, or showed two histories. A file is a proof that a thread was received or that none was (kinds 3 and 4), a low
+ * map file of a step from 2 on, or a high map file (kinds 6 and 7). They contradict each other where one shows that a thread was received at a
+ * step, and the other that no thread of that service and step was received up to that step or to a later one. (The program has no such
+ * command.) The link is a proof of a step's authenticator (kind 5), or has no bytes: it joins the two lines of the service under which the
+ * files are accepted, from the later one down to the earlier one. The buffer is as with timeweave_verify.
+ *
+ * Accepted: `accepted broken-rule` where both are accepted under one line, or the link joins their two lines: then no sound history has the
+ * later line. Else `accepted broken-rule-or-fork`: no sound history has both lines. Both are so unless two different texts have one digest,
+ * so the files, the lines and the link are evidence for whoever holds the lines to be the service's. Then a line `thread`, as in the report on
+ * a proof that it was received, and a line `absent`, as in the report on a proof that it wasn't, of the same service and step.
+ *
+ * Rejected: `10 Part 1` or `10 Part 2` and the number of the lowest reason against that file, 1 where it is none of
+ * these; `11 NoConflict` where both are accepted, and
+ * they don't contradict each other; `12 BadLink` where the link has bytes and joins no such lines. Unreadable: the first bad line of
+ * `first_anchors`, else of `second_anchors`, by these names. */
+uint32_t timeweave_contradict(const uint8_t *first, size_t first_size, const uint8_t *first_anchors, size_t first_anchors_size,
+                              const uint8_t *second, size_t second_size, const uint8_t *second_anchors, size_t second_anchors_size,
+                              const uint8_t *link, size_t link_size, uint8_t *out, size_t room, size_t *text_size);
 
 /* The version of the library, as `1.0.0`: as much of it as has room is put at the front of `out`. Answers the size of the whole. */
 size_t timeweave_version(uint8_t *out, size_t room);

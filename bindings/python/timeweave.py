@@ -1,4 +1,4 @@
-"""Judges proofs of Timeweave in this process, over the proved library; Python's standard library alone.
+"""Judges proofs, maps and evidence of Timeweave in this process, over the proved library; Python's standard library alone, from 3.9 on.
 
     import timeweave
 
@@ -13,26 +13,41 @@ import ctypes
 import os
 from dataclasses import dataclass, field
 from pathlib import Path
+from typing import Any, Callable, Dict, List, NoReturn, Optional, Tuple, Union
 
-ACCEPTED, REJECTED, NO_MEMORY, BAD_ANCHORS = 0, 1, 6, 9
+ACCEPTED, REJECTED, NO_MEMORY, UNREADABLE = 0, 1, 6, 9
+BAD_ANCHORS = UNREADABLE
 BUILT = Path(__file__).resolve().parents[2] / "lib/libtimeweave.so"
 FIRST_ROOM = 1024
 
+# What is taken for the bytes of a file, and for the lines of an anchors file.
+Data = Union[bytes, bytearray, memoryview]
+Lines = Union[str, bytes, bytearray, memoryview]
+
 
 class Rejected(Exception):
-    """The proof isn't accepted: the number, the name and the fields of the lowest reason that stands, as (6, "BadEvent", ["0"])."""
+    """The file isn't accepted: the number, the name and the fields of the reason, as (6, "BadEvent", ["0"]). Map files that don't fit each
+    other have a reason without a number, (None, "Gap", ["2"])."""
 
-    def __init__(self, number, name, fields):
-        super().__init__(" ".join([str(number), name, *fields]))
+    def __init__(self, number: Optional[int], name: str, fields: List[str]) -> None:
+        super().__init__(" ".join([*([] if number is None else [str(number)]), name, *fields]))
         self.number, self.name, self.fields = number, name, fields
 
 
 class BadAnchors(ValueError):
-    """The anchors have a bad line: this one, counted from 1, is the first."""
+    """The anchors have a bad line: this one, counted from 1, is the first. `file` says which anchors, where there are several."""
 
-    def __init__(self, line):
-        super().__init__(f"line {line}")
-        self.line = line
+    def __init__(self, line: int, file: str = "anchors") -> None:
+        super().__init__(f"line {line}" if file == "anchors" else f"{file} line {line}")
+        self.line, self.file = line, file
+
+
+class BadFile(ValueError):
+    """The bytes are no map file of their kind, `low` or `high`: at this place, counted from 0, stands the first byte at which none goes on."""
+
+    def __init__(self, file: str, place: int) -> None:
+        super().__init__(f"{file} byte {place}")
+        self.file, self.place = file, place
 
 
 @dataclass(frozen=True)
@@ -52,7 +67,7 @@ class Event:
     step: int
     index: int
     data: bytes
-    time: int | None = None
+    time: Optional[int] = None
 
 
 @dataclass(frozen=True)
@@ -100,119 +115,296 @@ class Report:
 
     kind: str
     text: str
-    events: list[Event] = field(default_factory=list)
-    hops: list[Hop] = field(default_factory=list)
-    carried: list[Thread] = field(default_factory=list)
-    received: Received | None = None
-    absent: Absent | None = None
-    link: Link | None = None
+    events: List[Event] = field(default_factory=list)
+    hops: List[Hop] = field(default_factory=list)
+    carried: List[Thread] = field(default_factory=list)
+    received: Optional[Received] = None
+    absent: Optional[Absent] = None
+    link: Optional[Link] = None
 
 
-def unhexed(word):
+@dataclass(frozen=True)
+class Bounds:
+    """What two accepted map files show: the greatest step of the peer that the service had received before its step, 0 where there is none; and
+    the least step of the peer, up to its step `upto`, that received the service's step or a later one, None where none did."""
+
+    low: int
+    high: Optional[int]
+    upto: int
+    text: str
+
+
+@dataclass(frozen=True)
+class Accused:
+    """A thread of evidence, the service that received it, and the step that did."""
+
+    thread: Thread
+    by: str
+    archived: int
+
+
+@dataclass(frozen=True)
+class Fork:
+    """What accepted evidence of a fork shows: two threads of one service, both received, which no sound history both has."""
+
+    first: Accused
+    second: Accused
+    text: str
+
+
+@dataclass(frozen=True)
+class Contradiction:
+    """What two accepted files show that contradict each other: that a thread was received, and that none of its service and step was received up
+    to a step that isn't before. Where `is_joined`, the service of the archive broke a rule: no sound history has the later of its lines. Else it
+    broke a rule or showed two histories: no sound history has both lines."""
+
+    is_joined: bool
+    received: Received
+    absent: Absent
+    text: str
+
+
+# ---- texts
+
+
+def unhexed(word: str) -> bytes:
     """The bytes of a word of hexadecimal digits; `-` stands for none."""
     return b"" if word == "-" else bytes.fromhex(word)
 
 
-def read_line(report, words):
+def words_of(line: str, head: str, count: int) -> List[str]:
+    """The words of a line behind its head, so many. Raises ValueError where it is another line."""
+    words = line.split(" ")
+    if words[0] != head or len(words) != count + 1:
+        raise ValueError(f"no line of a report: {line}")
+    return words[1:]
+
+
+def read_event(line: str) -> Event:
+    """The event of a line `event`."""
+    service, step, index, data = words_of(line, "event", 4)
+    return Event(service, int(step), int(index), unhexed(data))
+
+
+def timed(event: Event, line: str) -> Event:
+    """The event with the time of a line `time`."""
+    _, _, time = words_of(line, "time", 3)
+    return Event(event.service, event.step, event.index, event.data, int(time))
+
+
+def read_hop(line: str) -> Hop:
+    """The hop of a line `hop`."""
+    service, step, by, archived = words_of(line, "hop", 4)
+    return Hop(service, int(step), by, int(archived))
+
+
+def read_carried(line: str) -> Thread:
+    """The thread of a line `carried`."""
+    service, step, authenticator = words_of(line, "carried", 3)
+    return Thread(service, int(step), unhexed(authenticator))
+
+
+def read_received(line: str) -> Received:
+    """What a line `thread` says."""
+    service, step, of, at, authenticator, archived = words_of(line, "thread", 6)
+    return Received(service, int(step), Thread(of, int(at), unhexed(authenticator)), int(archived))
+
+
+def read_absent(line: str) -> Absent:
+    """What a line `absent` says."""
+    service, step, of, at = words_of(line, "absent", 4)
+    return Absent(service, int(step), of, int(at))
+
+
+def read_link(line: str) -> Link:
+    """What a line `link` says."""
+    service, step, top, authenticator = words_of(line, "link", 4)
+    return Link(Thread(service, int(step), unhexed(authenticator)), int(top))
+
+
+def read_line(report: Report, line: str) -> None:
     """Adds what a line of the report says."""
-    match words:
-        case ["event", service, step, index, data]:
-            report.events.append(Event(service, int(step), int(index), unhexed(data)))
-        case ["time", _, _, time]:
-            last = report.events.pop()
-            report.events.append(Event(last.service, last.step, last.index, last.data, int(time)))
-        case ["hop", service, step, by, archived]:
-            report.hops.append(Hop(service, int(step), by, int(archived)))
-        case ["carried", service, step, authenticator]:
-            report.carried.append(Thread(service, int(step), unhexed(authenticator)))
-        case ["thread", service, step, of, at, authenticator, archived]:
-            report.received = Received(service, int(step), Thread(of, int(at), unhexed(authenticator)), int(archived))
-        case ["absent", service, step, of, at]:
-            report.absent = Absent(service, int(step), of, int(at))
-        case ["link", service, step, top, authenticator]:
-            report.link = Link(Thread(service, int(step), unhexed(authenticator)), int(top))
-        case _:
-            raise ValueError(f"no line of a report: {' '.join(words)}")
+    head = line.split(" ")[0]
+    if head == "event":
+        report.events.append(read_event(line))
+    elif head == "time" and report.events:
+        report.events[-1] = timed(report.events[-1], line)
+    elif head == "hop":
+        report.hops.append(read_hop(line))
+    elif head == "carried":
+        report.carried.append(read_carried(line))
+    elif head == "thread":
+        report.received = read_received(line)
+    elif head == "absent":
+        report.absent = read_absent(line)
+    elif head == "link":
+        report.link = read_link(line)
+    else:
+        raise ValueError(f"no line of a report: {line}")
 
 
-def read_report(text):
+def read_report(text: str) -> Report:
     """The report of an accepted proof, of its text."""
     head, *lines = text.splitlines()
     report = Report(head.removeprefix("accepted "), text)
     for line in lines:
-        read_line(report, line.split(" "))
+        read_line(report, line)
     return report
 
 
-def answer_of(status, text):
-    """The report of a status and a text, or what is raised for them."""
-    if status == ACCEPTED:
-        return read_report(text)
+def read_bounds(text: str) -> Bounds:
+    """The bounds of accepted map files, of their text."""
+    _, low, high, upto = text.splitlines()
+    (least,), (most,), (last,) = words_of(low, "low", 1), words_of(high, "high", 1), words_of(upto, "upto", 1)
+    return Bounds(int(least), None if most == "none" else int(most), int(last), text)
+
+
+def read_accused(line: str, head: str) -> Accused:
+    """The thread of a line of accepted evidence."""
+    service, step, authenticator, by, archived = words_of(line, head, 5)
+    return Accused(Thread(service, int(step), unhexed(authenticator)), by, int(archived))
+
+
+def read_fork(text: str) -> Fork:
+    """What accepted evidence shows, of its text."""
+    _, first, second = text.splitlines()
+    return Fork(read_accused(first, "first"), read_accused(second, "second"), text)
+
+
+def read_contradiction(text: str) -> Contradiction:
+    """What two files show that contradict each other, of their text."""
+    head, received, absent = text.splitlines()
+    return Contradiction(head == "accepted broken-rule", read_received(received), read_absent(absent), text)
+
+
+def raise_refusal(status: int, text: str) -> NoReturn:
+    """Raises what a status and a text say of files that aren't accepted."""
+    words = text.split()
+    if status == REJECTED and words[1].isdigit():
+        raise Rejected(int(words[1]), words[2], words[3:])
     if status == REJECTED:
-        _, number, name, *fields = text.split()
-        raise Rejected(int(number), name, fields)
-    if status == BAD_ANCHORS:
-        raise BadAnchors(int(text.split()[-1]))
+        raise Rejected(None, words[1], words[2:])
+    if status == UNREADABLE and words[2] == "line":
+        raise BadAnchors(int(words[3]), words[1])
+    if status == UNREADABLE:
+        raise BadFile(words[1], int(words[3]))
     raise MemoryError(text)
+
+
+def answer_of(status: int, text: str) -> Report:
+    """The report of a status and a text that were told of a proof, or what is raised for them."""
+    return read_report(text) if status == ACCEPTED else raise_refusal(status, text)
+
+
+# What each function of the library tells of files that are accepted.
+READ: Dict[str, Callable[[str], Union[Report, Bounds, Fork, Contradiction]]] = {
+    "timeweave_verify": read_report,
+    "timeweave_strict": read_report,
+    "timeweave_checkmap": read_bounds,
+    "timeweave_checkfork": read_fork,
+    "timeweave_contradict": read_contradiction,
+}
+
+
+def read_answer(name: str, status: int, text: str) -> Union[Report, Bounds, Fork, Contradiction]:
+    """What the function of this name told by a status and a text, or what is raised for them."""
+    return READ[name](text) if status == ACCEPTED else raise_refusal(status, text)
+
+
+# ---- the library
 
 
 class Library:
     """The loaded library."""
 
-    def __init__(self, path):
-        self.functions = ctypes.CDLL(str(path))
+    # The functions that judge, each with the number of files whose bytes it takes.
+    TAKES = {"timeweave_verify": 2, "timeweave_strict": 2, "timeweave_checkmap": 3, "timeweave_checkfork": 2, "timeweave_contradict": 5}
+
+    def __init__(self, path: Union[str, Path]) -> None:
+        self.functions: Any = ctypes.CDLL(str(path))
         size = ctypes.c_size_t
-        for name in ("timeweave_verify", "timeweave_strict"):
+        for name, count in self.TAKES.items():
             function = getattr(self.functions, name)
             function.restype = ctypes.c_uint32
-            function.argtypes = [ctypes.c_char_p, size, ctypes.c_char_p, size, ctypes.c_char_p, size, ctypes.POINTER(size)]
+            function.argtypes = [ctypes.c_char_p, size] * (count + 1) + [ctypes.POINTER(size)]
         self.functions.timeweave_version.restype = size
         self.functions.timeweave_version.argtypes = [ctypes.c_char_p, size]
 
-    def judge(self, proof, anchors, is_strict):
-        """The status of the program, and its text, for the bytes of a proof and of an anchors file."""
-        function = self.functions.timeweave_strict if is_strict else self.functions.timeweave_verify
-        room, size = FIRST_ROOM, ctypes.c_size_t()
+    def ask(self, name: str, *files: bytes) -> Tuple[int, bytes]:
+        """The status and the text that the function of this name answers to the bytes of these files."""
+        function, room, size = getattr(self.functions, name), FIRST_ROOM, ctypes.c_size_t()
+        given = [part for data in files for part in (data, len(data))]
         while True:
             out = ctypes.create_string_buffer(room)
-            status = function(proof, len(proof), anchors, len(anchors), out, room, ctypes.byref(size))
+            status = function(*given, out, room, ctypes.byref(size))
             if size.value <= room:
-                return status, out.raw[: size.value]
+                return int(status), out.raw[: size.value]
             room = size.value
 
-    def version(self):
+    def judge(self, proof: bytes, anchors: bytes, is_strict: bool) -> Tuple[int, bytes]:
+        """The status of the program, and its text, for the bytes of a proof and of an anchors file."""
+        return self.ask("timeweave_strict" if is_strict else "timeweave_verify", proof, anchors)
+
+    def version(self) -> str:
+        """The version of the library."""
         out = ctypes.create_string_buffer(64)
-        size = self.functions.timeweave_version(out, 64)
+        size: int = self.functions.timeweave_version(out, 64)
         return out.raw[:size].decode()
 
 
-LOADED = []
+LOADED: List[Library] = []
 
 
-def library():
+def library() -> Library:
     """The library, loaded once."""
     if not LOADED:
-        LOADED.append(Library(os.environ.get("TIMEWEAVE_LIBRARY") or (BUILT if BUILT.exists() else "libtimeweave.so")))
+        LOADED.append(Library(os.environ.get("TIMEWEAVE_LIBRARY") or (BUILT if BUILT.exists() else "libtimeweave.so.1")))
     return LOADED[0]
 
 
-def judged(proof, anchors, is_strict):
-    anchors = anchors.encode() if isinstance(anchors, str) else bytes(anchors)
-    status, text = library().judge(bytes(proof), anchors, is_strict)
-    return answer_of(status, text.decode("ascii"))
+def bytes_of(lines: Lines) -> bytes:
+    """The bytes of the lines of an anchors file."""
+    return lines.encode() if isinstance(lines, str) else bytes(lines)
 
 
-def verify(proof, anchors):
+def asked(name: str, *files: bytes) -> str:
+    """The text that a function of the library answers to files that are accepted. Raises what it says of others."""
+    status, data = library().ask(name, *files)
+    text = data.decode("ascii")
+    return text if status == ACCEPTED else raise_refusal(status, text)
+
+
+def verify(proof: Data, anchors: Lines) -> Report:
     """The report of a proof that is accepted under the anchors, which are the lines of an anchors file, as text or as bytes. Raises
     Rejected, BadAnchors or MemoryError."""
-    return judged(proof, anchors, False)
+    return read_report(asked("timeweave_verify", bytes(proof), bytes_of(anchors)))
 
 
-def strict(proof, anchors):
+def strict(proof: Data, anchors: Lines) -> Report:
     """The same in the strict form: a proof that carries threads, which no anchor binds, is rejected."""
-    return judged(proof, anchors, True)
+    return read_report(asked("timeweave_strict", bytes(proof), bytes_of(anchors)))
 
 
-def version():
+def checkmap(low: Data, high: Data, anchors: Lines) -> Bounds:
+    """The bounds that a low and a high map file show, which are accepted under the anchors. Raises Rejected, BadFile, BadAnchors or
+    MemoryError."""
+    return read_bounds(asked("timeweave_checkmap", bytes(low), bytes(high), bytes_of(anchors)))
+
+
+def checkfork(evidence: Data, anchors: Lines) -> Fork:
+    """What the evidence of a fork shows that is accepted under the anchors. Raises Rejected, BadAnchors or MemoryError."""
+    return read_fork(asked("timeweave_checkfork", bytes(evidence), bytes_of(anchors)))
+
+
+def contradict(first: Data, first_anchors: Lines, second: Data, second_anchors: Lines, link: Data = b"") -> Contradiction:
+    """What two files show that contradict each other, each accepted under its own anchors: proofs that a thread was received or that none was,
+    or map files. The link is a proof of a step's authenticator, which joins the earlier line of the service to the later one; none is needed
+    where both files are accepted under one line. Raises Rejected, with the reason NoConflict where they don't contradict each other, BadAnchors
+    or MemoryError."""
+    files = (bytes(first), bytes_of(first_anchors), bytes(second), bytes_of(second_anchors), bytes(link))
+    return read_contradiction(asked("timeweave_contradict", *files))
+
+
+def version() -> str:
     """The version of the library."""
     return library().version()

@@ -4,6 +4,7 @@ pub mod Endings
 pub mod ToldFiles
 pub mod ToldMaps
 pub mod JudgedRuns
+pub mod JudgedReach
 pub mod PlayedFiles
 pub mod MapRuns
 pub mod Audits

@@ -137,8 +137,8 @@ fn run_to_the_end<D: Disk, I: Inputs, S: Sink>(
     Ran { status, disk }
 }
 
-/// Does all that the program does for its words, which don't hold its own name, and answers its
-/// status with the disk; whatever it has to say is written to the sink.
+/// Does what the words ask for, which don't hold the program's own name, and answers the status with the disk; whatever
+/// it has to say is written to the sink. Arguments, files, the store and the standard streams are the program's.
 ///
 /// - 0: the command's output was written whole: the report of an accepted proof or of one that stands
 ///   in histories, the proof, the evidence or the message that was made, the receipt of a message that was
@@ -260,8 +260,13 @@ pub fn run<D: Disk, I: Inputs, S: Sink>(
     // image is one that a crash might have left before, or is blank, or stands for the history of that name without
     // steps. What the disk then reads as is told still, and is such an image. Where a store was there, of a service or
     // not, with writes pending or not, nothing is written. `watch` and `offer` say the same of lists of heads: at `offer` each
-    // image stands for the list before it, or, where the file's message moves the head, for it with the message's thread.
-    // What is opened as no follower, a service's store among it, `offer` leaves as it was, with writes pending or not.
+    // image stands for the list before it, or, where the file's message moves the head, for it with the message's thread. At these
+    // three the same holds of any store of their kind that opens, whatever its pages keep: each image opens with the record and
+    // pages that the disk opened with, or with the next ones, or is one that a crash might have left before. Next are those of a step
+    // of the file's events as it is found in the pages; those of a step that archives the thread of the file's message; and, where
+    // the message moves the record's head, those of its thread.
+    // What is opened as no follower, a service's store among it, `offer` leaves as it was, with writes pending or not; and
+    // `append` and `receive` what is opened as no service, a follower's store among it.
     // `prove`, `thread` and `heads` write nothing. A command without a folder hands the
     // disk back as it is, and so does a run of words that have no form.
     ensures crash { MatchOption (command_of (map string_bytes words.now)) (result.disk ≡ disk)

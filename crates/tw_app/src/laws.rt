@@ -54,23 +54,29 @@ pub fn status_laws<D: Disk>()
     // refuse. What the disk read as opens as a service's store, and the line written is that of its next step with these
     // events and the time of the words, if any, as it is found in its pages, whatever these keep. And where the disk read
     // as a history, with writes pending or not, adding these is a step of the machine, the line is that of the longer
-    // history's last step, and the disk stands for the longer history, at rest.
+    // history's last step, and the disk stands for the longer history, at rest. Whatever the pages keep, the disk opens with
+    // the record of that step and the pages that are found with it behind the others, at rest.
     // Status 0 of `receive`: the file is there and holds a message. What the disk read as opens as a service's store, of another
     // name than the message's, and the bytes written are the receipt of the message's thread: by the step that its archive's
     // pages tell to have received it, with the authenticator that its page tells; or by its next step, as it is found behind
     // pages of a tree that has the thread besides what the archive had. And where the disk read as a history, with writes
     // pending or not, it is the machine's reply by the receiving of that message, at the time of the words, if any: the receipt
     // of the step that received the thread, and the disk stands for the history, at rest; or that of the last step of the
-    // history with one more, which received it and with which it is sound, and the disk stands for that, at rest.
+    // history with one more, which received it and with which it is sound, and the disk stands for that, at rest. Whatever the
+    // pages keep, the disk opens with the record and pages that were there, or with those of the step that archives the thread, at
+    // rest.
     // Status 0 of `watch`: no store was there. The line written is that of step 0 of the name. The disk, where its content
     // was told, stands for the list of that name without heads, at rest.
     // Status 0 of `offer`: the file is there and holds a message. What the disk read as opens as a follower's store, over
     // whose head the table says that the message is the head itself or moves it, and the line written is that of the
     // message's thread. And where the disk read as a list of heads, with writes pending or not, the disk stands for that
-    // list, or, where the message moves the head, for it with that thread, at rest.
+    // list, or, where the message moves the head, for it with that thread, at rest. Whatever the store's pages keep, the disk
+    // opens with the record and pages that were there, or, where the message moves the record's head, with those of that thread,
+    // whose page stands behind the others, at rest.
     // Status 0 of `heads`: what the disk read as opens as a follower's store, and the lines written are those of the heads
     // that are found in its pages, oldest first. And where the disk read as a list of heads, with writes pending or not,
-    // they are that list's, and the disk stands for it, at rest.
+    // they are that list's, and the disk stands for it, at rest. Whatever the pages keep, the disk rests with the record and
+    // pages that were there.
     // Status 0 of `replay`: the file is there and is a script, and the bytes written are the text of what it is played to: what its lines
     // are told, one after another, by the rules of worlds, from a world of nothing on, in which no service claims a time; and the summary
     // of this and of the numbers of steps at the end. Status 0 of `generate`: the line written is the summary
@@ -114,7 +120,9 @@ pub fn status_laws<D: Disk>()
     ensures cut_short { (a : Around D) → Ends D.view a 4 → (DiskFailed D.view a → ⊥)
         → ((text : List ℕ) × IsWork D.view a (λ w. w.done text)) ⊎ IsLeft D.view a.outside.disk.before a.outside.disk.after }
     // Status 5: the words are of a command with a folder, the disk's count of faults rose, and `fault disk` was written
-    // whole. At `append`, `receive` and `offer` the file was judged before.
+    // whole. At `append`, `receive` and `offer` the file was judged before, and what is opened as no store of the command's kind
+    // is left as it was; the disk opens with the record and pages that were there, or with the next ones, of those events or of that
+    // message, whatever the pages keep.
     ensures disk_fault { (a : Around D) → Ends D.view a 5 → IsDiskFaultRun D.view a }
     // Status 6: `no memory` was written whole.
     ensures no_memory { (a : Around D) → Ends D.view a 6 → Writes a no_memory_text }

@@ -1,5 +1,5 @@
--- Of each service of whose history an accepted proof speaks a thread is held.
-use Rattle.std.proofs.Common.{◌≡◌, ℕ, suc, List, [], ◌∷◌, ◌++◌, length, Bool, true, false, refl, ap, sym, ◌∙◌, subst, append_assoc, inl}
+-- Of each service of whose history an accepted proof speaks a thread is held, and which threads are held.
+use Rattle.std.proofs.Common.{◌≡◌, ℕ, suc, List, [], ◌∷◌, ◌++◌, length, Bool, true, false, refl, ap, sym, ◌∙◌, subst, append_assoc, inl, inr}
 use Rattle.std.specs.Prelude.{Option, Some, None, IsSome, ◌==◌, if◌then◌else◌}
 use Rattle.std.specs.List.{flat_map}
 use Rattle.std.specs.Option.{option_to_list}
@@ -7,6 +7,7 @@ use Rattle.tw_base.specs.declared.history.report.Hop.{Hop}
 use Rattle.tw_base.specs.declared.history.thread.Key.{Key}
 use Rattle.tw_base.specs.declared.history.thread.Thread.{Thread}
 use Rattle.tw_base.specs.declared.history.tree_proof.Ask.TheVariants as ask
+use Rattle.tw_base.specs.history.Anchors.{anchor_of, is_at}
 use Rattle.tw_base.specs.kinds.Lists.{Each, In}
 use Rattle.tw_base.proofs.lemmas.history.Anchoring.{anchor_of-is}
 use Rattle.tw_base.proofs.lemmas.kinds.ListLemmas.{Each-append, Each-map, Each-parts, In-left, In-right}
@@ -16,12 +17,27 @@ use Rattle.tw_chain.specs.declared.proof.LinkProof.{LinkProof}
 use Rattle.tw_chain.specs.declared.proof.PrecedenceProof.{PrecedenceProof}
 use Rattle.tw_chain.specs.declared.proof.Proof.{Proof}
 use Rattle.tw_chain.specs.declared.proof.Proof.TheVariants.{Exists, Precedes, Archived, Absent, Linked}
-use Rattle.tw_chain.specs.Accepting.{IsAccepted, hop_from, hops_to}
+use Rattle.tw_chain.specs.Accepting.{IsAccepted, claim_of, hop_from, hops_of, hops_to}
 use Rattle.tw_chain.specs.Checks.{Check, bind_checks, bind_of, checks, end_of, head_checks, hop_checks, hops_checks, last_thread, link_checks, link_top, opening_checks, root_of, start_of, tail_checks, top_of, under_anchor}
-use Rattle.tw_chain.specs.Checks.Check.{InOrder, NeedsAnchor, CarriesThread, PathOf, LinkOf, EventOf, AnswerOf}
+use Rattle.tw_chain.specs.Checks.Check.{InOrder, NeedsAnchor, CarriesThread, PathOf, LinkOf, OpeningOf, EventOf, AnswerOf}
 use Rattle.tw_chain.specs.Checks.Upper.{AtAnchor}
-use Rattle.tw_chain.specs.Passing.{Passes, anchor_at, held_by}
-use Rattle.tw_chain.specs.Services.{HasThreadOf, HoldsItsServices}
+use Rattle.tw_chain.specs.Passing.{Passes, anchor_at, carried_by, held_by}
+use Rattle.tw_chain.specs.Services.{HasThreadOf, HoldsItsServices, IsOfThese, services_of}
+
+same_some : (t u : Thread) → Some u ≡ Some t → t ≡ u
+same_some t u is = cc
+
+-- the anchor that is found is one of the list
+anchor-in : (ts : List Thread) (service : List ℕ) (step : ℕ) (t : Thread) → anchor_of ts service step ≡ Some t → In t ts
+anchor-in [] service step t found = cc
+anchor-in (u ∷ ts) service step t found =
+    let rest : anchor_of ts service step ≡ Some t → In t ts = anchor-in ts service step t in
+    let cases : (b : Bool) → (if b then Some u else anchor_of ts service step) ≡ Some t → In t (u ∷ ts) =
+    elim [
+      | true ↦ λ is. inl (same_some t u is)
+      | false ↦ λ is. inr (rest is)
+    ]
+    in cases (is_at service step u) found
 
 module _ (anchors : List Thread) where
   -- what the verifier holds for these checks
@@ -49,6 +65,54 @@ module _ (anchors : List Thread) where
       by : (o : Option Thread) → anchor_at anchors key ≡ o → IsSome o → Held (NeedsAnchor key ∷ cs) key.from
       by None is there = cc
       by (Some t) is there = (t, subst (λ (o : Option Thread). In t (option_to_list o ++ held_for cs)) (sym is) (inl refl), (anchor_of-is anchors key.from key.step t is).0)
+
+  -- ---- which threads are held
+
+  abbrev carried_in : List Check → List Thread
+  carried_in cs = flat_map carried_by cs
+
+  wider : (xs ys : List Thread) (t : Thread) → IsOfThese anchors ys t → IsOfThese anchors (xs ++ ys) t
+  wider xs ys t (inl is) = inl is
+  wider xs ys t (inr is) = inr (In-right t xs ys is)
+
+  rest-only : (c : Check) (cs : List Check) → Each (IsOfThese anchors (carried_in cs)) (held_for cs) → Each (IsOfThese anchors (carried_in (c ∷ cs))) (held_for cs)
+  rest-only c cs all = Each-map _ _ (held_for cs) (wider (carried_by c) (carried_in cs)) all
+
+  found-only : (more : List Thread) (o : Option Thread) (key : Key) → anchor_at anchors key ≡ o → Each (IsOfThese anchors more) (option_to_list o)
+  found-only more None key is = tt
+  found-only more (Some t) key is = (inl (anchor-in anchors key.from key.step t is), tt)
+
+  held-only : (cs : List Check) → Each (IsOfThese anchors (carried_in cs)) (held_for cs)
+  held-only [] = tt
+  held-only (NeedsAnchor key ∷ cs) =
+      Each-append _ (option_to_list (anchor_at anchors key)) (held_for cs) (found-only (carried_in cs) (anchor_at anchors key) key refl) (rest-only (NeedsAnchor key) cs (held-only cs))
+  held-only (CarriesThread t ∷ cs) = (inr (inl refl), rest-only (CarriesThread t) cs (held-only cs))
+  held-only (InOrder lower upper ∷ cs) = held-only cs
+  held-only (PathOf part at upper ∷ cs) = held-only cs
+  held-only (LinkOf part l ∷ cs) = held-only cs
+  held-only (OpeningOf part t o ∷ cs) = held-only cs
+  held-only (EventOf part o e ∷ cs) = held-only cs
+  held-only (AnswerOf part root asked proof ∷ cs) = held-only cs
+
+  carried-held : (cs : List Check) → Each (λ (t : Thread). In t (held_for cs)) (carried_in cs)
+  carried-held [] = tt
+  carried-held (NeedsAnchor key ∷ cs) =
+      Each-map _ _ (carried_in cs) (λ t is. In-right t (option_to_list (anchor_at anchors key)) (held_for cs) is) (carried-held cs)
+  carried-held (CarriesThread t ∷ cs) = (inl refl, Each-map _ _ (carried_in cs) (λ s is. inr is) (carried-held cs))
+  carried-held (InOrder lower upper ∷ cs) = carried-held cs
+  carried-held (PathOf part at upper ∷ cs) = carried-held cs
+  carried-held (LinkOf part l ∷ cs) = carried-held cs
+  carried-held (OpeningOf part t o ∷ cs) = carried-held cs
+  carried-held (EventOf part o e ∷ cs) = carried-held cs
+  carried-held (AnswerOf part root asked proof ∷ cs) = carried-held cs
+
+  -- a claim and hops whose threads are held
+  record Speaks (p : Proof) : Type 0 where
+    claim : Each (HasThreadOf (held_for (checks p))) (services_of (claim_of p))
+    hops : Each (λ (hop : Hop). HasThreadOf (held_for (checks p)) hop.from × HasThreadOf (held_for (checks p)) hop.by) (hops_of p)
+
+  holds : (p : Proof) → Speaks p → HoldsItsServices anchors p
+  holds p is = record { claim = is.claim; hops = is.hops; only = held-only (checks p); all_carried = carried-held (checks p) }
 
   module _ (dig : List ℕ → List ℕ) where
     abbrev Pass : List Check → Type 0
@@ -105,7 +169,7 @@ module _ (anchors : List Thread) where
 
     -- ---- each kind
 
-    precedes-holds : (p : PrecedenceProof) → IsAccepted dig anchors (Precedes p) → HoldsItsServices anchors (Precedes p)
+    precedes-holds : (p : PrecedenceProof) → IsAccepted dig anchors (Precedes p) → Speaks (Precedes p)
     precedes-holds p pass =
         let events : List Check = EventOf 0 p.head.opening p.event ∷ opening_checks 0 (start_of p) p.before in
         let hops : List Check = hops_checks 1 (start_of p).step (root_of p.before) p.hops in
@@ -119,10 +183,13 @@ module _ (anchors : List Thread) where
         (hops-held p.hops 1 (start_of p).step (root_of p.before) (parted hops tail parts.1).0) in
         record { claim = (last-has P (start_of p) p.hops head all, (head, tt)); hops = told-have P p.head.service p.hops head all }
 
-    pub accepted-holds : (p : Proof) → IsAccepted dig anchors p → HoldsItsServices anchors p
-    accepted-holds (Exists p) pass = record { claim = (under-held p.at (EventOf 0 p.at.opening p.event ∷ []) pass, tt); hops = tt }
-    accepted-holds (Precedes p) pass = precedes-holds p pass
-    accepted-holds (Archived p) pass =
+    accepted-speaks : (p : Proof) → IsAccepted dig anchors p → Speaks p
+    accepted-speaks (Exists p) pass = record { claim = (under-held p.at (EventOf 0 p.at.opening p.event ∷ []) pass, tt); hops = tt }
+    accepted-speaks (Precedes p) pass = precedes-holds p pass
+    accepted-speaks (Archived p) pass =
         record { claim = (under-held p.at (InOrder p.entry.archived p.at.step ∷ AnswerOf 0 p.at.opening.archive_root (ask.Present p.entry) p.shown ∷ []) pass, tt); hops = tt }
-    accepted-holds (Absent p) pass = record { claim = (under-held p.at (AnswerOf 0 p.at.opening.archive_root (ask.Absent p.key) p.shown ∷ []) pass, tt); hops = tt }
-    accepted-holds (Linked p) pass = record { claim = (link-held 0 p pass, tt); hops = tt }
+    accepted-speaks (Absent p) pass = record { claim = (under-held p.at (AnswerOf 0 p.at.opening.archive_root (ask.Absent p.key) p.shown ∷ []) pass, tt); hops = tt }
+    accepted-speaks (Linked p) pass = record { claim = (link-held 0 p pass, tt); hops = tt }
+
+    pub accepted-holds : (p : Proof) → IsAccepted dig anchors p → HoldsItsServices anchors p
+    accepted-holds p pass = holds p (accepted-speaks p pass)

@@ -118,6 +118,8 @@ pub fn chain_laws<H: Hasher>()
     // Where bytes spell a proof, each of the texts that checking it hashes is bytes.
     ensures texts { (bytes : List ℕ) (p : Proof) → Spells proof_layout bytes p → Each AreBytes (proof_texts H.dig p) }
     // What is held suffices: of each service of whose history the claim of an accepted proof speaks, and of both services of
-    // each of its hops, a thread is held, whose anchor the verifier has, or which the proof carries.
+    // each of its hops, a thread is held, whose anchor the verifier has, or which the proof carries. And no other thread is held than
+    // an anchor that the verifier has, or one that the proof carries and its report tells, with this very step and authenticator; and
+    // each that is carried is held.
     ensures held { (p : Proof) (anchors : List Thread) → IsAccepted H.dig anchors p → HoldsItsServices anchors p }
 {}

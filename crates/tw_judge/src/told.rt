@@ -2,8 +2,9 @@
 
 ghost use Rattle.std.specs.Prelude.{◌≡◌, IfOk};
 ghost use Rattle.tw_judge.specs.Told.{IsTold, verdict_status, verdict_text};
+ghost use Rattle.tw_text.specs.Faults.{fault_status as fault_status_of, fault_text};
 ghost use Rattle.tw_text.specs.declared.fault.CommandFault.TheVariants.{Unreadable};
-ghost use Rattle.tw_text.specs.declared.refusal.BadInput.TheVariants.{BadLine};
+ghost use Rattle.tw_text.specs.declared.refusal.BadInput.TheVariants.{BadByte, BadLine};
 
 use std::alloc::Global;
 use tw_base::{Bytes, NoMemory, Sha};
@@ -44,13 +45,7 @@ pub fn judge(
                 text,
             })
         }
-        Err(AnchorFault::BadLine { line }) => {
-            let fault = bad_line(alloc, file, line)?;
-            Ok(Told {
-                status: fault_status(&fault),
-                text: print_fault(alloc, &fault)?,
-            })
-        }
+        Err(AnchorFault::BadLine { line }) => Ok(tell_line(alloc, file, line)?),
         Err(AnchorFault::NoMemory) => Err(NoMemory),
     }
 }
@@ -75,10 +70,28 @@ fn print_verdict(alloc: Global, verdict: &Verdict) -> Result<Bytes, NoMemory>
     }
 }
 
-/// The fault of an anchors file of this name with this first bad line.
-fn bad_line(alloc: Global, file: &str, line: u64) -> Result<CommandFault, NoMemory>
-    ensures { IfOk result (λ fault. fault ≡ Unreadable (BadLine file.now line)) }
+/// What is told of an anchors file of this name with this first bad line.
+pub(crate) fn tell_line(alloc: Global, file: &str, line: u64) -> Result<Told, NoMemory>
+    ensures status { IfOk result (λ told. told.status ≡ fault_status_of (Unreadable (BadLine file.now line))) }
+    ensures text { IfOk result (λ told. told.text ≡ fault_text (Unreadable (BadLine file.now line))) }
 {
     let file = Bytes::from_slice(alloc, file.as_bytes())?;
-    Ok(CommandFault::Unreadable(BadInput::BadLine { file, line }))
+    let fault = CommandFault::Unreadable(BadInput::BadLine { file, line });
+    Ok(Told {
+        status: fault_status(&fault),
+        text: print_fault(alloc, &fault)?,
+    })
+}
+
+/// What is told of a file of this name that is none of its format from this byte on.
+pub(crate) fn tell_byte(alloc: Global, file: &str, place: u64) -> Result<Told, NoMemory>
+    ensures status { IfOk result (λ told. told.status ≡ fault_status_of (Unreadable (BadByte file.now place))) }
+    ensures text { IfOk result (λ told. told.text ≡ fault_text (Unreadable (BadByte file.now place))) }
+{
+    let file = Bytes::from_slice(alloc, file.as_bytes())?;
+    let fault = CommandFault::Unreadable(BadInput::BadByte { file, place });
+    Ok(Told {
+        status: fault_status(&fault),
+        text: print_fault(alloc, &fault)?,
+    })
 }

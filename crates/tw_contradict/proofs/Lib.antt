@@ -1,0 +1,6 @@
+pub mod Shown
+pub mod Sizes
+pub mod Bound
+pub mod Conflicts
+pub mod Joined
+pub mod Judgements

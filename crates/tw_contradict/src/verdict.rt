@@ -1,0 +1,37 @@
+// What is told of two files.
+
+use crate::facts::Conflict;
+use tw_base::Reason;
+
+/// Whether two lines of a service are of one history.
+#[derive(Clone, Copy, PartialEq, Eq, Debug, Drop)]
+pub enum Joining {
+    /// They are one line, or a link leads from the later one down to the earlier one.
+    Joined,
+    /// They are two, and there is no link.
+    Apart,
+    /// The link isn't one of these lines.
+    BadLink,
+}
+
+/// Why two files are no evidence of a contradiction.
+#[derive(Clone, Copy, Debug, Drop)]
+pub enum ContradictReason {
+    /// The first file, 1, or the second, 2, isn't accepted: the lowest reason against it. It is `Malformed`
+    /// where the bytes are no file that shows an archive; the place isn't told.
+    Part { number: u64, reason: Reason },
+    /// Both are accepted, and don't contradict each other.
+    NoConflict,
+    /// They do, and the link isn't one of their lines.
+    BadLink,
+}
+
+/// What is told of two files.
+#[derive(Clone, Copy, Debug, Drop)]
+pub enum ContradictVerdict {
+    /// They contradict each other: no sound history has both lines, or, where the lines are joined, the later
+    /// one.
+    Yes { conflict: Conflict, is_joined: bool },
+    /// They don't, or one isn't accepted, or the link is none of their lines.
+    No(ContradictReason),
+}

@@ -1,0 +1,166 @@
+// What is told of two files that may contradict each other.
+
+ghost use Rattle.std.specs.Prelude.{◌≡◌, ◌++◌, IfOk, codes};
+// (The check has to know the type of a reason within a verdict.)
+ghost use Rattle.tw_base.specs.declared.history.report.Reason.{Reason as AnyReason};
+ghost use Rattle.tw_base.specs.history.Entries.{key_of};
+ghost use Rattle.tw_text.specs.Reports.{absent_line as absent_line_of, thread_line as thread_line_of};
+ghost use Rattle.tw_judge.specs.Contradictions.{AreFilesTold, broken_line as broken_line_of, conflict_lines as conflict_lines_of, contradict_status, contradict_text, refusal_text};
+ghost use Rattle.tw_judge.specs.Telling.{TellsOf};
+ghost use Rattle.sha2.specs.Sha256.{sha256};
+ghost use Rattle.tw_contradict.specs.Verdicts.{IsVerdict};
+
+use crate::told::{Told, tell_line};
+use std::alloc::Global;
+use tw_base::{Bytes, NoMemory, Sha, Thread};
+use tw_contradict::{Conflict, ContradictReason, ContradictVerdict, contradict};
+use tw_evidence::{ForkReason, ForkVerdict, print_fork};
+use tw_msg::{AnchorFault, read_anchors};
+use tw_text::{Field, FieldList, print_line};
+
+/// The words by which bad lines of the two anchors files are told.
+const FIRST_ANCHORS: &str = "first_anchors";
+
+const SECOND_ANCHORS: &str = "second_anchors";
+
+/// Tells whether two files contradict each other, each judged under the anchors beside it, and the bytes of
+/// a link between their lines, which are none where there is no link: 0 where they do, with the thread that one says
+/// was received and the other says wasn't; 1 with the first reason that stands; 9 with the first bad line of the
+/// first anchors, else of the second. `NoMemory` where no memory was left.
+pub fn judge_contradiction(
+    alloc: Global,
+    first: &[u8],
+    first_anchors: &[u8],
+    second: &[u8],
+    second_anchors: &[u8],
+    link: &[u8],
+) -> Result<Told, NoMemory>
+    // What is told of two files is the status and the text of the verdict on them under the anchors of the lines, with the verdict's
+    // theorem, where each line is good; else those of the first bad line of the first anchors file, or else of the second, which the
+    // texts name `first_anchors` and `second_anchors`.
+    ensures { IfOk result (λ told. AreFilesTold
+        (record { first = first.now; first_anchors = first_anchors.now; second = second.now; second_anchors = second_anchors.now; link = link.now })
+        (record { first = codes "first_anchors"; second = codes "second_anchors" }) told.status told.text) }
+{
+    let held = match read_anchors(alloc, first_anchors) {
+        Ok(held) => held,
+        Err(AnchorFault::BadLine { line }) => return Ok(tell_line(alloc, FIRST_ANCHORS, line)?),
+        Err(AnchorFault::NoMemory) => return Err(NoMemory),
+    };
+    match read_anchors(alloc, second_anchors) {
+        Ok(others) => judge_under(
+            alloc,
+            first,
+            held.as_slice(),
+            second,
+            others.as_slice(),
+            link,
+        ),
+        Err(AnchorFault::BadLine { line }) => Ok(tell_line(alloc, SECOND_ANCHORS, line)?),
+        Err(AnchorFault::NoMemory) => Err(NoMemory),
+    }
+}
+
+/// What is told of both files under these anchors.
+fn judge_under(
+    alloc: Global,
+    first: &[u8],
+    anchors: &[Thread],
+    second: &[u8],
+    others: &[Thread],
+    link: &[u8],
+) -> Result<Told, NoMemory>
+    ensures { IfOk result (λ told. TellsOf (λ verdict. IsVerdict sha256 anchors.now others.now first.now second.now link.now verdict)
+        contradict_status contradict_text told.status told.text) }
+{
+    match contradict::<Sha>(alloc, first, anchors, second, others, link) {
+        Ok(verdict) => Ok(tell_verdict(alloc, &verdict)?),
+        Err(NoMemory) => Err(NoMemory),
+    }
+}
+
+/// What is told of a verdict.
+fn tell_verdict(alloc: Global, verdict: &ContradictVerdict) -> Result<Told, NoMemory>
+    ensures status { IfOk result (λ told. told.status ≡ contradict_status verdict.now) }
+    ensures text { IfOk result (λ told. told.text ≡ contradict_text verdict.now) }
+{
+    match verdict {
+        ContradictVerdict::Yes {
+            conflict,
+            is_joined,
+        } => Ok(Told {
+            status: 0,
+            text: print_broken(alloc, conflict, *is_joined)?,
+        }),
+        ContradictVerdict::No(reason) => Ok(Told {
+            status: 1,
+            text: print_refusal(alloc, reason)?,
+        }),
+    }
+}
+
+/// The line of a reason.
+fn print_refusal(alloc: Global, reason: &ContradictReason) -> Result<Bytes, NoMemory>
+    ensures { IfOk result (λ text. text ≡ refusal_text reason.now) }
+{
+    let reason = match reason {
+        ContradictReason::Part { number, reason } => ForkReason::Part {
+            number: *number,
+            reason: *reason,
+        },
+        ContradictReason::NoConflict => ForkReason::NoConflict,
+        ContradictReason::BadLink => ForkReason::BadLink,
+    };
+    print_fork(alloc, &ForkVerdict::No(reason))
+}
+
+/// The first line of files that contradict each other.
+fn broken_line(is_joined: bool) -> &'static [u8]
+    ensures { result.now ≡ broken_line_of is_joined }
+{
+    if is_joined {
+        b"accepted broken-rule\n"
+    } else {
+        b"accepted broken-rule-or-fork\n"
+    }
+}
+
+/// The lines of files that contradict each other.
+fn print_broken(alloc: Global, conflict: &Conflict, is_joined: bool) -> Result<Bytes, NoMemory>
+    ensures { IfOk result (λ text. text ≡ broken_line_of is_joined ++ conflict_lines_of conflict.now) }
+{
+    let mut text = Bytes::from_slice(alloc, broken_line(is_joined))?;
+    let thread = print_thread(alloc, conflict)?;
+    text.extend_from_slice(thread.as_slice())?;
+    let absent = print_absent(alloc, conflict)?;
+    text.extend_from_slice(absent.as_slice())?;
+    Ok(text)
+}
+
+/// The line of the received thread.
+fn print_thread(alloc: Global, conflict: &Conflict) -> Result<Bytes, NoMemory>
+    ensures { IfOk result (λ text. text ≡ thread_line_of conflict.now.service conflict.now.step conflict.now.entry) }
+{
+    let thread = &conflict.entry.thread;
+    let mut fields = FieldList::new(alloc);
+    fields.push(Field::Named(conflict.service))?;
+    fields.push(Field::Number(conflict.step))?;
+    fields.push(Field::Named(thread.from))?;
+    fields.push(Field::Number(thread.step))?;
+    fields.push(Field::Hex(Bytes::from_slice(alloc, &thread.auth.0)?))?;
+    fields.push(Field::Number(conflict.entry.archived))?;
+    print_line(alloc, b"thread", &fields)
+}
+
+/// The line of what wasn't received.
+fn print_absent(alloc: Global, conflict: &Conflict) -> Result<Bytes, NoMemory>
+    ensures { IfOk result (λ text. text ≡ absent_line_of conflict.now.service conflict.now.upto (key_of conflict.now.entry)) }
+{
+    let thread = &conflict.entry.thread;
+    let mut fields = FieldList::new(alloc);
+    fields.push(Field::Named(conflict.service))?;
+    fields.push(Field::Number(conflict.upto))?;
+    fields.push(Field::Named(thread.from))?;
+    fields.push(Field::Number(thread.step))?;
+    print_line(alloc, b"absent", &fields)
+}

@@ -1,0 +1,71 @@
+// What is told of two map files.
+
+ghost use Rattle.std.specs.Prelude.{◌≡◌, IfOk};
+ghost use Rattle.tw_judge.specs.Maps.{AreMapsTold, map_status};
+ghost use Rattle.tw_tmap.specs.Texts.{map_text};
+
+use crate::told::{Told, tell_byte, tell_line};
+use std::alloc::Global;
+use tw_base::{NoMemory, ReadFault, Sha};
+use tw_msg::{AnchorFault, read_anchors};
+use tw_tmap::{MapVerdict, check_map, print_map, read_high, read_low};
+
+/// Judges the bytes of a low and of a high map file under those of an anchors file, each with the name of
+/// its file beside it. The status and the text are those of the program's `checkmap`: 0 with the bounds, 1
+/// where the files don't fit each other, or with the lowest reason that stands, 9 with the first file that
+/// isn't what it has to be. `NoMemory` where no memory was left.
+pub fn judge_maps(
+    alloc: Global,
+    low_file: &str,
+    low: &[u8],
+    high_file: &str,
+    high: &[u8],
+    anchors_file: &str,
+    anchors: &[u8],
+) -> Result<Told, NoMemory>
+    // What is told of two map files is the status and the text of what they tell under the anchors of the lines, with the
+    // bounds theorem, where both are map files of their kinds and each line is good; else those of the first file that is none,
+    // with its first bad byte, or else of the first bad line.
+    ensures { IfOk result (λ told. AreMapsTold (record { low = low.now; high = high.now; anchors = anchors.now })
+        (record { low = low_file.now; high = high_file.now; anchors = anchors_file.now }) told.status told.text) }
+{
+    let low = match read_low(alloc, low) {
+        Ok(low) => low,
+        Err(ReadFault::Malformed { place }) => return Ok(tell_byte(alloc, low_file, place)?),
+        Err(ReadFault::NoMemory) => return Err(NoMemory),
+    };
+    let high = match read_high(alloc, high) {
+        Ok(high) => high,
+        Err(ReadFault::Malformed { place }) => return Ok(tell_byte(alloc, high_file, place)?),
+        Err(ReadFault::NoMemory) => return Err(NoMemory),
+    };
+    match read_anchors(alloc, anchors) {
+        Ok(held) => {
+            let verdict = check_map::<Sha>(&low, &high, held.as_slice());
+            Ok(tell_verdict(alloc, &verdict)?)
+        }
+        Err(AnchorFault::BadLine { line }) => Ok(tell_line(alloc, anchors_file, line)?),
+        Err(AnchorFault::NoMemory) => Err(NoMemory),
+    }
+}
+
+/// What is told of a verdict.
+fn tell_verdict(alloc: Global, verdict: &MapVerdict) -> Result<Told, NoMemory>
+    ensures status { IfOk result (λ told. told.status ≡ map_status verdict.now) }
+    ensures text { IfOk result (λ told. told.text ≡ map_text verdict.now) }
+{
+    Ok(Told {
+        status: status_of(verdict),
+        text: print_map(alloc, verdict)?,
+    })
+}
+
+/// The status of a verdict.
+fn status_of(verdict: &MapVerdict) -> u8
+    ensures { result ≡ map_status verdict.now }
+{
+    match verdict {
+        MapVerdict::Yes { .. } => 0,
+        MapVerdict::No(_) | MapVerdict::Gap => 1,
+    }
+}
