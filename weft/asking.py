@@ -2,13 +2,14 @@
 
     thread STEP PEER K TOP      link STEP TOP      event STEP INDEX TOP
 
-An answer is a file whose name is made of the request; it has the proof, or one line that begins with `refused`."""
+With `of NAME` in front of a thread or a link it is to be passed on to a peer of this name, whose answer is handed back. An answer is a file whose
+name is made of the request; it has the proof, or one line that begins with `refused`."""
 
 from __future__ import annotations
 
 import hashlib
 import re
-from typing import Optional
+from typing import Optional, Sequence
 
 from weft import files
 from weft.box import Peer
@@ -16,8 +17,10 @@ from weft.stores import Store
 from weft.texts import now, printable
 
 NUMBER = "(?:0|[1-9][0-9]{0,12})"
-REQUEST = re.compile(f"thread {NUMBER} [a-z0-9-]{{1,16}} {NUMBER} {NUMBER}|link {NUMBER} {NUMBER}|event {NUMBER} {NUMBER} {NUMBER}")
+NAME = "[a-z0-9-]{1,16}"
+REQUEST = re.compile(f"(?:of {NAME} )?(?:thread {NUMBER} {NAME} {NUMBER} {NUMBER}|link {NUMBER} {NUMBER})|event {NUMBER} {NUMBER} {NUMBER}")
 MOST_REQUESTS = 32
+MOST_PASSED_ON = 16
 MOST_BYTES = MOST_REQUESTS * 96
 MOST_ANSWER = 70_000
 
@@ -49,7 +52,19 @@ def answer_of(store: Store, peer: Peer, request: str) -> bytes:
     raise store.trouble(answer)
 
 
-def answer_peer(store: Store, peer: Peer, data: Optional[bytes]) -> int:
+def passed_on(peers: Sequence[Peer], peer: Peer, request: str) -> Optional[bytes]:
+    """The answer of another peer to a request that is passed on to it, or None while there is none."""
+    _, name, inner = request.split(" ", 2)
+    other = next((it for it in peers if it.name == name and it is not peer and it.accepted()), None)
+    if other is None:
+        return b"refused: no peer of that name here\n"
+    answer = known(other, inner)
+    if answer is None and len(read_requests(other.read("asked"))) < MOST_PASSED_ON:
+        ask(other, inner)
+    return answer
+
+
+def answer_peer(store: Store, peers: Sequence[Peer], peer: Peer, data: Optional[bytes]) -> int:
     """Answers the requests that came, and takes away answers to those that no longer come; answers how many are new."""
     if data is None:
         return 0
@@ -60,8 +75,9 @@ def answer_peer(store: Store, peer: Peer, data: Optional[bytes]) -> int:
             files.remove(path)
     new = 0
     for name, request in names.items():
-        answer, path = answer_of(store, peer, request), peer.out / "answers" / name
-        if files.read_if_there(path, MOST_ANSWER) != answer:
+        answer = passed_on(peers, peer, request) if request.startswith("of ") else answer_of(store, peer, request)
+        path = peer.out / "answers" / name
+        if answer is not None and files.read_if_there(path, MOST_ANSWER) != answer:
             what = f"{len(answer)} bytes" if answer.startswith(b"TWP1") else printable(answer.decode("ascii", "replace").strip())
             files.add(peer.kept / "answered", f"{now()} {request}: {what}")
             peer.put(f"answers/{name}", answer)

@@ -15,7 +15,7 @@ from concurrent.futures.process import BrokenProcessPool
 from pathlib import Path
 from typing import Iterator, NamedTuple, Optional
 
-from weft import choosing, files, formats, judges, locks, reports
+from weft import choosing, clusters, files, formats, judges, locks, reports
 from weft.choosing import Judgement
 from weft.judges import Bench
 from weft.lines import KeptLines
@@ -26,12 +26,14 @@ from weft.texts import beside, count_of, name_of, printable
 from weft.trouble import Trouble
 
 PIECE = 500
+MOST_ROUNDS = 4
 HEAD = "file\tbytes\tmodified\tverdict\treason\tlines"
 SHOWN, NOT_SHOWN, LACKS, UNJUDGED, DIFFER = "shown", "not shown", "lacks a line", "not judged", "judges differ"
 
 
 class Row(NamedTuple):
-    """A row of the table: the path within the folder, its size in bytes and its time in nanoseconds, the verdict, why, and the lines."""
+    """A row of the table: the path within the folder, its size in bytes and its time in nanoseconds, the verdict, why, and the lines. Its texts are
+    printable."""
 
     file: str
     bytes: int
@@ -43,7 +45,7 @@ class Row(NamedTuple):
     @property
     def text(self) -> str:
         """Its line."""
-        return "\t".join(printable(str(field)) for field in self)
+        return "\t".join(map(str, self))
 
 
 class Task(NamedTuple):
@@ -54,6 +56,7 @@ class Task(NamedTuple):
     kept: bytes
     allow_carried: bool
     is_by_reference: bool
+    by: str
 
 
 @functools.lru_cache(maxsize=2)
@@ -71,9 +74,13 @@ def bench_of(is_by_reference: bool) -> Bench:
 
 
 def worked(task: Task) -> list[Row]:
-    """Judges the files of a task; what a worker does."""
+    """Judges the files of a task, in their order; what a worker does."""
     kept, judge = kept_of(task.kept), bench_of(task.is_by_reference)
-    return [row_of(task.folder, name, kept, judge, task.allow_carried) for name in task.files]
+    by = told_by(judge, task.allow_carried)
+    if by != task.by:
+        raise Trouble(Status.NO_JUDGE, f"a worker has other judges than this machine ({by})", "Give all the same program and library.")
+    with judge.working():
+        return [row_of(task.folder, name, kept, judge, task.allow_carried) for name in task.files]
 
 
 def row_of(folder: str, name: str, kept: KeptLines, judge: Bench, allow_carried: bool) -> Row:
@@ -85,19 +92,23 @@ def row_of(folder: str, name: str, kept: KeptLines, judge: Bench, allow_carried:
     except OSError:
         size, modified = 0, 0
     try:
-        judgement = judgement_of(files.read(path, formats.MOST_PROOF, follow=False), kept, judge, allow_carried)
+        judgement = judgement_of(formats.read_file(path, follow=False), kept, judge, allow_carried)
     except Trouble as trouble:
-        return Row(name, size, modified, DIFFER if trouble.status == Status.DIFFER else UNJUDGED, trouble.sentence, "")
+        verdict = DIFFER if trouble.status == Status.DIFFER else UNJUDGED
+        return Row(printable(name), size, modified, verdict, printable(trouble.sentence), "")
     lines = "; ".join(f"{line.service} {line.step}" for line in judgement.lines)
-    return Row(name, size, modified, *verdict_of(judgement), lines)
+    verdict, reason = verdict_of(judgement)
+    return Row(printable(name), size, modified, verdict, printable(reason), lines)
 
 
 def judgement_of(data: bytes, kept: KeptLines, judge: Bench, allow_carried: bool) -> Judgement:
-    """The judgement of a proof or of evidence."""
+    """The judgement of a proof, of evidence or of a history."""
     kind = formats.kind_of(data)
     if kind == "evidence":
         return choosing.judge_evidence(judge, data, kept)
-    if kind in ("low map", "high map", "message", "receipts", "history", "events"):
+    if kind == "history":
+        return choosing.judge_history(judge, data, kept)
+    if kind in ("low map", "high map", "message", "receipts", "events"):
         raise Trouble(Status.UNREADABLE, f"it is no proof that is judged by itself: {kind}")
     return choosing.judge_proof(judge, data, kept, allow_carried)
 
@@ -110,7 +121,8 @@ def verdict_of(judgement: Judgement) -> tuple[str, str]:
         return UNJUDGED, judgement.hindrance
     if judgement.is_shown:
         return SHOWN, " | ".join(judgement.verdict.text.splitlines()[1:3])
-    return NOT_SHOWN, f"{' '.join(judgement.verdict.reason)}: {reports.reason_sentence(judgement.verdict)[0]}"
+    words = judgement.verdict.reason or judgement.verdict.text.split()
+    return NOT_SHOWN, f"{' '.join(words)}: {reports.reason_sentence(judgement.verdict)[0]}"
 
 
 def found_files(folder: Path) -> list[str]:
@@ -118,16 +130,20 @@ def found_files(folder: Path) -> list[str]:
     if not folder.is_dir():
         raise Trouble(Status.NO_INPUT, f"{name_of(folder)} is no folder", "Name the folder of the proofs.")
     found = []
-    for place, folders, names in os.walk(folder):
-        folders.sort()
-        found += [os.path.relpath(os.path.join(place, name), folder) for name in names]
+    for place, _, names in os.walk(folder):
+        within = os.path.relpath(place, folder)
+        found += names if within == "." else [os.path.join(within, name) for name in names]
     return sorted(found)
+
+
+def told_by(judge: Bench, allow_carried: bool) -> str:
+    """By whom rows are judged."""
+    return judge.told("verify" if allow_carried else "strict")
 
 
 def title_of(judge: Bench, kept: bytes, options: argparse.Namespace) -> str:
     """The first line of a table: what its rows hold under."""
-    by = judge.told("verify" if options.carried else "strict")
-    return f"# {by}; kept lines, SHA-256 {hashlib.sha256(kept).hexdigest()}; carried lines {'accepted' if options.carried else 'refused'}"
+    return f"# {told_by(judge, options.carried)}; kept lines, SHA-256 {hashlib.sha256(kept).hexdigest()}; carried lines {'accepted' if options.carried else 'refused'}"
 
 
 def earlier(path: Path, title: str) -> dict[str, Row]:
@@ -145,22 +161,37 @@ def earlier(path: Path, title: str) -> dict[str, Row]:
 
 def is_same(folder: Path, name: str, row: Optional[Row]) -> bool:
     """Whether the file is as it was when its row was made."""
+    if row is None:
+        return False
     try:
         about = os.lstat(folder / name)
     except OSError:
         return False
-    return row is not None and row.verdict != DIFFER and (row.bytes, row.modified) == (about.st_size, about.st_mtime_ns)
+    return row.verdict != DIFFER and (row.bytes, row.modified) == (about.st_size, about.st_mtime_ns)
 
 
-def judged_rows(tasks: list[Task], workers: int, executor: Optional[Executor] = None) -> Iterator[list[Row]]:
-    """The rows of the tasks, as they come: over an executor of concurrent.futures, else over so many processes."""
+def judged_rows(tasks: list[Task], workers: int, executor: Optional[Executor] = None) -> Iterator[dict[str, Row]]:
+    """The rows of the tasks by their files, as they come: over an executor of concurrent.futures, else over so many processes. What an executor loses,
+    since a worker of it died, is done again."""
     if workers == 1 and executor is None:
-        yield from map(worked, tasks)
+        yield from (dict(zip(task.files, worked(task))) for task in tasks)
         return
-    own = executor or ProcessPoolExecutor(workers)
+    own, left = executor or ProcessPoolExecutor(workers), tasks
     try:
-        for future in as_completed([own.submit(worked, task) for task in tasks]):
-            yield future.result()
+        for _ in range(MOST_ROUNDS):
+            work, left = {own.submit(worked, task): task for task in left}, []
+            for future in as_completed(work):
+                try:
+                    rows = future.result()
+                except Exception as failure:  # noqa: BLE001 - what a cluster loses it tells in many ways
+                    if executor is None or isinstance(failure, Trouble):
+                        raise
+                    left.append(work[future])
+                else:
+                    yield dict(zip(work[future].files, rows))
+            if not left:
+                return
+        raise Trouble(Status.NO_MEMORY, "workers of the cluster ended early, again and again", "Run it again: it goes on.")
     except BrokenProcessPool:
         raise Trouble(Status.NO_MEMORY, "a process that judged ended early", "Run it again: it goes on; --workers 1 takes less memory.") from None
     finally:
@@ -168,10 +199,18 @@ def judged_rows(tasks: list[Task], workers: int, executor: Optional[Executor] = 
             own.shutdown(cancel_futures=True)
 
 
-def run(options: argparse.Namespace, kept: KeptLines, judge: Bench, executor: Optional[Executor] = None) -> Status:
-    """Judges all files of a folder into a table."""
-    folder = Path(options.many)
-    table = Path(options.table) if options.table else beside(folder, ".verdicts.tsv")
+def run(options: argparse.Namespace, kept: KeptLines, judge: Bench) -> Status:
+    """Judges all files of a folder into a table, over the processes of this machine, or over a cluster."""
+    if options.dask is None:
+        return judged(options, kept, judge, None)
+    with clusters.executor(options.dask, options.tls) as executor:
+        return judged(options, kept, judge, executor)
+
+
+def judged(options: argparse.Namespace, kept: KeptLines, judge: Bench, executor: Optional[Executor]) -> Status:
+    """Judges them, over an executor where one is given."""
+    folder = Path(options.many).absolute()
+    table = Path(options.table) if options.table else beside(Path(options.many), ".verdicts.tsv")
     workers = len(os.sched_getaffinity(0)) if options.workers is None else options.workers
     if workers < 1:
         raise Trouble(Status.USAGE, "--workers is 1 at least", "Leave it out for one a processor.")
@@ -183,12 +222,13 @@ def run(options: argparse.Namespace, kept: KeptLines, judge: Bench, executor: Op
         rows = {name: known[printable(name)] for name in names if is_same(folder, name, known.get(printable(name)))}
         files.renew(part, ("\n".join([title, HEAD, *(row.text for row in rows.values())]) + "\n").encode())
         left = [name for name in names if name not in rows]
-        tasks = [Task(str(folder), left[at : at + PIECE], text, options.carried, options.reference) for at in range(0, len(left), PIECE)]
+        by = told_by(judge, options.carried)
+        tasks = [Task(str(folder), left[at : at + PIECE], text, options.carried, options.reference, by) for at in range(0, len(left), PIECE)]
         progress = Progress("judging", len(left))
         try:
             for new in judged_rows(tasks, workers, executor):
-                files.add(part, "\n".join(row.text for row in new))
-                rows.update((row.file, row) for row in new)
+                files.add(part, "\n".join(row.text for row in new.values()))
+                rows.update(new)
                 progress.add(len(new))
         finally:
             progress.end()
@@ -207,7 +247,7 @@ def told(options: argparse.Namespace, table: Path, rows: list[Row], taken: int, 
         say(f"{count_of(len(rows), 'file')}: {', '.join(parts) or 'nothing'}; the table is {name_of(table)}.")
         if taken:
             say(f"{count_of(taken, 'row')} of an earlier run {'was' if taken == 1 else 'were'} taken over.")
-        say(judge.told("verify" if options.carried else "strict"))
+        say(told_by(judge, options.carried))
     if counts[DIFFER]:
         return Status.DIFFER
     if counts[NOT_SHOWN]:

@@ -3,6 +3,7 @@ isn't is asked for. Nothing here judges: what is joined is judged as any proof i
 
 from __future__ import annotations
 
+import functools
 import tempfile
 from pathlib import Path
 from typing import Iterable, NamedTuple, Optional
@@ -14,10 +15,11 @@ from weft.lines import KeptLines, Line, kept_now
 from weft.own import OwnLines
 from weft.statuses import Status
 from weft.stores import Store
-from weft.texts import name_of
+from weft.texts import listed, name_of
 from weft.trouble import Trouble
 
 MOST_HOPS = 64
+MOST_ASKED = 2
 
 
 class Event(NamedTuple):
@@ -70,6 +72,8 @@ class Sources:
     def __init__(self, stores: list[Store], boxes: list[Path], hand: list[bytes], kept: KeptLines, judge: Bench):
         self.stores = {store.last().line.service: store for store in stores}
         self.judge, self.kept, self.hand = judge, kept, hand
+        self.refused: set[tuple[str, int, str]] = set()
+        self.made: dict[Part, bytes] = {}
         self.peers: dict[str, list[Peer]] = {}
         for place in boxes:
             settings = box.read_settings(place)
@@ -87,7 +91,12 @@ class Sources:
         return (peer for peers in self.peers.values() for peer in peers)
 
     def hops(self) -> set[Hop]:
-        """What is known to have been received, by receipts and by the stores."""
+        """What is known to have been received, by receipts and by the stores, but for what its receiver couldn't prove: a receipt may be made up."""
+        return {hop for hop in self.told_hops if (hop.service, hop.step, hop.by) not in self.refused}
+
+    @functools.cached_property
+    def told_hops(self) -> set[Hop]:
+        """What receipts and the stores tell."""
         found: set[Hop] = set()
         for data in [*self.hand, *(peer.read(name) for peer in self.all_peers() for name in ("heard", "given", "got"))]:
             if formats.kind_of(data) == "receipts":
@@ -110,12 +119,39 @@ class Sources:
                 return data
         store = self.stores.get(part.service)
         if store is not None:
-            return store.done("prove", *part.request.split(" "))
-        for peer in self.peers.get(part.service, []):
-            answer = asking.known(peer, part.request)
+            return self.of_store(store, part)
+        for peer, request in [*((peer, part.request) for peer in self.peers.get(part.service, [])), *self.passed_on(part)]:
+            answer = asking.known(peer, request)
             if answer is not None and matches(answer, part):
                 return answer
+            if answer is not None and answer.startswith(b"refused NoThread"):
+                self.refuse(part)
         return None
+
+    def passed_on(self, part: Part) -> list[tuple[Peer, str]]:
+        """Peers that exchange with the service of a part, as receipts tell, each with the request that it is to pass on; none for events, which are
+        handed out to known peers alone."""
+        if part.request.startswith("event") or part.service in self.peers:
+            return []
+        beside = {hop.by for hop in self.told_hops if hop.service == part.service} | {hop.service for hop in self.told_hops if hop.by == part.service}
+        return [(peer, f"of {part.service} {part.request}") for name in sorted(beside & self.peers.keys()) for peer in self.peers[name]][:MOST_ASKED]
+
+    def of_store(self, store: Store, part: Part) -> Optional[bytes]:
+        """The part that a store makes, or None where it has received no such line."""
+        if part not in self.made:
+            answer = store.ask("prove", *part.request.split(" "))
+            if answer.words[:2] == ["refused", "NoThread"]:
+                self.refuse(part)
+                return None
+            if answer.status:
+                raise store.trouble(answer)
+            self.made[part] = answer.output
+        return self.made[part]
+
+    def refuse(self, part: Part) -> None:
+        """Notes that the receiver of a line can't prove that it received it."""
+        _, _, service, step, _ = part.request.split(" ")
+        self.refused.add((service, int(step), part.service))
 
     def ask(self, part: Part) -> str:
         """Asks for a part, or says whom to ask."""
@@ -125,6 +161,12 @@ class Sources:
                 return f"{part.service} answered {formats.printable_text(data)!r}: ask its keeper for {part.command}, and name the file by --hand"
             asking.ask(peer, part.request)
             return f"{part.service} is asked for it by the next weft exchange ({part.request})"
+        over = self.passed_on(part)
+        for peer, request in over:
+            asking.ask(peer, request)
+        if over:
+            names = listed([peer.name for peer, _ in over])
+            return f"{part.service} is asked for it over {names}, by the next weft exchange ({part.request}); it takes a night more each way"
         return f"ask {part.service} for {part.command}, and name the file by --hand"
 
     def top(self, service: str, step: int) -> Optional[int]:
@@ -162,6 +204,11 @@ class Plan(NamedTuple):
     parts: list[Part]
     hops: list[Hop]
 
+    def hop_of(self, place: int) -> Optional[Hop]:
+        """The hop that the part of this place is of, None of those of both events."""
+        number = (place - 1) // 2
+        return self.hops[len(self.hops) - 1 - number] if 0 <= number < len(self.hops) and place > 0 else None
+
 
 def lines_needed(hops: list[Hop], second: Event, top: Optional[int]) -> dict[str, int]:
     """Of each service the least step whose line may serve: that of the second event's proof, and those that bind."""
@@ -193,11 +240,10 @@ def planned(sources: Sources, hops: list[Hop], first: Event, second: Event) -> P
     return Plan(parts, hops)
 
 
-def plan(sources: Sources, first: Event, second: Event) -> Plan:
-    """The parts of the chain; raises Trouble where no way is known, or a line is missing for each."""
+def plan(sources: Sources, first: Event, second: Event, hops: set[Hop]) -> Plan:
+    """The parts of the chain over some of these hops; raises Trouble where no way is known, or a line is missing for each."""
     if first.service == second.service and first.step < second.step:
         return planned(sources, [], first, second)
-    hops = sources.hops()
     bindable = {hop for hop in hops if sources.top(hop.service, hop.step) is not None}
     found = way(bindable, first, second) or way(hops, first, second)
     if found is None:
@@ -209,15 +255,65 @@ def plan(sources: Sources, first: Event, second: Event) -> Plan:
     return planned(sources, found, first, second)
 
 
+class Gathered(NamedTuple):
+    """A plan, its parts, of which those that aren't at hand are None, and the proof that they join to, if all are."""
+
+    plan: Plan
+    parts: list[Optional[bytes]]
+    proof: Optional[bytes]
+
+
+def gathered(sources: Sources, first: Event, second: Event) -> Gathered:
+    """The parts of the shortest way of which all are at hand, joined; where there is none, those of the shortest way. A hop that its receiver can't
+    prove, or that is of another history than the line that is held, is gone round. Raises Trouble where no way is known."""
+    hops, shortest, hindrance = sources.hops(), None, None
+    while True:
+        try:
+            found = plan(sources, first, second, hops)
+        except Trouble as none:
+            if shortest is not None:
+                return shortest
+            raise hindrance or none from None
+        refused = len(sources.refused)
+        parts = [sources.part(part) for part in found.parts]
+        if len(sources.refused) > refused:
+            hops &= sources.hops()
+            continue
+        lacking = [place for place, part in enumerate(parts) if part is None]
+        if not lacking:
+            try:
+                return Gathered(found, parts, joined([part for part in parts if part is not None], found.parts))
+            except Misfit as misfit:
+                hindrance, before = misfit, found.parts[misfit.place - 1]
+                if not before.request.startswith("thread"):
+                    raise
+                sources.refuse(before)
+                hops &= sources.hops()
+                continue
+        shortest = shortest or Gathered(found, parts, None)
+        gone_round = {found.hop_of(place) for place in lacking} - {None}
+        if not gone_round:
+            return shortest
+        hops = {hop for hop in hops if not any(it is not None and (hop.by, hop.service) == (it.by, it.service) for it in gone_round)}
+
+
+class Misfit(Trouble):
+    """A link that isn't of the line that was received before it: the place of this part, from 0 on."""
+
+    def __init__(self, place: int, part: Part):
+        told = f"the parts don't fit: {part.command} of {part.service} isn't what the parts before it ask for"
+        super().__init__(Status.NOT_SHOWN, told, f"Ask {part.service} for it again; it may be of another history.")
+        self.place = place
+
+
 def joined(parts: list[bytes], names: list[Part]) -> bytes:
-    """The proof that the parts join to; raises Trouble where they don't."""
+    """The proof that the parts join to; raises Misfit where they don't."""
     with tempfile.TemporaryDirectory(prefix="weft-") as folder:
         paths = [Path(folder) / f"{number}" for number in range(1, len(parts) + 1)]
         for path, data in zip(paths, parts):
             path.write_bytes(data)
         answer = program.run("join", *map(str, paths))
     if answer.words[:2] == ["rejected", "Gap"]:
-        part = names[min(int(answer.words[2]), len(names)) - 1]
-        told = f"the parts don't fit: {part.command} of {part.service} isn't what the parts before it ask for"
-        raise Trouble(Status.NOT_SHOWN, told, f"Ask {part.service} for it again; it may be of another history.")
+        place = min(int(answer.words[2]), len(names)) - 1
+        raise Misfit(place, names[place])
     return program.done(answer, "the parts")

@@ -49,26 +49,31 @@ def proved(store: Store, top: Line, *words: str) -> tuple[Optional[Verdict], str
     answer = store.ask("prove", *words, str(top.step))
     if answer.status:
         return None, answer.text.strip()
-    verdict = bench().judge("strict", (answer.output,), anchors([top]))
+    verdict = bench().judge("strict", answer.output, anchors([top]))
     return (verdict, "") if verdict.is_accepted else (None, verdict.text.strip())
 
 
 def worked(task: Task) -> list[Bad]:
     """The steps of a task that aren't good; what a worker does."""
-    store, bad = Store(task.folder), []
+    with bench().working():
+        return list(found_bad(task))
+
+
+def found_bad(task: Task) -> Iterator[Bad]:
+    """The steps that aren't good."""
+    store = Store(task.folder)
     for step, wanted in task.links:
         verdict, why = proved(store, task.top, "link", str(step))
         if verdict is None:
-            bad.append(Bad(step, f"its link isn't proved: {why}"))
+            yield Bad(step, f"its link isn't proved: {why}")
         elif wanted is not None and verdict.lines[1][4] != wanted:
-            bad.append(Bad(step, f"its link has the authenticator {verdict.lines[1][4][:16]}.., and computed anew it is {wanted[:16]}.."))
+            yield Bad(step, f"its link has the authenticator {verdict.lines[1][4][:16]}.., and computed anew it is {wanted[:16]}..")
     for step, index, event in task.events:
         verdict, why = proved(store, task.top, "event", str(step), str(index))
         if verdict is None:
-            bad.append(Bad(step, f"its event {index} isn't proved: {why}"))
+            yield Bad(step, f"its event {index} isn't proved: {why}")
         elif event is not None and verdict.lines[1][4] != (event.hex() or "-"):
-            bad.append(Bad(step, f"its event {index} is another one in the export"))
-    return bad
+            yield Bad(step, f"its event {index} is another one in the export")
 
 
 class History(NamedTuple):

@@ -30,7 +30,7 @@ class Judgement(NamedTuple):
 def asked(judge: Bench, call: str, parts: tuple[bytes, ...], kept: KeptLines, lines: dict[str, Line]) -> Judgement:
     """The judgement, from these lines on."""
     while True:
-        verdict = judge.judge(call, parts, anchors(lines.values()))
+        verdict = judge.judge(call, *parts, anchors(lines.values()))
         if verdict.reason[:2] != ["3", "NotHeld"]:
             return Judgement(call, verdict, list(lines.values()), [])
         service, step = verdict.reason[2], int(verdict.reason[3])
@@ -47,8 +47,19 @@ def asked(judge: Bench, call: str, parts: tuple[bytes, ...], kept: KeptLines, li
 
 
 def judge_proof(judge: Bench, data: bytes, kept: KeptLines, allow_carried: bool) -> Judgement:
-    """That of a proof of a kind from 1 to 5."""
-    return asked(judge, "verify" if allow_carried else "strict", (data,), kept, {})
+    """That of a proof of a kind from 1 to 5. It begins with the line that the proof says it is under, where that one was kept."""
+    top = formats.top_of(data)
+    line = kept.one(*top) if top is not None else None
+    return asked(judge, "verify" if allow_carried else "strict", (data,), kept, {} if line is None else {line.service: line})
+
+
+def judge_history(judge: Bench, data: bytes, kept: KeptLines) -> Judgement:
+    """That of a history's file: the proof of its last event is made from it, which finds out whether the history keeps the rules, and judged under the
+    line of its last step."""
+    shown = judge.show(data, *formats.last_event(data))
+    if shown.status:
+        return Judgement("strict", Verdict(shown.status, shown.data.decode("ascii", "replace")), [], [])
+    return judge_proof(judge, shown.data, kept, allow_carried=False)
 
 
 def judge_map(judge: Bench, low: bytes, high: bytes, kept: KeptLines) -> Judgement:
@@ -72,7 +83,7 @@ def judge_evidence(judge: Bench, data: bytes, kept: KeptLines) -> Judgement:
             lines[needed.service] = line
     if missing:
         return Judgement("checkfork", None, list(lines.values()), missing)
-    return Judgement("checkfork", judge.judge("checkfork", (data,), anchors(lines.values())), list(lines.values()), [])
+    return Judgement("checkfork", judge.judge("checkfork", data, anchors(lines.values())), list(lines.values()), [])
 
 
 def missing_sentence(needed: Needed, kept: KeptLines) -> str:

@@ -344,7 +344,7 @@ class Turn:
         self.lines.note(self.last)
         signed = self.signed_last()
         for peer in self.peers:
-            asking.answer_peer(self.store, peer, peer.take("requests", asking.MOST_BYTES) if peer.accepted() else None)
+            asking.answer_peer(self.store, self.peers, peer, peer.take("requests", asking.MOST_BYTES) if peer.accepted() else None)
             self.put(peer, signed)
         self.told += self.share()
         return self.status

@@ -4,10 +4,11 @@ from __future__ import annotations
 
 from typing import NamedTuple, Optional
 
-from weft import packages
+from weft import files, packages
+from weft.files import AnyPath
 from weft.lines import Line
 from weft.statuses import Status
-from weft.texts import printable
+from weft.texts import name_of, printable
 from weft.trouble import Trouble
 
 if not packages.HAS_REFERENCE:
@@ -80,6 +81,12 @@ class Needed(NamedTuple):
     step: int
 
 
+def top_of(data: bytes) -> Optional[Needed]:
+    """The service and step under whose line a proof of a kind from 1 to 5 says that it is, or None where the bytes are none."""
+    proof = read_proof(data)
+    return Needed(proof.service, proof.top) if proof is not None else None
+
+
 def needed_by_evidence(data: bytes) -> list[Needed]:
     """The lines that evidence is judged under; none where the bytes are no evidence."""
     try:
@@ -129,6 +136,29 @@ def read_history(data: bytes) -> list[histories.Step]:
         return histories.read_history(data)[1]
     except fields.Malformed:
         return []
+
+
+def last_event(data: bytes) -> tuple[int, int]:
+    """The last step of a history's file that has events, and the index of its first one; step 1 where the bytes are none. Raises Trouble where no step
+    has events."""
+    found, read = 0, fields.Reader(data, MOST_HISTORY)
+    try:
+        histories.take_name(read)
+        for number, step in enumerate(histories.take_steps(read), 1):
+            found = number if step.events else found
+    except fields.Malformed:
+        return 1, 0
+    if not found:
+        raise Trouble(Status.UNREADABLE, "it is a history without events, and is judged by one of them", "weft tell says what it has.")
+    return found, 0
+
+
+def read_file(path: AnyPath, follow: bool = True) -> bytes:
+    """The bytes of a file that is to be judged: a history may be longer than all others."""
+    data = files.read(path, MOST_HISTORY, follow)
+    if len(data) > MOST_PROOF and kind_of(data) != "history":
+        raise Trouble(Status.UNREADABLE, f"{name_of(path)} has {len(data):,} bytes, and none that is read here has more than {MOST_PROOF:,}")
+    return data
 
 
 def printable_text(data: bytes) -> str:

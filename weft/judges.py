@@ -9,8 +9,9 @@ import functools
 import importlib
 import os
 import tempfile
+from contextlib import ExitStack, contextmanager
 from pathlib import Path
-from typing import Any, NamedTuple, Optional, Protocol
+from typing import Any, Iterator, NamedTuple, Optional, Protocol, Union
 
 from weft import packages, program
 from weft.statuses import Status
@@ -19,7 +20,7 @@ from weft.trouble import Trouble
 
 ACCEPTED, REJECTED, UNREADABLE = 0, 1, 9
 REFERENCE = "Python reference, tested, not proved"
-LOW, HIGH = "low", "high"
+LOW, HIGH, HISTORY = "low", "high", "history"
 
 
 class Verdict(NamedTuple):
@@ -44,16 +45,24 @@ class Verdict(NamedTuple):
         return [line.split(" ") for line in self.text.splitlines()]
 
 
+class Shown(NamedTuple):
+    """The proof that was made from a history's file; of one that is none, or breaks a rule, the status 9 and its text."""
+
+    status: int
+    data: bytes
+
+
 class Judge(Protocol):
-    """One that judges the bytes of files under the bytes of an anchors file."""
+    """One that judges the bytes of files."""
 
     name: str
 
     def has(self, call: str) -> bool:
         """Whether it judges this: `verify`, `strict`, `checkmap`, `checkfork` or `contradict`."""
 
-    def judge(self, call: str, parts: tuple[bytes, ...], anchors: bytes) -> Verdict:
-        """The verdict."""
+    def judge(self, call: str, files: tuple[bytes, ...]) -> Verdict:
+        """The verdict on the bytes of files, which stand as the library's function of this name takes them: last an anchors file; of `contradict`
+        the first file with its anchors, the second with its own, and a link, which may be empty."""
 
 
 class LibraryJudge:
@@ -65,14 +74,14 @@ class LibraryJudge:
 
     def has(self, call: str) -> bool:
         """Whether the library has the call."""
-        return call in ("verify", "strict") or hasattr(self.library, call)
+        return call in ("verify", "strict") or (hasattr(self.library, "ask") and hasattr(self.library.functions, f"timeweave_{call}"))
 
-    def judge(self, call: str, parts: tuple[bytes, ...], anchors: bytes) -> Verdict:
+    def judge(self, call: str, files: tuple[bytes, ...]) -> Verdict:
         """Asks the library."""
         if call in ("verify", "strict"):
-            status, text = self.library.judge(parts[0], anchors, call == "strict")
+            status, text = self.library.judge(*files, call == "strict")
         else:
-            status, text = getattr(self.library, call)(*parts, anchors)
+            status, text = self.library.ask(f"timeweave_{call}", *files)
         if status == Status.NO_MEMORY:
             raise Trouble(Status.NO_MEMORY, "the library had no memory")
         return Verdict(status, text.decode("ascii"))
@@ -83,22 +92,46 @@ class ProgramJudge:
 
     def __init__(self, path: str):
         self.name = f"proved program, SHA-256 {program.digest_of(path)}"
+        self.folder: Optional[str] = None
+
+    @contextmanager
+    def working(self) -> Iterator[str]:
+        """The folder: one for all judgements within the outermost of these."""
+        if self.folder is not None:
+            yield self.folder
+            return
+        with tempfile.TemporaryDirectory(prefix="weft-") as folder:
+            self.folder = folder
+            try:
+                yield folder
+            finally:
+                self.folder = None
 
     def has(self, call: str) -> bool:
         """The program has these commands."""
         return call in ("verify", "strict", "checkmap", "checkfork")
 
-    def judge(self, call: str, parts: tuple[bytes, ...], anchors: bytes) -> Verdict:
+    def judge(self, call: str, files: tuple[bytes, ...]) -> Verdict:
         """Runs the program; what fails otherwise than by a verdict is trouble."""
-        with tempfile.TemporaryDirectory(prefix="weft-") as folder:
-            paths = [Path(folder) / name for name in (LOW, HIGH)[: len(parts)]]
-            for path, data in zip(paths, parts):
+        with self.working() as folder:
+            paths = [Path(folder) / name for name in (*(LOW, HIGH)[: len(files) - 1], "anchors")]
+            for path, data in zip(paths, files):
                 path.write_bytes(data)
-            (Path(folder) / "anchors").write_bytes(anchors)
-            answer = program.run(call, *map(str, paths), f"{folder}/anchors")
+            answer = program.run(call, *map(str, paths))
             if answer.status not in (ACCEPTED, REJECTED, UNREADABLE):
                 raise program.trouble(answer, folder)
             return Verdict(answer.status, answer.text.replace(folder + "/", ""))
+
+
+    def show(self, history: bytes, step: int, index: int) -> Shown:
+        """Has the program make the proof of an event of a history's file."""
+        with self.working() as folder:
+            path = Path(folder) / HISTORY
+            path.write_bytes(history)
+            answer = program.run("show", str(path), str(step), str(index))
+            if answer.status not in (ACCEPTED, UNREADABLE):
+                raise program.trouble(answer, folder)
+            return Shown(answer.status, answer.output.replace(f"{folder}/".encode(), b"") if answer.status else answer.output)
 
 
 class ReferenceJudge:
@@ -110,16 +143,21 @@ class ReferenceJudge:
         """Whether the reference has the call."""
         return hasattr(importlib.import_module("timeweave_reference"), call)
 
-    def judge(self, call: str, parts: tuple[bytes, ...], anchors: bytes) -> Verdict:
+    def judge(self, call: str, files: tuple[bytes, ...]) -> Verdict:
         """Asks the reference."""
-        answer = getattr(importlib.import_module("timeweave_reference"), call)(*parts, anchors)
+        answer = getattr(importlib.import_module("timeweave_reference"), call)(*files)
         return Verdict(answer.status, answer.text.decode("ascii"))
+
+    def show(self, history: bytes, step: int, index: int) -> Shown:
+        """Has the reference make the proof of an event of a history's file."""
+        answer = importlib.import_module("timeweave_reference").show(history, step, index)
+        return Shown(answer.status, answer.text)
 
 
 class Bench:
     """The judges at hand, the first of which that has a call counts; the others have to say the same."""
 
-    def __init__(self, proved: list[Judge], reference: Optional[Judge], is_by_reference: bool = False):
+    def __init__(self, proved: list[Judge], reference: Optional[ReferenceJudge], is_by_reference: bool = False):
         self.proved, self.reference, self.is_by_reference = proved, reference, is_by_reference
 
     def seated(self, call: str) -> list[Judge]:
@@ -130,15 +168,24 @@ class Bench:
             raise nobody(self.is_by_reference)
         return [*proved, *also]
 
+    @contextmanager
+    def working(self) -> Iterator[None]:
+        """Within it many judgements take less time."""
+        with ExitStack() as stack:
+            for judge in self.proved:
+                if isinstance(judge, ProgramJudge):
+                    stack.enter_context(judge.working())
+            yield
+
     def has(self, call: str) -> bool:
         """Whether somebody judges this call."""
         judges: list[Optional[Judge]] = [self.reference] if self.is_by_reference else list(self.proved)
         return any(judge is not None and judge.has(call) for judge in judges)
 
-    def judge(self, call: str, parts: tuple[bytes, ...], anchors: bytes) -> Verdict:
+    def judge(self, call: str, *files: bytes) -> Verdict:
         """The verdict; raises Trouble where two judges differ."""
         judges = self.seated(call)
-        verdicts = [judge.judge(call, parts, anchors) for judge in judges]
+        verdicts = [judge.judge(call, files) for judge in judges]
         for judge, verdict in zip(judges[1:], verdicts[1:]):
             if verdict != verdicts[0]:
                 first, other = printable(verdicts[0].text.strip()), printable(verdict.text.strip())
@@ -148,6 +195,20 @@ class Bench:
                     "This is a bug: trust neither, keep the files, and report it.",
                 )
         return verdicts[0]
+
+    def show(self, history: bytes, step: int, index: int) -> Shown:
+        """The proof of an event of a history's file, by the program, and the same by the reference; raises Trouble where they differ, or nobody makes it."""
+        makers: list[Union[ProgramJudge, ReferenceJudge]] = [judge for judge in self.proved if isinstance(judge, ProgramJudge)]
+        if self.reference is not None:
+            makers.append(self.reference)
+        if not self.is_by_reference:
+            program.needed()
+        if not makers:
+            raise nobody(self.is_by_reference)
+        found = [maker.show(history, step, index) for maker in makers]
+        if any(it != found[0] for it in found):
+            raise Trouble(Status.DIFFER, "the program and the reference make two proofs of one event of this history", "This is a bug: keep it, and report it.")
+        return found[0]
 
     def told(self, call: str) -> str:
         """The line behind a verdict."""

@@ -65,7 +65,8 @@ Made by hand: the events whose proofs the peer may ask for, as
 .B STEP INDEX
 or
 .BR "STEP *" ;
-without it none. Proofs of received lines and links are handed out to each accepted peer.
+without it none. Proofs of received lines and links are handed out to each accepted peer; one that asks for those of another peer gets them once that one
+has answered.
 .TP
 .I BOX/box.conf
 Settings, as

@@ -20,7 +20,7 @@ from weft.trouble import Trouble
 def proved(store: Store, judge: Bench, top: Line, *words: str) -> list[list[str]]:
     """The lines of the report of a proof that the store makes, judged under its own line of the top; raises Trouble where it isn't accepted."""
     proof = store.done("prove", *words, str(top.step))
-    verdict = judge.judge("strict", (proof,), anchors([top]))
+    verdict = judge.judge("strict", proof, anchors([top]))
     if not verdict.is_accepted:
         told = f"the store in {name_of(store.path)} made a proof that isn't accepted under its own line ({verdict.text.strip()})"
         raise Trouble(Status.BAD_STORE, told, "A page of it may be damaged: weft check finds which step; go back to a backup.")

@@ -17,6 +17,7 @@ from weft.trouble import Trouble
 
 BESIDE = Path(__file__).resolve().parent.parent / "bin/timeweave"
 ILLEGAL_INSTRUCTION = -4
+STOPPING = (-1, -2, -9, -15)
 
 
 class Answer(NamedTuple):
@@ -67,6 +68,8 @@ def run(*words: str) -> Answer:
         raise Trouble(Status.USAGE, "a word has a zero byte, and no command takes one") from None
     if done.returncode == ILLEGAL_INSTRUCTION:
         raise Trouble(Status.NO_JUDGE, "this processor lacks an instruction that timeweave was built with", "Take a build for x86-64.")
+    if done.returncode in STOPPING:
+        raise Trouble(Status.STOPPED, f"timeweave was stopped by signal {-done.returncode}", "The next run goes on.")
     if done.returncode < 0 or done.returncode > 10:
         raise Trouble(Status.BUG, f"timeweave ended with status {done.returncode}: {printable(done.stderr.decode('utf-8', 'replace'))}")
     return Answer(done.returncode, done.stdout)

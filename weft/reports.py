@@ -6,6 +6,7 @@ from dataclasses import dataclass
 from typing import NamedTuple, Optional
 
 from weft.judges import Verdict
+from weft.lines import Line
 from weft.texts import date_of, shown_event
 
 
@@ -112,6 +113,11 @@ def map_sentences(report: Report, service: str, step: str, peer: str) -> list[st
     return [f"Before its step {step} {service} {before}.", f"{after[0].upper()}{after[1:]}."]
 
 
+def history_sentence(lines: list[Line]) -> str:
+    """What an accepted history says, which was judged under the line of its last step."""
+    return f"It is a history of {lines[0].service} that keeps the rules, up to step {lines[0].step}, of which you hold the line."
+
+
 def fork_sentences(report: Report) -> list[str]:
     """What accepted evidence says."""
     first, second = report.other("first"), report.other("second")
@@ -122,6 +128,25 @@ def fork_sentences(report: Report) -> list[str]:
     else:
         told.append(f"Whose lines {first[3]} and {second[3]} were given, and by whom, isn't in it: ask both.")
     return told
+
+
+def contradiction_sentences(verdict: Verdict, first: str, second: str) -> list[str]:
+    """What it says that two files, told by these names, contradict each other."""
+    report = read_report(verdict)
+    service, _, peer, number, _, archived = report.other("thread")
+    upto = report.other("absent")[1]
+    told = [
+        f"{first} and {second} CONTRADICT EACH OTHER: by one {service} received step {number} of {peer} at its step {archived}, by the other it had received "
+        f"no such step up to its step {upto}."
+    ]
+    if report.kind == "broken-rule":
+        told.append(f"Both are under one line of {service}, or the link joins their lines: whoever kept {service} broke its rules.")
+    else:
+        told.append(
+            f"They are under two lines of {service}: it broke its rules, or it has two histories, or one of both lines isn't its own. Ask it for the link "
+            "between these lines, and name that beside them."
+        )
+    return [*told, "Keep both files and the lines: they are the evidence for whoever holds these lines to be its own."]
 
 
 def sentences(report: Report) -> list[str]:
@@ -155,6 +180,9 @@ REASONS = {
 def reason_sentence(verdict: Verdict) -> tuple[str, str]:
     """Why a verdict isn't an acceptance, and what to do."""
     words = verdict.reason
+    if verdict.text.startswith("unsound"):
+        _, _, _, step, _, rule = verdict.text.split()
+        return f"the history breaks rule {rule} at its step {step}: no service that keeps the rules has it", "Ask its service for another."
     if not words:
         return f"the judge can't read it ({' '.join(verdict.text.split())})", "Is it the right file?"
     name, fields = (words[0], words[1:]) if words[0] == "Gap" else (words[1], words[2:])

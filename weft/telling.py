@@ -8,14 +8,14 @@ from typing import Any, Iterable, Iterator
 from weft import formats, reports, signatures
 from weft.judges import Verdict
 from weft.lines import KeptLines, read_line
+from weft.progress import with_progress
 from weft.texts import count_of, date_of, printable, shown_event
 from weft.trouble import Trouble
 
-from timeweave_reference import events_files, evidence, histories, map_files, messages, precedence, proofs, receipts, verdicts
+from timeweave_reference import events_files, evidence, fields, histories, map_files, messages, precedence, proofs, receipts, verdicts
 
 MOST_EVENTS = 20
 MOST_LINES = 20
-MOST_READ = 1 << 20
 
 
 def several(items: Iterable[str], count: int, what: str, most: int) -> Iterator[str]:
@@ -105,19 +105,19 @@ def tell_evidence(data: bytes) -> tuple[str, list[str]]:
 
 
 def tell_history(data: bytes) -> tuple[str, list[str]]:
-    """A history; of a long one the front alone is read."""
+    """A history, whose steps are read one after another."""
     share = 100 * len(data) / formats.MOST_HISTORY
     size = f"{len(data):,} bytes, {share:.1f} % of what a history's file may have"
-    if len(data) > MOST_READ:
-        front = formats.fields.Reader(data[:28], 28)
-        front.magic(b"TWH1")
-        return "history", [f"of {front.name()}: {count_of(front.number(8, 0, formats.LAST_STEP), 'step')}, which weren't read", size]
-    name, steps = histories.read_history(data)
-    events, threads = sum(len(step.events) for step in steps), sum(step.thread is not None for step in steps)
-    times = [step.time for step in steps if step.time is not None]
-    told = [f"of {name}: {count_of(len(steps), 'step')}, {count_of(events, 'event')}, {count_of(threads, 'received line')}"]
-    if times:
-        told.append(f"claimed times from {date_of(times[0])} to {date_of(times[-1])}")
+    read = fields.Reader(data, formats.MOST_HISTORY)
+    name, steps, events, threads = histories.take_name(read), 0, 0, 0
+    first, last = None, None
+    for step in with_progress(histories.take_steps(read), "reading steps:"):
+        steps, events, threads = steps + 1, events + len(step.events), threads + (step.thread is not None)
+        first, last = step.time if first is None else first, last if step.time is None else step.time
+    read.end()
+    told = [f"of {name}: {count_of(steps, 'step')}, {count_of(events, 'event')}, {count_of(threads, 'received line')}"]
+    if first is not None and last is not None:
+        told.append(f"claimed times from {date_of(first)} to {date_of(last)}")
     return "history", [*told, size]
 
 

@@ -21,7 +21,8 @@ SUMMARY = "makes the proof that one event precedes another"
 DETAILS = (
     "It finds a way from the earlier event to the later one by the receipts of boxes, stores and files, takes each part from where it is at hand, asks "
     "peers for the others by their requests (run weft exchange, let it be carried, and run weft chain again), joins them, and has the whole judged "
-    "strictly. Or it says which part is missing and whom to ask. An event is named NAME:STEP:INDEX, or by a file that has its proof."
+    "strictly. Or it says which part is missing and whom to ask. Peers of your boxes are asked, and over them the services that they exchange with; of "
+    "others it says the command, to be asked for by hand (--hand). An event is named NAME:STEP:INDEX, or by a file that has its proof."
 )
 EXAMPLE = "weft chain log:12:0 bank:31:2 --store /srv/log --box /srv/box --out chain"
 MOST_FILES = 10_000
@@ -70,11 +71,9 @@ def run(options: argparse.Namespace) -> Status:
     kept, judge = KeptLines(options.kept or [lines.default_kept()]), judges.bench(options.reference)
     hand = at_hand(options.hand) + [event.proof for event in (first, second) if event.proof is not None]
     sources = Sources([Store(folder) for folder in options.store], options.box, hand, kept, judge)
-    plan = chains.plan(sources, first, second)
-    parts = [sources.part(part) for part in plan.parts]
-    if None in parts:
+    plan, parts, proof = chains.gathered(sources, first, second)
+    if proof is None:
         return tell_missing(sources, plan, parts)
-    proof = chains.joined([part for part in parts if part is not None], plan.parts)
     judgement = choosing.judge_proof(judge, proof, kept, allow_carried=False)
     if not judgement.is_shown or judgement.verdict is None:
         return tell_refused(sources, judgement)

@@ -78,14 +78,14 @@ def held_lines(store: Store, kept: KeptLines, history: Optional[History], top: L
     for step in kept.steps(top.service):
         if step == 0:
             continue
-        line = kept.one(top.service, step)
         found = authenticator_at(store, history, top, step)
-        if line is not None and found == line.authenticator:
-            agreeing += 1
-        else:
-            came = "; ".join(it.told for it in kept.at(top.service, step))
+        for line in dict.fromkeys(it.line for it in kept.at(top.service, step)):
+            if found == line.authenticator:
+                agreeing += 1
+                continue
+            came = "; ".join(it.told for it in kept.at(top.service, step) if it.line == line)
             has = "has no such step" if step > top.step else "has another step of that number" if found else "doesn't prove that step"
-            wrong.append(f"the store {has} as the line of step {step} ({came})")
+            wrong.append(f"the store {has} as the line of step {step}, {line.authenticator[:16]}.. ({came})")
     return wrong, agreeing
 
 

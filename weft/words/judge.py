@@ -4,13 +4,14 @@ from __future__ import annotations
 
 import argparse
 import hashlib
+import itertools
 import os
 from pathlib import Path
 from typing import NamedTuple, Optional
 
 from weft import bulk, choosing, files, formats, judges, lines, pictures, reports
 from weft.choosing import Judgement
-from weft.judges import Bench
+from weft.judges import Bench, Verdict
 from weft.lines import KeptLines
 from weft.output import complain, say, say_json
 from weft.statuses import Status
@@ -18,15 +19,20 @@ from weft.texts import name_of, printable, shown_event
 from weft.trouble import Trouble
 
 NAME = "judge"
-SUMMARY = "judges proofs, map files and evidence under the lines that you kept"
+SUMMARY = "judges proofs, map files, evidence and histories under the lines that you kept"
 DETAILS = (
     "It picks the lines that each needs, has it judged, and says what is shown, on whose lines that rests and how each came; or which line is "
     "missing and whom to ask. A low and a high map file of one step are judged together. Proofs that carry a line, which its receiver alone "
-    "vouches for, aren't accepted but with --carried. With --many all files of a folder are judged into a table, over all processors."
+    "vouches for, aren't accepted but with --carried. A history is judged by the line of its last step, and by the rules that it has to keep. Files that are accepted, and contradict each other on what a service received, are told where the "
+    "library judges that; name the link between their lines beside them. With --many all files of a folder are judged into a table, over all processors."
 )
 EXAMPLE = (
     "weft judge proof --file paid.csv\nweft judge chain --svg chain.svg\nweft judge low high\nweft judge --many proofs/ --table proofs.tsv"
 )
+
+
+# What says something of the lines that a service received.
+ARCHIVE_KINDS = ("thread", "absence", "low map", "high map")
 
 
 class Named(NamedTuple):
@@ -39,7 +45,7 @@ class Named(NamedTuple):
 
 def add(parser: argparse.ArgumentParser) -> None:
     """The words."""
-    parser.add_argument("proofs", metavar="PROOF", nargs="*", help="proofs, map files, evidence")
+    parser.add_argument("proofs", metavar="PROOF", nargs="*", help="proofs, map files, evidence, histories")
     parser.add_argument("--kept", metavar="FILE", type=Path, action="append", help="a file of kept lines; several may be named (else WEFT_KEPT, ..)")
     parser.add_argument("--file", metavar="F", help="holds the event against the digest and the name of this file")
     parser.add_argument("--carried", action="store_true", help="accepts proofs that carry lines, and says which")
@@ -47,6 +53,8 @@ def add(parser: argparse.ArgumentParser) -> None:
     parser.add_argument("--many", metavar="FOLDER", help="judges all files of the folder")
     parser.add_argument("--table", metavar="FILE", help="with --many: the table (else FOLDER.verdicts.tsv); a run that was stopped is gone on with")
     parser.add_argument("--workers", metavar="N", type=int, help="with --many: how many processes (else one a processor)")
+    parser.add_argument("--dask", metavar="ADDRESS", help="with --many: over the Dask cluster whose scheduler has this address, as tls://host:8786")
+    parser.add_argument("--tls", metavar=("CA", "CERT", "KEY"), nargs=3, help="with --dask: the files of the authority, of the own certificate and of its key")
     parser.add_argument("--reference", action="store_true", help="judges by the Python reference alone, which is tested and not proved")
     parser.add_argument("--json", action="store_true", help="writes JSON, a line for each")
 
@@ -62,6 +70,8 @@ def run(options: argparse.Namespace) -> Status:
         if options.proofs or options.file or options.svg:
             raise Trouble(Status.USAGE, "--many takes no proofs, --file or --svg beside it", "See weft judge --help.")
         return bulk.run(options, kept, judge)
+    if options.dask or options.tls:
+        raise Trouble(Status.USAGE, "--dask and --tls are for --many", "See weft judge --help.")
     if not options.proofs:
         raise Trouble(Status.USAGE, "no proof is named", "See weft judge --help.")
     named = [read(path) for path in options.proofs]
@@ -75,12 +85,12 @@ def run(options: argparse.Namespace) -> Status:
         status = status or found
         if judgement is not None and judgement.is_shown:
             shown.append((group, judgement))
-    return status or contradicted(judge, kept, shown)
+    return contradicted(judge, shown) or status
 
 
 def read(path: str) -> Named:
     """A file that is to be judged."""
-    data = files.read(path, formats.MOST_PROOF)
+    data = formats.read_file(path)
     return Named(path, data, formats.kind_of(data))
 
 
@@ -115,14 +125,16 @@ def judgement_of(judge: Bench, kept: KeptLines, group: list[Named], allow_carrie
         return choosing.judge_map(judge, group[0].data, group[1].data, kept)
     if it.kind == "evidence":
         return choosing.judge_evidence(judge, it.data, kept)
-    if it.kind in ("message", "receipts", "history", "events"):
+    if it.kind == "history":
+        return choosing.judge_history(judge, it.data, kept)
+    if it.kind in ("message", "receipts", "events"):
         raise Trouble(Status.UNREADABLE, f"{name_of(it.path)} is no proof: it is {article(it.kind)}", "weft tell says what it says.")
     return choosing.judge_proof(judge, it.data, kept, allow_carried)
 
 
 def article(kind: str) -> str:
     """The kind as a sentence has it."""
-    return {"message": "a message", "receipts": "a receipt", "history": "a history", "events": "an events file"}[kind]
+    return {"message": "a message", "receipts": "a receipt", "events": "an events file"}[kind]
 
 
 def judged(options: argparse.Namespace, kept: KeptLines, judge: Bench, group: list[Named]) -> tuple[Status, Optional[Judgement]]:
@@ -168,6 +180,8 @@ def outcome(judge: Bench, kept: KeptLines, group: list[Named], judgement: Judgem
         return judge.status(False), [f"{sentence[0].upper()}{sentence[1:]}. {advice}".strip(), *choosing.resting(judgement, kept)]
     report, head = reports.read_report(judgement.verdict), map_name(group)
     told = reports.map_sentences(report, head.service, str(head.step), head.peer) if head else reports.sentences(report)
+    if group[0].kind == "history":
+        told = [reports.history_sentence(judgement.lines)]
     is_other, compared = beside_kept(report, kept)
     return Status.CONTRADICTION if is_other else judge.status(True), [*told, *compared, *choosing.resting(judgement, kept)]
 
@@ -242,18 +256,27 @@ def as_json(judge: Bench, kept: KeptLines, group: list[Named], judgement: Judgem
     }
 
 
-def contradicted(judge: Bench, kept: KeptLines, shown: list[tuple[list[Named], Judgement]]) -> Status:
-    """Whether two of the accepted proofs contradict each other under lines of one history, where a judge has that."""
+def contradicted(judge: Bench, shown: list[tuple[list[Named], Judgement]]) -> Status:
+    """Whether two of the accepted files contradict each other, where a judge has that: what one shows as received the other shows as not received."""
     if not judge.has("contradict"):
         return Status.DONE
+    held = [(it, lines.anchors(judgement.lines)) for group, judgement in shown for it in group if it.kind in ARCHIVE_KINDS]
+    links = [it.data for group, _ in shown for it in group if it.kind == "link"]
     status = Status.DONE
-    for place, (first, one) in enumerate(shown):
-        for second, other in shown[place + 1 :]:
-            held = {line.service: line for line in [*one.lines, *other.lines]}
-            verdict = judge.judge("contradict", (first[0].data, second[0].data), lines.anchors(held.values()))
-            if verdict.is_accepted:
-                named = f"{name_of(first[0].path)} and {name_of(second[0].path)}"
-                say(f"{named} contradict each other under lines of one history: its keeper broke the rules. Keep both: they are the evidence.")
-                say(f"  {judge.told('contradict')}")
-                status = Status.CONTRADICTION
+    for (first, first_lines), (second, second_lines) in itertools.combinations(held, 2):
+        verdict = contradiction(judge, (first.data, first_lines, second.data, second_lines), links)
+        if verdict.is_accepted:
+            status = Status.CONTRADICTION
+            for sentence in reports.contradiction_sentences(verdict, name_of(first.path), name_of(second.path)):
+                say(sentence)
+            say(f"  {judge.told('contradict')}")
     return status
+
+
+def contradiction(judge: Bench, files: tuple[bytes, bytes, bytes, bytes], links: list[bytes]) -> Verdict:
+    """The verdict on two files, each with its anchors; where they are under two lines of one service, by a link of these that joins both."""
+    verdict = judge.judge("contradict", *files, b"")
+    if verdict.text.startswith("accepted broken-rule-or-fork"):
+        joined = (judge.judge("contradict", *files, link) for link in links)
+        return next((it for it in joined if it.is_accepted), verdict)
+    return verdict
