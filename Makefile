@@ -3,7 +3,10 @@
 # The copies of the built programs, which the gate doesn't touch.
 PROGRAM = bin/timeweave
 TREES = bin/tree_pages
+
+# Where `make install` puts what it copies; libraries go to LIBDIR.
 PREFIX ?= /usr/local
+LIBDIR ?= $(PREFIX)/lib
 
 # Names of crates, for `make wrong-bodies`; none stands for all.
 NAMES ?=
@@ -13,7 +16,7 @@ PROOF = crates/timeweave/data/p
 AUTH = 9f9cc8f6baef592ed6bf90b106ebe7b882f59a1cc9803a6d1eef6974da5f87ed
 OTHER = 0f9cc8f6baef592ed6bf90b106ebe7b882f59a1cc9803a6d1eef6974da5f87ed
 
-.PHONY: build demo test check crash fuzz wrong-bodies bench install
+.PHONY: build demo test check crash fuzz wrong-bodies bench
 
 # Builds the program. Only a proved program is built: a build proves every crate below it first, which takes long. Where nothing
 # has changed since the last one, nothing is done.
@@ -71,18 +74,12 @@ wrong-bodies:
 bench: | $(PROGRAM) $(TREES)
 	python3 bench/measure.py $(PROGRAM)
 
-# Copies the built program, its manual page and the completion of its words in bash.
-install: | $(PROGRAM)
-	install -D -m 755 $(PROGRAM) $(DESTDIR)$(PREFIX)/bin/timeweave
-	install -D -m 644 docs/timeweave.1 $(DESTDIR)$(PREFIX)/share/man/man1/timeweave.1
-	install -D -m 644 tools/completion.bash $(DESTDIR)$(PREFIX)/share/bash-completion/completions/timeweave
-
 # ---- the library for C and Python
 
 LIBRARY = lib/libtimeweave.a
 HAS_C := $(shell command -v cc)
 
-.PHONY: lib install-lib
+.PHONY: lib
 
 # Builds the library, proved as `build` proves the program: lib/libtimeweave.a and lib/libtimeweave.so.
 lib:
@@ -93,33 +90,6 @@ $(LIBRARY):
 
 # Where there is a C compiler, the acceptance run tries the library too, it is measured, and it is installed.
 check bench: | $(if $(HAS_C),$(LIBRARY))
-
-install: $(if $(HAS_C),install-lib)
-
-# Copies the library, its headers, what pkg-config reads, and the module for Python.
-install-lib: | $(LIBRARY)
-	install -D -m 644 $(LIBRARY) $(DESTDIR)$(PREFIX)/lib/libtimeweave.a
-	install -D -m 755 lib/libtimeweave.so $(DESTDIR)$(PREFIX)/lib/libtimeweave.so
-	install -D -m 644 include/timeweave.h $(DESTDIR)$(PREFIX)/include/timeweave.h
-	install -D -m 644 include/timeweave_collect.h $(DESTDIR)$(PREFIX)/include/timeweave_collect.h
-	install -D -m 644 bindings/python/timeweave.py $(DESTDIR)$(PREFIX)/share/timeweave/timeweave.py
-	install -d $(DESTDIR)$(PREFIX)/lib/pkgconfig
-	sed 's|@PREFIX@|$(PREFIX)|; s|@VERSION@|$(shell cat VERSION)|' include/timeweave.pc.in > $(DESTDIR)$(PREFIX)/lib/pkgconfig/timeweave.pc
-
-# ---- the companion
-
-.PHONY: install-weft
-
-# Copies weft, its manual page, and the reference by which it reads files.
-install-weft:
-	install -d $(DESTDIR)$(PREFIX)/share/timeweave/weft/words $(DESTDIR)$(PREFIX)/share/timeweave/weft/bin $(DESTDIR)$(PREFIX)/bin
-	install -d $(DESTDIR)$(PREFIX)/share/timeweave/timeweave_reference
-	install -m 644 weft/*.py weft/py.typed $(DESTDIR)$(PREFIX)/share/timeweave/weft
-	install -m 644 weft/words/*.py $(DESTDIR)$(PREFIX)/share/timeweave/weft/words
-	install -m 644 reference/timeweave_reference/*.py reference/timeweave_reference/py.typed $(DESTDIR)$(PREFIX)/share/timeweave/timeweave_reference
-	install -m 755 weft/bin/weft $(DESTDIR)$(PREFIX)/share/timeweave/weft/bin/weft
-	ln -sf ../share/timeweave/weft/bin/weft $(DESTDIR)$(PREFIX)/bin/weft
-	install -D -m 644 weft/weft.1 $(DESTDIR)$(PREFIX)/share/man/man1/weft.1
 
 # ---- the page that checks proofs, and the module for JavaScript
 
@@ -132,8 +102,39 @@ HAS_PAGE := $(and $(shell command -v wasm-opt),$(shell command -v node))
 page:
 	python3 tools/build_page.py
 
+# (Status 4: a tool isn't the one that the page was tested with, and so the page is left out.)
 $(PAGE):
-	$(MAKE) page
+	python3 tools/build_page.py || test $$? -eq 4
 
 # Where it can be built and tried, the acceptance run tries it, and it is measured.
 check bench: | $(if $(HAS_PAGE),$(PAGE))
+
+# ---- to have it elsewhere
+
+INSTALL = python3 tools/install.py --prefix $(PREFIX) --libdir $(LIBDIR) --destdir "$(DESTDIR)" --program $(PROGRAM)
+
+.PHONY: install install-lib install-weft package twice
+
+# Copies what is built, and builds nothing: the program, weft, the library, the page, the documents. What isn't built is told; without the program
+# nothing is copied.
+install:
+	$(INSTALL)
+
+# Copies the library, its headers, what pkg-config reads, and the module for Python.
+install-lib:
+	$(INSTALL) library headers python
+
+# Copies weft, its manual page, and the reference by which it reads files.
+install-weft:
+	$(INSTALL) weft reference
+
+# Writes dist/: packages for Debian, a tar file with the same, the page, and the digests of all; signed where KEY names a key of ssh. What they are made of has
+# to be built of these sources, and these to be committed: what is missing is told. docs/releases.md tells what is in them.
+KEY ?=
+
+package:
+	python3 tools/package.py $(if $(KEY),--key $(KEY))
+
+# Builds program, library, page and packages twice, in two folders, under two users, with nothing that an earlier build left, and compares: hours.
+twice:
+	python3 tools/twice.py

@@ -9,52 +9,46 @@ The gate proves static libraries, and builds none. So the crates are proved over
 built there of the crates that it built. Right after the gate has passed this tree, `--of-gate` builds it of those that it built here.
 """
 
-import subprocess
 import sys
 import tempfile
 from pathlib import Path
 
+import built
 from build import prove
 from crate_copy import TOP, copy_crates
-from pictures import below_all, crates
+from kit import KIT, archive, run
 
 NAME = "timeweave_c"
-KIT = Path(subprocess.run(["rt", "doc"], check=True, capture_output=True, text=True).stdout.strip()).parent
+INTO = TOP / "lib"
+STATIC, SHARED = INTO / "libtimeweave.a", INTO / "libtimeweave.so"
+
+# Programs ask for the shared library by this name: it has the first number of the version, which rises where a program that was linked with it would no longer run.
+SONAME = f"libtimeweave.so.{(TOP / 'VERSION').read_text().split('.')[0]}"
 
 
-def archive(copy):
-    """Builds the crate's archive of the libraries below it, as the gate has built them."""
-    folder, known = copy / "crates" / NAME, crates()
-    rlib = lambda name: copy / "crates" / name / f"out/rlib/{name}.rlib"  # noqa: E731
-    words = [KIT / "bin/rattle", "build", "--crate-name", NAME, "src/lib.rt", "--crate-type", "staticlib"]
-    words += ["--extern", f"std={KIT}/rlibs/std.rlib", "-L", f"dependency={KIT}/rlibs"]
-    for name in sorted(known[NAME]):
-        words += ["--extern", f"{name}={rlib(name)}"]
-    for name in sorted(below_all(NAME, known)):
-        words += ["-L", f"dependency={rlib(name).parent}"]
-    words += ["--antt-project", KIT / "rattle/logic/antt-project.json", "--logic-built", KIT / "logic_built", "--jobs", "2"]
-    words += ["--toolchain", KIT / "toolchain", "--backend", "llvm", "-o", f"out/lib{NAME}.a"]
-    (folder / "out").mkdir(exist_ok=True)
-    subprocess.run(words, cwd=folder, check=True)
-    return folder / f"out/lib{NAME}.a"
+def library_sum():
+    """The sum of what the libraries are built of."""
+    return built.sum_of([NAME], ["tools/build_library.py", "include/timeweave.map", "VERSION"])
 
 
-def join(made, into):
+def join(made):
     """Makes both libraries of the archive and the kit's allocator."""
     with tempfile.TemporaryDirectory() as folder:
         for parts in (made, KIT / "c/liblibc_c.a"):
-            subprocess.run(["ar", "x", parts], cwd=folder, check=True)
-        objects = sorted(Path(folder).glob("*.o"))
-        shown = ["-Wl,-soname,libtimeweave.so", f"-Wl,--version-script={TOP / 'include/timeweave.map'}"]
-        into.mkdir(exist_ok=True)
-        (into / "libtimeweave.a").unlink(missing_ok=True)
-        subprocess.run(["ar", "rcs", into / "libtimeweave.a", *objects], check=True)
-        subprocess.run(["cc", "-shared", "-o", into / "libtimeweave.so", *shown, *objects], check=True)
+            run("ar", "x", parts, cwd=folder)
+        objects = sorted(path.name for path in Path(folder).glob("*.o"))
+        shown = [f"-Wl,-soname,{SONAME}", f"-Wl,--version-script={TOP / 'include/timeweave.map'}", "-Wl,-z,relro,-z,now,-z,noexecstack"]
+        run("ar", "rcsD", "static", *objects, cwd=folder)
+        run("cc", "-shared", "-o", "shared", *shown, *objects, cwd=folder)
+        built.put(Path(folder) / "static", STATIC, library_sum())
+        built.put(Path(folder) / "shared", SHARED, library_sum())
+    (INTO / SONAME).unlink(missing_ok=True)
+    (INTO / SONAME).symlink_to(SHARED.name)
 
 
 def main():
     if sys.argv[1:] == ["--of-gate"]:
-        join(archive(TOP), TOP / "lib")
+        join(archive(TOP, NAME))
         return 0
     if sys.argv[1:]:
         sys.exit(__doc__)
@@ -64,7 +58,7 @@ def main():
         status = prove(copy)
         if status:
             return status
-        join(archive(copy), TOP / "lib")
+        join(archive(copy, NAME))
     return 0
 
 

@@ -18,7 +18,6 @@ The status is 3 where wasm-opt isn't there, 4 where one of the tools is another 
 import base64
 import hashlib
 import json
-import os
 import re
 import shutil
 import subprocess
@@ -27,9 +26,11 @@ import tempfile
 from pathlib import Path
 
 import build_library
+import built
 from build import prove
-from build_library import KIT, NAME
+from build_library import NAME
 from crate_copy import TOP, copy_crates
+from kit import KIT, archive, run
 
 WEB = TOP / "web"
 MODULE, PAGE = WEB / "timeweave.wasm", WEB / "timeweave.html"
@@ -65,10 +66,6 @@ class Stopped(Exception):
     def __init__(self, why, status=1):
         super().__init__(why)
         self.status = status
-
-
-def run(*words):
-    subprocess.run(words, check=True)
 
 
 # ---- the tools
@@ -118,9 +115,7 @@ def lowered(copy, work):
     """The LLVM module that Rattle made of the proved library, and the archive for x86-64 that its clang made of the same."""
     kept = work / "kept"
     kept.mkdir()
-    build_library.KIT = keeping_kit(work, kept)
-    made = build_library.archive(copy)
-    build_library.KIT = KIT
+    made = archive(copy, NAME, keeping_kit(work, kept))
     modules = list(kept.iterdir())
     if len(modules) != 1:
         raise Stopped(f"Rattle had {len(modules)} modules compiled, and one is wanted")
@@ -157,7 +152,12 @@ def compiled(module, work, found):
     words = ["-mwasm64", "--no-entry", "--stack-first", "-z", f"stack-size={STACK}", "--gc-sections", "--strip-all", "--fatal-warnings"]
     run(work / "wasm-ld", *words, *(f"--export={name}" for name in exports()), work / "module.o", work / "heap.o", "-o", work / "64.wasm")
     run(found["wasm-opt"], *(f"--enable-{it}" for it in FEATURES), "--memory64-lowering", work / "64.wasm", "-o", work / "32.wasm")
-    return (work / "32.wasm").read_bytes()
+    return work / "32.wasm"
+
+
+def module_sum():
+    """The sum of what the module is built of."""
+    return built.sum_of([NAME], ["tools/build_page.py", "web/heap.c", "include/timeweave.h"])
 
 
 def build_module(copy, found):
@@ -165,9 +165,9 @@ def build_module(copy, found):
     with tempfile.TemporaryDirectory() as folder:
         work = Path(folder)
         module, made = lowered(copy, work)
-        MODULE.write_bytes(compiled(module, work, found))
+        built.put(compiled(module, work, found), MODULE, module_sum())
         if shutil.which("cc"):
-            build_library.join(made, TOP / "lib")
+            build_library.join(made)
 
 
 # ---- the page

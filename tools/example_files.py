@@ -114,7 +114,8 @@ def event_chain() -> Contents:
 def three_histories(times: Tuple[int, ...] = ()) -> Way:
     """A way from alpha over beta to gamma, whose hops are bound; beta's history goes on behind. Alpha's steps claim these times, if any."""
     alpha, beta, gamma = History("alpha"), History("beta"), History("gamma")
-    for place, events in enumerate(([b"first", b"second"], [])):
+    steps: List[List[bytes]] = [[b"first", b"second"], []]
+    for place, events in enumerate(steps):
         alpha.append(events, times[place] if times else None)
     beta.append([b"own"])
     beta.receive("alpha", 2, alpha.line().auths[2])

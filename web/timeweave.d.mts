@@ -2,10 +2,11 @@
 export declare const ACCEPTED: 0;
 export declare const REJECTED: 1;
 export declare const NO_MEMORY: 6;
+export declare const UNREADABLE: 9;
 export declare const BAD_ANCHORS: 9;
 
-/** What `judge` answers: 0 accepted, 1 rejected, 6 no memory, 9 a bad line in the anchors. */
-export type Status = typeof ACCEPTED | typeof REJECTED | typeof NO_MEMORY | typeof BAD_ANCHORS;
+/** What `judge` and `ask` answer: 0 accepted, 1 rejected, 6 no memory, 9 a bad line in the anchors, or a map file that is none. */
+export type Status = typeof ACCEPTED | typeof REJECTED | typeof NO_MEMORY | typeof UNREADABLE;
 
 /** The most bytes that any proof, and any anchors file with a good line at its end, has: what stands behind them changes no verdict. */
 export declare const MOST_BYTES: 5_242_880;
@@ -84,18 +85,65 @@ export interface Report {
     link?: Link;
 }
 
-/** The proof isn't accepted: the number, the name and the fields of the lowest reason that stands, as 6, "BadEvent", ["0"]. */
-export declare class Rejected extends Error {
-    readonly number: number;
-    readonly reason: string;
-    readonly fields: string[];
-    constructor(number: number, name: string, fields: string[]);
+/** What two accepted map files show of a step of a service and of a peer. */
+export interface Bounds {
+    /** The greatest step of the peer that the service had received before its step, or 0. */
+    low: number;
+    /** The least step of the peer, up to its step `upto`, that received the service's step or a later one; undefined where none did. */
+    high: number | undefined;
+    upto: number;
+    text: string;
 }
 
-/** The anchors have a bad line: this one, counted from 1, is the first. */
+/** A thread of evidence, the service that received it, and the step that did. */
+export interface Accused {
+    thread: Thread;
+    by: string;
+    archived: number;
+}
+
+/** What accepted evidence of a fork shows: two threads of one service, both received, which no sound history both has. */
+export interface Fork {
+    first: Accused;
+    second: Accused;
+    text: string;
+}
+
+/**
+ * What two accepted files show that contradict each other: that a thread was received, and that none of its service and step was received up to a step that
+ * isn't before. Where `isJoined`, the service of the archive broke a rule: no sound history has the later of its lines. Else it broke a rule or showed two
+ * histories: no sound history has both lines.
+ */
+export interface Contradiction {
+    isJoined: boolean;
+    received: Received;
+    absent: Absent;
+    text: string;
+}
+
+/**
+ * The file isn't accepted: the number, the name and the fields of the reason, as 6, "BadEvent", ["0"]. Map files that don't fit each other have a reason
+ * without a number, undefined, "Gap", ["2"].
+ */
+export declare class Rejected extends Error {
+    readonly number: number | undefined;
+    readonly reason: string;
+    readonly fields: string[];
+    constructor(number: number | undefined, name: string, fields: string[]);
+}
+
+/** The anchors have a bad line: this one, counted from 1, is the first. `file` says which anchors, where there are several. */
 export declare class BadAnchors extends Error {
     readonly line: number;
-    constructor(line: number);
+    readonly file: string;
+    constructor(line: number, file?: string);
+}
+
+/** The bytes are no map file of their kind, `low` or `high`: at this place, counted from 0, stands the first byte at which none goes on. */
+export declare class BadFile extends Error {
+    readonly file: string;
+    readonly place: number;
+    constructor(file: string, place: number);
 }
 
 /** The module had no memory for the proof: nothing was judged. */
@@ -120,6 +168,25 @@ export declare class Timeweave {
     /** The same in the strict form: a proof that carries threads is rejected. */
     strict(proof: Uint8Array, anchors: Uint8Array | string): Report;
 
+    /** The bounds that a low and a high map file show, which are accepted under the lines. Throws Rejected, BadFile, BadAnchors or NoMemory. */
+    checkmap(low: Uint8Array, high: Uint8Array, anchors: Uint8Array | string): Bounds;
+
+    /** What the evidence of a fork shows that is accepted under the lines. Throws Rejected, BadAnchors or NoMemory. */
+    checkfork(evidence: Uint8Array, anchors: Uint8Array | string): Fork;
+
+    /**
+     * What two files show that contradict each other, each accepted under its own lines: proofs that a thread was received or that none was, or map files.
+     * The link is a proof of a step's authenticator, which joins the earlier line of the service to the later one; none is needed where both files are
+     * accepted under one line. Throws Rejected, with the reason NoConflict where they don't contradict each other, BadAnchors or NoMemory.
+     */
+    contradict(first: Uint8Array, firstAnchors: Uint8Array | string, second: Uint8Array, secondAnchors: Uint8Array | string, link?: Uint8Array): Contradiction;
+
+    /** Whether the module has the library's function of this name: one that was built earlier may lack it. */
+    has(name: string): boolean;
+
+    /** The status and the text that the library's function of this name, as "timeweave_checkmap", answers to the bytes of its files. */
+    ask(name: string, ...files: (Uint8Array | string)[]): Answer;
+
     /** The version of the library, as "1.0.0". */
     version(): string;
 }
@@ -134,3 +201,12 @@ export declare function reportOf(answer: Answer): Report;
 
 /** The report of an accepted proof, of its text. Throws Error where the text is none. */
 export declare function readReport(text: string): Report;
+
+/** The bounds of accepted map files, of their text. Throws Error where the text is none. */
+export declare function readBounds(text: string): Bounds;
+
+/** What accepted evidence shows, of its text. Throws Error where the text is none. */
+export declare function readFork(text: string): Fork;
+
+/** What two files show that contradict each other, of their text. Throws Error where the text is none. */
+export declare function readContradiction(text: string): Contradiction;

@@ -1,5 +1,5 @@
 /**
- * Timeweave's verifier for browsers, Node and Deno: judges proofs under anchors that you hold, by the proved library, compiled for WebAssembly.
+ * Timeweave's verifier for browsers, Node and Deno: judges proofs, maps and evidence under anchors that you hold, by the proved library, compiled for WebAssembly.
  *
  *     import { load } from "./timeweave.mjs";
  *
@@ -14,7 +14,8 @@
 export const ACCEPTED = 0;
 export const REJECTED = 1;
 export const NO_MEMORY = 6;
-export const BAD_ANCHORS = 9;
+export const UNREADABLE = 9;
+export const BAD_ANCHORS = UNREADABLE;
 
 /** The most bytes that any proof, and any anchors file with a good line at its end, has: what stands behind them changes no verdict. */
 export const MOST_BYTES = 5_242_880;
@@ -22,19 +23,27 @@ export const MOST_BYTES = 5_242_880;
 /** How much room is given to a text at first; a longer one is asked for again. */
 const FIRST_ROOM = 1024;
 
-/** The proof isn't accepted: the number, the name and the fields of the lowest reason that stands, as 6, "BadEvent", ["0"]. */
+/** The file isn't accepted: the number, the name and the fields of the reason, as 6, "BadEvent", ["0"]. Map files that don't fit have a reason without a number. */
 export class Rejected extends Error {
     constructor(number, name, fields) {
-        super([number, name, ...fields].join(" "));
+        super([...(number === undefined ? [] : [number]), name, ...fields].join(" "));
         Object.assign(this, { name: "Rejected", number, reason: name, fields });
     }
 }
 
-/** The anchors have a bad line: this one, counted from 1, is the first. */
+/** The anchors have a bad line: this one, counted from 1, is the first. `file` says which anchors, where there are several. */
 export class BadAnchors extends Error {
-    constructor(line) {
-        super(`line ${line}`);
-        Object.assign(this, { name: "BadAnchors", line });
+    constructor(line, file = "anchors") {
+        super(file === "anchors" ? `line ${line}` : `${file} line ${line}`);
+        Object.assign(this, { name: "BadAnchors", line, file });
+    }
+}
+
+/** The bytes are no map file of their kind, `low` or `high`: at this place, counted from 0, stands the first byte at which none goes on. */
+export class BadFile extends Error {
+    constructor(file, place) {
+        super(`${file} byte ${place}`);
+        Object.assign(this, { name: "BadFile", file, place });
     }
 }
 
@@ -97,11 +106,11 @@ export class Timeweave {
         }
     }
 
-    #judgeInto(judge, proof, anchors, room) {
-        return this.#over([proof.length, anchors.length, room, 8], ([proofAt, anchorsAt, outAt, sizeAt], memory) => {
-            memory.set(proof, Number(proofAt));
-            memory.set(anchors, Number(anchorsAt));
-            const status = judge(proofAt, BigInt(proof.length), anchorsAt, BigInt(anchors.length), outAt, BigInt(room), sizeAt);
+    #askInto(name, files, room) {
+        return this.#over([...files.map((file) => file.length), room, 8], (taken, memory) => {
+            const [outAt, sizeAt] = taken.slice(files.length);
+            files.forEach((file, at) => memory.set(file, Number(taken[at])));
+            const status = this.#own[name](...files.flatMap((file, at) => [taken[at], BigInt(file.length)]), outAt, BigInt(room), sizeAt);
             // (the call may have made the memory larger, and the old view is of none then)
             const now = this.#own.memory.buffer;
             const size = Number(new DataView(now).getBigUint64(Number(sizeAt), true));
@@ -109,15 +118,24 @@ export class Timeweave {
         });
     }
 
-    /** The status and the text of the program's `verify`, or of its `strict`, for the bytes of a proof and of an anchors file. */
-    judge(proof, anchors, isStrict = false) {
-        const judge = isStrict ? this.#own.timeweave_strict : this.#own.timeweave_verify;
-        const [bytes, lines] = [bytesOf(proof), bytesOf(anchors)];
+    /** Whether the module has the library's function of this name: one that was built earlier may lack it. */
+    has(name) {
+        return typeof this.#own[name] === "function";
+    }
+
+    /** The status and the text that the library's function of this name answers to the bytes of files. */
+    ask(name, ...files) {
+        const given = files.map(bytesOf);
         for (let room = FIRST_ROOM; ; ) {
-            const { status, text, size } = this.#judgeInto(judge, bytes, lines, room);
+            const { status, text, size } = this.#askInto(name, given, room);
             if (size <= room) return { status, text };
             room = size;
         }
+    }
+
+    /** The status and the text of the program's `verify`, or of its `strict`, for the bytes of a proof and of an anchors file. */
+    judge(proof, anchors, isStrict = false) {
+        return this.ask(isStrict ? "timeweave_strict" : "timeweave_verify", proof, anchors);
     }
 
     /** The report of a proof that is accepted; threads that it carries, which no anchor binds, are allowed, and reported. */
@@ -130,6 +148,21 @@ export class Timeweave {
         return reportOf(this.judge(proof, anchors, true));
     }
 
+    /** The bounds that a low and a high map file show. */
+    checkmap(low, high, anchors) {
+        return readBounds(acceptedText(this.ask("timeweave_checkmap", low, high, anchors)));
+    }
+
+    /** What the evidence of a fork shows. */
+    checkfork(evidence, anchors) {
+        return readFork(acceptedText(this.ask("timeweave_checkfork", evidence, anchors)));
+    }
+
+    /** What two files show that contradict each other, each accepted under its own anchors; the link may have no bytes. */
+    contradict(first, firstAnchors, second, secondAnchors, link = new Uint8Array()) {
+        return readContradiction(acceptedText(this.ask("timeweave_contradict", first, firstAnchors, second, secondAnchors, link)));
+    }
+
     /** The version of the library, as "1.0.0". */
     version() {
         return this.#over([64], ([at]) => {
@@ -139,13 +172,20 @@ export class Timeweave {
     }
 }
 
-/** The report of a status and a text, or what is thrown for them. */
-export function reportOf({ status, text }) {
+/** The text of what is accepted, or what is thrown for another status and its text. */
+function acceptedText({ status, text }) {
     const words = text.trimEnd().split(" ");
-    if (status === ACCEPTED) return readReport(text);
-    if (status === REJECTED) throw new Rejected(Number(words[1]), words[2], words.slice(3));
-    if (status === BAD_ANCHORS) throw new BadAnchors(Number(words.at(-1)));
+    if (status === ACCEPTED) return text;
+    if (status === REJECTED && /^\d+$/.test(words[1])) throw new Rejected(Number(words[1]), words[2], words.slice(3));
+    if (status === REJECTED) throw new Rejected(undefined, words[1], words.slice(2));
+    if (status === UNREADABLE && words[2] === "line") throw new BadAnchors(Number(words[3]), words[1]);
+    if (status === UNREADABLE) throw new BadFile(words[1], Number(words[3]));
     throw new NoMemory();
+}
+
+/** The report of a status and a text that were told of a proof, or what is thrown for them. */
+export function reportOf(answer) {
+    return readReport(acceptedText(answer));
 }
 
 /** The bytes of hexadecimal digits; `-` stands for none. */
@@ -174,4 +214,35 @@ export function readReport(text) {
         LINES[word](report, ...words);
     }
     return report;
+}
+
+/** The words of a line behind its head, so many. */
+function wordsOf(line, head, count) {
+    const [word, ...words] = line?.split(" ") ?? [];
+    if (word !== head || words.length !== count) throw new Error(`no line of a report: ${line}`);
+    return words;
+}
+
+/** The bounds of accepted map files, of their text. */
+export function readBounds(text) {
+    const [, low, high, upto] = text.split("\n"), bound = wordsOf(high, "high", 1)[0];
+    return { low: Number(wordsOf(low, "low", 1)[0]), high: bound === "none" ? undefined : Number(bound), upto: Number(wordsOf(upto, "upto", 1)[0]), text };
+}
+
+/** What accepted evidence shows, of its text. */
+export function readFork(text) {
+    const accused = (line, head) => {
+        const [service, step, authenticator, by, archived] = wordsOf(line, head, 5);
+        return { thread: { service, step: Number(step), authenticator }, by, archived: Number(archived) };
+    };
+    const [, first, second] = text.split("\n");
+    return { first: accused(first, "first"), second: accused(second, "second"), text };
+}
+
+/** What two files show that contradict each other, of their text. */
+export function readContradiction(text) {
+    const [head, thread, absent] = text.split("\n"), told = { events: [] };
+    LINES.thread(told, ...wordsOf(thread, "thread", 6));
+    LINES.absent(told, ...wordsOf(absent, "absent", 4));
+    return { isJoined: head === "accepted broken-rule", received: told.received, absent: told.absent, text };
 }

@@ -65,7 +65,7 @@ export function contradicted(own, sent) {
 export const anchorsText = (lines) => lines.map(({ service, step, authenticator }) => `${service} ${step} ${authenticator}\n`).join("");
 
 /** The service and the step that the verifier asks for by its text, or null. */
-function askedFor(text) {
+export function askedFor(text) {
     const words = /^rejected 3 NotHeld (\S+) (\d+)\n$/.exec(text);
     return words && { service: words[1], step: Number(words[2]) };
 }

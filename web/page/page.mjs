@@ -2,7 +2,7 @@
 
 import { Timeweave } from "../timeweave.mjs";
 import { OWN, SENT, Session, readFile, takeFile } from "./session.mjs";
-import { contradictionAlerts, digestRows, element, heldFiles, summaryWords, verdictArticle } from "./view.mjs";
+import { conflictArticle, contradictionAlerts, digestRows, element, heldFiles, summaryWords, verdictArticle } from "./view.mjs";
 import { hexOf } from "./words.mjs";
 
 const at = (id) => document.getElementById(id);
@@ -13,7 +13,7 @@ const settled = () => new Promise((done) => setTimeout(done));
 const MOST_TO_DIGEST = 2 ** 30;
 
 const own = new Session();
-let session = own, alerted = own, timeweave, round = 0, judgements = [];
+let session = own, alerted = own, timeweave, round = 0, judgements = [], conflicts = [];
 
 // ---- digests
 
@@ -68,7 +68,7 @@ function showVerdicts() {
         at("verdicts").focus();
         show();
     };
-    const articles = judgements.map((judged) => verdictArticle(judged, { room: room(), onCount }));
+    const articles = [...conflicts.map(conflictArticle), ...judgements.map((judged) => verdictArticle(judged, { room: room(), onCount }))];
     const lacks = session.files.length ? "add a proof to what you were sent" : "add what you were sent, and the lines that you got another way";
     at("judged").replaceChildren(...(articles.length ? articles : [element("p", { className: "none" }, `None yet: ${lacks}.`)]));
 }
@@ -85,24 +85,25 @@ function showAlerts() {
     alerted = session;
 }
 
-/** Judges all proofs anew, and shows everything; what was begun before and isn't done is left. */
+/** Judges all anew, and shows everything; what was begun before and isn't done is left. */
 async function show() {
-    const mine = ++round, held = session, found = [];
+    const mine = ++round, held = session, found = [], subjects = held.subjects;
     showFiles();
     showAlerts();
-    for (const [number, proof] of held.proofs.entries()) {
+    for (const [number, subject] of subjects.entries()) {
         if (number) {
-            at("progress").textContent = `Judging ${number + 1} of ${held.proofs.length}: ${proof.name}`;
+            at("progress").textContent = `Judging ${number + 1} of ${subjects.length}: ${subject.files[0].name}`;
             await settled();
         }
         if (mine !== round) return;
-        found.push(held.judge(timeweave, proof));
+        found.push(held.judge(timeweave, subject));
     }
     judgements = found;
+    conflicts = held.conflicts(timeweave, found);
     at("progress").textContent = "";
     showVerdicts();
     performance.mark("judged");
-    at("summary").textContent = summaryWords(found);
+    at("summary").textContent = summaryWords(found, conflicts);
     digestAll(held.files);
 }
 

@@ -44,6 +44,20 @@ export function drawing(report, anchors, own = []) {
         arrow({ service: ofService, step: ofStep }, { service, step }, "absent");
         point(service, step).says.push(`has received no line of step ${ofStep} of ${ofService} so far`);
     }
+    if (report.map) {
+        const { service, step, peer, low, high, upto } = report.map, place = { service, step }, of = (it) => ({ service: peer, step: it });
+        point(service, step);
+        if (low) arrow(of(low), place, "order");
+        if (low) point(service, step).says.push(`step ${low} of ${peer} is the last that was received before`);
+        if (high !== undefined) arrow(place, of(high), "order");
+        if (high !== undefined) point(peer, high).says.push(`the first that received step ${step} of ${service} or a later one`);
+        if (high === undefined) point(peer, upto).says.push(`has received neither step ${step} of ${service} nor a later one so far`);
+    }
+    for (const { thread, by, archived } of report.fork ? [report.fork.first, report.fork.second] : []) {
+        arrow(thread, { service: by, step: archived }, heldAs(thread, own) === "same" ? "bound" : "carried");
+        point(thread.service, thread.step).says.push(`the line ${thread.authenticator.slice(0, 16)}…`);
+        point(by, archived).says.push(`received step ${thread.step} of ${thread.service}`);
+    }
     if (report.link) point(report.link.thread.service, report.link.thread.step).says.push("the line that is linked");
     for (const anchor of anchors) {
         const at = point(anchor.service, anchor.step);
@@ -218,6 +232,7 @@ export function legendOf({ arrows, spans }, isLines) {
         isLines ? "Each line is a service's history, later steps to the right." : "Later steps are below; only steps that lines join are in an order.",
         `Squares are the lines that counted${isLines && spans.length ? ", green is what they bind" : ""}.`,
         ...(kinds.has("bound") || kinds.has("carried") ? ["An arrow leads from a step to the step of another service that received it."] : []),
+        ...(kinds.has("order") ? ["An arrow leads from a step to a later one of another service."] : []),
         ...(kinds.has("carried") ? ["A broken one is its receiver's word: no line binds it."] : []),
     ].join(" ");
 }

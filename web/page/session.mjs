@@ -1,8 +1,8 @@
 /** The files and lines that are held, what the user chose, and what the verifier says of each proof. */
 
-import { MOST_BYTES, readReport } from "../timeweave.mjs";
-import { kindOf } from "./files.mjs";
-import { chooseLines, contradicted, contradictions, pickBy, readLines } from "./lines.mjs";
+import { ACCEPTED, MOST_BYTES, readBounds, readContradiction, readFork, readReport } from "../timeweave.mjs";
+import { isLink, kindOf, mapOf } from "./files.mjs";
+import { anchorsText, askedFor, chooseLines, contradicted, contradictions, pickBy, readLines } from "./lines.mjs";
 
 /** Where a file was put: among what was sent, or among the lines got another way. */
 export const SENT = "sent";
@@ -33,6 +33,35 @@ export async function takeFile(blob, name, place) {
 
 const isSame = (a, b) => a.place === b.place && a.name === b.name && a.size === b.size && a.bytes.every((byte, at) => byte === b.bytes[at]);
 
+/** The most files that are held against each other, each with each. */
+const MOST_COMPARED = 60;
+
+/** The report of a map or of evidence has the lists of one of a proof too, empty. */
+const reportWith = (kind, shown) => ({ kind, events: [], hops: [], carried: [], ...shown });
+
+/** What is judged by each function of the verifier, and how its accepted text is read. */
+const READ = {
+    timeweave_verify: (text) => readReport(text),
+    timeweave_checkmap: (text, [low]) => reportWith("map", { map: { ...mapOf(low.bytes), ...readBounds(text) } }),
+    timeweave_checkfork: (text) => reportWith("fork", { fork: readFork(text) }),
+};
+
+/** The proofs in evidence of a fork: each ends where the verifier says that no proof goes on. */
+function proofsIn(timeweave, evidence) {
+    const found = [];
+    for (let rest = evidence.subarray(4); found.length < 2; rest = rest.subarray(found.at(-1).length)) {
+        const end = /^rejected 1 Malformed (\d+)\n$/.exec(timeweave.judge(rest, "").text);
+        found.push(rest.subarray(0, end ? Number(end[1]) : rest.length));
+    }
+    return found;
+}
+
+/** The answer for evidence, or that for one of its proofs where it asks for a line: of evidence the verifier doesn't say which line it lacks. */
+function judgeEvidence(timeweave, evidence) {
+    const proofs = proofsIn(timeweave, evidence);
+    return (anchors) => proofs.map((proof) => timeweave.judge(proof, anchors)).find(({ text }) => askedFor(text)) ?? timeweave.ask("timeweave_checkfork", evidence, anchors);
+}
+
 /** What is held at one time. An example is one of its own, so that its files never mix with a user's. */
 export class Session {
     files = [];
@@ -61,8 +90,20 @@ export class Session {
 
     linesAt = (place) => this.files.filter((file) => file.place === place).flatMap((file) => file.lines);
 
-    get proofs() {
-        return this.files.filter((file) => file.kind === "proof");
+    ofKind = (kind) => this.files.filter((file) => file.kind === kind);
+
+    /** What is judged: {call, files}, of proofs, of evidence, and of each low and high map file that belong together; one without another is alone. */
+    get subjects() {
+        const maps = this.ofKind("map").map((file) => ({ file, of: mapOf(file.bytes) })), pairs = [];
+        const isOther = (a, b) => !b.of.isLow && a.of.service === b.of.service && a.of.step === b.of.step && a.of.peer === b.of.peer;
+        for (const low of maps.filter(({ of }) => of.isLow)) for (const high of maps.filter((it) => isOther(low, it))) pairs.push([low.file, high.file]);
+        const alone = maps.map(({ file }) => file).filter((file) => !pairs.some((pair) => pair.includes(file)));
+        return [
+            ...this.ofKind("proof").map((file) => ({ call: "timeweave_verify", files: [file] })),
+            ...pairs.map((files) => ({ call: "timeweave_checkmap", files })),
+            ...alone.map((file) => ({ call: "timeweave_checkmap", files: [file], isAlone: true })),
+            ...this.ofKind("evidence").map((file) => ({ call: "timeweave_checkfork", files: [file] })),
+        ];
     }
 
     /** The lines of yours that contradict each other, and then those of the sender's that contradict yours. */
@@ -71,16 +112,51 @@ export class Session {
         return { own: contradictions(own), sent: contradicted(own, this.linesAt(SENT)) };
     }
 
-    /** What the verifier says of a proof: {answer, anchors}, `strict` and `report` where it is accepted, `missing` where a line is, or the `fault` of a trap. */
-    judge(timeweave, file) {
-        const own = this.linesAt(OWN), pick = pickBy({ own, sent: this.linesAt(SENT), counted: this.counted, chosen: this.chosen });
-        let text = "";
+    /**
+     * What the verifier says of a subject: {answer, anchors}, `report` where it is accepted and `strict` of a proof, `missing` where a line is,
+     * `lacks` where the module has no such function, or the `fault` of a trap.
+     */
+    judge(timeweave, subject) {
+        const { call, files } = subject, own = this.linesAt(OWN), judged = { ...subject, file: files[0], own, anchors: [] };
+        if (!timeweave.has(call)) return { ...judged, lacks: true };
+        if (subject.isAlone) return judged;
+        const pick = pickBy({ own, sent: this.linesAt(SENT), counted: this.counted, chosen: this.chosen }), bytes = files.map((file) => file.bytes);
         try {
-            const judged = chooseLines((anchors) => timeweave.judge(file.bytes, (text = anchors)), pick);
-            if (judged.answer.status !== 0) return { file, own, ...judged };
-            return { file, own, ...judged, report: readReport(judged.answer.text), strict: timeweave.judge(file.bytes, text, true) };
+            const ask = call === "timeweave_checkfork" ? judgeEvidence(timeweave, bytes[0]) : (anchors) => timeweave.ask(call, ...bytes, anchors);
+            const found = chooseLines(ask, pick), text = anchorsText(found.anchors);
+            if (found.missing) found.answer = timeweave.ask(call, ...bytes, text);
+            if (found.answer.status !== ACCEPTED) return { ...judged, ...found };
+            const strict = call === "timeweave_verify" ? { strict: timeweave.ask("timeweave_strict", ...bytes, text) } : {};
+            return { ...judged, ...found, ...strict, report: READ[call](found.answer.text, files) };
         } catch (fault) {
-            return { file, own, fault, anchors: [] };
+            return { ...judged, fault };
         }
+    }
+
+    /** Accepted files that contradict each other on what a service received, as the verifier says of each two: {first, second, told, anchors}. */
+    conflicts(timeweave, judgements) {
+        if (!timeweave.has("timeweave_contradict")) return [];
+        const shows = ({ report }) => report && ["thread", "absent", "map"].includes(report.kind), found = [];
+        const each = judgements.filter(shows).flatMap(({ files, anchors }) => files.map((file) => ({ file, anchors }))).slice(0, MOST_COMPARED);
+        const links = this.ofKind("proof").map(({ bytes }) => bytes).filter(isLink);
+        for (const [at, first] of each.entries()) {
+            for (const second of each.slice(at + 1)) {
+                const told = this.contradiction(timeweave, first, second, links);
+                if (told) found.push({ first: first.file, second: second.file, told, anchors: [...new Set([...first.anchors, ...second.anchors])] });
+            }
+        }
+        return found;
+    }
+
+    /** What the verifier says that two files contradict each other, with a link that joins their lines where there is one; else null. */
+    contradiction(timeweave, first, second, links) {
+        const given = [first.file.bytes, anchorsText(first.anchors), second.file.bytes, anchorsText(second.anchors)];
+        let found = null;
+        for (const link of [new Uint8Array(), ...links]) {
+            const { status, text } = timeweave.ask("timeweave_contradict", ...given, link);
+            if (status === ACCEPTED) found = readContradiction(text);
+            if (!found || found.isJoined) break;
+        }
+        return found;
     }
 }

@@ -1,11 +1,12 @@
 /** What is shown, made as elements; foreign text goes in as text, never as markup. */
 
 import { ACCEPTED, BAD_ANCHORS, NO_MEMORY } from "../timeweave.mjs";
-import { sizeText } from "./files.mjs";
+import { mapOf, sizeText } from "./files.mjs";
 import { asLines, asList, drawing, isShownAsLines, legendOf, pointWords } from "./picture.mjs";
 import { OWN, SENT } from "./session.mjs";
 import {
-    TOO_MANY_LINES, WITHOUT_MEMORY, carriedNotes, eventWords, faultWords, hexOf, missingWords, reasonWords, shownLineNotes, shownSentence, shownText, strictSentence, timeNote,
+    TOO_MANY_LINES, WITHOUT_MEMORY, aloneWords, carriedNotes, conflictWords, eventWords, faultWords, forkNotes, hexOf, lacksWords, mapNotes, mapReasonWords, missingWords, reasonWords,
+    shownLineNotes, shownSentence, shownText, strictSentence, timeNote,
 } from "./words.mjs";
 
 const MOST_LISTED = 20;
@@ -37,7 +38,7 @@ function originWords({ from, number: line }) {
 // ---- the files that are held
 
 const KIND_WORDS = {
-    proof: "judged below", map: "map file", evidence: "evidence", message: "message", receipt: "receipt", events: "events file", history: "history",
+    proof: "judged below", map: "map file, judged below", evidence: "evidence, judged below", message: "message", receipt: "receipt", events: "events file", history: "history",
 };
 
 function fileWords(file) {
@@ -105,12 +106,15 @@ const MARKS = { yes: "✔", partly: "◐", no: "✘", open: "?" };
 
 /** What is told of a judgement first: the look, the title, the sentence, and what to do. */
 export function headOf(judged) {
-    const { answer, missing, report, anchors, file, own, fault } = judged, open = { look: "open", title: "Not judged" };
+    const { call, answer, missing, report, anchors, file, own, fault } = judged, open = { look: "open", title: "Not judged" };
+    if (judged.lacks) return { ...open, ...lacksWords(call) };
+    if (judged.isAlone) return { ...open, ...aloneWords(mapOf(file.bytes)) };
     if (fault) return { ...open, ...faultWords(fault) };
     if (missing) return { ...open, ...missingWords(missing, own) };
     if (answer.status === NO_MEMORY) return { ...open, ...WITHOUT_MEMORY };
-    if (answer.status === BAD_ANCHORS) return { ...open, ...TOO_MANY_LINES };
-    if (answer.status !== ACCEPTED) return { look: "no", title: "Rejected", ...reasonWords(answer.text, file.size) };
+    if (answer.status === BAD_ANCHORS && answer.text.startsWith("unreadable anchors")) return { ...open, ...TOO_MANY_LINES };
+    const why = call === "timeweave_checkmap" ? mapReasonWords : reasonWords;
+    if (answer.status !== ACCEPTED) return { look: "no", title: "Rejected", ...why(answer.text, file.size) };
     const sentence = shownSentence(report, anchors), isSenders = anchors.some(({ from }) => from.isSender);
     if (isSenders) return { look: "partly", title: "Accepted, by the sender's own lines", sentence };
     if (report.carried.length) return { look: "partly", title: "Accepted, but in part on somebody's word", sentence };
@@ -124,7 +128,7 @@ function notesOf({ report, anchors, own, strict }) {
     const senders = anchors.filter(({ from }) => from.isSender).length;
     const sender = senders ? [`${senders === 1 ? "A line" : `${senders} lines`} that counted came from the sender: against him this proves nothing.`] : [];
     const times = report.events.filter((event) => event.time !== undefined).map(timeNote);
-    return [...sender, ...shownLineNotes(report, own), ...times, ...(report.hops.length ? [strictSentence(report, strict)] : [])];
+    return [...sender, ...shownLineNotes(report, own), ...forkNotes(report), ...mapNotes(report), ...times, ...(report.hops.length ? [strictSentence(report, strict)] : [])];
 }
 
 /** The events whole, where the sentence doesn't show them so. */
@@ -168,14 +172,30 @@ function exactTexts({ answer, strict }) {
     return strict ? [...own, ...section("Exact text of its strict form", element("pre", {}, strict.text))] : own;
 }
 
+/** The names and sizes of files, in words. */
+const namesOf = (files) => files.flatMap((file, at) => [at ? " and " : "", foreign(file.name), ` · ${sizeText(file.size)}`]);
+
+/** The article of two accepted files that contradict each other. */
+export function conflictArticle({ first, second, told, anchors }) {
+    const { sentence, todo } = conflictWords(told);
+    return element("article", { className: "verdict no" },
+        element("header", {},
+            element("h3", {}, element("span", { ariaHidden: "true" }, `${MARKS.no} `), "Two accepted files contradict each other"),
+            element("p", {}, ...namesOf([first, second]))),
+        element("p", { className: "sentence" }, sentence),
+        element("p", {}, element("b", {}, "What to do: "), todo),
+        ...countingLines({ anchors }),
+        ...exactTexts({ answer: told }));
+}
+
 /** The article of a judgement. */
 export function verdictArticle(judged, { room, onCount }) {
-    const { file, answer, report, own } = judged, { look, title, sentence, todo } = headOf(judged);
+    const { report, own } = judged, { look, title, sentence, todo } = headOf(judged);
     const carried = report ? carriedNotes(report, own) : [];
     return element("article", { className: `verdict ${look}` },
         element("header", {},
             element("h3", {}, element("span", { ariaHidden: "true" }, `${MARKS[look]} `), title),
-            element("p", {}, foreign(file.name), ` · ${sizeText(file.size)}`)),
+            element("p", {}, ...namesOf(judged.files))),
         element("p", { className: "sentence" }, sentence),
         ...(todo ? [element("p", {}, element("b", {}, "What to do: "), todo)] : []),
         ...offeredLines(judged, onCount),
@@ -188,8 +208,9 @@ export function verdictArticle(judged, { room, onCount }) {
 }
 
 /** What is said of all verdicts to those who don't see them. */
-export function summaryWords(judgements) {
-    return judgements.map((judged) => `${judged.file.name}: ${headOf(judged).title}. ${headOf(judged).sentence}`).join(" ");
+export function summaryWords(judgements, conflicts = []) {
+    const told = judgements.map((judged) => `${judged.file.name}: ${headOf(judged).title}. ${headOf(judged).sentence}`);
+    return [...told, ...conflicts.map(({ first, second, told: it }) => `${first.name} and ${second.name} contradict each other. ${conflictWords(it).sentence}`)].join(" ");
 }
 
 // ---- the digests of all files

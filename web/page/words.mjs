@@ -55,6 +55,45 @@ const SHOWN = {
         `The line of step ${thread.step} of ${thread.service} and the line of its step ${top} that counts here are of one history.`,
 };
 
+/** What an accepted map shows of a service's step among those of a peer. */
+SHOWN.map = ({ map: { service, step, peer, low, high, upto } }) => {
+    const before = low === 0 ? `had received no step of ${peer}` : `had received step ${low} of ${peer}, and no later one`;
+    const after = high === undefined
+        ? `Up to its step ${upto}, ${peer} received neither step ${step} of ${service} nor a later one.`
+        : `Step ${high} of ${peer} is the first that received step ${step} of ${service} or a later one.`;
+    return `Before its step ${step}, ${service} ${before}. ${after}`;
+};
+
+/** What accepted evidence shows of the service that is accused. */
+SHOWN.fork = ({ fork: { first, second } }) =>
+    `${first.by} received a line of step ${first.thread.step} of ${first.thread.service} at its step ${first.archived}, and ${second.by} one of step `
+    + `${second.thread.step} at its step ${second.archived}. No history has both: somebody made two histories in the name of ${first.thread.service}.`;
+
+/** What is said of evidence besides: whose word it is. */
+export function forkNotes({ fork }) {
+    if (!fork) return [];
+    const { first, second } = fork, lines = [first, second].map(({ thread }) => `${thread.service} ${thread.step} ${thread.authenticator}`);
+    const whose = first.by === second.by
+        ? `Both lines were received by ${first.by} alone, who could have made up both: ask for evidence of two receivers.`
+        : `Who gave ${first.by} and ${second.by} these lines isn't shown: ask both.`;
+    return [`The two lines are ${listed(lines)}.`, whose];
+}
+
+/** What is said of a map besides. */
+export const mapNotes = ({ map }) => (map ? [`Of steps of ${map.peer} behind ${map.upto} nothing is shown.`] : []);
+
+/** What is said of two accepted files that contradict each other. */
+export function conflictWords({ received, absent, isJoined }) {
+    const { service, thread, archived } = received, step = `step ${thread.step} of ${thread.service}`;
+    const why = isJoined
+        ? `Both stand under one line of ${service}, or under two that are joined: whoever keeps ${service} broke its rules.`
+        : `They stand under two lines of ${service}: it broke its rules, or has shown two histories, or one of the lines isn't its own. A proof of the line of the one step under the other's shows which.`;
+    return {
+        sentence: `By the one, ${service} received ${step} at its step ${archived}; by the other it had received no such line up to its step ${absent.step}. ${why}`,
+        todo: `Keep both files and the lines: they are evidence for whoever holds the lines to be those of ${service}.`,
+    };
+}
+
 /** The sentence of a report, under the anchors that counted. */
 export function shownSentence(report, anchors) {
     return SHOWN[report.kind](report, anchors.at(0)?.step);
@@ -117,15 +156,41 @@ const REASONS = {
     5: ([part]) => ({ sentence: `A step in the proof isn't the one that it has to be${partWords(part)}: the proof was changed.`, todo: CHANGED }),
     6: ([part]) => ({ sentence: `The event in the proof isn't the one that was recorded${partWords(part)}: the proof was changed.`, todo: CHANGED }),
     7: ([part]) => ({ sentence: `The lines that a service received aren't as the proof says${partWords(part)}: the proof was changed.`, todo: CHANGED }),
+    10: ([part, number]) => ({ sentence: `The ${part === "1" ? "first" : "second"} proof in the evidence isn't accepted, for the reason ${number}.`, todo: CHANGED }),
+    11: () => ({ sentence: "The two lines in the evidence don't contradict each other: one history may have both.", todo: "Nothing is shown against the service." }),
+    12: () => ({ sentence: "What is to join the two lines in the evidence doesn't: the evidence was changed.", todo: CHANGED }),
 };
 
 const partWords = (part) => (part === "0" ? "" : ` (part ${part} of the proof, counted from the later event, which is 0)`);
 
-/** What is said of a rejected proof of so many bytes, by the text. */
+/** What is said of a rejected proof, or of evidence, of so many bytes, by the text. */
 export function reasonWords(text, size) {
     const [, number, , ...fields] = text.trim().split(" ");
     return REASONS[number]?.(fields, size) ?? { sentence: "The proof isn't accepted, for the reason below.", todo: CHANGED };
 }
+
+/** What is said of two map files that aren't accepted, by the text. */
+export function mapReasonWords(text) {
+    const [, which, word, place] = text.trim().split(" "), part = text.trim().split(" ").at(-1);
+    if (text.startsWith("unreadable")) return { sentence: `The ${which} file is no whole map file: at its ${word} ${place}, counted from 0, none goes on so.`, todo: REASONS[1]([], 0).todo };
+    if (which === "4" || which === "5" || which === "7") {
+        return { sentence: `The ${part === "0" ? "low" : "high"} file doesn't lead to the line that you hold: it is of another history, or it was changed.`, todo: CHANGED };
+    }
+    return { sentence: "The map isn't accepted, for the reason below.", todo: CHANGED };
+}
+
+/** What is said of a map file without the other one. */
+export function aloneWords({ isLow, service, step, peer }) {
+    const [this_, other] = isLow ? ["low", "high"] : ["high", "low"];
+    return {
+        sentence: `It isn't judged yet: it is the ${this_} file of a map of step ${step} of ${service} among the steps of ${peer}, and the ${other} file belongs to it.`,
+        todo: `Ask the sender for the ${other} file too.`,
+    };
+}
+
+/** What is said where the verifier has no function for it, by the command that has. */
+const COMMANDS = { timeweave_checkmap: "checkmap LOW HIGH ANCHORS", timeweave_checkfork: "checkfork FILE ANCHORS" };
+export const lacksWords = (call) => ({ sentence: "This page's verifier doesn't judge such a file.", todo: `\`timeweave ${COMMANDS[call]}\` does.` });
 
 /** What is said where a line that the proof needs can't be held: of `missing` as chooseLines answers it, with the lines of yours. */
 export function missingWords({ service, step, two, offered = [], other }, own) {

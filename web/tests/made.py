@@ -51,10 +51,10 @@ class Made:
 
     # ---- what is judged
 
-    def judged(self, file, lines, form="verify"):
-        """What the program says of a proof under these lines."""
+    def judged(self, files, lines, form="verify"):
+        """What the program says of a proof, or of several files, under these lines."""
         self.put("judged.lines", lines)
-        done = subprocess.run([self.program, form, file, "judged.lines"], cwd=self.folder, capture_output=True, text=True, check=False)
+        done = subprocess.run([self.program, form, *([files] if isinstance(files, str) else files), "judged.lines"], cwd=self.folder, capture_output=True, text=True, check=False)
         return done.stdout.replace("judged.lines", "anchors")
 
 
@@ -147,12 +147,40 @@ def make_others(made):
         huge.truncate(200_000_000)
 
 
+def make_evidence(made):
+    """A liar who keeps two histories under one name, and two services each of which received one of them; and a keeper with two histories."""
+    for side, receiver in (("one", "bank"), ("other", "gazette")):
+        made.path(f"liar-{side}").mkdir()
+        made.run("init", f"liar-{side}", "liar")
+        made.append(f"liar-{side}", side)
+        made.service(receiver)
+        made.receive(receiver, f"liar-{side}")
+        made.lines[receiver] = made.append(receiver, "closed")
+        made.prove(f"{receiver}.proof", receiver, "thread", 2, "liar", 1)
+    made.put("fork.evidence", made.run("accuse", "bank.proof", "gazette.proof"))
+    made.put("changed.evidence", made.path("fork.evidence").read_bytes().replace(b"gazette", b"gazerte"))
+    made.put("receivers.lines", made.lines["bank"] + made.lines["gazette"])
+    # The keeper shows one that he received the shop's line, and another that he didn't.
+    made.path("keeper-one").mkdir()
+    made.run("init", "keeper-one", "keeper")
+    made.receive("keeper-one", "shop")
+    made.lines["keeper 2"] = made.append("keeper-one", "closed")
+    made.prove("has.proof", "keeper-one", "thread", 2, "shop", 3)
+    made.path("keeper-other").mkdir()
+    made.run("init", "keeper-other", "keeper")
+    for _ in range(3):
+        made.lines["keeper 3"] = made.append("keeper-other", "nothing")
+    made.prove("lacks.proof", "keeper-other", "absent", 3, "shop", 3)
+    made.put("keeper.lines", made.lines["keeper 2"] + made.lines["keeper 3"])
+
+
 def all_made(program, folder):
     """All files."""
     made = Made(program, folder)
     make_kinds(made)
     make_chain(made)
     make_others(made)
+    make_evidence(made)
     make_long(made)
     return made
 

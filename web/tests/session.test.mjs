@@ -39,17 +39,66 @@ test("a file is held once, and what was chosen is forgotten with the last one", 
     assert.equal(session.counted.size, 0);
 });
 
+/** A verifier that has these functions: of each the texts, by the anchors that it is given. */
+const verifier = (calls) => {
+    const ask = (name, ...files) => {
+        const text = calls[name.replace("timeweave_", "")](...files);
+        return { status: text.startsWith("accepted") ? 0 : text.startsWith("unreadable") ? 9 : 1, text };
+    };
+    return { has: (name) => name.replace("timeweave_", "") in calls, ask, judge: (proof, anchors) => ask("timeweave_verify", proof, anchors) };
+};
+
 test("a proof is judged under the lines that count, and a fault of the module is kept", () => {
     const session = new Session(), asked = [];
-    const judge = (proof, anchors, isStrict) => {
-        asked.push([anchors, Boolean(isStrict)]);
-        return anchors ? { status: 0, text: "accepted exists\nevent shop 1 1 6d696c6b\n" } : { status: 1, text: "rejected 3 NotHeld shop 2\n" };
-    };
+    const verify = (proof, anchors) => (asked.push(anchors.length), anchors ? "accepted exists\nevent shop 1 1 6d696c6b\n" : "rejected 3 NotHeld shop 2\n");
     session.add(example("record.proof", SENT));
-    assert.deepEqual(session.judge({ judge }, session.proofs[0]).missing, { service: "shop", step: 2, offered: [] });
+    assert.deepEqual(session.judge(verifier({ verify }), session.subjects[0]).missing, { service: "shop", step: 2, offered: [] });
     session.add(example("shop.lines", OWN));
-    const judged = session.judge({ judge }, session.proofs[0]);
+    asked.length = 0;
+    const judged = session.judge(verifier({ verify, strict: verify }), session.subjects[0]);
     assert.equal(judged.report.kind, "exists");
-    assert.deepEqual(asked.map(([anchors, isStrict]) => [anchors.length, isStrict]), [[0, false], [0, false], [72, false], [72, true]]);
-    assert.equal(session.judge({ judge: () => { throw new WebAssembly.RuntimeError("unreachable"); } }, session.proofs[0]).fault.message, "unreachable");
+    assert.deepEqual(asked, [0, 72, 72]);
+    const fails = () => { throw new WebAssembly.RuntimeError("unreachable"); };
+    assert.equal(session.judge(verifier({ verify: fails }), session.subjects[0]).fault.message, "unreachable");
+});
+
+const name = (it) => it.padEnd(16, "\0"), step = (it) => `${"\0".repeat(7)}${String.fromCharCode(it)}`;
+const low = (at, top = 9) => held(`low ${at}`, text(`TWP1\u0006${name("shop")}${step(at)}${name("bank")}${step(top)}`), SENT);
+const high = (at, top = 9) => held(`high ${at}`, text(`TWP1\u0007${name("bank")}${step(top)}${name("shop")}${step(at)}`), SENT);
+
+test("a low and a high map file of one step and one peer are judged together, and one without another is told", () => {
+    const session = new Session(), checkmap = (one, other, anchors) => (anchors ? "accepted map\nlow 1\nhigh none\nupto 9\n" : "rejected 3 NotHeld shop 2\n");
+    for (const file of [low(3), high(3), high(4)]) session.add(file);
+    assert.deepEqual(session.subjects.map(({ files, isAlone }) => [files.map((it) => it.name).join(), isAlone]), [["low 3,high 3", undefined], ["high 4", true]]);
+    assert.equal(session.judge(verifier({}), session.subjects[0]).lacks, true);
+    assert.equal(session.judge(verifier({ checkmap }), session.subjects[0]).missing.service, "shop");
+    session.add(example("shop.lines", OWN));
+    const { map } = session.judge(verifier({ checkmap }), session.subjects[0]).report;
+    assert.deepEqual([map.service, map.step, map.peer, map.low, map.high, map.upto], ["shop", 3, "bank", 1, undefined, 9]);
+});
+
+test("evidence is judged under the lines that its two proofs ask for", () => {
+    const session = new Session(), asked = [];
+    const verify = (proof, anchors) => {
+        if (proof.length > 10) return "rejected 1 Malformed 10\n";
+        return anchors.includes(proof[0] === 65 ? "shop 2" : "bank 1") ? "accepted thread\n" : `rejected 3 NotHeld ${proof[0] === 65 ? "shop 2" : "bank 1"}\n`;
+    };
+    const accused = `${"a".repeat(64)}`, checkfork = (evidence, anchors) => (asked.push(anchors), `accepted fork\nfirst x 1 ${accused} shop 2\nsecond x 1 ${"b".repeat(64)} bank 1\n`);
+    session.add(held("evidence", text(`TWV1${"A".repeat(10)}${"B".repeat(10)}link`), SENT));
+    session.add(held("lines", text(line + `bank 1 ${"b".repeat(64)}\n`), OWN));
+    const { report, anchors } = session.judge(verifier({ verify, checkfork }), session.subjects[0]);
+    assert.deepEqual([anchors.length, asked.length, report.fork.first.by, report.fork.second.archived], [2, 1, "shop", 1]);
+});
+
+test("accepted files are held against each other, and a link joins their lines", () => {
+    const session = new Session(), told = (kind) => `accepted ${kind}\nthread bank 9 shop 2 ${"a".repeat(64)} 3\nabsent bank 4 shop 2\n`;
+    const contradict = (first, lines, second, others, link) => (link.length ? told("broken-rule") : told("broken-rule-or-fork"));
+    for (const file of [held("a", text("TWP1\u0003"), SENT), held("b", text("TWP1\u0004"), SENT)]) session.add(file);
+    const judged = session.files.map((file, at) => ({ files: [file], anchors: [], report: { kind: ["thread", "absent"][at] } }));
+    const [found] = session.conflicts(verifier({ contradict }), judged);
+    assert.deepEqual([found.first.name, found.second.name, found.told.isJoined, found.told.received.archived, found.told.absent.step], ["a", "b", false, 3, 4]);
+    session.add(held("link", text("TWP1\u0005"), SENT));
+    assert.equal(session.conflicts(verifier({ contradict }), judged)[0].told.isJoined, true);
+    assert.deepEqual(session.conflicts(verifier({}), judged), []);
+    assert.deepEqual(session.conflicts(verifier({ contradict: () => "rejected 11 NoConflict\n" }), judged), []);
 });

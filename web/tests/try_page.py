@@ -202,13 +202,59 @@ def changed_files(page):
 
 
 def what_is_no_proof(page):
-    """maps, other files of Timeweave and bad lines are told, each with the command for it or what is wrong"""
-    page.fresh().give("sent", "low.map", "high.map", "shop.history").give("own", "bad.lines")
-    page.says("`timeweave checkmap LOW HIGH ANCHORS` does", "This is a whole history, and no proof", selector="#sent-held")
+    """other files of Timeweave and bad lines are told, each with the command for it or what is wrong"""
+    page.fresh().give("sent", "shop.history").give("own", "bad.lines")
+    page.says("This is a whole history, and no proof", selector="#sent-held")
     page.says("Line 1 doesn't count", "Line 3 doesn't count: the line of step 0", selector="#own-held")
     page.give("own", "record.proof")
     page.says("it was put among what you were sent", selector="#sent-held")
     check(page.titles() == ["✔ Accepted"], str(page.titles()))
+
+
+def judges(page, call):
+    """Whether the page's module has this function of the library."""
+    return f"timeweave_{call}".encode() in (TOP / "web/timeweave.wasm").read_bytes()
+
+
+def maps_judged(page):
+    """a low and a high map file of one step are judged together, told in a sentence and by the program's text; one alone asks for the other"""
+    page.fresh().give("sent", "low.map")
+    if not judges(page, "checkmap"):
+        return page.says("Not judged", "`timeweave checkmap LOW HIGH ANCHORS` does")
+    page.says("it is the low file of a map of step 2 of registry among the steps of shop", "Ask the sender for the high file")
+    page.give("sent", "high.map")
+    page.says("Not judged", "needs the line of step 2 of registry")
+    page.give("own", "both.lines")
+    told = page.made.judged(["low.map", "high.map"], page.made.lines["registry"] + page.made.lines["shop"], "checkmap")
+    check(page.exact() == [told] and page.titles() == ["✔ Accepted"], f"{page.exact()}, the program {told!r}")
+    page.says("Before its step 2, registry had received step 2 of shop, and no later one", "Up to its step 3, shop received neither step 2 of registry")
+    check(page.browser.value("document.querySelectorAll('figure svg').length") > 0, "a map has no picture")
+    page.made.put("changed.map", page.made.path("low.map").read_bytes()[:-1] + b"?")
+    page.fresh().give("sent", "changed.map", "high.map").give("own", "both.lines")
+    check(page.titles() == ["✘ Rejected"], str(page.titles()))
+
+
+def evidence_judged(page):
+    """evidence of a fork is judged under the lines of both receivers, and told by the program's text"""
+    page.fresh().give("sent", "fork.evidence")
+    if not judges(page, "checkfork"):
+        return page.says("Not judged", "`timeweave checkfork FILE ANCHORS` does")
+    page.says("Not judged", "needs the line of step 2 of bank")
+    page.give("own", "receivers.lines")
+    told = page.made.judged("fork.evidence", page.made.path("receivers.lines").read_text(), "checkfork")
+    check(page.exact() == [told] and page.titles() == ["✔ Accepted"], f"{page.exact()}, the program {told!r}")
+    page.says("bank received a line of step 1 of liar at its step 1, and gazette one of step 1", "somebody made two histories in the name of liar", "ask both")
+    page.fresh().give("sent", "changed.evidence").give("own", "receivers.lines")
+    check(page.titles() != ["✔ Accepted"], "changed evidence is accepted")
+
+
+def conflicts_told(page):
+    """two accepted files that contradict each other on what a service received are told before their verdicts"""
+    page.fresh().give("sent", "has.proof", "lacks.proof").give("own", "keeper.lines")
+    told = ["✘ Two accepted files contradict each other"] if judges(page, "contradict") else []
+    check(page.titles() == [*told, "✔ Accepted", "✔ Accepted"], str(page.titles()))
+    if told:
+        page.says("By the one, keeper received step 3 of shop at its step 1; by the other it had received no such line up to its step 3", "broke its rules, or has shown two histories", "Keep both files")
 
 
 def is_idle():
@@ -393,7 +439,8 @@ def milliseconds_to_verdict(page):
 
 
 SITUATIONS = (
-    accepted_record, files_dropped, one_by_one, all_kinds, on_a_word, senders_lines, contradicting_lines, shown_line_differs, changed_files, what_is_no_proof, large_files,
+    accepted_record, files_dropped, one_by_one, all_kinds, on_a_word, senders_lines, contradicting_lines, shown_line_differs, changed_files, what_is_no_proof,
+    maps_judged, evidence_judged, conflicts_told, large_files,
     markup_in_events, strange_names, most_hops, narrow_and_wide, examples_stay_apart, typed_lines, digests_shown, keyboard_alone, contrast, printed, no_connection, first_verdict,
 )
 

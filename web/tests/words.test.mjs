@@ -1,7 +1,7 @@
 import assert from "node:assert/strict";
 import { test } from "node:test";
 import { readReport } from "../timeweave.mjs";
-import { carriedNotes, eventWords, missingWords, reasonWords, shownLineNotes, shownSentence, shownText, strictSentence, timeNote, timeWords } from "../page/words.mjs";
+import { aloneWords, carriedNotes, conflictWords, eventWords, forkNotes, mapReasonWords, missingWords, reasonWords, shownLineNotes, shownSentence, shownText, strictSentence, timeNote, timeWords } from "../page/words.mjs";
 
 const A = "a".repeat(64), B = "b".repeat(64), bytes = (text) => new TextEncoder().encode(text);
 const report = (...lines) => readReport(`${lines.join("\n")}\n`);
@@ -66,4 +66,26 @@ test("a line that can't be held is told by what to do about it", () => {
     assert.match(missingWords({ service: "a", step: 2, offered: [{}] }, []).sentence, /which only the sender gave you/);
     assert.match(missingWords({ service: "a", step: 2, two: [{}, {}] }, []).sentence, /2 different ones/);
     assert.match(missingWords({ service: "a", step: 5, other: 2 }, []).sentence, /two steps of a, 2 and 5/);
+});
+
+test("a map, evidence and a contradiction have their sentences", () => {
+    const shown = (given) => shownSentence({ kind: Object.keys(given)[0], ...given }, []);
+    const map = { service: "shop", step: 3, peer: "bank", low: 0, upto: 9 };
+    assert.equal(shown({ map }), "Before its step 3, shop had received no step of bank. Up to its step 9, bank received neither step 3 of shop nor a later one.");
+    assert.match(shown({ map: { ...map, low: 2, high: 5 } }), /had received step 2 of bank, and no later one\. Step 5 of bank is the first that received step 3 of shop/);
+    const accused = (by) => ({ thread: { service: "liar", step: 1, authenticator: A }, by, archived: 2 });
+    assert.match(shown({ fork: { first: accused("bank"), second: accused("gazette") } }), /somebody made two histories in the name of liar/);
+    assert.match(forkNotes({ fork: { first: accused("bank"), second: accused("bank") } })[1], /who could have made up both/);
+    const told = { received: { service: "keeper", thread: { service: "shop", step: 3 }, archived: 1 }, absent: { step: 4 } };
+    assert.match(conflictWords({ ...told, isJoined: true }).sentence, /whoever keeps keeper broke its rules/);
+    assert.match(conflictWords({ ...told, isJoined: false }).sentence, /or has shown two histories/);
+});
+
+test("what is wrong with maps and evidence is told", () => {
+    assert.match(mapReasonWords("unreadable high byte 7\n").sentence, /^The high file is no whole map file: at its byte 7/);
+    assert.match(mapReasonWords("rejected 4 BadPath 1\n").sentence, /^The high file doesn't lead to the line/);
+    assert.match(mapReasonWords("rejected 2 BadOrder\n").sentence, /for the reason below/);
+    assert.match(aloneWords({ isLow: false, service: "shop", step: 3, peer: "bank" }).todo, /low file too/);
+    assert.match(reasonWords("rejected 10 Part 2 4\n", 9).sentence, /^The second proof in the evidence isn't accepted, for the reason 4/);
+    assert.match(reasonWords("rejected 11 NoConflict\n", 9).sentence, /one history may have both/);
 });
