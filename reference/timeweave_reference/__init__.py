@@ -17,11 +17,11 @@ from __future__ import annotations
 
 from typing import Sequence
 
-from . import commands
+from . import commands, contradictions
 from .answers import Answer
 from .fields import Malformed
 
-__all__ = ["Answer", "Malformed", "adopt", "audit", "checkfork", "checkmap", "show", "strict", "verify"]
+__all__ = ["Answer", "Malformed", "adopt", "audit", "checkfork", "checkmap", "contradict", "show", "strict", "verify"]
 
 
 def verify(proof: bytes, anchors: bytes) -> Answer:
@@ -45,6 +45,12 @@ def checkmap(low: bytes, high: bytes, anchors: bytes) -> Answer:
 def checkfork(evidence: bytes, anchors: bytes) -> Answer:
     """Judges evidence that no history of a service has both of two threads."""
     return commands.answer(["checkfork", "evidence", "anchors"], {"evidence": evidence, "anchors": anchors})
+
+
+def contradict(first: bytes, first_anchors: bytes, second: bytes, second_anchors: bytes, link: bytes = b"") -> Answer:
+    """Tells whether two files, each judged under its own lines, contradict each other; the link leads from the later line of the service down
+    to the earlier one, or has no bytes. In texts the lines are `first_anchors` and `second_anchors`. The program has no such command."""
+    return contradictions.contradict(first, first_anchors, second, second_anchors, link)
 
 
 def audit(proof: bytes, anchors: bytes, histories: Sequence[bytes]) -> Answer:

@@ -6,7 +6,7 @@ docs/formats.md, "History file", and "Histories" of docs/definitions.md, which h
 from __future__ import annotations
 
 from dataclasses import dataclass, field
-from typing import Dict, List, NamedTuple, Sequence, Tuple
+from typing import Dict, Iterator, List, NamedTuple, Sequence, Tuple
 
 from .answers import ACCEPTED, REFUSED, UNREADABLE, Answer, told, unreadable
 from .archives import EMPTY, Entry, Key, Node, Tree
@@ -92,13 +92,22 @@ def read_history(data: bytes) -> Tuple[str, List[Step]]:
     if len(data) > MOST_BYTES:
         raise Malformed(MOST_BYTES)
     read = Reader(data, MOST_BYTES)
-    read.magic(b"TWH1")
-    name = read.name()
-    steps: List[Step] = []
-    for _ in range(read.number(8, 0, LAST_STEP)):
-        steps.append(_take_step(read))
+    name = take_name(read)
+    steps = list(take_steps(read))
     read.end()
     return name, steps
+
+
+def take_name(read: Reader) -> str:
+    """The service's name, with which a history file begins."""
+    read.magic(b"TWH1")
+    return read.name()
+
+
+def take_steps(read: Reader) -> Iterator[Step]:
+    """The steps that stand behind the name, one after another."""
+    for _ in range(read.number(8, 0, LAST_STEP)):
+        yield _take_step(read)
 
 
 # ---- soundness

@@ -125,6 +125,11 @@ class ServiceRoot:
         last = padded(self.name) + big_endian(self.steps, 8) + self.authenticator + big_endian(self.page, 8)
         return last + big_endian(self.archive.page, 8) + self.archive.label + big_endian(self.threads, 8) + time_bytes(self.time)
 
+    def may_stand(self, body: Body) -> bool:
+        """Whether the record is allowed beside this body, whose pages it names."""
+        has_pages = self.page < body.used and self.archive.page < body.used
+        return has_pages and body.used <= FIRST + 64 * self.steps and body.generation <= self.steps + 1
+
 
 def read_service_root(data: bytes) -> ServiceRoot:
     """The root record of a service that the bytes are; raises `Malformed` where they are none."""
@@ -152,6 +157,10 @@ class FollowerRoot:
     def to_bytes(self) -> bytes:
         """Its bytes."""
         return padded(self.name) + big_endian(self.step, 8) + self.authenticator + big_endian(self.page, 8)
+
+    def may_stand(self, body: Body) -> bool:
+        """Whether the record is allowed beside this body. That its page is one of the store's is found out where heads are told."""
+        return body.used <= FIRST + self.step and body.generation <= self.step + 1
 
 
 def read_follower_root(data: bytes) -> FollowerRoot:
