@@ -28,10 +28,10 @@ from harness.running import difference
 # The modules of cases/, in the order in which they run; and those whose cases come once all others have run.
 MODULES = (
     "data", "generated", "archives", "precedence", "forks", "atlases", "audits", "adoptions", "maps", "reaching", "steps", "pages", "failing", "messages",
-    "exported", "mapped", "played", "followers", "receiving", "tree_runs", "edges", "beside", "guarded", "power", "faults", "fuzz", "found", "tables", "refused",
-    "documents", "cited", "reference", "installed", "shown", "entries", "daily", "operated", "weft", "sources",
+    "exported", "mapped", "played", "followers", "damaged", "receiving", "tree_runs", "edges", "beside", "guarded", "power", "faults", "fuzz", "found", "tables", "refused",
+    "documents", "cited", "reference", "vectors", "installed", "shown", "entries", "operated", "weft", "sources",
 )
-LATER = ("library", "web")
+LATER = ("contradictions", "library", "web", "bindings")
 
 # How many cases wait for one that runs.
 AHEAD = 4
@@ -68,7 +68,8 @@ def cases_of(modules, wanted):
 
 def texts():
     """The cases of documents and sources that need no program."""
-    yield from ((f"documents/{case['name']}", case) for case in import_module("cases.documents").without_program())
+    for module in ("documents", "vectors"):
+        yield from ((f"{module}/{case['name']}", case) for case in import_module(f"cases.{module}").without_program())
     for module in ("cited", "reference", "sources"):
         yield from ((f"{module}/{case['name']}", case) for case in import_module(f"cases.{module}").cases())
 

@@ -7,7 +7,7 @@ from declared import crates
 
 from harness.places import TOP
 
-DOCUMENTS = [TOP / "README.md", TOP / "reference/README.md", TOP / "web/README.md", *sorted((TOP / "docs").glob("*.md")), *sorted((TOP / "bench").glob("*.md"))]
+DOCUMENTS = [TOP / "README.md", TOP / "reference/README.md", TOP / "web/README.md", TOP / "vectors/README.md", *sorted((TOP / "docs").glob("*.md")), *sorted((TOP / "bench").glob("*.md"))]
 SOURCES = ("crates/*/src/**/*.rt", "crates/*/specs/**/*.antt", "crates/*/proofs/**/*.antt", "tests/acceptance/**/*.py", "reference/**/*.py", "weft/**/*.py", "web/tests/*.*", "tools/*.*", "bench/*.py", "docs/*.txt")
 CRATE = re.compile(r"`(tw_\w+|timeweave(?:_c)?)\b")
 NAMES = r"(?:`\w+`(?:,\s|\sand\s)?)+"

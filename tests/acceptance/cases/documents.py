@@ -9,7 +9,7 @@ import sys
 
 from harness.places import LONGEST, TOP
 
-DOCUMENTS = [TOP / "README.md", TOP / "reference/README.md", TOP / "web/README.md", *sorted((TOP / "docs").glob("*.md")), *sorted((TOP / "bench").glob("*.md"))]
+DOCUMENTS = [TOP / "README.md", TOP / "reference/README.md", TOP / "web/README.md", TOP / "vectors/README.md", *sorted((TOP / "docs").glob("*.md")), *sorted((TOP / "bench").glob("*.md"))]
 
 
 def anchors(document):
@@ -44,6 +44,13 @@ def shown(text):
     return [(command, "".join(line + "\n" for line in output)) for command, output in steps]
 
 
+def is_shown(output, got):
+    """Whether this is the output that is shown, where .. stands for any text of a line, and by itself in a line for any lines."""
+    parts = re.split(r"(^\.\.\n|\.\.)", output, flags=re.M)
+    pattern = "".join({"..\n": r"(?:.*\n)*?", "..": ".*"}.get(part, re.escape(part)) for part in parts)
+    return re.fullmatch(pattern, got) is not None
+
+
 def tutorial(program):
     """Runs the README's tutorial, and tells where it gives something else than it shows."""
     steps = shown((TOP / "README.md").read_text())
@@ -51,9 +58,7 @@ def tutorial(program):
     script = script.replace("$PWD/bin", os.path.dirname(program))
     ran = subprocess.run(["bash", "-c", script], cwd=TOP, capture_output=True, text=True, timeout=LONGEST)
     found = ran.stdout.split("=== end of step\n")
-    wrong = [
-        f"  $ {command}\n  shown {output!r}\n  got   {got!r}" for (command, output), got in zip(steps, found) if output != got
-    ]
+    wrong = [f"  $ {command}\n  shown {output!r}\n  got   {got!r}" for (command, output), got in zip(steps, found) if not is_shown(output, got)]
     return "\n".join(wrong + [ran.stderr] * bool(ran.stderr)) or None
 
 
@@ -78,7 +83,7 @@ def tables(program):
 def version(program):
     """The documents that tell another version than VERSION."""
     wanted = (TOP / "VERSION").read_text().strip()
-    told = {"docs/timeweave.1": r'^\.TH .*"Timeweave (\S+)"', "docs/operating.md": r"^This is version (\S+) ", "reference/pyproject.toml": r'^version = "(\S+)"'}
+    told = {"docs/timeweave.1": r'^\.TH .*"Timeweave (\S+)"', "docs/operating.md": r"^This is version (\S+) ", "docs/releases.md": r"^\| `timeweave_(\S+)_amd64", "reference/pyproject.toml": r'^version = "(\S+)"'}
     found = {path: re.findall(pattern, (TOP / path).read_text(), re.M) for path, pattern in told.items()}
     return "\n".join(f"  {path}: {versions}, and VERSION {wanted}" for path, versions in found.items() if versions != [wanted]) or None
 

@@ -1,18 +1,23 @@
-"""What `make install` copies works: the program, its manual page, and the completion of its words in bash."""
+"""What `make install` copies works: the program, its manual page, the completion of its words in bash, and weft, its companion. What `make package` writes has the same bytes
+whoever makes it, and no more than it should. Program and library run on the oldest x86-64 processors."""
 
 import os
 import re
+import shutil
 import subprocess
+import sys
 import tempfile
 from pathlib import Path
 
 import forms
 
 from harness import library, seen
+from harness.making import LEAST
 from harness.places import LONGEST, TOP
+from harness.rooms import Skipped, Wrong, case, needs
 
 COMPLETION = "share/bash-completion/completions/timeweave"
-COPIED = ("bin/timeweave", "share/man/man1/timeweave.1", COMPLETION)
+NOBODY = 65534
 
 
 def of_forms():
@@ -65,25 +70,174 @@ def manual(program):
     return "\n".join(wrong) or None
 
 
-def install(program):
-    """Installs into a folder of its own, and tries what is there."""
-    with tempfile.TemporaryDirectory() as prefix:
-        has_library = library.is_built()
-        copied = sorted([*COPIED, *(library.COPIED if has_library else ())])
-        command = ["make", "-s", "install", f"PREFIX={prefix}", f"PROGRAM={program}", *([] if has_library else ["HAS_C="])]
-        environment = {name: value for name, value in os.environ.items() if not name.startswith(("MAKE", "MFLAGS", "DESTDIR"))}
-        done = subprocess.run(command, cwd=TOP, env=environment, capture_output=True, text=True, timeout=LONGEST)
-        files = sorted(str(path.relative_to(prefix)) for path in Path(prefix).rglob("*") if path.is_file())
-        if done.returncode or files != copied:
-            return f"  {' '.join(command)}\n  status {done.returncode}, files {files}\n{done.stdout}{done.stderr}"
-        ran = subprocess.run([f"{prefix}/bin/timeweave", "frob"], capture_output=True, timeout=LONGEST)
-        if (ran.returncode, ran.stdout, ran.stderr) != (2, b"usage 1\n", b""):
-            return f"  {prefix}/bin/timeweave frob\n  wanted 2 b'usage 1\\n'\n  got    {ran}"
-        found, errors = offered(f"{prefix}/{COMPLETION}", [], prefix)
-        return None if found == wanted()[()] else f"  the installed completion offers {sorted(found)} {errors}"
+def make_install(prefix, *words):
+    """What `make install` ends with, and the files that are there then."""
+    environment = {name: value for name, value in os.environ.items() if not name.startswith(("MAKE", "MFLAGS", "DESTDIR"))}
+    done = subprocess.run(["make", "-s", "install", f"PREFIX={prefix}", *words], cwd=TOP, env=environment, capture_output=True, text=True, timeout=LONGEST)
+    return done, sorted(str(path.relative_to(prefix)) for path in Path(prefix).rglob("*") if not path.is_dir() or path.is_symlink())
+
+
+def install(room):
+    """what make install copies is what the table says, of what is built; the program, weft and the completion work, and what isn't built is told"""
+    import placed
+
+    prefix, files = room.folder / "there", {"bin/timeweave": Path(room.program)}
+    done, found = make_install(prefix, f"PROGRAM={room.program}")
+    built = [part for part in placed.parts() if not placed.missing(part, files)]
+    layout = placed.of_prefix("")
+    listed = sorted(layout.of(line.place) for line in placed.table() if line.part in built)
+    told = [command for part in placed.parts() for _, command in placed.missing(part, files) if f"`{command}`" not in done.stderr]
+    if done.returncode or found != listed or told or not {"program", "weft", "reference", "documents"} <= set(built):
+        raise Wrong(f"  {done}\n  more {set(found) - set(listed)}, less {set(listed) - set(found)}, not told {told}")
+    ran = subprocess.run([prefix / "bin/timeweave", "frob"], capture_output=True, timeout=LONGEST)
+    if (ran.returncode, ran.stdout, ran.stderr) != (2, b"usage 1\n", b""):
+        raise Wrong(f"  bin/timeweave frob\n  wanted 2 b'usage 1\\n'\n  got    {ran}")
+    told = subprocess.run([prefix / "bin/weft", "--version"], capture_output=True, text=True, timeout=LONGEST, env={"PATH": f"{prefix}/bin:/usr/bin:/bin"})
+    if told.returncode or f"program {os.path.realpath(prefix)}/bin/timeweave: " not in told.stdout:
+        raise Wrong(f"  {prefix}/bin/weft --version\n  got    {told}")
+    if offered(prefix / COMPLETION, [], prefix) != (wanted()[()], ""):
+        raise Wrong(f"  the installed completion offers {offered(prefix / COMPLETION, [], prefix)}")
+
+
+def install_elsewhere(room):
+    """make install builds nothing: without the program it copies nothing, and says what to do; LIBDIR names the folder of libraries"""
+    done, found = make_install(room.folder / "none", "PROGRAM=not/there")
+    if done.returncode == 0 or found or "`make build`" not in done.stderr:
+        raise Wrong(f"  {done}, {found}")
+    library_folder = room.folder / "usr/lib/x86_64-linux-gnu"
+    done, found = make_install(room.folder / "usr", f"PROGRAM={room.program}", f"LIBDIR={library_folder}")
+    if done.returncode or library.is_built() != ("lib/x86_64-linux-gnu/libtimeweave.so.1" in found) or any(name.startswith("lib/lib") for name in found):
+        raise Wrong(f"  {done}, {found}")
+    if library.is_built() and f"libdir={library_folder}\n" not in (library_folder / "pkgconfig/timeweave.pc").read_text():
+        raise Wrong("  timeweave.pc has another libdir")
+
+
+# ---- packages
+
+PACKING = """
+import sys
+from pathlib import Path
+sys.path.insert(0, sys.argv[1])
+import package
+package.write(Path(sys.argv[2]), {"bin/timeweave": Path(sys.argv[3])})
+"""
+
+
+def packed(room, name, program, *, is_other=False):
+    """Packs into a folder, as another user with other settings if that is said; answers the digests by the names."""
+    into = room.folder / name / "dist"
+    into.mkdir(parents=True)
+    words = [sys.executable, "-c", PACKING, TOP / "tools", into, program]
+    environment = os.environ | {"GIT_CONFIG_COUNT": "1", "GIT_CONFIG_KEY_0": "safe.directory", "GIT_CONFIG_VALUE_0": "*"}
+    settings = {"env": environment}
+    if is_other:
+        settings = {"env": environment | {"TZ": "Asia/Tokyo", "LC_ALL": "C", "USER": "nobody", "HOME": str(into)}, "umask": 0o077}
+        if os.geteuid() == 0:
+            room.folder.chmod(0o755)
+            os.chown(into, NOBODY, NOBODY)
+            words[0], settings = shutil.which("python3", path="/usr/bin:/bin") or sys.executable, settings | {"user": NOBODY, "group": NOBODY, "extra_groups": []}
+    done = subprocess.run(words, capture_output=True, text=True, timeout=LONGEST, **settings)
+    if done.returncode:
+        raise Wrong(f"  {done.stderr[-2000:]}")
+    subprocess.run(["sha256sum", "--quiet", "--check", "SHA256SUMS"], cwd=into, check=True, timeout=LONGEST)
+    return {line.split()[1]: line.split()[0] for line in (into / "SHA256SUMS").read_text().splitlines()}
+
+
+def can_pack():
+    """What packing needs is here; where it isn't, the case is skipped."""
+    needs("rt", "the kit")
+    needs("dpkg-shlibdeps", "dpkg-dev")
+    from package import PARTS
+
+    lacking = [part for part in PARTS if part != "bin/timeweave" and not (TOP / part).exists()]
+    if lacking:
+        raise Skipped(f"{lacking[0]} isn't built: `make page`")
+
+
+def same_packages(room):
+    """packages have the same bytes, whoever makes them, in whatever folder, by whatever clock; a changed byte of the program changes those that have it"""
+    can_pack()
+    program = room.folder / "program"
+    shutil.copyfile(room.program, program)
+    program.chmod(0o755)
+    one, other = packed(room, "a", program), packed(room, "another/folder", program, is_other=True)
+    if one != other:
+        raise Wrong(f"  differ: {[name for name in one if one[name] != other.get(name)]}")
+    data = bytearray(program.read_bytes())
+    data[-1] ^= 1
+    program.write_bytes(data)
+    changed = {name for name, digest in packed(room, "changed", program).items() if digest != one[name]}
+    version = (TOP / "VERSION").read_text().strip()
+    if changed != {"BUILD", f"timeweave_{version}_amd64.deb", f"timeweave-{version}-x86_64-linux.tar.gz"}:
+        raise Wrong(f"  a changed program changed {changed}")
+
+
+def good_packages(room):
+    """packages have no scripts, root owns their files, lintian finds no error, and a signature of the digests is accepted"""
+    can_pack()
+    into = room.folder / "dist"
+    into.mkdir()
+    import package
+
+    key = room.folder / "key"
+    if shutil.which("ssh-keygen"):
+        subprocess.run(["ssh-keygen", "-q", "-t", "ed25519", "-N", "", "-f", key], check=True)
+    package.write(into, {"bin/timeweave": Path(room.program)}, key if key.exists() else None)
+    for path in sorted(into.glob("*.deb")):
+        listed = subprocess.run(["dpkg-deb", "--ctrl-tarfile", path], check=True, capture_output=True).stdout
+        names = subprocess.run(["tar", "-t"], input=listed, check=True, capture_output=True).stdout.decode().split()
+        owners = {line.split()[1] for line in subprocess.run(["dpkg-deb", "-c", path], check=True, capture_output=True, text=True).stdout.splitlines()}
+        if not set(names) <= {"./", "./control", "./md5sums", "./shlibs", "./triggers"} or owners != {"root/root"}:
+            raise Wrong(f"  {path.name} has {names}, owned by {owners}")
+    if key.exists():
+        (room.folder / "signers").write_text(f"timeweave {key.with_suffix('.pub').read_text()}")
+        words = ["ssh-keygen", "-Y", "verify", "-f", room.folder / "signers", "-I", "timeweave", "-n", "timeweave", "-s", into / "SHA256SUMS.sig"]
+        subprocess.run(words, input=(into / "SHA256SUMS").read_bytes(), check=True, capture_output=True)
+    if shutil.which("lintian"):
+        done = subprocess.run(["lintian", "--allow-root", *sorted(into.glob("*.deb"))], capture_output=True, text=True, timeout=LONGEST)
+        if done.returncode or "E: " in done.stdout:
+            raise Wrong(f"  {done.stdout}{done.stderr}")
+
+
+def stamps(room):
+    """a built file counts as built where neither it nor what it was built of has changed"""
+    needs("rt", "the kit")
+    import built
+
+    made, path = room.folder / "made", room.folder / "folder/file"
+    made.write_bytes(b"one")
+    built.put(made, path, "sum")
+    found = [built.is_built(path, "sum"), built.is_built(path, "another")]
+    path.write_bytes(b"two")
+    found.append(built.is_built(path, "sum"))
+    sums = [built.sum_of(["tree_pages"], more) for more in ([], ["VERSION"])]
+    if found != [True, False, False] or sums[0] == sums[1]:
+        raise Wrong(f"  {found}, {sums}")
+
+
+# ---- old processors
+
+
+def old_processors(room):
+    """program and library run on the oldest x86-64 processors"""
+    emulator = needs("qemu-x86_64", "qemu-user")
+    room.put("p", LEAST)
+    line = "a 1 9f9cc8f6baef592ed6bf90b106ebe7b882f59a1cc9803a6d1eef6974da5f87ed"
+    room.put("k", f"{line}\n".encode())
+    told = b"accepted exists\nevent a 1 0 -\n"
+    runs = [([room.program, "verify", "p", *line.split()], told), ([room.program, "strict", "p", "k"], told)]
+    if library.is_built() and shutil.which("cc"):
+        many = str(room.folder / "many")
+        library.checked_run(["cc", "-O2", "-I", TOP / "include", "-o", many, TOP / "examples/many_proofs.c", library.ARCHIVE])
+        runs.append(([many, "p", "k", "2"], told))
+    for words, wanted in runs:
+        done = subprocess.run([emulator, "-cpu", "core2duo", *words], cwd=room.folder, capture_output=True, timeout=LONGEST)
+        if done.returncode or wanted not in done.stdout:
+            raise Wrong(f"  {words}: {done}")
 
 
 def cases():
     yield {"name": "installed: completion", "check": completion}
     yield {"name": "installed: manual page", "check": manual}
-    yield {"name": "installed: install", "check": install}
+    for work in (install, install_elsewhere, same_packages, good_packages, stamps, old_processors):
+        yield case(work, "installed")

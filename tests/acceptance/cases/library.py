@@ -6,7 +6,7 @@ import subprocess
 import sys
 
 import timeweave
-from example_files import two_histories
+from example_files import bounds, high_of, low_of, two_histories
 
 from cases import archives
 from harness.library import ARCHIVE, SHARED, TRIED, built_library, checked_run, chosen, wanted_version
@@ -14,7 +14,9 @@ from harness.making import proof_bytes
 from harness.places import HARNESS, LONGEST, TOP
 from harness.rooms import Wrong, case, needs
 from harness.running import difference
+from harness.samples import anchors_of, exchange, sample_fork
 from harness.ways import as_way, with_carried
+from timeweave_reference.anchors import anchors_to_bytes
 from timeweave_reference.timelines import Timeline
 
 # What the library may call, and what its archive defines of the allocator's edge.
@@ -95,6 +97,30 @@ def raised(proof, anchors):
         return type(reason).__name__, vars(reason)
 
 
+def types(room):
+    """the module for Python has no fault in its types, for Python 3.9"""
+    checked_run([needs("mypy", "mypy"), "--strict", "--python-version", "3.9", "--cache-dir", room.folder / "cache", TOP / "bindings/python/timeweave.py"])
+
+
+def maps_and_forks():
+    """The module for Python gives the bounds of map files and the threads of a fork, and tells which file isn't what it has to be."""
+    own, peer = exchange()
+    low, high, anchors = low_of(own, 5, "bank", 9), high_of(peer, 10, "mill", 5), anchors_to_bytes(anchors_of((own, 9), (peer, 10)))
+    found, wanted = timeweave.checkmap(low, high, anchors), bounds(own, 5, peer, 10)
+    if (found.low, found.high, found.upto) != (*wanted, 10):
+        raise Wrong(f"  of map files the module for Python gives {found}, and {wanted} is wanted")
+    fork = sample_fork()
+    shown = timeweave.checkfork(fork.evidence().to_bytes(), anchors_to_bytes(fork.anchors()))
+    if (shown.first.thread.step, shown.second.thread.step) != (fork.k, fork.m):
+        raise Wrong(f"  of a fork it gives {shown}")
+    for files, error in (((low, low, anchors), "high byte 4"), ((low, high, b"x"), "line 1")):
+        try:
+            raise Wrong(f"  of bad files it gives {timeweave.checkmap(*files)}")
+        except (timeweave.BadFile, timeweave.BadAnchors) as bad:
+            if str(bad) != error:
+                raise Wrong(f"  of bad files it raises {bad!r}, and {error} is wanted") from bad
+
+
 def module(room):
     """the module for Python gives the report, raises the reason, and gives the version"""
     built_library()
@@ -105,10 +131,11 @@ def module(room):
         ((proof, anchors), timeweave.Report("exists", f"accepted exists\nevent a 1 0 {b'milk'.hex()}\n", [event])),
         ((bytearray(proof), anchors.encode()), timeweave.Report("exists", f"accepted exists\nevent a 1 0 {b'milk'.hex()}\n", [event])),
         ((proof.replace(b"milk", b"beer"), anchors), ("Rejected", {"number": 6, "name": "BadEvent", "fields": ["0"]})),
-        ((proof, anchors + "a 1"), ("BadAnchors", {"line": 2})),
+        ((proof, anchors + "a 1"), ("BadAnchors", {"line": 2, "file": "anchors"})),
     ):
         if raised(*given) != wanted:
             raise Wrong(f"  wanted {wanted}\n  got    {raised(*given)}")
+    maps_and_forks()
     if timeweave.version() != wanted_version():
         raise Wrong(f"  the version is {timeweave.version()}")
 
@@ -130,5 +157,5 @@ def try_some(program):
 
 
 def cases():
-    for work in (each_proof, calls("gcc"), calls("clang"), symbols, installed, module):
+    for work in (each_proof, calls("gcc"), calls("clang"), symbols, installed, types, module):
         yield case(work, "library")

@@ -1,6 +1,6 @@
 """Acceptance cases of what docs/operating.md says of users who are hurried or lied to: a made-up message takes a name, one service alone can make
 evidence and have a history taken over, a service that breaks the rules proves both a thread and its absence, a service goes on under a new
-name; the commands that it gives do what it says; and scripts that could not read say so."""
+name; and the commands that it gives do what it says."""
 
 import os
 import subprocess
@@ -9,9 +9,8 @@ from typing import List
 
 from example_files import high_of, low_of
 
-from cases.entries import expect_check, line_of
 from cases.shown import verdicts
-from harness.examples import linked, script, with_program
+from harness.examples import linked, with_program
 from harness.making import absent_proof, link_proof, message_bytes, proof_bytes, thread_proof
 from harness.places import LONGEST, TOP
 from harness.rooms import Room, Wrong, case, needs
@@ -21,6 +20,12 @@ from timeweave_reference.histories import Step
 from timeweave_reference.recording import History
 from timeweave_reference.services import service_of
 from timeweave_reference.timelines import Timeline
+
+
+def line_of(history: History) -> str:
+    """The line of a history's last step."""
+    line = history.line()
+    return f"{line.name} {len(line.steps)} {line.auths[-1].hex()}\n"
 
 
 def told(room: Room, words: str, status: int, text: str) -> bytes:
@@ -71,6 +76,11 @@ def shell(room: Room, command: str, **words: str) -> str:
         raise Wrong(f"  docs/operating.md hasn't the command\n  {command}")
     for word, other in words.items():
         command = command.replace(word, other)
+    return shell_of(room, command)
+
+
+def shell_of(room: Room, command: str) -> str:
+    """The same of any command."""
     done = subprocess.run(["bash", "-c", command], cwd=room.folder, env=with_program(room.program), capture_output=True, text=True, timeout=LONGEST)
     return f"{done.stdout}{done.returncode} {done.stderr}"
 
@@ -84,7 +94,6 @@ def expect_shell(room: Room, command: str, wanted: str, **words: str) -> None:
 
 def another_old_head(room: Room) -> None:
     """a follower tells another authenticator of an older head as stale, and its heads have the line to compare with the message's; of a service it is a fork"""
-    needs("perl", "perl-base")
     linked(room)
     true, false = Timeline("bank", [[b"a"]] * 2), Timeline("bank", [[b"b"]])
     for folder in ("seen", "shop"):
@@ -97,7 +106,9 @@ def another_old_head(room: Room) -> None:
     told(room, "offer seen message", 7, "refused Stale 2\n")
     told(room, "receive shop message", 7, f"refused Forked 1 {true.auths[1].hex()} {false.auths[1].hex()}\n")
     told(room, "heads seen", 0, f"bank 1 {true.auths[1].hex()}\n")
-    expect_shell(room, """perl -0777 -ne 'printf "%s %s %s\\n", unpack "x4 Z16 Q> H64"' message""", f"bank 1 {false.auths[1].hex()}\n0 ")
+    found = shell(room, "weft tell message")
+    if f"line: bank 1 {false.auths[1].hex()}\n" not in found:
+        raise Wrong(f"  weft tell message\n  got    {found!r}")
 
 
 def picked_lines(room: Room) -> None:
@@ -250,62 +261,57 @@ def goes_on(room: Room) -> None:
     verdicts(room, "goes_on.sh", ["accepted exists", "accepted thread", "accepted precedes", "stands"])
 
 
-def entry_not_known(room: Room) -> None:
-    """check_entry.sh ends with 2 where it could read no file or no proof, has no line of the proof's top, or can't hold a file against the entry"""
+def woven_by_cron(room: Room) -> None:
+    """three services are woven by the document's lines for cron, and a chain between two of them is made from a store and a box"""
+    needs("ssh-keygen", "openssh-client")
     linked(room)
-    line = Timeline("a", [[b"x"], [b"y"]])
-    proof = proof_bytes(line, 1, 0, 2)
-    held = [f"a {step} {line.auths[step].hex()}\n" for step in (1, 2)]
-    expect_check(room, proof, held[0], 2, "not known: lines has no line of a 2,")
-    expect_check(room, proof, "".join(held), 2, "not known: unreadable lines line 2")
-    expect_check(room, proof, held[1].replace("a 2", "b 2"), 2, "not known: lines has no line of a 2,")
-    for text in (proof[:-1], b"refused NoEvent 2\n", b""):
-        expect_check(room, text, held[1], 2, "not known: proof is no proof: rejected 1 Malformed")
-    expect_check(room, proof[:-1] + bytes([proof[-1] ^ 1]), held[1], 1, "not shown: rejected ")
-    room.put("lines", held[1].encode())
-    (room.folder / "folder").mkdir()
-    for words, text in ((("none", "lines"), "not known: none or lines can't be read"), (("proof", "none"), "can't be read"),
-                        (("proof", "lines", "none"), "not known: none can't be read"), (("proof", "lines", "folder"), "not known: folder can't be read"), ((), "PROOF ANCHOR")):
-        room.put("proof", proof)
-        found = script(room, "check_entry.sh", *words, errors=True)
-        if found[0] != 2 or found[1] or text not in found[2]:
-            raise Wrong(f"  check_entry.sh {' '.join(words)}\n  wanted 2, nothing, {text!r}\n  got    {found}")
+    text = (TOP / "docs/operating.md").read_text().split("**Three services on one machine")[1].split("Between machines")[0]
+    night = [line.split(None, 5)[5].replace("/srv", str(room.folder)) for line in text.splitlines() if line.startswith("    0 ")]
+    first = "mkdir /srv/box-shop && echo 'key = /srv/shop.key' > /srv/box-shop/box.conf"
+    key, names = "ssh-keygen -t ed25519 -N '' -f /srv/shop.key", ("shop", "bank", "port")
+    for name in names:
+        (room.folder / f"files-{name}").mkdir()
+        for command in (first, key):
+            shell(room, command, **{"/srv": str(room.folder), "shop": name})
+    for name in names:
+        for peer in set(names) - {name}:
+            words = {"/srv/box-shop": f"{room.folder}/box-{name}", "bank.key.pub": f"{room.folder}/PEER.key.pub", " bank ": f" {peer} ", "PEER": peer}
+            shell(room, "weft accept /srv/box-shop bank --key bank.key.pub", **words)
+    for number in range(6):
+        for name in names:
+            (room.folder / f"files-{name}/of-{name}").write_text(f"{number}\n")
+        found = [shell_of(room, command) for command in night]
+        if number == 0:
+            for name in names:
+                for peer in set(names) - {name}:
+                    shell(room, "weft accept /srv/box-shop bank", **{"/srv/box-shop": f"{room.folder}/box-{name}", " bank": f" {peer} --yes"})
+        elif number > 2 and found != ["0 "] * 3:
+            raise Wrong(f"  night {number}: {found}")
+    (room.folder / "box-port/shop/events").write_text("* *\n")
+    for _ in range(4):
+        found = [shell_of(room, f"weft chain shop:1:0 port:11:0 --store {room.folder}/shop --box {room.folder}/box-shop"), *(shell_of(room, it) for it in night)]
+        if "Every hop is bound by a line that you hold" in found[0]:
+            return
+    raise Wrong(f"  no chain: {found}")
 
 
-def emptied_folder(room: Room) -> None:
-    """a daily log of a folder that lost all its files ends with 10 and says so, each day; of one that never had any it ends with 0"""
-    linked(room)
-    for folder in ("src", "none"):
-        (room.folder / folder).mkdir()
-    (room.folder / "src/a").write_text("a\n")
-
-    def logged(folder: str, status: int, told_there: str) -> None:
-        found = script(room, "daily_log.sh", folder, f"{folder}.log", "daily", errors=True)
-        if found[0] != status or found[2] != told_there or found[1].encode() != (room.folder / f"{folder}.log.anchor").read_bytes():
-            raise Wrong(f"  daily_log.sh {folder} {folder}.log daily\n  wanted {status} {told_there!r}\n  got    {found}")
-
-    logged("src", 0, "")
-    (room.folder / "src/a").unlink()
-    for step in (2, 3):
-        logged("src", 10, f"daily_log.sh: src has no files, and the log has some, the last in step 1: is it mounted? Step {step} is empty\n")
-    (room.folder / "src/a").write_text("a\n")
-    logged("src", 0, "")
-    for _ in range(2):
-        logged("none", 0, "")
-
-
-def other_file(room: Room) -> None:
-    """check_entry.sh ends with 3 where the entry stands and the file has another digest, and takes a copy of any name"""
-    linked(room)
-    (room.folder / "src").mkdir()
-    (room.folder / "src/paid").write_text("1\n")
-    script(room, "daily_log.sh", "src", "log", "daily")
-    room.put("proof", told(room, "prove log event 1 0", 0, "TWP1"))
-    for data, status, text in ((b"1\n", 0, ""), (b"2\n", 3, "another file: copy hasn't the digest of this entry\n")):
-        room.put("copy", data)
-        found = script(room, "check_entry.sh", "proof", "log.anchor", "copy", errors=True)
-        if (found[0], found[2]) != (status, text) or not found[1].startswith("step 1 of daily has: ") or not found[1].endswith("  ./paid\n"):
-            raise Wrong(f"  check_entry.sh proof log.anchor copy\n  wanted {status} {text!r}\n  got    {found}")
+def stamped(room: Room) -> None:
+    """a line's time stamp is asked for and verified by the document's commands, and not that of another line"""
+    openssl = needs("openssl", "openssl")
+    settings = "[tsa]\nserial=serial\ndefault_policy=1.2.3.4\ndigests=sha256,sha512\nsigner_digest=sha512\ness_cert_id_alg=sha256\n"
+    room.put("settings", settings.encode())
+    room.put("serial", b"01\n")
+    room.put("log.line", b"shop 1 aa\n")
+    make = [openssl, "req", "-x509", "-newkey", "rsa:2048", "-nodes", "-keyout", "key", "-out", "authority.pem", "-days", "9", "-subj", "/CN=TSA"]
+    reply = [openssl, "ts", "-reply", "-queryfile", "query", "-inkey", "key", "-signer", "authority.pem", "-config", "settings", "-section", "tsa", "-out", "stamp"]
+    subprocess.run([*make, "-addext", "extendedKeyUsage=critical,timeStamping"], cwd=room.folder, check=True, capture_output=True, timeout=LONGEST)
+    shell(room, "openssl ts -query -data log.line -sha512 -cert -out query")
+    subprocess.run(reply, cwd=room.folder, check=True, capture_output=True, timeout=LONGEST)
+    for line, status in ((b"shop 1 aa\n", "0"), (b"shop 1 ab\n", "1")):
+        room.put("log.line", line)
+        found = shell(room, "openssl ts -verify -data log.line -in stamp -CAfile authority.pem")
+        if ("Verification: OK" in found, found.partition("\n")[2][:1]) != (status == "0", status):
+            raise Wrong(f"  {line!r}\n  got    {found!r}")
 
 
 def judge(room: Room, *words: str) -> "subprocess.CompletedProcess[bytes]":
@@ -315,14 +321,11 @@ def judge(room: Room, *words: str) -> "subprocess.CompletedProcess[bytes]":
     return subprocess.run(command, cwd=room.folder, env=environment, capture_output=True, timeout=LONGEST)
 
 
-def usage_of_scripts(room: Room) -> None:
-    """a script for readers without its words ends with 2 and its usage, and so does the reference's judge"""
-    ran = {"judge": judge(room)}
-    for name in ("check_entry.sh", "same_history.sh"):
-        ran[name] = subprocess.run(["sh", TOP / "examples" / name], cwd=room.folder, capture_output=True, timeout=LONGEST)
-    for name, done in ran.items():
-        if (done.returncode, done.stdout) != (2, b"") or not done.stderr.startswith(b"usage: "):
-            raise Wrong(f"  {name}\n  wanted 2 and its usage\n  got    {done}")
+def usage_of_judge(room: Room) -> None:
+    """the reference's judge without its words ends with 2 and its usage"""
+    done = judge(room)
+    if (done.returncode, done.stdout) != (2, b"") or not done.stderr.startswith(b"usage: "):
+        raise Wrong(f"  judge\n  wanted 2 and its usage\n  got    {done}")
 
 
 def judged_beside(room: Room) -> None:
@@ -342,6 +345,6 @@ def judged_beside(room: Room) -> None:
 def cases() -> List[dict]:
     works = (
         made_up_message, made_up_far_step, another_old_head, picked_lines, copy_tried, looked_at, fooled_receiver, one_accuser, one_receiver,
-        thread_left_out, goes_on, entry_not_known, other_file, emptied_folder, usage_of_scripts, judged_beside,
+        thread_left_out, goes_on, woven_by_cron, stamped, usage_of_judge, judged_beside,
     )
     return [case(work, "operated") for work in works]

@@ -7,8 +7,9 @@ from timeweave_reference.events_files import events_to_bytes
 from timeweave_reference.fields import padded
 from timeweave_reference.fields import big_endian as be
 from timeweave_reference.hashed_texts import EMPTY_ARCHIVE
+from timeweave_reference.stores import Body, read_service_root, read_store
 from timeweave_reference.timelines import Timeline
-from timeweave_reference.tree_pages import Child
+from timeweave_reference.tree_pages import FIRST, PAGE, Child
 
 LABEL = bytes(range(32))
 
@@ -149,5 +150,25 @@ def records_with_times(room):
         room.expect(words, 8, b"store NotAStore 0\n")
 
 
+def records_beside_bodies(room):
+    """a root record is refused exactly where the reference says that it may not stand beside its body: too many pages, too late a generation, pages beyond"""
+    four_steps(room)
+    good = room.store()
+    slot, body = read_store(good)
+    root = read_service_root(body.root)
+    most = FIRST + 64 * root.steps
+    for used in (root.page, root.page + 1, body.used, most - 1, most, most + 1):
+        for generation in (root.steps, root.steps + 1, root.steps + 2):
+            other = Body(generation, used, body.root)
+            data = good[: (2 + slot) * PAGE] + other.to_bytes() + good[(3 + slot) * PAGE :]
+            data = data[: (1 - slot) * PAGE] + bytes(PAGE) + data[(2 - slot) * PAGE :]
+            (room.folder / "d/timeline.tw").write_bytes(data.ljust(used * PAGE, b"\0"))
+            answer = (7, f"refused NoStep {root.steps}\n") if root.may_stand(other) else (8, f"store NotAStore {slot}\n")
+            room.expect(f"prove d event {2**40 - 1} 0", answer[0], answer[1].encode())
+
+
 def cases():
-    return [case(work, "pages") for work in (step_pages, pages_that_are_named, step_pages_with_archives, root_records, archives_kept, pages_with_times, records_with_times)]
+    works = (
+        step_pages, pages_that_are_named, step_pages_with_archives, root_records, archives_kept, pages_with_times, records_with_times, records_beside_bodies,
+    )  # fmt: skip
+    return [case(work, "pages") for work in works]

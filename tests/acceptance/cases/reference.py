@@ -51,16 +51,21 @@ def imports(room):
         raise Wrong("\n".join(wrong))
 
 
+def has_name(module, name):
+    """Whether a module has a function, class or value of this name, or one of its classes has such a method."""
+    return hasattr(module, name) or any(hasattr(it, name) for it in vars(module).values() if isinstance(it, type))
+
+
 def sections(room):
     """its README has a row for each section of docs/formats.md, of modules and readers that are there"""
     text, wrong = (TOP / "reference/README.md").read_text(), []
     rows = re.findall(r"^\| ([^|]*) \| (`[^|]*) \| ([^|]*)\|$", text.split("| section of formats.md |")[1], re.M)
     named = " ".join(section for section, _, _ in rows).lower()
-    for title in re.findall(r"^## (.*)$", (TOP / "docs/formats.md").read_text(), re.M):
+    for title in re.findall(r"^###? (.*)$", (TOP / "docs/formats.md").read_text(), re.M):
         wrong += [f"  no row is of {title}"] * (re.sub(r" \(.*\)", "", title).lower() not in named)
     for _, modules, readers in rows:
         found = [importlib.import_module(f"timeweave_reference.{name}") for name in re.findall(r"`(\w+)`", modules)]
-        wrong += [f"  {modules} has no {name}" for name in re.findall(r"`(\w+)`", readers) if not any(hasattr(module, name) for module in found)]
+        wrong += [f"  {modules} has no {name}" for name in re.findall(r"`(\w+)`", readers) if not any(has_name(module, name) for module in found)]
     if wrong or len(rows) < 20:
         raise Wrong("\n".join(wrong) or f"  the table has {len(rows)} rows")
 

@@ -20,36 +20,8 @@ from timeweave_reference.adoptions import adopt
 from timeweave_reference.anchors import read_anchors
 from timeweave_reference.atlases import Hop, atlas_text
 from timeweave_reference.audits import audit
-from timeweave_reference.services import service_of
 from timeweave_reference.timelines import Timeline
 from timeweave_reference.worlds import played
-
-
-def log_of_digests(room):
-    """a log of a folder's digests, and the check of its entries by proof and anchor alone"""
-    linked(room)
-    (room.folder / "src").mkdir()
-    for k in range(1030):
-        (room.folder / f"src/f{k:04}").write_text(f"{k}\n")
-    (room.folder / "src/two\nlines").write_text("odd")
-    status, line = script(room, "daily_log.sh", "src", "log", "daily")
-    entries = [line.split(" ", 2) for line in (room.folder / "log.entries").read_text().splitlines()]
-    steps = [[entry.encode() for step, _, entry in entries if step == str(number)] for number in range(1, int(entries[-1][0]) + 1)]
-    if (status, line.encode()) != (0, service_of("daily", steps).anchor(len(steps))) or len(entries) != 1031:
-        raise Wrong(f"  daily_log.sh src log daily\n  got    {status} {line!r}, {len(entries)} entries in {len(steps)} steps")
-    (room.folder / "src/f0007").write_text("other\n")
-    script(room, "daily_log.sh", "src", "log", "daily")
-    (room.folder / "kept").write_text(line)
-    for name, status in (("src/f0003", 0), ("src/f0007", 3), ("src/two\nlines", 0)):
-        step, index, _ = next(it for it in entries if it[2].endswith(name[3:].replace("\n", "\\n")))
-        _, proof, _ = room.run("prove", "log", "event", step, index, str(len(steps)))
-        room.put("proof", proof)
-        found = script(room, "check_entry.sh", "proof", "kept", name)
-        if found[0] != status or not found[1].startswith(f"step {step} of daily has: "):
-            raise Wrong(f"  check_entry.sh proof kept {name!r}\n  wanted {status}\n  got    {found}")
-    room.put("proof", proof[:-1])
-    if script(room, "check_entry.sh", "proof", "kept")[0] != 2:
-        raise Wrong("  check_entry.sh takes a proof that is cut")
 
 
 def manual_examples(room):
@@ -183,10 +155,50 @@ def played_world(room):
             raise Wrong(f"  world_picture.py draws {found} steps of {wanted} of\n{data.decode()}")
 
 
+def old_copy(room):
+    """a store that was set back and gone on with is found by the lines beside it, by a peer, by lines kept elsewhere, and by its peer's evidence"""
+    needs("ssh-keygen", "openssh-client")
+    linked(room)
+    status, output = script(room, "old_copy.sh", room.program)
+    statuses = re.findall(r"^\(status (\d+)\)$", output, re.M)
+    if (status, statuses) != (0, ["10", "17", "17", "17", "17", "11"]) or not output.endswith("shop: 6 of 6 steps good; 6 kept lines agree.\n"):
+        raise Wrong(f"  old_copy.sh\n  got    {status} {output}")
+
+
+def ten_years(room):
+    """a box for ten years is opened in an empty folder by what stands in it alone, and what was changed in it is told"""
+    needs("ssh-keygen", "openssh-client")
+    linked(room)
+    box = room.folder / "opened"
+    box.mkdir()
+    status, output = script(room, "ten_years.sh", room.program, str(box))
+    told = output.partition("$ mkdir later")[2]
+    good = ("accepted precedes", "./deed: OK", 'Good "timeweave-line" signature for keeper', "deed: OK", "chain: OK", "lines: OK", "register.history: OK")
+    if status or any(text not in told for text in good) or "(status" in told:
+        raise Wrong(f"  ten_years.sh\n  got    {status} {output}")
+    commands = re.findall(r"^    \$ (.*)$", (box / "README.txt").read_text(), re.M)
+
+    def opened(number):
+        words = ["env", "-i", "PATH=/usr/local/bin:/usr/bin:/bin", "sh", "-c", commands[number]]
+        done = subprocess.run(words, cwd=box, capture_output=True, text=True, timeout=LONGEST)
+        return done.stdout + done.stderr
+
+    changes = (
+        ("chain", 0, b"\x00\x00", b"\x00\x01", "rejected "), ("deed", 1, b"Ann", b"Bob", "FAILED"), ("register.line", 2, b"register 1 ", b"register 2 ", "Could not verify"),
+        ("register.history", 3, b"deed", b"need", "register.history: FAILED"),
+    )  # fmt: skip
+    for name, number, old, new, text in changes:
+        data = (box / name).read_bytes()
+        place = data.rindex(old)
+        (box / name).write_bytes(data[:place] + new + data[place + len(old) :])
+        if text not in opened(number):
+            raise Wrong(f"  {name} was changed\n  got    {opened(number)}")
+        (box / name).write_bytes(data)
+
+
 def cases():
     shown = (
-        log_of_digests, archived_threads, two_peers, chain_of_three, event_chain, fork_evidence, between_steps, audited_chain, taken_over, reached_steps,
-        played_world,
-        manual_examples,
+        archived_threads, two_peers, chain_of_three, event_chain, fork_evidence, between_steps, audited_chain, taken_over, reached_steps,
+        played_world, old_copy, ten_years, manual_examples,
     )
     return [case(work, "shown") for work in shown]

@@ -119,6 +119,34 @@ def handed_out(program):
     return "\n".join(wrong) or None
 
 
+# What a parameter of a function for C is in the header; the allocator is none.
+C_PARAMETERS = {
+    "&[u8]": "const uint8_t *{0}, size_t {0}_size",
+    "&mut [u8]": "uint8_t *{0}, size_t room",
+    "&mut usize": "size_t *{0}",
+    "Global": "",
+}
+
+# How the contract of a function for C begins, where another function for C has the same parameters: no prover tells their names apart.
+C_CLAUSES = {"timeweave_verify": "IsAnswer false proof.now anchors.now", "timeweave_strict": "IsAnswer true proof.now anchors.now"}
+
+
+def header(program):
+    """The functions for C whose parameters the header has otherwise, or whose contract is another function's."""
+    exports = (TOP / "crates/timeweave_c/src/exports.rt").read_text()
+    declared = re.sub(r"\s+", " ", (TOP / "include/timeweave.h").read_text())
+    wrong = []
+    for name, inside, contract in re.findall(r'pub extern "C" fn (\w+)\(([^)]*)\)(.*?)\n\{', exports, re.S):
+        parameters = [parameter.split(": ") for parameter in re.findall(r"\w+: [^,\n]+", inside)]
+        wanted = ", ".join(filter(None, (C_PARAMETERS[kind].format(parameter) for parameter, kind in parameters)))
+        given = re.findall(rf"\w+ {name}\(([^)]*)\);", declared)
+        if given != [wanted]:
+            wrong.append(f"  {name} is ({wanted}), and the header has {given}")
+        if f"ensures {{ {C_CLAUSES.get(name, '')}" not in contract and name in C_CLAUSES:
+            wrong.append(f"  {name} doesn't ensure `{C_CLAUSES[name]}`")
+    return "\n".join(wrong) or None
+
+
 def heights(program):
     """The crates at the end of a chain that is too long, with the crates that are to come."""
     known = crates_to_come()
@@ -133,4 +161,5 @@ def cases():
     yield {"name": "sources: tests", "check": tests_elsewhere}
     yield {"name": "sources: lines and functions of crates", "check": crate_sizes}
     yield {"name": "sources: what is handed out", "check": handed_out}
+    yield {"name": "sources: the header for C", "check": header}
     yield {"name": "sources: heights", "check": heights}

@@ -1,5 +1,5 @@
-"""The module of WebAssembly answers as the library does, and the page says what they say. Each proof that a case of this run has the program judge is judged by
-the module too, in one process of Node; behind that, changed proofs, by the library and by the module. Then the module for JavaScript and the page's own parts by
+"""The module of WebAssembly answers as the library does, and the page says what they say. Each proof, map and evidence that a case of this run has the program judge is
+judged by the module too, in one process of Node; behind that, changed ones, by the library and by the module. Then the module for JavaScript and the page's own parts by
 Node's test runner, the page in Chromium and in Firefox, as a user meets it, and whether it is put together of the sources that lie here.
 Where `node`, `wasm-opt` or a browser is missing, or the page isn't built, that is told as skipped."""
 
@@ -8,17 +8,20 @@ import random
 import subprocess
 import sys
 import tempfile
+from itertools import islice
 
 import timeweave
 
+from cases import forks, maps
 from cases.library import try_some
 from harness import library
 from harness.rooms import Skipped, Wrong, case
-from harness.web import ASKED, MODULE, PAGE, WEB, asked, built
+from harness.running import difference
+from harness.web import ASKED, FUNCTIONS, MODULE, PAGE, WEB, asked, built, has
 
 sys.path.append(str(WEB / "tests"))
 
-CHANGED, LOT = 100_000, 500
+CHANGED, LOT, SMALL, SOME = 100_000, 500, 4000, 60
 
 
 def each_proof(room):
@@ -49,21 +52,45 @@ def changed(rand, proof):
 
 
 def changed_proofs(room):
-    """100,000 changed proofs and lines of this run, by the library and by the module: no answer differs"""
+    """100,000 changed proofs, maps, evidence and lines of this run, by the library and by the module: no answer differs"""
     built()
     try_some(room.program)
-    rand, tried = random.Random("changed"), [(form, proof, anchors) for form, _, proof, anchors, _ in library.TRIED if len(proof) < 4000]
+    reach_some(room.program)
+    rand, tried = random.Random("changed"), small_ones()
     if not tried:
         raise Wrong("  no proof of this run was judged by the library")
     for _ in range(CHANGED // LOT):
         lot = []
         for _ in range(LOT):
-            form, proof, anchors = rand.choice(tried)
-            lot.append((form, proof, changed(rand, anchors)) if rand.randrange(8) == 0 else (form, changed(rand, proof), anchors))
-        for (form, proof, anchors), found in zip(lot, asked().judge(lot)):
-            wanted = timeweave.library().judge(proof, anchors, form == "s")
+            form, *files = rand.choice(tried)
+            place = rand.randrange(len(files) - 1) if rand.randrange(8) else len(files) - 1
+            lot.append((form, *files[:place], changed(rand, files[place]), *files[place + 1 :]))
+        for (form, *files), found in zip(lot, asked().judge(lot)):
+            wanted = by_library(form, files)
             if found != wanted:
-                raise Wrong(f"  of the proof {proof.hex()}\n  under {anchors!r}, {form}\n  the library answers {wanted}\n  the module {found}")
+                raise Wrong(f"  {FUNCTIONS[form]} of {[data.hex() for data in files]}\n  the library answers {wanted}\n  the module {found}")
+
+
+def reach_some(program):
+    """Judges some maps and evidence by program, library and module, where no other case of this run did and the library knows them."""
+    for one in (*islice(maps.cases(), SOME), *islice(forks.cases(), SOME)) if getattr(library, "REACHED", None) == [] else ():
+        wrong = difference(program, one)
+        if wrong:
+            raise Wrong(wrong)
+
+
+def small_ones():
+    """The small files of this run that the library judged, each with the letter of its function."""
+    tried = [(form, proof, anchors) for form, _, proof, anchors, _ in library.TRIED if len(proof) < SMALL]
+    reached = [(form, *files) for form, _, files, _ in getattr(library, "REACHED", ()) if has(form) and max(map(len, files)) < SMALL]
+    # (as many of these as of proofs, or all)
+    return tried + reached * max(1, len(tried) // (4 * max(1, len(reached))))
+
+
+def by_library(form, files):
+    if form in "vs":
+        return timeweave.library().judge(*files, form == "s")
+    return timeweave.library().ask(f"timeweave_{FUNCTIONS[form]}", *files)
 
 
 def node_tests(room):

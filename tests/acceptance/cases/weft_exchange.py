@@ -350,6 +350,11 @@ def chained(room):
         raise Wrong("  strict refuses it")
     stores = ["--store", "maker", "--store", "bank", "--store", "port"]
     loom.expect(["chain", earlier, f"port:{shipped}:0", *stores, "--out", "c2"], 0, "over" if False else "shown", "bank received step", "port received step")
+    from timeweave_reference.receipts import Receipt
+
+    made_up = Receipt("port", 1, bytes(32), "maker", made + 1, bytes(32))
+    loom.put("false", made_up.to_bytes())
+    loom.expect(["chain", earlier, f"port:{shipped}:0", *stores, "--hand", "false", "--out", "c2"], 0, "port received step", absent=(f"port received step {made + 1} of maker",))
     loom.expect(["chain", f"port:{shipped}:0", earlier, *stores], 12, "no way is known")
     again = int(loom.append("maker", b"again").split()[1])
     loom.expect(["chain", earlier, f"maker:{again}:0", "--store", "maker"], 0, "is before step")
@@ -365,6 +370,37 @@ def chained(room):
     for bad in ("x", "maker:0:0", "maker:1", "later:1:0:0", f"maker:{2**40}:0", "\x1b"):
         loom.expect(["chain", bad, later], 2, "names no event")
     loom.expect(["chain", "thread", later], 9, "no proof of an event")
+
+
+def passed_on(room):
+    """weft chain asks a service that its own peer exchanges with, over that peer: a chain over it is made from one's own store and box alone; events are
+    never asked for so, and nothing is passed on to who isn't a peer"""
+    net = Net(room, {"maker": ["bank"], "bank": ["maker", "port"], "port": ["bank"]}).begun()
+    loom = net.loom
+    made = int(loom.append("maker", b"bread").split()[1])
+    for _ in range(4):
+        net.night()
+    shipped = int(loom.append("port", b"shipped").split()[1])
+    net.night()
+    loom.put("shipped", loom.timeweave("prove", "port", "event", str(shipped), "0", str(shipped)))
+    loom.put("k", line_of(loom, "port", shipped))
+    words = ["chain", f"maker:{made}:0", "shipped", "--store", "maker", "--box", "box-maker", "--kept", "k", "--out", "c"]
+    loom.expect(words, 12, "port is asked for it over bank")
+    for _ in range(6):
+        net.night()
+        done = loom.run(*words)
+        if done.status == 0:
+            break
+    if done.status or "port received step" not in done.out or "Every hop is bound" not in done.out:
+        raise Wrong(f"  {done}")
+    step = net.last("port")
+    loom.put("box-bank/maker/in/requests", f"of port event {shipped} 0 {step}\nof maker link 1 1\nof nobody link 1 1\nof port link 1 {step}\n")
+    net.turn("bank", 0)
+    answers = sorted(path.read_bytes()[:30] for path in (loom.folder / "box-bank/maker/out/answers").iterdir())
+    if answers != [b"refused: no peer of that name "] * 2 or f"link 1 {step}\n".encode() not in loom.read("box-bank/port/out/requests"):
+        raise Wrong(f"  {answers} {loom.read('box-bank/port/out/requests')}")
+    if b"event" in loom.read("box-bank/port/out/requests"):
+        raise Wrong("  an event is asked for in another's name")
 
 
 def line_of(loom, name, step):
@@ -457,7 +493,7 @@ def nearly_full(room):
 
 def cases():
     works = (
-        two_services, carrier, first_contact, squatter, old_store, unsigned_old_store, fork_shown, hostile_folders, requests, chained, with_faults,
+        two_services, carrier, first_contact, squatter, old_store, unsigned_old_store, fork_shown, hostile_folders, requests, chained, passed_on, with_faults,
         two_at_once, nearly_full,
     )  # fmt: skip
     return [case(work, "weft exchange") for work in works]

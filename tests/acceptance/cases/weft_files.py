@@ -11,7 +11,7 @@ import time
 from harness.limits import plain_rights
 from harness.places import TOP
 from harness.rooms import Wrong, case, needs
-from harness.weft_room import Loom, expect_plain
+from harness.weft_room import Loom, expect_plain, weft_words
 
 WORDS = (
     "keep {} --by mail", "keep l --signer shop {}", "keep l --by mail --kept {}", "keep l --signers {}", "tell {}", "judge {}", "judge p --kept {}",
@@ -188,6 +188,27 @@ def page(room):
         raise Wrong("  a status has no meaning")
 
 
+def completed(room):
+    """the completion in bash is the one that the code makes, and offers words, options, files and folders where they may stand"""
+    loom = with_files(room)
+    made = subprocess.run(["python3", "-m", "weft.completion"], cwd=TOP, capture_output=True, text=True, check=True).stdout
+    if made != (TOP / "weft/completion.bash").read_text():
+        raise Wrong("  weft/completion.bash isn't what python3 -m weft.completion makes")
+    bash = needs("bash", "bash")
+    script = 'source "$0"; COMP_WORDS=("$@"); COMP_CWORD=$(($# - 1)); _weft; printf "%s\n" "${COMPREPLY[@]}"'
+    files, folders = {"src", "shop", "box", "tmp", "p", "low", "l", "kept", "kept.lock"}, {"src", "shop", "box", "tmp"}
+    wanted = {
+        "": {*weft_words.WORDS, "--help", "--version"}, "ju": {"judge"}, "judge ": files, "judge p ": files, "judge --many ": folders, "judge p --sv": {"--svg"},
+        "judge --workers ": set(), "judge --workers 3 ": files, "log ": folders, "log src ": folders, "log src log ": set(), "keep --signer ": set(),
+        "keep --signer shop ": files, "keep --signer shop l ": files, "exchange shop --": {"--help", "--despite", "--wait", "--json"}, "frob ": set(),
+        "exchange shop box ": set(), "accept box ": set(),
+    }  # fmt: skip
+    for words, offers in wanted.items():
+        done = subprocess.run([bash, "-c", script, TOP / "weft/completion.bash", "weft", *words.split(" ")], cwd=loom.folder, capture_output=True, text=True)
+        if set(done.stdout.split()) != offers or done.stderr:
+            raise Wrong(f"  behind `weft {words}`\n  wanted {sorted(offers)}\n  got    {sorted(done.stdout.split())} {done.stderr}")
+
+
 def installed(room):
     """what make install-weft copies runs from there, isolated from the user's Python, beside what make install copies"""
     loom = with_files(room)
@@ -201,8 +222,9 @@ def installed(room):
         done = subprocess.run([loom.folder / "usr/bin/weft", *words], cwd=loom.folder, env=env, capture_output=True, text=True)
         if done.returncode or text not in done.stdout:
             raise Wrong(f"  {words}: {done}")
-    if not (loom.folder / "usr/share/man/man1/weft.1").exists():
-        raise Wrong("  there is no manual page")
+    for name in ("man/man1/weft.1", "bash-completion/completions/weft"):
+        if not (loom.folder / "usr/share" / name).exists():
+            raise Wrong(f"  there is no {name}")
 
 
 def typed(room):
@@ -216,5 +238,5 @@ def typed(room):
 
 
 def cases():
-    works = (each_word, unreadable_files, fuzzed, large_files, closed_outputs, page, installed, typed)
+    works = (each_word, unreadable_files, fuzzed, large_files, closed_outputs, page, completed, installed, typed)
     return [case(work, "weft files") for work in works]

@@ -4,11 +4,20 @@ tables of many proofs; pictures; stores checked whole."""
 import json
 import os
 import signal
+import subprocess
+import sys
+import time
 
 import xml.dom.minidom
 
-from harness.rooms import Wrong, case
+from harness.making import absent_proof, link_proof, thread_proof
+from harness.places import TOP
+from harness.rooms import Skipped, Wrong, case, needs
 from harness.weft_room import Loom, faulty
+from timeweave_reference.archives import EMPTY, listed
+from timeweave_reference.histories import Step
+from timeweave_reference.recording import History
+from timeweave_reference.timelines import Timeline
 
 
 def two_services(room):
@@ -53,7 +62,22 @@ def sentences(room):
     found = json.loads(loom.expect("judge chain --json", 0).out)
     if found["shown"] is not True or {it["service"] for it in found["lines"]} != {"bank", "maker"} or "accepted precedes" not in found["text"]:
         raise Wrong(f"  {found}")
-    loom.expect("judge bank.history", 9, "no proof", "weft tell")
+    loom.expect("judge bank.history", 0, "a history of bank that keeps the rules, up to step 3", "bank, step 3", "by mail", judged)
+    loom.expect("judge bank.history --reference", 20, "a history of bank")
+    history = loom.read("bank.history")
+    place = history.index(b"open")
+    loom.put("other.history", history[:place] + b"shut" + history[place + 4 :])
+    loom.expect("judge other.history", 1, "isn't of the history of your lines")
+    loom.put("unsound.history", history[:-1] + bytes([history[-1] ^ 1]))
+    loom.expect("judge unsound.history", 1, "he history breaks rule", "Ask its service")
+    loom.put("cut.history", history[:-1])
+    loom.expect("judge cut.history", 1, "can't read it (unreadable history byte")
+    loom.append("bank", b"later")
+    loom.put("later.history", loom.timeweave("export", "bank"))
+    loom.expect("judge later.history", 12, "line of step 4 of bank is missing")
+    loom.expect("judge bank.history --svg x", 0)
+    loom.put("empty.history", history[:20] + bytes(8))
+    loom.expect("judge empty.history", 9, "without events")
 
 
 def missing_lines(room):
@@ -156,6 +180,81 @@ def judges_differ(room):
     loom.expect("judge bread3", 0, "judged by: proved program", TIMEWEAVE_LIBRARY="/nowhere")
 
 
+def contradictions(room):
+    """two accepted files that contradict each other are told, with the link between their lines where it is named, if a judge has that"""
+    loom = two_services(room)
+    told = "thread bank 2 maker 1 00 2\nabsent bank 3 maker 1\n"
+
+    def judges(first, _, second, other, link):
+        from timeweave_reference import Answer
+
+        if {first[4], second[4]} != {3, 4} or not other:
+            return Answer(1, b"rejected 11 NoConflict\n")
+        return Answer(0, f"accepted broken-rule{'' if link else '-or-fork'}\n{told}".encode())
+
+    def patch():
+        import timeweave_reference
+
+        timeweave_reference.contradict = judges
+
+    words = ["judge", "--reference", "thread", "absent"]
+    loom.expect(words, 11, "thread and absent CONTRADICT EACH OTHER", "received step 1 of maker at its step 2", "or it has two histories", patch=patch)
+    loom.expect([*words, "link"], 11, "whoever kept bank broke its rules", "judged by: Python reference", patch=patch)
+    loom.expect("judge --reference thread bread3", 20, absent=("CONTRADICT",), patch=patch)
+    loom.expect("judge thread absent", 0, absent=("CONTRADICT",))
+
+
+def dropped(room):
+    """a service that left a received line out of its archive is told by its own two proofs, under one line and under two"""
+    import timeweave_reference
+
+    if not hasattr(timeweave_reference, "contradict"):
+        raise Skipped("no judge of contradictions is there")
+    loom, shop, notary = Loom(room), Timeline("shop", [[b"x"]] * 5), History("notary")
+    notary.receive("shop", 5, shop.auths[5])
+    had = notary.trees[1]
+    notary.add(Step([]), EMPTY)
+    notary.add(Step([]), EMPTY)
+    line = notary.line()
+    for name, data in (
+        ("has", thread_proof(line, had, 1, 1, listed(had)[0])), ("has3", thread_proof(line, had, 1, 3, listed(had)[0])),
+        ("not", absent_proof(line, notary.trees[2], 2, 3, ("shop", 5))), ("link", link_proof(line, 1, 3)),
+    ):  # fmt: skip
+        loom.put(name, data)
+    loom.put("lines", "".join(f"notary {step} {line.auths[step].hex()}\n" for step in (1, 3)))
+    loom.expect("keep lines --by mail", 0)
+    told = ("CONTRADICT EACH OTHER", "notary received step 5 of shop at its step 1", "up to its step 2")
+    loom.expect("judge --reference has3 not", 11, *told, "whoever kept notary broke its rules")
+    loom.expect("judge --reference has not", 11, *told, "or it has two histories")
+    loom.expect("judge --reference has not link", 11, *told, "whoever kept notary broke its rules")
+    loom.expect("judge --reference has has3", 20, absent=("CONTRADICT",))
+
+
+def same_history(room):
+    """a link under the newer of two kept lines tells whether the older one is of the same history; what isn't accepted is never told as two lines"""
+    loom = Loom(room)
+    loom.service("s", *[[b"%d" % step] for step in range(1, 13)])
+    loom.service("s", *[[b"%d" % step if step != 5 else b"other"] for step in range(1, 13)], folder="fork")
+    (loom.folder / "kept").unlink(missing_ok=True)
+
+    def line(folder, step):
+        loom.put("tmp/l", loom.timeweave("prove", folder, "link", str(step), "12"))
+        loom.put("tmp/k", loom.run("line", folder).out)
+        return f"s {step} {loom.timeweave('verify', 'tmp/l', 'tmp/k').split()[-1].decode()}\n"
+
+    for step in (0, 1, 4, 5, 9, 11):
+        loom.put("link", loom.timeweave("prove", "s", "link", str(step), "12"))
+        for folder in ("s", "fork"):
+            loom.put("two", line(folder, step) + line("s", 12))
+            is_one = line(folder, step) == line("s", step)
+            told = f"the line of step {step} of s that you kept: one history" if is_one else "TWO LINES"
+            loom.expect("judge link --kept two", 0 if is_one else 11, told)
+    loom.put("two", line("fork", 11) + line("fork", 12))
+    loom.expect("judge link --kept two", 1, absent=("TWO LINES", "one history"))
+    loom.put("two", line("fork", 11) + line("s", 11))
+    loom.expect("judge link --kept two", 12, absent=("TWO LINES", "one history"))
+
+
 def tables(room):
     """--many makes a table of all files, goes on where it was stopped, takes rows of unchanged files over, and is the same with any number of processes"""
     loom = two_services(room)
@@ -167,15 +266,16 @@ def tables(room):
     loom.put("many/none", b"\0")
     os.mkfifo(loom.folder / "many/pipe")
     loom.put("many/other", loom.timeweave("prove", "maker", "event", "1", "0", "2"))
-    loom.expect("judge --many many --workers 1 --table t1", 1, "455 files", "302 shown", "151 not shown", "1 lacks a line", "1 not judged")
+    loom.put("many/history", loom.read("bank.history"))
+    loom.expect("judge --many many --workers 1 --table t1", 1, "456 files", "303 shown", "151 not shown", "1 lacks a line", "1 not judged")
     loom.expect("judge --many many --workers 4 --table t4", 1, "judged by: proved")
-    if loom.read("t1") != loom.read("t4") or loom.read("t1").count(b"\n") != 457:
+    if loom.read("t1") != loom.read("t4") or loom.read("t1").count(b"\n") != 458:
         raise Wrong(f"  the tables differ, or have {loom.read('t1').count(10)} lines")
     table = loom.read("t1").decode()
     rows = {line.split("\t")[0]: line.split("\t")[3] for line in table.splitlines()[2:]}
     if rows["000"] != "not shown" or rows["001"] != "shown" or rows["pipe"] != "not judged" or "\x1b" in table:
         raise Wrong(f"  {table[:2000]}")
-    loom.expect("judge --many many --table t1", 1, "455 rows of an earlier run were taken over")
+    loom.expect("judge --many many --table t1", 1, "456 rows of an earlier run were taken over")
     # stopped amid, and gone on with
     for at in (2, 5, 8, 11, 14, 17):
         for kind in ("before", "half"):
@@ -187,13 +287,57 @@ def tables(room):
             if loom.read("t5") != loom.read("t1"):
                 raise Wrong(f"  {kind} at call {at}: another table")
     loom.put("many/002", forged)
-    loom.expect("judge --many many --table t1", 1, "301 shown", "454 rows")
+    loom.expect("judge --many many --table t1", 1, "302 shown", "455 rows")
     loom.expect("judge --many nowhere", 3, "no folder")
     loom.expect("judge bread3 --many many", 2)
     loom.expect("judge --many many --workers 0", 2)
     found = json.loads(loom.run("judge", "--many", "many", "--table", "t1", "--json").out)
-    if found["files"] != 455 or found["shown"] != 301:
+    if found["files"] != 456 or found["shown"] != 302:
         raise Wrong(f"  {found}")
+
+
+def cluster(room):
+    """--many over a Dask cluster of three workers, by TLS, makes the same table, each row once, also where a worker is killed amid; without TLS no other
+    machine is asked"""
+    loom = two_services(room)
+    for number in range(60):
+        loom.put(f"many/{number:03}", loom.read("bread3") if number % 3 else loom.read("bread3").replace(b"bread", b"bribe"))
+    for address in ("tcp://example.org:8786", "tls://example.org:8786", "127.0.0.1:8786", "tcp://127.0.0.1", "\x1b"):
+        loom.expect(["judge", "--many", "many", "--dask", address], 2)
+    loom.expect("judge bread3 --dask tcp://127.0.0.1:1", 2)
+    python, env = python_with("distributed"), loom.env | {"PYTHONPATH": f"{TOP}:{TOP / 'reference'}"}
+    small = "import weft.bulk, weft.main, sys; weft.bulk.PIECE = 5; sys.exit(weft.main.main(sys.argv[1:]))"
+    port = str(20_000 + os.getpid() % 20_000)
+    own = [needs("openssl", "openssl"), "req", "-x509", "-newkey", "rsa:2048", "-nodes", "-keyout", "key.pem", "-out", "cert.pem", "-subj", "/CN=weft"]
+    subprocess.run(own, cwd=loom.folder, check=True, capture_output=True)
+    tls = ["--tls-ca-file", "cert.pem", "--tls-cert", "cert.pem", "--tls-key", "key.pem"]
+    scheduler = [python, "-m", "distributed.cli.dask_scheduler", "--no-dashboard", "--host", "127.0.0.1", "--protocol", "tls", "--port", port, *tls]
+    running = [subprocess.Popen(scheduler, cwd=loom.folder, env=env, stderr=subprocess.DEVNULL)]
+    try:
+        worker = [python, "-m", "distributed.cli.dask_worker", f"tls://127.0.0.1:{port}", "--no-dashboard", "--no-nanny", "--nthreads", "1", *tls]
+        running += [subprocess.Popen(worker, cwd=loom.folder, env=env, stderr=subprocess.DEVNULL) for _ in range(3)]
+        words = ["judge", "--many", "many", "--table", "t", "--dask", f"tls://127.0.0.1:{port}", "--tls", "cert.pem", "cert.pem", "key.pem"]
+        whole = subprocess.Popen([python, "-c", small, *words], cwd=loom.folder, env=env, stdout=subprocess.PIPE, stderr=subprocess.STDOUT, text=True)
+        until = time.monotonic() + 120
+        while whole.poll() is None and time.monotonic() < until and not ((loom.folder / "t.part").exists() and loom.read("t.part").count(b"\n") > 6):
+            time.sleep(0.01)
+        running[-1].kill()
+        told, _ = whole.communicate(timeout=300)
+    finally:
+        for it in running:
+            it.kill()
+            it.wait()
+    rows = [line.split("\t")[0] for line in (loom.folder / "t").read_text().splitlines()[2:]] if (loom.folder / "t").exists() else []
+    if whole.returncode != 1 or "60 files: 40 shown, 20 not shown" not in told or told.count("\n") != 2 or rows != [f"{number:03}" for number in range(60)]:
+        raise Wrong(f"  {whole.returncode} {told}, {len(rows)} rows")
+
+
+def python_with(package):
+    """A Python that has a package that isn't of the standard library; else the case is skipped."""
+    for path in (sys.executable, "/usr/bin/python3"):
+        if os.path.exists(path) and subprocess.run([path, "-c", f"import {package}"], capture_output=True).returncode == 0:
+            return path
+    raise Skipped(f"the Python package {package} isn't there (on Debian: python3-{package})")
 
 
 def pictures(room):
@@ -305,7 +449,7 @@ def checked(room):
 
 def cases():
     works = (
-        sentences, missing_lines, rejected, forked, files_held, judges_differ, tables, pictures, long_chains, checked,
+        sentences, missing_lines, rejected, forked, files_held, judges_differ, contradictions, dropped, same_history, tables, cluster, pictures, long_chains, checked,
     )  # fmt: skip
     return [case(work, "weft judge") for work in works]
 

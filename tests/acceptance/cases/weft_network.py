@@ -1,4 +1,4 @@
-"""The acceptance case of a network: six services exchange for thirty nights while files are lost, doubled and late; then every pair is connected by a
+"""Acceptance cases of networks: six services exchange for thirty nights while files are lost, doubled and late; then every pair is connected by a
 proof that `strict` accepts; an old store, a fork and a squatter are told by name, and nobody else is.
 
     PYTHONPATH=tests/acceptance python3 -m cases.weft_network PROGRAM [NIGHTS [SEED]]    plays it, and prints what each night told
@@ -9,9 +9,12 @@ import random
 import shutil
 import sys
 import tempfile
+from concurrent.futures import ProcessPoolExecutor
+from pathlib import Path
 from types import SimpleNamespace
 
 from cases.weft_exchange import Net, received
+from harness.places import TOP
 from harness.rooms import Wrong, case
 
 NAMES = [f"s{number}" for number in range(6)]
@@ -197,6 +200,20 @@ def fork_on(weave, number):
         put(into / "message", loom.timeweave("thread", "tmp/forged", "0"))
 
 
+def in_earnest(room):
+    """eight services weave for sixty nights (bench/network.py) while files are lost, doubled, late and damaged, runs and the program are killed and devices
+    fail: each order that receipts can show is shown and no other, no step is lost, a fork, an old store, a squatter and a flood are told, nobody else is"""
+    sys.path[:0] = [str(TOP / "bench")]
+    import network
+
+    folder = Path(room.folder) / "network"
+    folder.mkdir()
+    with ProcessPoolExecutor(len(os.sched_getaffinity(0))) as executor:
+        wrong, figures = network.played(folder, room.program, 8, 60, 1, executor)
+    if wrong or figures["shown"] < 300:
+        raise Wrong(f"  {wrong[:5]}\n  {figures}")
+
+
 def copy(path, to):
     """Copies a file or a folder."""
     to.parent.mkdir(parents=True, exist_ok=True)
@@ -204,7 +221,7 @@ def copy(path, to):
 
 
 def cases():
-    return [case(work, "weft network") for work in (woven, liars)]
+    return [case(work, "weft network") for work in (woven, liars, in_earnest)]
 
 
 if __name__ == "__main__":

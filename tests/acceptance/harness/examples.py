@@ -7,8 +7,8 @@ from harness.places import LONGEST, TOP
 
 
 def with_program(program):
-    """The environment in which the program is found by its name."""
-    return {**os.environ, "PATH": f"{os.path.dirname(program)}:{os.environ['PATH']}"}
+    """The environment in which the program and weft are found by their names."""
+    return {**os.environ, "PATH": f"{os.path.dirname(program)}:{TOP / 'weft/bin'}:{os.environ['PATH']}"}
 
 
 def script(room, name, *words, errors=False):

@@ -7,17 +7,23 @@ from harness.places import LONGEST, TOP
 from harness.rooms import Skipped, Wrong
 
 ARCHIVE, SHARED = TOP / "lib/libtimeweave.a", TOP / "lib/libtimeweave.so"
-COPIED = (
-    "lib/libtimeweave.a", "lib/libtimeweave.so", "lib/pkgconfig/timeweave.pc", "include/timeweave.h", "include/timeweave_collect.h",
-    "share/timeweave/timeweave.py",
-)
-
 # The statuses with which the program has judged a proof, or its anchors.
 JUDGED = (timeweave.ACCEPTED, timeweave.REJECTED, timeweave.BAD_ANCHORS)
 
 # The small proofs that were judged so far, as (form, status, proof, anchors, text); C tries some of each status and text.
 TRIED = []
+
+# The same of maps, of evidence, and of files that were held against each other, as (form, status, files, text).
+REACHED = []
 LARGEST, MOST = 20_000, 400
+
+# By the form of a record for C the function of the library that it is for.
+FUNCTIONS = {
+    "v": "timeweave_verify", "s": "timeweave_strict", "m": "timeweave_checkmap", "f": "timeweave_checkfork", "c": "timeweave_contradict",
+}
+
+# The commands that the library knows besides, each with its form and the names that texts of the library have for its files.
+REACHING = {"checkmap": ("m", ("low", "high", "anchors")), "checkfork": ("f", ("evidence", "anchors"))}
 
 
 def is_built():
@@ -68,8 +74,62 @@ def taken_apart(status, text):
         return str(wrong)
 
 
+def reached(function, files):
+    """The text of the library's answer to files, made of what the module for Python makes of it; and the answer."""
+    status, text = timeweave.library().ask(function, *files)
+    try:
+        made = timeweave.read_answer(function, status, text.decode())
+        lines = written_reached(made)
+    except (timeweave.Rejected, timeweave.BadAnchors, timeweave.BadFile) as reason:
+        head = "rejected" if isinstance(reason, timeweave.Rejected) else "unreadable"
+        lines = f"{head} {'anchors ' if vars(reason).get('file') == 'anchors' else ''}{reason}\n"
+    return (status, text), lines
+
+
+def written_reached(made):
+    """The lines of what the module for Python has taken out of the text of maps, of evidence or of a contradiction."""
+    if isinstance(made, timeweave.Bounds):
+        return f"accepted map\nlow {made.low}\nhigh {'none' if made.high is None else made.high}\nupto {made.upto}\n"
+    if isinstance(made, timeweave.Fork):
+        lines = [(head, it.thread, it) for head, it in (("first", made.first), ("second", made.second))]
+        told = [f"{head} {thread.service} {thread.step} {thread.authenticator.hex()} {it.by} {it.archived}\n" for head, thread, it in lines]
+        return "accepted fork\n" + "".join(told)
+    at, thread, none = made.received, made.received.thread, made.absent
+    first = f"thread {at.service} {at.step} {thread.service} {thread.step} {thread.authenticator.hex()} {at.archived}\n"
+    head = "broken-rule" if made.is_joined else "broken-rule-or-fork"
+    return f"accepted {head}\n{first}absent {none.service} {none.step} {none.of_service} {none.of_step}\n"
+
+
+def reach_difference(form, files, status, output):
+    """What the library answers else than is wanted to the files of this form, or None."""
+    found, again = reached(FUNCTIONS[form], files)
+    if sum(map(len, files)) + len(output) <= LARGEST:
+        REACHED.append((form, status, files, output))
+    if found != (status, output):
+        return f"  wanted {status} {output!r}\n  the library answers {found}"
+    return None if again == output.decode() else f"  of {output!r}\n  the module for Python makes {again!r}"
+
+
+def map_or_fork_difference(words, files, status, output):
+    """What the library answers else than the program did to the words of `checkmap` or `checkfork`, or None. In the library's text the files
+    have names of their own."""
+    form, names = REACHING[words[0]]
+    given = [files.get(word) for word in words[1:]]
+    if status not in JUDGED or len(given) != len(names) or None in given or not is_built():
+        return None
+    if status == timeweave.UNREADABLE:
+        named = output.split(b" ")[1].decode(errors="surrogateescape")
+        own = [name for name, word in zip(names, words[1:]) if word == named]
+        if len(own) != 1:
+            return None
+        output = b" ".join([b"unreadable", own[0].encode(), *output.split(b" ")[2:]])
+    return reach_difference(form, given, status, output)
+
+
 def difference(words, files, status, output):
     """What the library answers else than the program did, or None. In the library's text the anchors file is always `anchors`."""
+    if words[:1] and words[0] in REACHING:
+        return map_or_fork_difference(words, files, status, output)
     form, proof, anchors = asked_of(words, files)
     if status not in JUDGED or proof is None or anchors is None or not is_built():
         return None
@@ -90,8 +150,8 @@ def difference(words, files, status, output):
 def chosen():
     """Small proofs of this run, most of them of different texts, as the file that library_calls.c reads."""
     rows = {}
-    for row in TRIED:
-        rows.setdefault((row[0], row[1], *row[4].split(b" ")[:3]), []).append(row)
+    for form, status, files, text in [*((form, status, (proof, anchors), text) for form, status, proof, anchors, text in TRIED), *REACHED]:
+        rows.setdefault((form, status, *text.split(b" ")[:3]), []).append((form, status, *files, text))
     least = [row for group in rows.values() for row in group[: max(2, MOST // len(rows))]][:MOST]
     spans = lambda row: b"".join(len(data).to_bytes(4, "big") + data for data in row[2:])  # noqa: E731
     return b"".join(row[0].encode() + bytes([row[1]]) + spans(row) for row in least)

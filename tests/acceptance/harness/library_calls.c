@@ -1,10 +1,10 @@
-/* Calls the library with the proofs of a file, in every way that a caller may, and tells what it answers else than it is to.
+/* Calls the library with the files of records, in every way that a caller may, and tells what it answers else than it is to.
  *
  *     library_calls FILE VERSION
  *
- * The file has one record a proof: the form, `v` or `s`; the status; then proof, anchors and text, each behind its size in four bytes. Each
- * buffer that is read or written ends where a page begins that nobody may touch. The allocator is wrapped, by the linker's --wrap, so that
- * its calls can fail, one after another.
+ * A record has the form: `v`, `s`, `m`, `f` or `c` for timeweave_verify, _strict, _checkmap, _checkfork or _contradict; the status; then the
+ * files that this function takes and the text, each behind its size in four bytes. Each buffer that is read or written ends where a page
+ * begins that nobody may touch. The allocator is wrapped, by the linker's --wrap, so that its calls can fail, one after another.
  */
 #define _GNU_SOURCE
 #include <pthread.h>
@@ -25,11 +25,18 @@ typedef struct {
     size_t size;
 } span;
 
+#define MOST_FILES 5
+
 typedef struct {
-    bool is_strict;
+    char form;
     uint32_t status;
-    span proof, anchors, text;
+    span files[MOST_FILES], text;
 } record;
+
+/* How many files the function of this form takes. */
+static size_t files_of(char form) {
+    return form == 'c' ? 5 : form == 'm' ? 3 : 2;
+}
 
 static _Thread_local long calls_left = -1;
 static int wrong;
@@ -74,8 +81,21 @@ static void tell(const char *what, size_t number, size_t room) {
     wrong = 1;
 }
 
+#define FILE_AT(i) r->files[i].bytes, r->files[i].size
+
 static uint32_t judged(const record *r, uint8_t *out, size_t room, size_t *size) {
-    return (r->is_strict ? timeweave_strict : timeweave_verify)(r->proof.bytes, r->proof.size, r->anchors.bytes, r->anchors.size, out, room, size);
+    switch (r->form) {
+    case 'v':
+        return timeweave_verify(FILE_AT(0), FILE_AT(1), out, room, size);
+    case 's':
+        return timeweave_strict(FILE_AT(0), FILE_AT(1), out, room, size);
+    case 'm':
+        return timeweave_checkmap(FILE_AT(0), FILE_AT(1), FILE_AT(2), out, room, size);
+    case 'f':
+        return timeweave_checkfork(FILE_AT(0), FILE_AT(1), out, room, size);
+    default:
+        return timeweave_contradict(FILE_AT(0), FILE_AT(1), FILE_AT(2), FILE_AT(3), FILE_AT(4), out, room, size);
+    }
 }
 
 /* One call with so much room; the text wanted is this. */
@@ -121,12 +141,13 @@ static void without_memory(const record *r, size_t number) {
 /* The same proof in pieces of so many bytes. */
 static void in_pieces(const record *r, size_t number, size_t most) {
     timeweave_collected proof = {0};
+    span whole = r->files[0];
     uint8_t out[64];
     size_t size = 0;
-    for (size_t at = 0; at < r->proof.size; at += most)
-        if (!timeweave_collect(&proof, r->proof.bytes + at, r->proof.size - at < most ? r->proof.size - at : most))
+    for (size_t at = 0; at < whole.size; at += most)
+        if (!timeweave_collect(&proof, whole.bytes + at, whole.size - at < most ? whole.size - at : most))
             tell("no memory for a piece", number, most);
-    uint32_t status = (r->is_strict ? timeweave_collect_strict : timeweave_collect_verify)(&proof, r->anchors.bytes, r->anchors.size, out, sizeof out, &size);
+    uint32_t status = (r->form == 's' ? timeweave_collect_strict : timeweave_collect_verify)(&proof, FILE_AT(1), out, sizeof out, &size);
     if (status != r->status || size != r->text.size || memcmp(out, r->text.bytes, size < sizeof out ? size : sizeof out))
         tell("in pieces it is told another thing", number, most);
     timeweave_collect_free(&proof);
@@ -137,7 +158,8 @@ static void every_way(const record *r, size_t number) {
     for (size_t i = 0; i < sizeof rooms / sizeof *rooms; i++)
         call(r, number, rooms[i], r->status, r->text);
     without_memory(r, number);
-    in_pieces(r, number, 1 + r->proof.size / 3);
+    if (r->form == 'v' || r->form == 's')
+        in_pieces(r, number, 1 + r->files[0].size / 3);
 }
 
 static size_t read_size(const uint8_t **at) {
@@ -158,18 +180,18 @@ static span read_span(const uint8_t **at) {
 
 static const uint8_t *file_bytes, *file_end;
 
-/* Each proof of the file, in every way. */
+/* Each record of the file, in every way. */
 static void *whole_file(void *nothing) {
     size_t number = 0;
     for (const uint8_t *at = file_bytes; at < file_end; number++) {
-        record r = {.is_strict = *at++ == 's'};
+        record r = {.form = (char)*at++};
         r.status = *at++;
-        r.proof = read_span(&at);
-        r.anchors = read_span(&at);
+        for (size_t i = 0; i < files_of(r.form); i++)
+            r.files[i] = read_span(&at);
         r.text = read_span(&at);
         every_way(&r, number);
-        give_back((uint8_t *)r.proof.bytes, r.proof.size);
-        give_back((uint8_t *)r.anchors.bytes, r.anchors.size);
+        for (size_t i = 0; i < files_of(r.form); i++)
+            give_back((uint8_t *)r.files[i].bytes, r.files[i].size);
         give_back((uint8_t *)r.text.bytes, r.text.size);
     }
     return nothing;

@@ -7,7 +7,7 @@ from harness.places import MANUAL
 
 SEEN = set()
 
-# The statuses that no run gives: nobody knows two texts with one SHA-256 digest, and with 127 the program ends on older processors alone.
+# The statuses that no run gives: nobody knows two texts with one SHA-256 digest, and with 127 only a program ends that was built for newer processors than the machine's.
 NEVER = {10, 127}
 
 

@@ -1,10 +1,9 @@
-"""The module of WebAssembly, asked by one process of Node for each proof that a case has the program judge."""
+"""The module of WebAssembly, asked by one process of Node for each proof, map and evidence that a case has the program judge."""
 
+import functools
 import os
 import subprocess
 import threading
-
-import timeweave
 
 from harness import library
 from harness.places import TOP
@@ -12,6 +11,13 @@ from harness.rooms import Skipped, Wrong, needs
 
 WEB = TOP / "web"
 MODULE, PAGE = WEB / "timeweave.wasm", WEB / "timeweave.html"
+
+
+# The functions of the library by the letters that the process takes.
+FUNCTIONS = {"v": "verify", "s": "strict", "m": "checkmap", "f": "checkfork", "c": "contradict"}
+
+# The commands over several files, each with its letter and the names that texts of the library have for its files.
+OVER_FILES = {"checkmap": ("m", ("low", "high", "anchors")), "checkfork": ("f", ("evidence", "anchors"))}
 
 
 class Asked:
@@ -22,11 +28,11 @@ class Asked:
         self.child = subprocess.Popen(["node", WEB / "tests/ask.mjs"], stdin=subprocess.PIPE, stdout=subprocess.PIPE)
 
     def judge(self, questions):
-        """The status and the text for each form ("v" or "s"), proof and anchors."""
+        """The status and the text for each letter of a function with its files."""
         span = lambda data: len(data).to_bytes(4, "big") + data  # noqa: E731
         with self.lock:
             self.count += len(questions)
-            self.child.stdin.write(b"".join(form.encode() + span(proof) + span(anchors) for form, proof, anchors in questions))
+            self.child.stdin.write(b"".join(form.encode() + b"".join(map(span, files)) for form, *files in questions))
             self.child.stdin.flush()
             return [self.answer() for _ in questions]
 
@@ -44,6 +50,12 @@ def is_built():
     return MODULE.exists() and library.is_built() and any(os.access(f"{folder}/node", os.X_OK) for folder in os.get_exec_path())
 
 
+@functools.lru_cache(maxsize=None)
+def has(form):
+    """Whether the module has the function of this letter."""
+    return f"timeweave_{FUNCTIONS[form]}".encode() in MODULE.read_bytes()
+
+
 def asked():
     """The process, begun once."""
     with STARTING:
@@ -52,15 +64,27 @@ def asked():
     return ASKED[0]
 
 
+def question_of(words, files, output):
+    """The letter and the files of words that ask for a verdict, and the program's text as the library says it, which has names of its own for files."""
+    if words[:1] and words[0] in OVER_FILES:
+        form, names = OVER_FILES[words[0]]
+        given = [files.get(word) for word in words[1:]] if len(words) == len(names) + 1 else [None]
+        told = output.split(b" ")
+        if told[0] == b"unreadable":
+            own = [name for name, word in zip(names, words[1:]) if word.encode(errors="surrogateescape") == told[1]]
+            output = b" ".join([told[0], own[0].encode(), *told[2:]]) if len(own) == 1 else None
+        return form, given, output
+    form, *given = library.asked_of(words, files)
+    return form, given, b"unreadable anchors line " + output.split(b" ")[-1] if output.startswith(b"unreadable") else output
+
+
 def difference(words, files, status, output):
-    """What the module answers else than the program did, or None. In its text the anchors file is always `anchors`."""
-    form, proof, anchors = library.asked_of(words, files)
-    if status not in library.JUDGED or proof is None or anchors is None or not is_built():
+    """What the module answers else than the program did, or None."""
+    form, given, wanted = question_of(words, files, output)
+    if form is None or None in given or wanted is None or status not in library.JUDGED or not is_built() or not has(form):
         return None
-    if status == timeweave.BAD_ANCHORS:
-        output = b"unreadable anchors line " + output.split(b" ")[-1]
-    found = asked().judge([(form, proof, anchors)])[0]
-    return None if found == (status, output) else f"  the program answers {status} {output!r}\n  the module   {found}"
+    found = asked().judge([(form, *given)])[0]
+    return None if found == (status, wanted) else f"  the program answers {status} {output!r}\n  the module   {found}"
 
 
 def built():
