@@ -1,4 +1,5 @@
-"""Timeweave's formats and judgements once more, in plain Python over hashlib, written from docs/definitions.md and docs/formats.md.
+"""Timeweave's formats and judgements once more, in plain Python over hashlib, written from docs/definitions.md and docs/formats.md; what
+services refuse, and the words and texts of commands, from docs/operating.md and the manual page, docs/timeweave.1.
 
 It is tested against the proved program, on tens of thousands of cases, and is itself not proved. With it proofs are judged without the
 program, and in years when nothing else of Timeweave runs:

@@ -20,7 +20,7 @@ _LINE = re.compile(rb"([a-z0-9-]{1,16}) ([1-9][0-9]{0,12}) ([0-9a-fA-F]{64})")
 
 
 class Anchor(NamedTuple):
-    """A step, from 1 on, and the authenticator that is held of it."""
+    """A step, from 1 on, and the authenticator that is held of it; a follower before its first head has 0."""
 
     step: int
     authenticator: bytes

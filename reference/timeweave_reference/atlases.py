@@ -1,6 +1,6 @@
 """Atlases: by receipts, the earliest step of every service to which a step leads.
 
-docs/formats.md, "An atlas" under "Evidence of a fork". A receipt says that the thread's service has a hop from the thread's step to the
+docs/formats.md, "An atlas" under "Receipt". A receipt says that the thread's service has a hop from the thread's step to the
 recorder's.
 """
 

@@ -1,7 +1,7 @@
 """Fields of bytes: numbers, names and digests; and a reader that tells the first byte that can't stand where it does.
 
-docs/formats.md, the paragraph before "Hashed texts". Numbers are unsigned, the high byte first. Steps, times and lengths are told in
-bytes and seconds as they stand there.
+docs/formats.md, the paragraph before "Hashed texts". Numbers are unsigned, the high byte first. Lengths are in bytes, times
+in seconds.
 """
 
 from __future__ import annotations
@@ -21,7 +21,7 @@ MOST_COUNT = 1024
 MOST_EVENT = 1024
 """The most bytes of an event."""
 
-MOST_STEP = 65536
+MOST_STEP_BYTES = 65536
 """The most bytes of all events of a step together."""
 
 NAME = re.compile("[a-z0-9-]{1,16}")
@@ -29,7 +29,7 @@ NAME = re.compile("[a-z0-9-]{1,16}")
 
 _NAME_BYTES = re.compile(rb"[a-z0-9-]{1,16}\0*")
 _LETTERS = b"abcdefghijklmnopqrstuvwxyz0123456789-"
-_TIMED = 2**31
+_HAS_TIME = 2**31
 
 
 def big_endian(number: int, width: int) -> bytes:
@@ -42,9 +42,9 @@ def padded(name: str) -> bytes:
     return name.encode().ljust(16, b"\0")
 
 
-def count_word(count: int, time: int | None) -> bytes:
+def count_and_time(count: int, time: int | None) -> bytes:
     """A count of events, at most 1,024, and the time in seconds, or None: 4 bytes, and 8 more with a time."""
-    return big_endian(count, 4) if time is None else big_endian(count + _TIMED, 4) + big_endian(time, 8)
+    return big_endian(count, 4) if time is None else big_endian(count + _HAS_TIME, 4) + big_endian(time, 8)
 
 
 class Malformed(ValueError):
@@ -111,9 +111,9 @@ class Reader:
                 raise Malformed(self.at + done - 1)
         raise Malformed(len(self.data))
 
-    def count_word(self, least: int) -> Tuple[int, int | None]:
+    def count_and_time(self, least: int) -> Tuple[int, int | None]:
         """A count of events from `least` to 1,024, and the time in seconds that follows, or None."""
-        is_timed = self.byte((0, _TIMED >> 24)) != 0
+        is_timed = self.byte((0, _HAS_TIME >> 24)) != 0
         count = self.number(3, least, MOST_COUNT)
         return count, self.number(8, 0, LAST_TIME) if is_timed else None
 

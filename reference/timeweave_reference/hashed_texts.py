@@ -58,7 +58,3 @@ def event_node(left: bytes, right: bytes) -> bytes:
 
 NO_EVENTS = digest(b"")
 """The event root of a step without events."""
-
-
-# The sizes of hashed texts in bytes: of a link, of the datum of a step without a time, of a node of an archive's tree.
-LINK_SIZE, DATUM_SIZE, NODE_SIZE = 74, 69, 129

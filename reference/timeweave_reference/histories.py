@@ -1,4 +1,4 @@
-"""History files: all that a service recorded; the rules that a sound history keeps; and histories in the making.
+"""History files: all that a service recorded; the rules that a sound history keeps; and the proof of an event, made of a history.
 
 docs/formats.md, "History file", and "Histories" of docs/definitions.md, which has the rules.
 """
@@ -12,7 +12,7 @@ from .answers import ACCEPTED, REFUSED, UNREADABLE, Answer, told, unreadable
 from .archives import EMPTY, Entry, Key, Node, Tree
 from .event_trees import event_part
 from .events_files import sized
-from .fields import LAST_STEP, LAST_TIME, MOST_COUNT, MOST_EVENT, MOST_STEP, Malformed, Reader, big_endian, padded
+from .fields import LAST_STEP, LAST_TIME, MOST_COUNT, MOST_EVENT, MOST_STEP_BYTES, Malformed, Reader, big_endian, padded
 from .proofs import ExistenceProof
 from .timelines import Timeline
 
@@ -22,7 +22,7 @@ MOST_BYTES = 67_108_864
 NAME_PLACE = 4
 """The place of the service's name in a history file."""
 
-_EVENTS, _THREAD, _TIMED = 1, 2, 2
+_EVENTS, _THREAD, _WITH_TIME = 1, 2, 2
 _WORD = 2**32 - 1
 
 
@@ -38,7 +38,7 @@ class NodeRow(NamedTuple):
     """A node that a step adds to the archive: the numbers of its sides, 0 for the empty tree, and the step that received its thread."""
 
     left: int
-    entry: int
+    received: int
     right: int
 
 
@@ -55,14 +55,14 @@ class Step:
 
     def to_bytes(self) -> bytes:
         """Its bytes in a history file."""
-        kind = (_THREAD if self.thread else _EVENTS) + (0 if self.time is None else _TIMED)
+        kind = (_THREAD if self.thread else _EVENTS) + (0 if self.time is None else _WITH_TIME)
         time = b"" if self.time is None else big_endian(self.time, 8)
         if self.thread:
             service, step, auth = self.thread
             content = padded(service) + big_endian(step, 8) + auth
         else:
             content = big_endian(len(self.events), 4) + sized(self.events)
-        nodes = b"".join(big_endian(left, 4) + big_endian(entry, 8) + big_endian(right, 4) for left, entry, right in self.nodes)
+        nodes = b"".join(big_endian(left, 4) + big_endian(received, 8) + big_endian(right, 4) for left, received, right in self.nodes)
         return big_endian(kind, 1) + time + content + big_endian(len(self.nodes), 2) + nodes + big_endian(self.root, 4)
 
 
@@ -74,10 +74,10 @@ def history_to_bytes(name: str, steps: Sequence[Step]) -> bytes:
 def _take_step(read: Reader) -> Step:
     """The step that stands next."""
     step = Step()
-    kind = read.number(1, _EVENTS, _THREAD + _TIMED)
-    if kind > _TIMED:
+    kind = read.number(1, _EVENTS, _THREAD + _WITH_TIME)
+    if kind > _WITH_TIME:
         step.time = read.number(8, 0, LAST_TIME)
-    if kind in (_EVENTS, _EVENTS + _TIMED):
+    if kind in (_EVENTS, _EVENTS + _WITH_TIME):
         step.events = [read.take(read.number(4, 0, MOST_EVENT)) for _ in range(read.number(4, 0, MOST_COUNT))]
     else:
         step.thread = Thread(read.name(), read.number(8, 1, LAST_STEP), read.digest())
@@ -142,7 +142,7 @@ class Growing:
 
     def add(self, row: NodeRow) -> None:
         """One more node, whose sides and thread are there."""
-        entry = Entry(*self.received[row.entry], row.entry)
+        entry = Entry(*self.received[row.received], row.received)
         self.trees.append(Node(self.trees[row.left], entry, self.trees[row.right]))
         self.ranges.append(_joined(self.ranges[row.left], entry.key, self.ranges[row.right]))
 
@@ -152,7 +152,7 @@ class Growing:
             self.received[number] = step.thread
         first = len(self.trees)
         for row in step.nodes:
-            if max(row.left, row.right) >= len(self.trees) or row.entry not in self.received:
+            if max(row.left, row.right) >= len(self.trees) or row.received not in self.received:
                 return 1
             self.add(row)
         if step.root >= len(self.trees):
@@ -165,7 +165,7 @@ class Growing:
         rule = self._broken_by_thread(name, step.thread)
         if rule:
             return rule
-        if sum(map(len, step.events)) > MOST_STEP:
+        if sum(map(len, step.events)) > MOST_STEP_BYTES:
             return 6
         if step.time is not None and step.time < self.clock:
             return 7

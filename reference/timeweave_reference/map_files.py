@@ -45,7 +45,8 @@ class Before:
 
 @dataclass(frozen=True)
 class LowFile:
-    """Kind 6: what a service, before its step, had received of a peer; `before` is None of step 1. `top` is the step of its anchor."""
+    """Kind 6: what a service, before its step, had received of a peer; `before` is None of step 1. `top` is the step of its anchor. Both
+    steps are from 1 on."""
 
     service: str
     step: int
@@ -84,7 +85,7 @@ class LowFile:
 
 @dataclass(frozen=True)
 class HighFile:
-    """Kind 7: at which step a peer, up to its step `top`, first received the step of a service or a later one."""
+    """Kind 7: at which step a peer, up to its step `top`, first received the step of a service or a later one; both are from 1 on."""
 
     peer: str
     top: int

@@ -47,5 +47,5 @@ def read_message(data: bytes) -> Message:
 
 
 def message_of(line: Timeline, step: int, since: int) -> Message:
-    """The message of a step of a history as its last one, since an earlier one."""
+    """The message of a step of a history, from 1 on, as its last one, since that step or an earlier one, from 0 on."""
     return Message(line.name, step, line.auths[step], since, line.path(step, since))

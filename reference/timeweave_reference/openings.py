@@ -8,7 +8,7 @@ from __future__ import annotations
 from dataclasses import dataclass
 from typing import Tuple
 
-from .fields import Reader, count_word
+from .fields import Reader, count_and_time
 from .hashed_texts import authenticator, link_label, step_datum
 from .paths import other_labels
 
@@ -32,11 +32,11 @@ class Opening:
 
     def to_bytes(self) -> bytes:
         """Its bytes: 100, 8 more with a time, and 32 more for each label."""
-        return self.event_root + self.archive_label + count_word(self.count, self.time) + self.before + b"".join(self.labels)
+        return self.event_root + self.archive_label + count_and_time(self.count, self.time) + self.before + b"".join(self.labels)
 
 
 def read_opening(read: Reader, step: int, least: int) -> Opening:
     """The opening of the step that stands next, whose count of events is `least`, 0 or 1, at least."""
     root, archive = read.digest(), read.digest()
-    count, time = read.count_word(least)
+    count, time = read.count_and_time(least)
     return Opening(root, archive, count, time, read.digest(), read.digests(other_labels(step)))

@@ -16,7 +16,6 @@ from .event_trees import EventPart, read_event_part
 from .fields import LAST_STEP, Reader, big_endian, padded
 from .openings import Opening, read_opening
 from .paths import Path, climbed, path_to_bytes, read_path
-from .timelines import front_to_bytes
 
 EXISTS, PRECEDES, THREAD, ABSENT, LINK = KINDS = range(1, 6)
 """The kinds of proofs, as their fifth byte has them."""
@@ -108,6 +107,11 @@ def link_text(service: str, step: int, top: int, auth: bytes) -> str:
 
 
 # ---- proofs
+
+
+def front_to_bytes(kind: int, service: str, step: int, top: int) -> bytes:
+    """What proofs of the kinds 1 and 3 to 5 begin with: 37 bytes."""
+    return b"TWP1" + big_endian(kind, 1) + padded(service) + big_endian(step, 8) + big_endian(top, 8)
 
 
 class Proof(ABC):

@@ -1,6 +1,6 @@
 """Receipts: a service's word that a step of it archived a thread; and files of them.
 
-docs/formats.md, "Receipt", and "A file of receipts" under "Evidence of a fork".
+docs/formats.md, "Receipt", and "A file of receipts" there.
 """
 
 from __future__ import annotations

@@ -304,7 +304,8 @@ def _read_line(text: str) -> Line:
 def read_report(text: bytes) -> List[Line]:
     """The lines of a text that an answer has; raises `Malformed` with the number of the first line, from 1, that is none."""
     lines = []
-    for number, line in enumerate(text.decode(errors="surrogateescape").splitlines(), 1):
+    texts = text.decode(errors="surrogateescape").removesuffix("\n").split("\n") if text else []
+    for number, line in enumerate(texts, 1):
         try:
             lines.append(_read_line(line))
         except (ValueError, TypeError, IndexError) as bad:

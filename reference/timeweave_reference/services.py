@@ -1,4 +1,5 @@
-"""A service: what appends and messages make of it, the bytes of its store, and what it answers.
+"""A service: what appends and messages make of it; its store's bytes; and the proofs of threads, absence and links, the maps, messages,
+receipts and the history file that it writes.
 
 docs/operating.md tells what becomes of a message: a thread that the archive has is answered by the receipt of the step that received it;
 one of another authenticator is a fork; one below the last step of its service is stale; and a link has to lead up from that last one.
@@ -13,7 +14,7 @@ from .answers import REFUSED, Answer, told
 from .archives import Entry, Key, Tree, absent, present, tree_proof
 from .event_trees import event_root
 from .events_files import sized
-from .fields import LAST_STEP, MOST_COUNT, MOST_EVENT, MOST_STEP
+from .fields import LAST_STEP, MOST_COUNT, MOST_EVENT, MOST_STEP_BYTES
 from .hashed_texts import genesis
 from .histories import NodeRow, Step, Thread, existence_proof, history_to_bytes
 from .map_files import high_file, low_file
@@ -86,7 +87,7 @@ class Service:
         sizes = [len(event) for event in events]
         for length in sizes:
             refuse_unless(length <= MOST_EVENT, f"TooLong {length}")
-        refuse_unless(sum(sizes) <= MOST_STEP, f"TooLong {sum(sizes)}")
+        refuse_unless(sum(sizes) <= MOST_STEP_BYTES, f"TooLong {sum(sizes)}")
         self._check_clock(time)
         stream = len(sized(events))
         first = self.archive.next_page() if stream else 0
@@ -163,7 +164,7 @@ class Service:
         return self.archive.tree(self.roots[step].page)
 
     def entry(self, step: int, service: str, k: int) -> Entry | None:
-        """The entry of a thread in the archive after a step, or None."""
+        """The entry of the thread of a service's step `k`, from 1 on, in the archive after a step; None where it isn't there."""
         entry = self.entries.get((service, k))
         return entry if entry and entry.archived <= step else None
 
@@ -203,10 +204,10 @@ class Service:
         self._check_steps(1, step, top)
         return low_file(self.line, self.tree(step - 1), step, peer, top).to_bytes()
 
-    def high_map(self, step: int, peer: str, top: int) -> bytes:
-        """The high file for the step of a peer, up to its own step `top`; raises `Refused`."""
+    def high_map(self, step: int, service: str, top: int) -> bytes:
+        """The high file for the step, from 1 on, of another service, up to its own step `top`; raises `Refused`."""
         self._check_steps(0, 0, top)
-        return high_file(self.line, self.tree(top), top, peer, step).to_bytes()
+        return high_file(self.line, self.tree(top), top, service, step).to_bytes()
 
     def history(self) -> bytes:
         """The file of its history: each step adds the nodes of the tree pages that it wrote, each node behind both its sides."""

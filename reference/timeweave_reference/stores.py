@@ -11,6 +11,7 @@ from typing import List, Sequence, Tuple
 
 from .events_files import sized
 from .fields import LAST_STEP, LAST_TIME, MOST_COUNT, Malformed, Reader, big_endian, padded
+from .hashed_texts import genesis
 from .histories import Thread
 from .paths import top_level
 from .tree_pages import FIRST, PAGE, Child
@@ -38,7 +39,8 @@ GATE = page(b"\x01")
 
 @dataclass(frozen=True)
 class Body:
-    """A body: its generation, how many pages the store has, its first four among them, and the root record."""
+    """A body: its generation, below 2^48; how many pages the store has, its first four among them, from 4 and below 2^48; and the root
+    record, of at most 512 bytes."""
 
     generation: int
     used: int
@@ -147,7 +149,8 @@ def read_service_root(data: bytes) -> ServiceRoot:
 
 @dataclass(frozen=True)
 class FollowerRoot:
-    """The root record of a follower: 64 bytes. The last head's step, 0 for none, its authenticator, and its page, 0 for none."""
+    """The root record of a follower: 64 bytes. The last head's step, 0 for none, its authenticator, at step 0 the name's own,
+    and its page, 0 for none."""
 
     name: str
     step: int
@@ -160,7 +163,8 @@ class FollowerRoot:
 
     def may_stand(self, body: Body) -> bool:
         """Whether the record is allowed beside this body. That its page is one of the store's is found out where heads are told."""
-        return body.used <= FIRST + self.step and body.generation <= self.step + 1
+        is_begun = self.step > 0 or self.authenticator == genesis(self.name)
+        return is_begun and body.used <= FIRST + self.step and body.generation <= self.step + 1
 
 
 def read_follower_root(data: bytes) -> FollowerRoot:
@@ -174,7 +178,8 @@ def read_follower_root(data: bytes) -> FollowerRoot:
 
 @dataclass(frozen=True)
 class HeadPage:
-    """The page of a head that a follower kept: its step, its authenticator, and the page of the head before, 0 for none."""
+    """The page of a head that a follower kept: its step, from 1 on, its authenticator, and the page of the head before, 0 for none, else
+    below its own."""
 
     step: int
     authenticator: bytes
@@ -186,7 +191,7 @@ class HeadPage:
 
 
 def read_head_page(data: bytes, number: int) -> HeadPage:
-    """The head page of this number; raises `Malformed` where it is none."""
+    """The head page of this number; raises `Malformed` where it is none. That the heads lead on isn't looked at."""
     read = Reader(data, PAGE)
     read.byte((4,))
     found = HeadPage(read.number(8, 1, LAST_STEP), read.digest(), read.number(8, 0, number - 1))
@@ -260,7 +265,10 @@ class EventPage:
 
 
 def read_event_page(data: bytes) -> EventPage:
-    """The event page that a page is; raises `Malformed` where it is none."""
+    """The event page that a page is; raises `Malformed` where it is none.
+
+    That its step and number are those of the step page that names it, and that zeros stand behind the stream, isn't looked at.
+    """
     read = Reader(data, PAGE)
     read.byte((2,))
     found = EventPage(read.number(8, 1, LAST_STEP), read.number(2, 0, 65535), read.take(PIECE))

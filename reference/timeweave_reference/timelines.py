@@ -1,6 +1,6 @@
-"""A service's steps with their authenticators, from which paths, openings and messages are made.
+"""A service's steps with their authenticators, from which its lines, paths and openings are made; proofs and messages are made of these.
 
-docs/formats.md, "Hashed texts".
+docs/formats.md, "Hashed texts", "Path" and "Opening".
 """
 
 from __future__ import annotations
@@ -8,7 +8,6 @@ from __future__ import annotations
 from typing import List, Sequence
 
 from .event_trees import event_root
-from .fields import big_endian, padded
 from .hashed_texts import EMPTY_ARCHIVE, authenticator, genesis, link_label, step_datum
 from .openings import Opening
 from .paths import Path, PathLink, greedy_steps, link_level, top_level
@@ -84,10 +83,5 @@ class Timeline:
         return self.clocks[step]
 
     def line(self, step: int) -> bytes:
-        """The line of a step, as an anchors file has it."""
+        """The line of a step from 0 on; from 1 on it is one of an anchors file."""
         return f"{self.name} {step} {self.auths[step].hex()}\n".encode()
-
-
-def front_to_bytes(kind: int, service: str, step: int, top: int) -> bytes:
-    """What proofs of the kinds 1 and 3 to 5 begin with: 37 bytes."""
-    return b"TWP1" + big_endian(kind, 1) + padded(service) + big_endian(step, 8) + big_endian(top, 8)

@@ -162,9 +162,11 @@ class TreePage(NamedTuple):
 
 
 def read_tree_page(data: bytes, number: int) -> TreePage:
-    """The tree page of this number; raises `Malformed` where it is none, of slots that are no red-black tree at the root's slot.
+    """The tree page of this number; raises `Malformed` where it is none, of keys that don't rise at the entry's place, and of slots that are
+    no red-black tree at the root's slot.
 
-    That its keys lie between those around it, and how many it has at least, follows from the pages above.
+    That its keys lie between those around it, that its level is one lower than that above, and how many keys it has at least, follows from
+    the pages above and isn't looked at. A child of 1 to 3 is read; a way that comes to it finds that it is no tree page.
     """
     read = Reader(data, PAGE)
     read.byte((3,))
@@ -188,7 +190,7 @@ def read_tree_page(data: bytes, number: int) -> TreePage:
 def _read_child(read: Reader, level: int, number: int) -> Child:
     """The child that stands next in a page of this level and number."""
     if level:
-        return Child(read.number(8, FIRST, number - 1), read.digest())
+        return Child(read.number(8, 1, number - 1), read.digest())
     read.number(8, 0, 0)
     read.magic(EMPTY_ARCHIVE)
     return NO_CHILD

@@ -1,8 +1,8 @@
 """Scripts played: what `replay` tells of the lines of a script, by services of this library on disks in memory.
 
-docs/formats.md, "What is told" under "Script". A service's append, or its receiving of a message that makes a step, writes pages, a body
-and a gate, and syncs behind each: where its spare gate is open, it is closed first. A crash at one of these calls leaves the step where
-the gate is open then, and else the steps before.
+docs/formats.md, "What is told" under "Script". A service's append, or its receiving of a message that makes a step, writes its pages and a
+body, then a barrier, a gate, and a barrier ("A commit" there); where its spare gate is open, a write that closes it and a barrier come
+first. A crash at one of these calls leaves the step where the gate is open then, and else the steps before.
 """
 
 from __future__ import annotations
@@ -20,7 +20,7 @@ from .services import Refused, Service
 from .verdicts import judged, read_proof
 
 OLD, NEW, ZEROS, ONES = range(4)
-"""What a crash leaves of a page that was written since the last good sync: its old bytes, the new ones, zeros, or bytes of the value 1."""
+"""What a crash leaves of a page that was written since the last good barrier: its old bytes, the new ones, zeros, or bytes of the value 1."""
 
 
 class Crash(NamedTuple):

@@ -14,7 +14,7 @@ from timeweave_reference.archives import (
     EMPTY, MOST_ABOVE_ENTRY, MOST_ABOVE_GAP, Ask, Entry, Node, Question, TreeProof, absent, listed, listed_answer, present,
     tree_proof,
 )
-from timeweave_reference.fields import LAST_STEP, count_word
+from timeweave_reference.fields import LAST_STEP, count_and_time
 from timeweave_reference.fields import big_endian as be
 from timeweave_reference.hashed_texts import digest, node_text
 from timeweave_reference.paths import top_level
@@ -187,7 +187,7 @@ def numbers_in_fields():
         fields = [("step", 21, 8, steps), ("top", 29, 8, steps)]
         if kind != LINK:
             front = len(part_bytes(kind, line, STEP, TOP))
-            word = front - 32 * (1 + top_level(STEP)) - len(count_word(0, line.times[STEP - 1]))
+            word = front - 32 * (1 + top_level(STEP)) - len(count_and_time(0, line.times[STEP - 1]))
             counts = (0, 1, 255, 1024, 1025, 65536, 2**24, 2**30, 2**31, 2**31 + 1024, 2**31 + 1025, 2**32 - 1)
             fields += [("count of events", word, 4, counts), ("step of the thread", front + 16, 8, steps)]
             fields += [("ancestors", front + (64 if kind == THREAD else 24), 1, (0, 1, 2, 3, 4, 5, 126, 127, 128, 129, 255))]

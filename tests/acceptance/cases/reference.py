@@ -56,16 +56,27 @@ def has_name(module, name):
     return hasattr(module, name) or any(hasattr(it, name) for it in vars(module).values() if isinstance(it, type))
 
 
+def is_there(name):
+    """Whether there is what is named by a module, what it has, and so on, parted by points."""
+    module, *rest = name.split(".")
+    found = importlib.import_module(f"timeweave_reference.{module}")
+    for word in rest:
+        found = getattr(found, word, None)
+    return found is not None
+
+
 def sections(room):
-    """its README has a row for each section of docs/formats.md, of modules and readers that are there"""
+    """its README has a row for each section of docs/formats.md, of modules, readers and makers that are there"""
     text, wrong = (TOP / "reference/README.md").read_text(), []
-    rows = re.findall(r"^\| ([^|]*) \| (`[^|]*) \| ([^|]*)\|$", text.split("| section of formats.md |")[1], re.M)
-    named = " ".join(section for section, _, _ in rows).lower()
+    table = text.split("| section of formats.md |")[1].split("\n\n")[0]
+    rows = [[cell.strip() for cell in line[1:-1].split("|")] for line in table.split("\n")[2:]]
+    named = " ".join(section for section, *_ in rows).lower()
     for title in re.findall(r"^###? (.*)$", (TOP / "docs/formats.md").read_text(), re.M):
         wrong += [f"  no row is of {title}"] * (re.sub(r" \(.*\)", "", title).lower() not in named)
-    for _, modules, readers in rows:
+    for _, modules, readers, makers in rows:
         found = [importlib.import_module(f"timeweave_reference.{name}") for name in re.findall(r"`(\w+)`", modules)]
         wrong += [f"  {modules} has no {name}" for name in re.findall(r"`(\w+)`", readers) if not any(has_name(module, name) for module in found)]
+        wrong += [f"  there is no {name}" for name in re.findall(r"`([^`]*)`", makers) if not is_there(name)]
     if wrong or len(rows) < 20:
         raise Wrong("\n".join(wrong) or f"  the table has {len(rows)} rows")
 

@@ -5,7 +5,7 @@ from timeweave_reference.event_trees import event_root
 from timeweave_reference.fields import big_endian as be
 from timeweave_reference.hashed_texts import EMPTY_ARCHIVE, authenticator, digest, link_label, step_datum
 from timeweave_reference.paths import greedy_steps, link_level, top_level
-from timeweave_reference.timelines import front_to_bytes
+from timeweave_reference.proofs import front_to_bytes
 
 
 class DeepStep:

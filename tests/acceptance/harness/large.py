@@ -9,9 +9,12 @@ from harness.making import absent_bytes, event_bytes, thread_bytes
 from timeweave_reference.archives import EMPTY, Entry, Node, Tree, absent, goes_left, present, tree_proof
 from timeweave_reference.fields import padded
 from timeweave_reference.fields import big_endian as be
-from timeweave_reference.hashed_texts import DATUM_SIZE, LINK_SIZE, NODE_SIZE, digest
+from timeweave_reference.hashed_texts import digest
 from timeweave_reference.paths import greedy_steps, top_level
 from timeweave_reference.proofs import ABSENT, PRECEDES, THREAD, absent_text, thread_text
+
+# The sizes of hashed texts in bytes: of a link, of the datum of a step without a time, of a node of an archive's tree.
+LINK_SIZE, DATUM_SIZE, NODE_SIZE = 74, 69, 129
 
 
 def part_sizes(step, top):

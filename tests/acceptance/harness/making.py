@@ -6,9 +6,9 @@ from timeweave_reference.fields import big_endian as be
 from timeweave_reference.fields import padded
 from timeweave_reference.messages import Message, message_of, read_message
 from timeweave_reference.paths import path_to_bytes
-from timeweave_reference.proofs import LINK, event_lines
+from timeweave_reference.proofs import LINK, event_lines, front_to_bytes
 from timeweave_reference.receipts import Receipt
-from timeweave_reference.timelines import Timeline, front_to_bytes
+from timeweave_reference.timelines import Timeline
 
 HEX = "9f9cc8f6baef592ed6bf90b106ebe7b882f59a1cc9803a6d1eef6974da5f87ed"
 
