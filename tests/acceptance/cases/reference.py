@@ -121,6 +121,13 @@ def pages(room):
     heads = [stores.read_head_page(data[number * PAGE : (number + 1) * PAGE], number) for number in (4, 5)]
     if stores.read_follower_root(body.root).step != 9 or [(head.step, head.before) for head in heads] != [(1, 0), (9, 4)]:
         raise Wrong(f"  a follower's store is read as {heads}")
+    begun = [stores.FollowerRoot("hub", 0, auth, 0).may_stand(stores.Body(1, 4, b"")) for auth in (service.line.auths[0], bytes(32))]
+    if begun != [True, False]:
+        raise Wrong(f"  a follower's root record at step 0 may stand: {begun}, of the name's own authenticator and of zeros")
+    sides = [tree_pages.Child(page, bytes(32)) for page in (1, 8)]
+    above = tree_pages.TreePage(1, tree_pages.Shape(False, None, None), [service.threads[1]], sides)
+    if tree_pages.read_tree_page(above.to_bytes(), 9) != above:
+        raise Wrong("  a tree page that names page 1 is read as something else")
 
 
 def spelled_once(read, page, number):
