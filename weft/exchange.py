@@ -3,7 +3,6 @@
 from __future__ import annotations
 
 import re
-import tempfile
 from pathlib import Path
 from typing import NamedTuple, Optional
 
@@ -101,10 +100,7 @@ class Turn:
         public = key if key is None or key.suffix == ".pub" else beside(key, ".pub")
         if public is None or not public.exists():
             return False
-        with tempfile.TemporaryDirectory(prefix="weft-") as folder:
-            signers = Path(folder) / "signers"
-            signatures.add_signer(signers, signed.line.service, public)
-            return signatures.checked(signed, signers) is not None
+        return signatures.checked_by(signed, public) is not None
 
     # ---- what came
 

@@ -23,6 +23,7 @@ from weft.trouble import Trouble
 NAMESPACE = "timeweave-line"
 BEGIN, END = "-----BEGIN SSH SIGNATURE-----", "-----END SSH SIGNATURE-----"
 MOST_BYTES = 65_536
+MOST_SIGNERS = 1 << 20
 MOST_SECONDS = 120
 
 
@@ -101,16 +102,59 @@ def checked(signed: Signed, signers: AnyPath) -> Optional[str]:
     return f"{key[1].decode()} {key[2].decode()}" if status == 0 and key else None
 
 
-def add_signer(signers: Path, service: str, key: AnyPath) -> str:
-    """Adds the public key of a file as that of a service; answers its fingerprint."""
+def checked_by(signed: Signed, key: AnyPath) -> Optional[str]:
+    """The same, of the public key of a file alone."""
+    with tempfile.NamedTemporaryFile(prefix="weft-", suffix=".signers") as file:
+        file.write(public_key(signed.line.service, key).line)
+        file.flush()
+        return checked(signed, file.name)
+
+
+class PublicKey(NamedTuple):
+    """A public key of a file: its line in a file of signers as that of a service, and its fingerprint."""
+
+    line: bytes
+    fingerprint: str
+
+
+def public_key(service: str, key: AnyPath) -> PublicKey:
+    """The public key of a file, as that of a service; raises Trouble where the file has none."""
     words = files.read(key, MOST_BYTES).decode("utf-8", "replace").split()
     if len(words) < 2 or not re.fullmatch(r"[a-z0-9@.-]+", words[0]) or not re.fullmatch(r"[A-Za-z0-9+/=]+", words[1]):
         raise Trouble(Status.UNREADABLE, f"{name_of(key)} has no public key", "Name the file that ends in .pub.")
     status, told, output = keygen("-l", "-f", os.fspath(key))
     if status:
         raise Trouble(Status.UNREADABLE, f"{name_of(key)} has no public key: {told}")
-    old = files.read_if_there(signers, 1 << 20) or b""
-    new = f'{service} namespaces="{NAMESPACE}" {words[0]} {words[1]}\n'.encode()
-    if new not in old:
-        files.renew(signers, old + (b"" if not old or old.endswith(b"\n") else b"\n") + new)
-    return printable(output.decode("utf-8", "replace").split()[1])
+    line = f'{service} namespaces="{NAMESPACE}" {words[0]} {words[1]}\n'.encode()
+    return PublicKey(line, printable(output.decode("utf-8", "replace").split()[1]))
+
+
+def has_key(signers: AnyPath, service: str) -> bool:
+    """Whether the file of signers has a key for the service's name."""
+    names = (line.split(None, 1)[0] for line in signer_lines(signers) if line.split())
+    return any(service.encode() in name.strip(b'"').split(b",") for name in names)
+
+
+def signer_lines(signers: AnyPath) -> list[bytes]:
+    """The lines of a file of signers, none where it isn't there."""
+    return (files.read_if_there(signers, MOST_SIGNERS) or b"").splitlines()
+
+
+def expect_no_other(signers: AnyPath, service: str, key: PublicKey) -> None:
+    """Raises Trouble where the file of signers has another key for the service's name, and not this one: a second one is never added silently."""
+    if has_key(signers, service) and key.line.strip() not in signer_lines(signers):
+        raise Trouble(
+            Status.LOOK,
+            f"{name_of(signers)} has another key of {service} already, and {key.fingerprint} wasn't noted",
+            f"Ask {service}, by another way, which one is its own. To replace the old one, take its line out of {name_of(signers)}, and run this again.",
+        )
+
+
+def add_signer(signers: Path, service: str, key: AnyPath) -> str:
+    """Adds the public key of a file as that of a service; answers its fingerprint. Raises Trouble where the file of signers has another one of that name."""
+    new = public_key(service, key)
+    expect_no_other(signers, service, new)
+    if new.line.strip() not in signer_lines(signers):
+        old = files.read_if_there(signers, MOST_SIGNERS) or b""
+        files.renew(signers, old + (b"" if not old or old.endswith(b"\n") else b"\n") + new.line)
+    return new.fingerprint

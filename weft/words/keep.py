@@ -6,6 +6,7 @@ import argparse
 import os
 import sys
 from pathlib import Path
+from typing import NamedTuple, Optional
 
 from weft import files, lines, signatures
 from weft.files import AnyPath
@@ -29,7 +30,7 @@ def add(parser: argparse.ArgumentParser) -> None:
     """The words."""
     parser.add_argument("file", metavar="FILE", nargs="?", help="a file of a line, or with --by of several; - for standard input")
     parser.add_argument("--by", metavar="HOW", help="how the lines came, in words, where they aren't signed")
-    parser.add_argument("--signer", nargs=2, metavar=("NAME", "KEY.pub"), help="notes first that this public key is the service's of this name")
+    parser.add_argument("--signer", nargs=2, metavar=("NAME", "KEY.pub"), help="notes that this public key is the service's of this name; with FILE, once its signature is good by it")
     add_places(parser)
     parser.add_argument("--json", action="store_true", help="writes JSON")
 
@@ -52,56 +53,82 @@ def given(path: str) -> bytes:
     return data
 
 
-def signed_line(path: str, data: bytes, signers: AnyPath) -> tuple[Line, str]:
-    """The line of a file with its signature, and how it came; raises Trouble where the signature isn't good."""
+class Signer(NamedTuple):
+    """Whose key --signer names, and its file."""
+
+    service: str
+    key: str
+
+
+def signed_line(path: str, data: bytes, signers: AnyPath, signer: Optional[Signer]) -> tuple[Line, str]:
+    """The line of a file with its signature, and how it came; the key that --signer names counts beside those of the file of signers. Raises Trouble
+    where the signature isn't good."""
     both = signatures.split(data)
     if both is None:
         found = lines.lines_of(data, name_of(path))
         if len(found) > 1:
             raise Trouble(Status.UNREADABLE, f"{name_of(path)} has {len(found)} lines, and a signature is of one", "Keep each by itself.")
         both = signatures.Signed(found[0], files.read(f"{path}.sig", signatures.MOST_BYTES))
-    key = signatures.checked(both, signers)
+    service = both.line.service
+    if signer is not None and signer.service != service:
+        raise Trouble(Status.USAGE, f"the line of {name_of(path)} is of {service}, and --signer names {signer.service}", "Nothing was noted or kept.")
+    key = signatures.checked(both, signers) if signer is None else signatures.checked_by(both, signer.key)
+    if key is None and signer is not None:
+        raise Trouble(
+            Status.CONTRADICTION,
+            f"the signature of {name_of(path)} isn't good by the key of {name_of(signer.key)}, and that key wasn't noted",
+            f"Ask {service} for its key, and for the line with its signature, by another way.",
+        )
     if key is None:
         raise Trouble(
             Status.CONTRADICTION if os.path.exists(signers) else Status.MISSING,
-            f"the signature of {name_of(path)} isn't good by a key that {name_of(signers)} has for {both.line.service}",
-            f"Ask {both.line.service} for its key by another way, then: weft keep --signer {both.line.service} KEY.pub. "
-            "Or keep the line without its signature: --by.",
+            f"the signature of {name_of(path)} isn't good by a key that {name_of(signers)} has for {service}",
+            f"Ask {service} for its key by another way, then: weft keep --signer {service} KEY.pub. Or keep the line without its signature: --by.",
         )
     return both.line, f"signed by {key}"
 
 
 def run(options: argparse.Namespace) -> Status:
-    """Keeps the lines."""
+    """Keeps the lines, and notes a key that --signer names once the signature is good by it."""
     kept, signers = options.kept or lines.default_kept(), options.signers or signatures.default_signers()
-    if options.signer:
-        note_signer(signers, *options.signer)
+    signer = Signer(lines.checked_name(options.signer[0]), options.signer[1]) if options.signer else None
+    if signer is not None:
+        signatures.expect_no_other(signers, signer.service, signatures.public_key(*signer))
     if options.file is None:
-        if options.signer:
-            return Status.DONE
-        raise Trouble(Status.USAGE, "no file is named", "See weft keep --help.")
-    data = given(options.file)
-    has_signature = signatures.split(data) is not None or (options.file != "-" and os.path.lexists(f"{options.file}.sig"))
-    if has_signature and options.by is None:
-        line, how = signed_line(options.file, data, signers)
-        new = [lines.kept_now(line, how)]
-    elif options.by is None:
-        raise Trouble(
-            Status.USAGE, f"{name_of(options.file)} has no signature beside it", "Say how it came: --by 'by letter from the notary'."
-        )
-    else:
-        both = signatures.split(data)
-        found = [both.line] if both else lines.lines_of(data, name_of(options.file))
-        new = [lines.kept_now(line, options.by) for line in found]
-    tell(options, kept, new, lines.keep(kept, new))
+        if signer is None:
+            raise Trouble(Status.USAGE, "no file is named", "See weft keep --help.")
+        note_signer(signers, signer)
+        return Status.DONE
+    if signer is not None and options.by is not None:
+        raise Trouble(Status.USAGE, "--by is for lines without a signature, and --signer for a signed one", "Leave one of both out.")
+    new = named_lines(options, given(options.file), signers, signer)
+    added = lines.keep(kept, new)
+    if signer is not None:
+        note_signer(signers, signer)
+    tell(options, kept, new, added)
     return Status.DONE
 
 
-def note_signer(signers: Path, service: str, key: str) -> None:
+def named_lines(options: argparse.Namespace, data: bytes, signers: AnyPath, signer: Optional[Signer]) -> list[Kept]:
+    """The lines of the named file, each with how it came."""
+    both = signatures.split(data)
+    has_signature = both is not None or (options.file != "-" and os.path.lexists(f"{options.file}.sig"))
+    if options.by is not None:
+        found = [both.line] if both else lines.lines_of(data, name_of(options.file))
+        return [lines.kept_now(line, options.by) for line in found]
+    if not has_signature:
+        raise Trouble(
+            Status.USAGE, f"{name_of(options.file)} has no signature beside it", "Say how it came: --by 'by letter from the notary'."
+        )
+    line, how = signed_line(options.file, data, signers, signer)
+    return [lines.kept_now(line, how)]
+
+
+def note_signer(signers: Path, signer: Signer) -> None:
     """Notes the key of a service."""
     files.make_folder(signers.parent)
-    fingerprint = signatures.add_signer(signers, lines.checked_name(service), key)
-    say(f"{fingerprint} is noted as the key of {service}, in {name_of(signers)}.")
+    fingerprint = signatures.add_signer(signers, *signer)
+    say(f"{fingerprint} is noted as the key of {signer.service}, in {name_of(signers)}.")
 
 
 def tell(options: argparse.Namespace, path: Path, new: list[Kept], added: list[Kept]) -> None:

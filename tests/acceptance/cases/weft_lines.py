@@ -71,6 +71,36 @@ def signed(room):
         raise Wrong(f"  {loom.read('kept')}")
 
 
+def wrong_key(room):
+    """a key is noted once the signature is good by it, and never as a second one of its name: that is told, with how to replace the first"""
+    loom = with_keys(room)
+    loom.key("bank")
+    loom.expect("line shop --sign shop.key --out shop.line", 0)
+    loom.expect("keep shop.line --signer shop bank.key.pub", 11, "isn't good", "wasn't noted")
+    loom.put("fake", loom.read("shop.line").replace(b" 2 ", b" 7 "))
+    loom.put("bank.line", loom.read("shop.line").replace(b"shop", b"bank"))
+    for name in ("fake", "bank.line"):
+        loom.put(f"{name}.sig", loom.read("shop.line.sig"))
+    loom.expect("keep fake --signer shop shop.key.pub", 11, "wasn't noted")
+    loom.expect("keep bank.line --signer shop shop.key.pub", 2, "is of bank, and --signer names shop")
+    loom.expect("keep shop.line --by mail --signer shop shop.key.pub", 2, "--by")
+    loom.put("plain", loom.read("shop.line"))
+    loom.expect("keep plain --signer shop bank.key.pub", 2, "no signature")
+    if (loom.folder / "signers").exists() or (loom.folder / "kept").exists():
+        raise Wrong("  a key was noted, or a line kept")
+    loom.expect("keep shop.line --signer shop shop.key.pub", 0, "is noted as the key of shop", "signed by ED25519")
+    before = loom.read("signers")
+    for words in ("keep shop.line --signer shop bank.key.pub", "keep --signer shop bank.key.pub"):
+        loom.expect(words, 10, "has another key of shop already", "wasn't noted", f"take its line out of {loom.folder}/signers")
+    loom.expect("keep shop.line --signer shop shop.key.pub", 0, "kept already")
+    if loom.read("signers") != before:
+        raise Wrong("  the file of signers was changed")
+    loom.expect("accept box shop --key shop.key.pub", 10, "No message")
+    loom.expect("accept box shop --key bank.key.pub", 10, "has another key of shop already", "take its line out of box/allowed_signers")
+    loom.put("signers", b"")
+    loom.expect("keep --signer shop bank.key.pub", 0)
+
+
 def by_hand(room):
     """lines without a signature are kept with how they came and when; of two that contradict the second is refused, and told whence both came"""
     loom = with_keys(room)
@@ -201,5 +231,5 @@ def versions(room):
 
 
 def cases():
-    works = (printed, signed, by_hand, no_lines, keep_with_faults, told, versions)
+    works = (printed, signed, wrong_key, by_hand, no_lines, keep_with_faults, told, versions)
     return [case(work, "weft lines") for work in works]
