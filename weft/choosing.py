@@ -86,8 +86,8 @@ def judge_evidence(judge: Bench, data: bytes, kept: KeptLines) -> Judgement:
     return Judgement("checkfork", judge.judge("checkfork", data, anchors(lines.values())), list(lines.values()), [])
 
 
-def missing_sentence(needed: Needed, kept: KeptLines) -> str:
-    """Which line is missing, and whom to ask."""
+def missing_sentence(needed: Needed, kept: KeptLines, proof: bytes = b"") -> str:
+    """Which line is missing, and whom to ask; of a proof that is under it, whether one under a line that was kept is to be asked for."""
     steps = kept.steps(needed.service)
     later = [step for step in steps if step > needed.step]
     if not steps:
@@ -96,8 +96,32 @@ def missing_sentence(needed: Needed, kept: KeptLines) -> str:
         have = f"You hold {count_of(len(steps), 'line')} of it, of the steps {steps[0]} to {steps[-1]}, and not this one"
     else:
         have = f"You hold its {'line of step' if len(steps) == 1 else 'lines of the steps'} {', '.join(map(str, steps))} alone"
+    older = held_before(needed, steps, proof)
+    if older is not None:
+        ask = f"ask {needed.service} for the proof under its step {older.step} ({older.command})"
+        return f"The line of step {needed.step} of {needed.service} is missing. {have}: {ask}. A line that you get only now shows nothing about the time before."
     ask = f"ask {needed.service} for that line" + (f", or for the proof under its step {later[0]}" if later else "")
     return f"The line of step {needed.step} of {needed.service} is missing. {have}: {ask}."
+
+
+class Older(NamedTuple):
+    """A step of which a line was kept before the proof was made, and the command that makes the proof under it."""
+
+    step: int
+    command: str
+
+
+def held_before(needed: Needed, steps: list[int], proof: bytes) -> Optional[Older]:
+    """The first of these steps, of which lines were kept, that is below the one needed, and under which what the proof shows can be proved too."""
+    found = formats.read_proof(proof)
+    if found is None or (found.service, found.top) != needed:
+        return None
+    step = next((step for step in steps if found.step <= step < needed.step), None)
+    if step is None:
+        return None
+    if isinstance(found, formats.proofs.ExistenceProof):
+        return Older(step, f"weft prove SERVICE FILE --top {step}")
+    return Older(step, "weft chain" if formats.kind_of(proof) == "precedence" else f"timeweave prove DIR .. {step}")
 
 
 def resting(judgement: Judgement, kept: KeptLines) -> list[str]:

@@ -6,6 +6,7 @@ from typing import NamedTuple, Optional
 
 from weft import files, packages
 from weft.files import AnyPath
+from weft.kinds import kind_of as kind_of
 from weft.lines import Line
 from weft.statuses import Status
 from weft.texts import name_of, printable
@@ -33,17 +34,6 @@ MOST_EVENT = fields.MOST_EVENT
 MOST_STEP = fields.MOST_STEP_BYTES
 LAST_STEP = fields.LAST_STEP
 RECEIPT_SIZE = receipts.SIZE
-
-PROOF_KINDS = {1: "event", 2: "precedence", 3: "thread", 4: "absence", 5: "link", 6: "low map", 7: "high map"}
-LETTERS = {b"TWP1": "proof", b"TWT1": "message", b"TWR1": "receipts", b"TWV1": "evidence", b"TWH1": "history", b"TWE1": "events"}
-
-
-def kind_of(data: bytes) -> str:
-    """What the bytes begin as: `event`, `precedence`, `thread`, `absence`, `link`, `low map`, `high map`, `message`, `receipts`, `evidence`,
-    `history`, `events`; else `text`."""
-    kind = LETTERS.get(data[:4], "text")
-    return PROOF_KINDS.get(data[4] if len(data) > 4 else 0, "proof") if kind == "proof" else kind
-
 
 def read_message(data: bytes) -> Optional[messages.Message]:
     """The message that the bytes are, or None."""

@@ -152,6 +152,21 @@ def compared(found: Found, logged: dict[bytes, bytes]) -> Changes:
 # ---- the service and its files
 
 
+def traces(lines: OwnLines) -> list[Path]:
+    """The files of own lines, of those that aren't empty."""
+    return [path for path in (lines.anchor, lines.lines) if path.exists() and path.stat().st_size]
+
+
+def is_new(service: Path) -> bool:
+    """Whether neither a store nor a line of the service is there."""
+    return not os.path.lexists(Store(service).file) and not traces(OwnLines(service))
+
+
+def has_files(folder: Path) -> bool:
+    """Whether a file stands in the folder, or in one below it."""
+    return any(names for _, _, names in os.walk(folder))
+
+
 class Log:
     """The log of a service in a folder."""
 
@@ -166,9 +181,9 @@ class Log:
         the one of the lines, and then no step is made."""
         service = self.store.folder
         if not os.path.lexists(self.store.file):
-            traces = [path for path in (self.lines.anchor, self.lines.lines) if path.exists() and path.stat().st_size]
-            if traces:
-                told = f"there is {name_of(traces[0])}, and no store in {name_of(service)}"
+            kept = traces(self.lines)
+            if kept:
+                told = f"there is {name_of(kept[0])}, and no store in {name_of(service)}"
                 raise Trouble(Status.DISK, told, "Was it moved? Put it back; an empty one would begin a second history.")
             if name is None:
                 raise Trouble(Status.USAGE, f"there is no service in {name_of(service)} yet", "Name it: weft log FOLDER SERVICE NAME.")

@@ -16,6 +16,7 @@ from timeweave_reference import events_files, evidence, fields, histories, map_f
 
 MOST_EVENTS = 20
 MOST_LINES = 20
+NO_FORMAT = "it is of no format of Timeweave"
 
 
 def several(items: Iterable[str], count: int, what: str, most: int) -> Iterator[str]:
@@ -151,6 +152,8 @@ def tell_text(data: bytes) -> tuple[str, list[str]]:
     kept = KeptLines()
     kept.add_text("it", text)
     found = kept.all()
+    if not found:
+        raise ValueError(NO_FORMAT)
     plain = (f"{it.line.text}{'' if not it.date else f' ({it.told})'}" for it in found)
     return "line" if len(found) == 1 else count_of(len(found), "line"), list(several(plain, len(found), "lines", MOST_LINES))
 
@@ -165,11 +168,13 @@ TELLERS = {
 def tell(data: bytes) -> tuple[str, list[str]]:
     """What the bytes are, and what they say; raises ValueError with the place of the first byte at which they are nothing."""
     kind = formats.kind_of(data)
+    if not data:
+        raise ValueError("It is empty: ask for it again")
     try:
-        if not data or kind == "proof" or (kind == "text" and read_line(data[:96].decode("ascii", "replace").split("\n")[0]) is None and b"\0" in data):
-            raise ValueError("it is of no format of Timeweave")
+        if kind == "proof" or (kind == "text" and read_line(data[:96].decode("ascii", "replace").split("\n")[0]) is None and b"\0" in data):
+            raise ValueError(NO_FORMAT)
         return TELLERS[kind](data)
     except formats.Malformed as bad:
         raise ValueError(f"it begins as {kind}, and at byte {bad.place} none goes on: it was cut short or changed") from None
     except Trouble:
-        raise ValueError("it is of no format of Timeweave") from None
+        raise ValueError(NO_FORMAT) from None

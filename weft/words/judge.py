@@ -9,7 +9,7 @@ import os
 from pathlib import Path
 from typing import NamedTuple, Optional
 
-from weft import bulk, choosing, files, formats, judges, lines, pictures, reports
+from weft import bulk, choosing, files, formats, judges, kinds, lines, pictures, reports
 from weft.choosing import Judgement
 from weft.judges import Bench, Verdict
 from weft.lines import KeptLines
@@ -127,14 +127,21 @@ def judgement_of(judge: Bench, kept: KeptLines, group: list[Named], allow_carrie
         return choosing.judge_evidence(judge, it.data, kept)
     if it.kind == "history":
         return choosing.judge_history(judge, it.data, kept)
-    if it.kind in ("message", "receipts", "events"):
-        raise Trouble(Status.UNREADABLE, f"{name_of(it.path)} is no proof: it is {article(it.kind)}", "weft tell says what it says.")
+    if it.kind in ("message", "receipts", "events", "text"):
+        raise no_proof(it)
     return choosing.judge_proof(judge, it.data, kept, allow_carried)
 
 
-def article(kind: str) -> str:
-    """The kind as a sentence has it."""
-    return {"message": "a message", "receipts": "a receipt", "events": "an events file"}[kind]
+def no_proof(it: Named) -> Trouble:
+    """That a file is of a kind that isn't judged."""
+    named, path = kinds.text_named(it.data) if it.kind == "text" else kinds.NAMES[it.kind], name_of(it.path)
+    if not it.data:
+        return Trouble(Status.UNREADABLE, f"{path} is empty", "Ask for it again.")
+    if named is None:
+        return Trouble(Status.UNREADABLE, f"{path} is no file of Timeweave", "Is it the right file?")
+    if "line" in named:
+        return Trouble(Status.UNREADABLE, f"{path} is {named}, no proof: weft keep {path}")
+    return Trouble(Status.UNREADABLE, f"{path} is no proof: it is {named}", "weft tell says what it says.")
 
 
 def judged(options: argparse.Namespace, kept: KeptLines, judge: Bench, group: list[Named]) -> tuple[Status, Optional[Judgement]]:
@@ -172,7 +179,7 @@ def map_name(group: list[Named]) -> Optional[formats.MapHead]:
 def outcome(judge: Bench, kept: KeptLines, group: list[Named], judgement: Judgement) -> tuple[Status, list[str]]:
     """The status of a judgement, and its sentences."""
     if judgement.missing:
-        return Status.MISSING, [choosing.missing_sentence(needed, kept) for needed in judgement.missing]
+        return Status.MISSING, [choosing.missing_sentence(needed, kept, group[0].data) for needed in judgement.missing]
     if judgement.verdict is None:
         return Status.MISSING, [f"It can't be judged: {judgement.hindrance}. Ask for it under one step of that service."]
     if not judgement.is_shown:

@@ -8,7 +8,7 @@ import sys
 from pathlib import Path
 from typing import NamedTuple, Optional
 
-from weft import files, lines, signatures
+from weft import files, kinds, lines, signatures
 from weft.files import AnyPath
 from weft.lines import Kept, Line
 from weft.output import say, say_json
@@ -111,15 +111,20 @@ def run(options: argparse.Namespace) -> Status:
 
 def named_lines(options: argparse.Namespace, data: bytes, signers: AnyPath, signer: Optional[Signer]) -> list[Kept]:
     """The lines of the named file, each with how it came."""
-    both = signatures.split(data)
+    both, kind = signatures.split(data), kinds.kind_of(data)
+    if kind != "text":
+        advice = f"weft {'tell' if kind in ('message', 'receipts', 'events') else 'judge'} {name_of(options.file)}"
+        raise Trouble(Status.UNREADABLE, f"{name_of(options.file)} is {kinds.NAMES[kind]}, no line: {advice}")
     has_signature = both is not None or (options.file != "-" and os.path.lexists(f"{options.file}.sig"))
     if options.by is not None:
         found = [both.line] if both else lines.lines_of(data, name_of(options.file))
         return [lines.kept_now(line, options.by) for line in found]
+    if not data:
+        raise Trouble(Status.UNREADABLE, f"{name_of(options.file)} is empty", "Ask for it again.")
     if not has_signature:
-        raise Trouble(
-            Status.USAGE, f"{name_of(options.file)} has no signature beside it", "Say how it came: --by 'by letter from the notary'."
-        )
+        lines.lines_of(data, name_of(options.file))
+        advice = "Say how it came: --by 'by letter from the notary'." + ("" if options.file == "-" else f" Or put {name_of(options.file)}.sig beside it.")
+        raise Trouble(Status.USAGE, f"{name_of(options.file)} has no signature beside it", advice)
     line, how = signed_line(options.file, data, signers, signer)
     return [lines.kept_now(line, how)]
 

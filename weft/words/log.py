@@ -47,6 +47,11 @@ def run(options: argparse.Namespace) -> Status:
         raise Trouble(Status.NO_INPUT, f"{name_of(folder)} is no folder that can be read", "Is it mounted?")
     if not service.parent.is_dir():
         raise Trouble(Status.DISK, f"there is no folder {name_of(service.parent)} for the service", "Make it first.")
+    if os.path.lexists(service) and not service.is_dir():
+        raise Trouble(Status.DISK, f"{name_of(service)} is a file", "Name a folder for the service.")
+    if options.name is not None and not options.gone and logs.is_new(service) and not logs.has_files(folder):
+        told = f"{name_of(folder)} has no files, and no service was made"
+        raise Trouble(Status.FEWER, told, "Is it mounted? If it is to be empty: weft log --gone.")
     with locks.held(beside(service, ".lock"), options.wait, service):
         log = Log(service, judges.bench())
         log.begin(options.name)

@@ -33,7 +33,7 @@ def run(options: argparse.Namespace) -> Status:
             what, told = telling.tell(files.read(path, formats.MOST_HISTORY))
         except ValueError as bad:
             status = status or Status.UNREADABLE
-            complain(f"{name_of(path)}: {bad}.")
+            complain(f"{name_of(path)}: {bad}.{' Is it the right file?' if str(bad) == telling.NO_FORMAT else ''}")
             continue
         except Trouble as trouble:
             status = status or trouble.status

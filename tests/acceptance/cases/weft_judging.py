@@ -95,6 +95,15 @@ def missing_lines(room):
     loom.expect("judge p4 --kept bad", 11, "at most one is of bank's history")
     loom.expect("judge p4 --kept nowhere", 3, "no file nowhere")
     loom.expect("judge p4 bread3", 12, "line of step 4 of bank", "bread3: shown")
+    # an older line shows more than one that is got only now
+    loom.expect(
+        "judge p4 bread3", 12, "its line of step 3 alone: ask bank for the proof under its step 3 (weft prove SERVICE FILE --top 3)",
+        "shows nothing about the time before", absent=("for that line",),
+    )  # fmt: skip
+    loom.put("t4", loom.timeweave("prove", "bank", "thread", "2", "maker", "1", "4"))
+    loom.expect("judge t4", 12, "under its step 3 (timeweave prove DIR .. 3)")
+    loom.put("l4", loom.timeweave("prove", "bank", "event", "4", "0"))
+    loom.expect("judge l4", 12, "its line of step 3 alone: ask bank for that line.")
 
 
 def rejected(room):
@@ -113,6 +122,27 @@ def rejected(room):
         loom.expect("judge forged", 1, f"byte {len(good)}")
     loom.put("forged", loom.read("low")[:-1])
     loom.expect("judge forged high", 12)
+
+
+def other_kinds(room):
+    """what is no proof is told by its kind, with what takes it; a proof that is cut or changed is told as before"""
+    loom = two_services(room)
+    for name, data in (("empty", b""), ("text", b"Dear Sir\n"), ("picture", b"\x89PNG\r\n\x1a\n\0\0"), ("line", loom.run("line", "bank").out)):
+        loom.put(name, data)
+    loom.put("message", loom.timeweave("thread", "bank", "0"))
+    loom.expect("judge empty", 9, "empty is empty. Ask for it again.")
+    loom.expect("tell empty", 9, "It is empty: ask for it again.")
+    loom.expect("keep empty", 9, "empty is empty")
+    for name in ("text", "picture"):
+        loom.expect(f"judge {name}", 9, f"{name} is no file of Timeweave", "Is it the right file?")
+        loom.expect(f"tell {name}", 9, "no format of Timeweave. Is it the right file?")
+        loom.expect(f"keep {name}", 9, f"line 1 of {name} is no line of a service", absent=("--by",))
+    loom.expect("judge line", 9, "line is a line, no proof: weft keep line.")
+    loom.expect("judge kept paid", 9, "kept is 2 lines, no proof: weft keep", "paid: shown")
+    loom.expect("judge message", 9, "message is no proof: it is a message", "weft tell")
+    loom.expect("keep line", 2, "no signature beside it", "--by", "Or put line.sig beside it.")
+    loom.expect("keep paid", 9, "paid is a proof, no line: weft judge paid.")
+    loom.expect("keep message --by mail", 9, "message is a message, no line: weft tell message.")
 
 
 def forked(room):
@@ -449,7 +479,7 @@ def checked(room):
 
 def cases():
     works = (
-        sentences, missing_lines, rejected, forked, files_held, judges_differ, contradictions, dropped, same_history, tables, cluster, pictures, long_chains, checked,
+        sentences, missing_lines, rejected, other_kinds, forked, files_held, judges_differ, contradictions, dropped, same_history, tables, cluster, pictures, long_chains, checked,
     )  # fmt: skip
     return [case(work, "weft judge") for work in works]
 

@@ -173,9 +173,14 @@ def fewer_files(room):
     """an empty folder, and one that lost more than half, end with a status of their own; what is gone isn't logged but by --gone"""
     loom = Loom(room)
     (loom.folder / "src").mkdir()
-    loom.expect("log src log data", 16, "has no files", "Is it mounted?")
+    loom.expect("log src log data", 16, "has no files", "no service was made", "Is it mounted?")
+    loom.expect("log src other other --gone", 0, "0 files new")
+    loom.put("file", b"")
+    loom.expect("log other file data", 5, "file is a file. Name a folder for the service.")
+    if {it.name for it in loom.folder.iterdir()} - {"tmp", "src", "file", *(f"other{end}" for end in ("", ".lock", ".lines", ".anchor"))}:
+        raise Wrong(f"  left behind: {sorted(it.name for it in loom.folder.iterdir())}")
     folder_of(loom, "a", "b", "c", "d", "e")
-    loom.expect("log src log", 0, "5 files new")
+    loom.expect("log src log data", 0, "5 files new")
     shutil.rmtree(loom.folder / "src")
     loom.expect("log src log", 3, "no folder that can be read")
     (loom.folder / "src").mkdir()
