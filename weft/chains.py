@@ -240,6 +240,17 @@ def planned(sources: Sources, hops: list[Hop], first: Event, second: Event) -> P
     return Plan(parts, hops)
 
 
+def expect_held(sources: Sources, second: Event) -> None:
+    """Raises Trouble where a proof of the second event is given, and is under a line that isn't held: then no part is worth asking for."""
+    given = formats.read_proof(second.proof) if second.proof is not None else None
+    if given is None or sources.kept.at(given.service, given.top):
+        return
+    held = sources.top(given.service, given.step)
+    wanted = f"under a line that you hold (weft prove .. --top {'N' if held is None else held})"
+    told = f"the later event is proved under step {given.top} of {given.service}, whose line you don't hold"
+    raise Trouble(Status.MISSING, told, f"Ask {given.service} for it, and keep it (weft keep), or for the proof {wanted}.")
+
+
 def plan(sources: Sources, first: Event, second: Event, hops: set[Hop]) -> Plan:
     """The parts of the chain over some of these hops; raises Trouble where no way is known, or a line is missing for each."""
     if first.service == second.service and first.step < second.step:
@@ -265,7 +276,9 @@ class Gathered(NamedTuple):
 
 def gathered(sources: Sources, first: Event, second: Event) -> Gathered:
     """The parts of the shortest way of which all are at hand, joined; where there is none, those of the shortest way. A hop that its receiver can't
-    prove, or that is of another history than the line that is held, is gone round. Raises Trouble where no way is known."""
+    prove, or that is of another history than the line that is held, is gone round. Raises Trouble where no way is known, or the later event's proof is
+    under a line that isn't held."""
+    expect_held(sources, second)
     hops, shortest, hindrance = sources.hops(), None, None
     while True:
         try:

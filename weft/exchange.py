@@ -106,6 +106,9 @@ class Turn:
 
     def take(self, peer: Peer) -> None:
         """Takes what a peer put out."""
+        if not self.settings.is_unsigned and not self.has_key(peer):
+            peer.say(f"{name_of(self.signers)} has no key of {peer.name}: weft accept {name_of(self.box)} {peer.name} --key KEY.pub")
+            self.look()
         self.take_receipt(peer)
         self.take_refusal(peer)
         self.compare_seen(peer)
@@ -115,6 +118,10 @@ class Turn:
         if heard is not None and formats.read_receipts(heard):
             files.renew_if_other(peer.kept / "heard", heard)
         asking.take_answers(peer)
+
+    def has_key(self, peer: Peer) -> bool:
+        """Whether a key of the peer is known, without which nothing that it signs is taken."""
+        return bool(signatures.key_lines(self.signers, peer.name))
 
     def take_receipt(self, peer: Peer) -> None:
         """Takes its receipt of a step of this service: it says since which step the next message is to be."""
@@ -163,6 +170,8 @@ class Turn:
         if signed.line in known:
             return known[signed.line]
         key = signatures.checked(signed, self.signers)
+        if key is None and not self.has_key(peer):
+            return None
         if key is None:
             self.unfit(peer, f"the line in its folder isn't signed by the key that {name_of(self.signers)} has for it: not taken")
             return None
@@ -342,8 +351,15 @@ class Turn:
         for peer in self.peers:
             asking.answer_peer(self.store, self.peers, peer, peer.take("requests", asking.MOST_BYTES) if peer.accepted() else None)
             self.put(peer, signed)
-        self.told += self.share()
+        self.told += [*self.unsigned(), *self.share()]
         return self.status
+
+    def unsigned(self) -> list[str]:
+        """That nothing signs the lines that go out, where the box has neither a key nor takes unsigned ones: then no peer takes them."""
+        if self.settings.key is not None or self.settings.is_unsigned:
+            return []
+        self.look()
+        return [f"Nothing signs your lines: set key = FILE in {name_of(self.box / 'box.conf')}."]
 
     def signed_last(self) -> Optional[Signed]:
         """The last line, signed, where the box has a key."""

@@ -10,6 +10,7 @@ import re
 import shutil
 import subprocess
 import tempfile
+from fnmatch import fnmatchcase
 from pathlib import Path
 from typing import NamedTuple, Optional
 
@@ -129,32 +130,30 @@ def public_key(service: str, key: AnyPath) -> PublicKey:
     return PublicKey(line, printable(output.decode("utf-8", "replace").split()[1]))
 
 
-def has_key(signers: AnyPath, service: str) -> bool:
-    """Whether the file of signers has a key for the service's name."""
-    names = (line.split(None, 1)[0] for line in signer_lines(signers) if line.split())
-    return any(service.encode() in name.strip(b'"').split(b",") for name in names)
+def key_lines(signers: AnyPath, service: str) -> list[bytes]:
+    """The lines of a file of signers whose principals, which may be patterns, have the service's name; none where the file isn't there."""
+    found = (files.read_if_there(signers, MOST_SIGNERS) or b"").splitlines()
+    return [line for line in found if line.strip() and any(fnmatchcase(service.encode(), it) for it in line.split()[0].strip(b'"').split(b","))]
 
 
-def signer_lines(signers: AnyPath) -> list[bytes]:
-    """The lines of a file of signers, none where it isn't there."""
-    return (files.read_if_there(signers, MOST_SIGNERS) or b"").splitlines()
-
-
-def expect_no_other(signers: AnyPath, service: str, key: PublicKey) -> None:
-    """Raises Trouble where the file of signers has another key for the service's name, and not this one: a second one is never added silently."""
-    if has_key(signers, service) and key.line.strip() not in signer_lines(signers):
+def is_noted(signers: AnyPath, service: str, key: PublicKey) -> bool:
+    """Whether the file of signers has this key for the service's name. Raises Trouble where it has others alone: a second one is never added silently."""
+    known = key_lines(signers, service)
+    if any(key.line.split()[-1] in line.split() for line in known):
+        return True
+    if known:
         raise Trouble(
             Status.LOOK,
             f"{name_of(signers)} has another key of {service} already, and {key.fingerprint} wasn't noted",
             f"Ask {service}, by another way, which one is its own. To replace the old one, take its line out of {name_of(signers)}, and run this again.",
         )
+    return False
 
 
 def add_signer(signers: Path, service: str, key: AnyPath) -> str:
     """Adds the public key of a file as that of a service; answers its fingerprint. Raises Trouble where the file of signers has another one of that name."""
     new = public_key(service, key)
-    expect_no_other(signers, service, new)
-    if new.line.strip() not in signer_lines(signers):
+    if not is_noted(signers, service, new):
         old = files.read_if_there(signers, MOST_SIGNERS) or b""
         files.renew(signers, old + (b"" if not old or old.endswith(b"\n") else b"\n") + new.line)
     return new.fingerprint

@@ -93,7 +93,7 @@ def run(options: argparse.Namespace) -> Status:
     kept, signers = options.kept or lines.default_kept(), options.signers or signatures.default_signers()
     signer = Signer(lines.checked_name(options.signer[0]), options.signer[1]) if options.signer else None
     if signer is not None:
-        signatures.expect_no_other(signers, signer.service, signatures.public_key(*signer))
+        signatures.is_noted(signers, signer.service, signatures.public_key(*signer))
     if options.file is None:
         if signer is None:
             raise Trouble(Status.USAGE, "no file is named", "See weft keep --help.")

@@ -184,6 +184,30 @@ def squatter(room):
     net.turn("bank", 0, "is recorded", "Unsigned messages are taken here")
 
 
+def without_keys(room):
+    """a box without a key of its own says each night that nothing signs its lines, and one without a peer's key that it has none; an unsigned one doesn't"""
+    loom = Loom(room)
+    for name in ("shop", "bank"):
+        loom.service(name)
+        loom.key(name)
+    loom.expect("accept box-shop bank --key bank.key.pub", 10)
+    for _ in range(2):
+        loom.expect("exchange shop box-shop", 10, "Nothing signs your lines: set key = FILE in box-shop/box.conf.", absent=("has no key",))
+    loom.put("box-shop/box.conf", "key = ../shop.key\n")
+    loom.expect("exchange shop box-shop", 0, absent=("Nothing signs",))
+    loom.put("box-bank/box.conf", "key = ../bank.key\n")
+    loom.expect("accept box-bank shop", 10)
+    shutil.copytree(loom.folder / "box-shop/bank/out", loom.folder / "box-bank/shop/in", dirs_exist_ok=True)
+    told = "box-bank/allowed_signers has no key of shop: weft accept box-bank shop --key KEY.pub"
+    for _ in range(4):
+        loom.expect("exchange bank box-bank", 10, told, absent=("Nothing signs", "not taken"))
+    loom.expect("accept box-bank shop --key shop.key.pub --yes", 0)
+    loom.expect("exchange bank box-bank", 0, "is recorded", absent=("has no key",))
+    loom.put("box-bank/box.conf", "unsigned = yes\n")
+    loom.put("box-bank/allowed_signers", b"")
+    loom.expect("exchange bank box-bank", 0, "Unsigned messages are taken", absent=("has no key", "Nothing signs"))
+
+
 def old_store(room):
     """an old store that was put back is found by the lines beside it, and where these were put back too by its own signed line that a peer hands back;
     also where steps were appended to it; no step is made and nothing is put out"""
@@ -367,6 +391,12 @@ def chained(room):
     asked = done.out.split("prove DIR ")[1].split(",")[0].split()
     loom.put("thread", loom.timeweave("prove", "bank", *asked))
     loom.expect([*alone, "--hand", "thread"], 0, "c3: shown")
+    (loom.folder / "k").write_bytes(line_of(loom, "bank", paid))
+    missing = f"the later event is proved under step {paid + 1} of bank, whose line you don't hold"
+    under = "or for the proof under a line that you hold (weft prove .. --top"
+    loom.expect(alone, 12, missing, "Ask bank for it", f"{under} {paid})", absent=("parts", "DIR thread"))
+    (loom.folder / "k").write_bytes(line_of(loom, "bank", 1))
+    loom.expect(["chain", earlier, "later", "--store", "maker", "--kept", "k", "--out", "c3"], 12, missing, f"{under} N)", absent=("no way",))
     for bad in ("x", "maker:0:0", "maker:1", "later:1:0:0", f"maker:{2**40}:0", "\x1b"):
         loom.expect(["chain", bad, later], 2, "names no event")
     loom.expect(["chain", "thread", later], 9, "no proof of an event")
@@ -493,7 +523,7 @@ def nearly_full(room):
 
 def cases():
     works = (
-        two_services, carrier, first_contact, squatter, old_store, unsigned_old_store, fork_shown, hostile_folders, requests, chained, passed_on, with_faults,
+        two_services, carrier, first_contact, squatter, without_keys, old_store, unsigned_old_store, fork_shown, hostile_folders, requests, chained, passed_on, with_faults,
         two_at_once, nearly_full,
     )  # fmt: skip
     return [case(work, "weft exchange") for work in works]

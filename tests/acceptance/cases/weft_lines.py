@@ -97,6 +97,12 @@ def wrong_key(room):
         raise Wrong("  the file of signers was changed")
     loom.expect("accept box shop --key shop.key.pub", 10, "No message")
     loom.expect("accept box shop --key bank.key.pub", 10, "has another key of shop already", "take its line out of box/allowed_signers")
+    # a line that was written by hand counts too
+    loom.put("signers", b"# mine\nport,shop " + b" ".join(loom.read("shop.key.pub").split()[:2]) + b"\n")
+    loom.expect("keep --signer shop shop.key.pub", 0)
+    loom.expect("keep --signer port bank.key.pub", 10, "has another key of port")
+    if loom.read("signers").count(b"\n") != 2:
+        raise Wrong("  a key was noted twice")
     loom.put("signers", b"")
     loom.expect("keep --signer shop bank.key.pub", 0)
 
