@@ -262,37 +262,36 @@ def goes_on(room: Room) -> None:
 
 
 def woven_by_cron(room: Room) -> None:
-    """three services are woven by the document's lines for cron, and a chain between two of them is made from a store and a box"""
+    """three services in a row are woven by the document's lines for cron, and a chain over all three is made by what it says to type at the end"""
     needs("ssh-keygen", "openssh-client")
     linked(room)
     text = (TOP / "docs/operating.md").read_text().split("**Three services on one machine")[1].split("Between machines")[0]
     night = [line.split(None, 5)[5].replace("/srv", str(room.folder)) for line in text.splitlines() if line.startswith("    0 ")]
     first = "mkdir /srv/box-shop && echo 'key = /srv/shop.key' > /srv/box-shop/box.conf"
-    key, names = "ssh-keygen -t ed25519 -N '' -f /srv/shop.key", ("shop", "bank", "port")
-    for name in names:
+    key, peers = "ssh-keygen -t ed25519 -N '' -f /srv/shop.key", {"shop": ["bank"], "bank": ["shop", "port"], "port": ["bank"]}
+    pairs = [(name, peer) for name, others in peers.items() for peer in others]
+    for name in peers:
         (room.folder / f"files-{name}").mkdir()
         for command in (first, key):
             shell(room, command, **{"/srv": str(room.folder), "shop": name})
-    for name in names:
-        for peer in set(names) - {name}:
-            words = {"/srv/box-shop": f"{room.folder}/box-{name}", "bank.key.pub": f"{room.folder}/PEER.key.pub", " bank ": f" {peer} ", "PEER": peer}
-            shell(room, "weft accept /srv/box-shop bank --key bank.key.pub", **words)
+    for name, peer in pairs:
+        words = {"/srv/box-shop": f"{room.folder}/box-{name}", "bank.key.pub": f"{room.folder}/PEER.key.pub", " bank ": f" {peer} ", "PEER": peer}
+        shell(room, "weft accept /srv/box-shop bank --key bank.key.pub", **words)
     for number in range(6):
-        for name in names:
+        for name in peers:
             (room.folder / f"files-{name}/of-{name}").write_text(f"{number}\n")
+        for name, file in {0: [("shop", "sold")], 5: [("port", "sent")]}.get(number, []):
+            (room.folder / f"files-{name}/{file}").write_text(f"{file}\n")
         found = [shell_of(room, command) for command in night]
         if number == 0:
-            for name in names:
-                for peer in set(names) - {name}:
-                    shell(room, "weft accept /srv/box-shop bank", **{"/srv/box-shop": f"{room.folder}/box-{name}", " bank": f" {peer} --yes"})
+            for name, peer in pairs:
+                shell(room, "weft accept /srv/box-shop bank", **{"/srv/box-shop": f"{room.folder}/box-{name}", " bank": f" {peer} --yes"})
         elif number > 2 and found != ["0 "] * 3:
             raise Wrong(f"  night {number}: {found}")
-    (room.folder / "box-port/shop/events").write_text("* *\n")
-    for _ in range(4):
-        found = [shell_of(room, f"weft chain shop:1:0 port:11:0 --store {room.folder}/shop --box {room.folder}/box-shop"), *(shell_of(room, it) for it in night)]
-        if "Every hop is bound by a line that you hold" in found[0]:
-            return
-    raise Wrong(f"  no chain: {found}")
+    typed = [shell_of(room, line.strip().replace("/srv", str(room.folder))) for line in text.splitlines() if line.startswith("    weft ")]
+    wanted = ("bank received step", "port received step", "Every hop is bound by a line that you hold")
+    if len(typed) != 2 or not all(words in typed[1] for words in wanted):
+        raise Wrong(f"  no chain: {typed}")
 
 
 def stamped(room: Room) -> None:
