@@ -121,7 +121,7 @@ def held_before(needed: Needed, steps: list[int], proof: bytes) -> Optional[Olde
         return None
     if isinstance(found, formats.proofs.ExistenceProof):
         return Older(step, f"weft prove SERVICE FILE --top {step}")
-    return Older(step, "weft chain" if formats.kind_of(proof) == "precedence" else f"timeweave prove DIR .. {step}")
+    return Older(step, f"weft prove .. --top {step}, then weft chain" if formats.kind_of(proof) == "precedence" else f"timeweave prove DIR .. {step}")
 
 
 def resting(judgement: Judgement, kept: KeptLines) -> list[str]:

@@ -102,6 +102,8 @@ def missing_lines(room):
     )  # fmt: skip
     loom.put("t4", loom.timeweave("prove", "bank", "thread", "2", "maker", "1", "4"))
     loom.expect("judge t4", 12, "under its step 3 (timeweave prove DIR .. 3)")
+    loom.put("chain4", loom.timeweave("join", "p4", "thread", "link", "bread"))
+    loom.expect("judge chain4", 12, "under its step 3 (weft prove .. --top 3, then weft chain)")
     loom.put("l4", loom.timeweave("prove", "bank", "event", "4", "0"))
     loom.expect("judge l4", 12, "its line of step 3 alone: ask bank for that line.")
 
