@@ -9,7 +9,7 @@ ghost use Rattle.tw_published.specs.FollowerTurns.{AreRunsFrom, IsTold, last_of}
 
 use tw_disk::Disk;
 
-/// No head that was told is lost, of the program: over every list of its runs on one disk that stands for a list of heads for good,
+/// No head that `offer` told is lost: over every list of runs of the program on one disk that stands for a list of heads for good,
 /// with crashes at any moment. Each run of `run` is such a run, as `run_once` says.
 pub fn followed_laws<D: Disk>()
     // Over every list of runs of the program, of whatever commands, on one disk that stands for a list of heads for good, and of

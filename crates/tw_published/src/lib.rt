@@ -1,4 +1,4 @@
-//! What runs of the program and services publish on one disk: no second authenticator of a step; and that no head that was told is lost.
+//! What runs of the program and services publish on one disk: no second authenticator of a step; and that no head that `offer` told is lost.
 #![tactic(auto)]
 
 mod apart;
