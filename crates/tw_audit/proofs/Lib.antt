@@ -10,3 +10,5 @@ pub mod HoldingLaws
 pub mod LoopLaws
 pub mod StopLaws
 pub mod ClimbLaws
+pub mod Doubtful
+pub mod KeyLaws

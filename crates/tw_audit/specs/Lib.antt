@@ -5,3 +5,4 @@ pub mod PieceTexts
 pub mod HopHeld
 pub mod Stops
 pub mod Tables
+pub mod KeyLists

@@ -1,19 +1,20 @@
 // Holding a proof against histories.
 
-ghost use Rattle.std.specs.Prelude.{◌≡◌, List, false, IfOk, OnOk};
+ghost use Rattle.std.specs.Prelude.{◌≡◌, ◌++◌, [], List, false, IfOk, OnOk};
 ghost use Rattle.std.specs.Option.{option_map};
 ghost use Rattle.tw_base.specs.format.Formats.{Spells};
 ghost use Rattle.tw_base.specs.declared.history.thread.Thread.{Thread as ThreadMeant};
 ghost use Rattle.tw_base.specs.history.Family.{AllSound, family_texts};
-ghost use Rattle.tw_base.specs.history.History.{History as HistoryMeant};
+ghost use Rattle.tw_base.specs.kinds.Clash.{clash_pair};
 ghost use Rattle.tw_base.specs.kinds.Lists.{Each};
 ghost use Rattle.tw_chain.specs.declared.proof.Proof.{Proof as ProofMeant};
-ghost use Rattle.tw_chain.specs.Accepting.{held, report_of};
+ghost use Rattle.tw_chain.specs.Accepting.{held, proof_texts, report_of};
 ghost use Rattle.tw_chain.specs.Checks.{checks};
 ghost use Rattle.tw_chain.specs.Proofs.{proof_layout};
 ghost use Rattle.tw_chain.specs.Reasons.{IsVerdict};
 ghost use Rattle.tw_audit.specs.Answers.{AnswerMeans};
-ghost use Rattle.tw_audit.specs.Auditing.{IsAnswer, IsAudit, of_pair};
+ghost use Rattle.tw_audit.specs.Auditing.{IsAnswer, IsAudit, audited_texts, of_pair};
+ghost use Rattle.tw_audit.specs.KeyLists.{CoversClashes, TookKeys, doubtful};
 ghost use Rattle.tw_audit.specs.Shapes.{IsShaped};
 ghost use Rattle.tw_audit.specs.Stops.{missing_in};
 ghost use Rattle.tw_audit.specs.Tables.{Took};
@@ -23,13 +24,15 @@ ghost use Rattle.tw_transcript.specs.Handing.{Hands};
 use crate::finder::Finder;
 use crate::finding::{AuditFault, Finding};
 use crate::held::held_threads;
+use crate::key_transcript::KeyTranscript;
+use crate::keys::Repeated;
 use crate::passing::{Missing, first_missing, pass_histories};
 use crate::proofs::hash_proof;
 use crate::table::TextPair;
 use std::alloc::Global;
 use tw_base::{Hasher, NoMemory, Report, Thread};
 use tw_chain::{Proof, Verdict, read_proof};
-use tw_history::History;
+use tw_history::{History, table_of};
 use tw_transcript::Transcript;
 use tw_verifier::verify;
 
@@ -63,6 +66,52 @@ fn found<H: Hasher>(report: Report, pair: Option<TextPair>) -> Finding
     }
 }
 
+/// The pair of the texts of the histories and of the proof, if two of them clash: only such of them are kept
+/// as have one of the finder's keys, among which are these, of all that clash.
+fn pair_among<H: Hasher>(
+    alloc: Global,
+    proof: &Proof,
+    histories: &[History],
+    repeated: &Repeated,
+    finder: Finder<H>,
+) -> Result<Option<TextPair>, NoMemory>
+    requires { Each IsShaped (checks proof.now) }
+    ensures { IfOk result (λ pair. CoversClashes H.dig (audited_texts H.dig histories.now proof.now) repeated.now → Took H.dig finder.table (doubtful H.dig finder.repeated []) →
+        option_map (λ (p : TextPairMeant). record { one = p.one; other = p.other }) pair ≡ clash_pair H.dig (audited_texts H.dig histories.now proof.now)) }
+{
+    let mut finder = finder;
+    match pass_histories(alloc, histories, &[], &mut finder) {
+        Ok(passed) => {
+            drop(passed);
+            hash_proof(proof, &mut finder);
+            finder.into_pair(alloc, repeated)
+        }
+        Err(NoMemory) => {
+            drop(finder);
+            Err(NoMemory)
+        }
+    }
+}
+
+/// The pair of the texts of the histories and of the proof, whose keys these are, if two of them clash.
+fn pair_of<H: Hasher>(
+    alloc: Global,
+    proof: &Proof,
+    histories: &[History],
+    keys: KeyTranscript<H>,
+) -> Result<Option<TextPair>, NoMemory>
+    requires { Each IsShaped (checks proof.now) }
+    ensures { IfOk result (λ pair. TookKeys H.dig keys.keys (proof_texts H.dig proof.now ++ family_texts H.dig histories.now) →
+        option_map (λ (p : TextPairMeant). record { one = p.one; other = p.other }) pair ≡ clash_pair H.dig (audited_texts H.dig histories.now proof.now)) }
+{
+    let both = keys.keys.into_repeated(alloc)?;
+    if both.0.keys.is_empty() {
+        return Ok(None);
+    }
+    let finder = Finder::<H>::new(alloc, both.1);
+    pair_among(alloc, proof, histories, &both.0, finder)
+}
+
 /// What is found once the histories were passed: the first thread held that they don't have, or what the
 /// texts of the histories and of the proof come to.
 fn judge<H: Hasher>(
@@ -70,26 +119,38 @@ fn judge<H: Hasher>(
     proof: &Proof,
     report: Report,
     missing: Option<Missing>,
-    finder: Finder<H>,
+    histories: &[History],
+    keys: KeyTranscript<H>,
 ) -> Result<Finding, AuditFault>
     requires { Each IsShaped (checks proof.now) }
-    ensures { (family : List HistoryMeant) (anchors : List ThreadMeant) → report ≡ report_of proof.now → missing ≡ missing_in H.dig family (held anchors proof.now) →
-        Took H.dig finder.table (family_texts H.dig family) → IsAnswer H.dig family anchors proof.now result }
+    ensures { (anchors : List ThreadMeant) → report ≡ report_of proof.now → missing ≡ missing_in H.dig histories.now (held anchors proof.now) →
+        TookKeys H.dig keys.keys (proof_texts H.dig proof.now ++ family_texts H.dig histories.now) → IsAnswer H.dig histories.now anchors proof.now result }
 {
     if let Some(Missing { held, found }) = missing {
         drop(report);
-        drop(finder);
+        drop(keys);
         return Err(AuditFault::NotHeld { held, found });
     }
-    let mut finder = finder;
-    hash_proof(proof, &mut finder);
-    match finder.into_pair(alloc) {
+    match pair_of(alloc, proof, histories, keys) {
         Ok(pair) => Ok(found::<H>(report, pair)),
         Err(NoMemory) => {
             drop(report);
             Err(AuditFault::NoMemory)
         }
     }
+}
+
+/// How many texts there are but for those of events, by a reckoning: of each step two links and its
+/// authenticator, of each node one, and some of the proof.
+fn expected_texts(histories: &[History]) -> usize {
+    let mut count: usize = 8192;
+    for history in histories {
+        let (steps, nodes) = table_of(history);
+        count = count
+            .saturating_add(steps.len().saturating_mul(3))
+            .saturating_add(nodes.len());
+    }
+    count
 }
 
 /// Holds an accepted proof with this report against the histories.
@@ -103,12 +164,15 @@ fn hold<H: Hasher>(
     requires { Each IsShaped (checks proof.now) }
     ensures { report ≡ report_of proof.now → IsAnswer H.dig histories.now anchors.now proof.now result }
 {
-    let mut finder = Finder::<H>::new(alloc);
-    match missing_of(alloc, proof, anchors, histories, &mut finder) {
-        Ok(missing) => judge(alloc, proof, report, missing, finder),
+    let mut keys = KeyTranscript::<H>::new(alloc);
+    keys.reserve(expected_texts(histories));
+    // The proof's texts come first, since they stand in the histories too: so these are known there.
+    hash_proof(proof, &mut keys);
+    match missing_of(alloc, proof, anchors, histories, &mut keys) {
+        Ok(missing) => judge(alloc, proof, report, missing, histories, keys),
         Err(NoMemory) => {
             drop(report);
-            drop(finder);
+            drop(keys);
             Err(AuditFault::NoMemory)
         }
     }
@@ -141,8 +205,9 @@ fn hold_bytes<H: Hasher>(
 /// in their order, and of the proof; else that the report stands. Of several histories of one service the
 /// first counts for threads and claims, and all of them for the texts.
 ///
-/// Each text is hashed once, and kept once; measured, time and memory grow with the number of the texts and
-/// their bytes.
+/// Each text is hashed once, and of all but the first ones seven bytes are kept. Only where these agree of texts
+/// that aren't known to be one, all texts are hashed once more, and those are kept whole. So measured, time grows with
+/// the number of the texts and their bytes, and memory with their number.
 pub fn audit_judged<H: Hasher>(
     alloc: Global,
     bytes: &[u8],

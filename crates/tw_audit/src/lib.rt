@@ -7,6 +7,8 @@ mod finder;
 mod finding;
 mod held;
 mod holding;
+mod key_transcript;
+mod keys;
 mod laws;
 mod openings;
 mod passing;

@@ -44,7 +44,7 @@ pub(crate) struct Table {
 }
 
 /// The number that eight of a digest's bytes are.
-fn word(digest: &Digest, at: usize) -> u64
+pub(crate) fn word(digest: &Digest, at: usize) -> u64
     requires { at ≤ 24 }
     ensures { result ≡ from_be_bytes w64 (slice_range digest.now at (at + 8)) }
 {

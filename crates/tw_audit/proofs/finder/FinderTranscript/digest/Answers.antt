@@ -1,5 +1,27 @@
+use Rattle.std.proofs.Common.{true, false, ap, sym, ◌∙◌, subst}
+use Rattle.std.proofs.lemmas.List.{append-nil}
+use Rattle.tw_audit.specs.KeyLists.{doubtful, is_among}
+use Rattle.tw_audit.specs.Tables.{Took}
+use Rattle.tw_audit.proofs.Doubtful.{kept-push}
 use Rattle.tw_audit.proofs.finder.FinderTranscript.digest.Goals as goal
 
-pub returns-clause-took : goal.returns-clause-took
-returns-clause-took g c =
-    record { behind = λ before took. c.take.ensures g.H.Hasher.dig before (λ text. (g.met.H.Hasher.size text, g.met.H.Hasher.bytes text)) c.digest-digest.ensures took }
+pub returns-then-has-clause-took : goal.returns-then-has-clause-took
+returns-then-has-clause-took g c =
+    record {
+      behind = λ before took.
+          subst (Took g.H.Hasher.dig c.take.new.self)
+          (sym (kept-push g.H.Hasher.dig (is_among c.args.self.now.repeated) before c.args.text.now true
+          (ap (is_among c.args.self.now.repeated) (sym c.digest-digest.ensures) ∙ sym c.has.ensures ∙ c.if-has.true)))
+          (c.take.ensures g.H.Hasher.dig (doubtful g.H.Hasher.dig c.args.self.now.repeated before) (λ text. (g.met.H.Hasher.size text, g.met.H.Hasher.bytes text)) c.digest-digest.ensures took);
+    }
+
+pub returns-else-has-clause-took : goal.returns-else-has-clause-took
+returns-else-has-clause-took g c =
+    record {
+      behind = λ before took.
+          subst (Took g.H.Hasher.dig c.args.self.now.table)
+          (sym (kept-push g.H.Hasher.dig (is_among c.args.self.now.repeated) before c.args.text.now false
+          (ap (is_among c.args.self.now.repeated) (sym c.digest-digest.ensures) ∙ sym c.has.ensures ∙ c.if-has.false)
+          ∙ append-nil (doubtful g.H.Hasher.dig c.args.self.now.repeated before)))
+          took;
+    }
