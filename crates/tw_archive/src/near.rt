@@ -1,6 +1,6 @@
 // Judging and archiving where pages of the archive's tree are kept on a shelf.
 
-ghost use Rattle.std.specs.Prelude.{◌≡◌, ◌<◌, ◌≤◌, ◌+◌, ◌^◌, IfOk, Some};
+ghost use Rattle.std.specs.Prelude.{◌≡◌, ◌<◌, ◌≤◌, ◌+◌, ◌++◌, ◌^◌, IfOk, Some};
 ghost use Rattle.tw_base.specs.history.Asking.{with_entry};
 ghost use Rattle.tw_base.specs.history.Entries.{key_of};
 ghost use Rattle.tw_base.specs.history.Limits.{IsEntryInRange};
@@ -14,6 +14,7 @@ ghost use Rattle.tw_disk.specs.WalkFaults.{walk_faults};
 ghost use Rattle.tw_msg.specs.Messages.{IsLinked};
 ghost use Rattle.tw_rbtree.specs.Answers.{NeverUntrue, found_insert};
 ghost use Rattle.tw_rbtree.specs.FaultWords.{tree_faults};
+ghost use Rattle.tw_rbtree.specs.Putting.{PutsIn};
 ghost use Rattle.tw_rbtree.specs.Standing.{HasNamed, Named, StandsWith};
 ghost use Rattle.tw_rbtree.specs.declared.limits.TheConstants.{MOST_STAGED};
 
@@ -67,6 +68,9 @@ pub fn insert_near<P: Pages, H: Hasher>(
         (t : Tree) → StandsWith H.dig (HasNamed named) ps root.now t →
         IfOk result (λ new. (now : Image) × (grown : Tree) × ((P.view pages.new).list ≡ Some now)
         × StandsWith H.dig (HasNamed named) now new grown × (entries grown ≡ with_entry (entries t) entry)) }
+    // So are the pages that are staged.
+    ensures put { (ps : Image) → (P.view pages.old).list ≡ Some ps → IfOk result (λ new. (more : Image) × ((P.view pages.new).list ≡ Some (ps ++ more))
+        × PutsIn H.dig ps root.now entry more new) }
     ensures page { IfOk result (λ new. (P.view pages.new).used ≡ new.page + 1) }
     ensures more { IfOk result (λ new. (P.view pages.old).used < (P.view pages.new).used) }
     ensures few { (P.view pages.new).used ≤ (P.view pages.old).used + MOST_STAGED }

@@ -4,6 +4,7 @@ pub mod ModelLaws
 pub mod KeptCallLaws
 pub mod LooseLaws
 pub mod Unwinding
+pub mod KeptPages
 pub mod ReadingLaws
 pub mod FoundLaws
 pub mod SpelledLaws

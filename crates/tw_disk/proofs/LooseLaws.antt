@@ -22,7 +22,7 @@ below_more n m (page ∷ pages) le all = (omega (arith, le, all.0), below_more n
 below_from : (calls : List Call) (image : Image) (pages : List ℕ) → AllFit calls image → AllBelow (length (earlier calls image)) pages → AllBelow (length image) (loose_of pages calls)
 below_from [] image pages fits all = all
 below_from (Overwrite page before ∷ calls) image pages fits all =
-    below_from calls image (page ∷ pages) fits.1 (fits.0, below_more _ _ pages (omega (arith, length-set (earlier calls image) page before.value)) all)
+    below_from calls image (page ∷ pages) fits.1 (fits.0, below_more _ _ pages (omega (arith, length-set (earlier calls image) page before)) all)
 below_from (Append page ∷ calls) image pages fits all =
     below_from calls image (page ∷ pages) fits.1 (omega (arith, fits.0), below_more _ _ pages (omega (arith, length-take page (earlier calls image))) all)
 below_from (Barrier ∷ calls) image pages fits all = below_from calls image [] fits.1 tt

@@ -8,7 +8,7 @@ use Rattle.tw_disk.specs.declared.call.Call.TheVariants.{Overwrite, Append, Barr
 
 -- what reads gave before this call, by what they gave after it
 abbrev pub undone : Call → Image → Image
-undone (Overwrite page before) image = slice_set image page before.value
+undone (Overwrite page before) image = slice_set image page before
 undone (Append page) image = take page image
 undone Barrier image = image
 

@@ -61,7 +61,7 @@ only_now crashed_at base calls c since = subst (λ (l : List DeviceCall). IsImag
 call_now : (s : Written) (call : Call) (image : Image) → s.now ≡ undone call image → Fits call image → (step s (with_bytes call image)).now ≡ image
 call_now s (Overwrite page before) image is fits =
     ap (λ (i : Image). put page (page_at image page) i) is
-    ∙ put-back page (slice_set image page before.value) image (omega (arith, length-set image page before.value, fits)) (omega (arith, length-set image page before.value, fits)) (λ k lt ne. get_or-set_other image page k before.value [] ne)
+    ∙ put-back page (slice_set image page before) image (omega (arith, length-set image page before, fits)) (omega (arith, length-set image page before, fits)) (λ k lt ne. get_or-set_other image page k before [] ne)
 call_now s (Append page) image is fits =
     ap (λ (i : Image). put page (page_at image page) i) is
     ∙ put-back page (undone (Append page) image) image (omega (arith, length-take page image, fits)) (omega (arith, length-take page image, fits)) (λ k lt ne. get_or-take page image k [] (omega (arith, lt, fits, ne)))

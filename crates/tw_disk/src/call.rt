@@ -1,12 +1,12 @@
 // The calls that a disk in memory keeps.
 
-use tw_base::Page;
+use crate::kept_page::KeptPage;
 
 /// A write that took effect, or a good barrier, with what undoes it.
 #[derive(Drop)]
 pub enum Call {
     /// A write of a page that was there, with the bytes that it replaced.
-    Overwrite { page: u64, before: Box<Page> },
+    Overwrite { page: u64, before: KeptPage },
     /// A write at the count, which added the page of that number.
     Append { page: u64 },
     /// A good barrier.

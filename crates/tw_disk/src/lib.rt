@@ -7,6 +7,7 @@
 mod call;
 mod crash;
 mod disk;
+mod kept_page;
 pub mod limits;
 mod memory_disk;
 mod memory_pages;

@@ -10,18 +10,20 @@ ghost use Rattle.tw_disk.specs.MemDiskSteps.{all_fit-prop};
 use crate::call::Call;
 use crate::crash::leave;
 use crate::disk::Disk;
+use crate::kept_page::KeptPage;
 use std::alloc::Global;
+use std::mem;
 use tw_base::{Failed, FailingCalls, NoMemory, Page};
 
 /// A disk in memory, which tells its content and keeps all its writes and barriers since it was made or crashed.
 ///
 /// Of each write it keeps the bytes that the write replaced, so what every read since then gave, and what each crash since then might have
-/// left, follows from what it keeps; each page that was written is held once for what reads give and once for each write that replaced it.
+/// left, follows from what it keeps; each page that was written is held once for what reads give and once for each write that replaced it, without the zeros at its end.
 /// A write or barrier that finds no memory counts a fault and answers `Failed`, and changes nothing; so does one that would be
 /// number 2^64 of those that were kept ever, crashes or not. Their number is the moment.
 #[derive(Drop)]
 pub struct MemDisk {
-    pages: Vec<Page>,
+    pages: Vec<KeptPage>,
     calls: Vec<Call>,
     crashed_at: u64,
     failing: FailingCalls,
@@ -39,7 +41,7 @@ pub struct MemDisk {
 // Writes over a page that is there, and keeps what it held; or does neither where there is no memory.
 fn overwrite(
     calls: &mut Vec<Call>,
-    pages: &mut Vec<Page>,
+    pages: &mut Vec<KeptPage>,
     alloc: Global,
     place: usize,
     from: &Page,
@@ -50,25 +52,32 @@ fn overwrite(
     ensures calls_err { OnErr result (calls.new.items ≡ calls.old.items) }
     ensures pages_err { OnErr result (pages.new.items ≡ pages.old.items) }
 {
-    let before = Box::new(alloc, pages[place])?;
-    calls.push(Call::Overwrite {
+    let kept = KeptPage::of(alloc, from)?;
+    calls.reserve(1)?;
+    let before = mem::replace(&mut pages[place], kept);
+    calls.push_reserved(Call::Overwrite {
         page: place as u64,
         before,
-    })?;
-    pages[place] = *from;
+    });
     Ok(())
 }
 
 // Adds a page, or does nothing where there is no memory.
-fn append(calls: &mut Vec<Call>, pages: &mut Vec<Page>, from: &Page) -> Result<(), NoMemory>
+fn append(
+    calls: &mut Vec<Call>,
+    pages: &mut Vec<KeptPage>,
+    alloc: Global,
+    from: &Page,
+) -> Result<(), NoMemory>
     ensures gains { OnOk result (Gains (Write (length pages.old.items) from.now) calls.old.items pages.old.items calls.new.items pages.new.items) }
     ensures pages { OnOk result (pages.new.items ≡ put (length pages.old.items) from.now pages.old.items) }
     ensures calls_err { OnErr result (calls.new.items ≡ calls.old.items) }
     ensures pages_err { OnErr result (pages.new.items ≡ pages.old.items) }
 {
     let page = pages.len() as u64;
+    let kept = KeptPage::of(alloc, from)?;
     calls.reserve(1)?;
-    pages.push(*from)?;
+    pages.push(kept)?;
     calls.push_reserved(Call::Append { page });
     Ok(())
 }
@@ -87,7 +96,7 @@ fn see_countable(crashed_at: u64, calls: &Vec<Call>) -> Result<(), NoMemory>
 fn keep_write(
     crashed_at: u64,
     calls: &mut Vec<Call>,
-    pages: &mut Vec<Page>,
+    pages: &mut Vec<KeptPage>,
     alloc: Global,
     page: u64,
     from: &Page,
@@ -104,7 +113,7 @@ fn keep_write(
     if place < pages.len() {
         overwrite(calls, pages, alloc, place, from)
     } else {
-        append(calls, pages, from)
+        append(calls, pages, alloc, from)
     }
 }
 
@@ -274,7 +283,7 @@ impl MemDisk {
             × (reads_of self.new ≡ reads_of self.old) }
     {
         self.crashed_at += self.calls.len() as u64;
-        leave(&mut self.pages, &mut self.calls, choice);
+        leave(&mut self.pages, &mut self.calls, self.alloc, choice);
         self.calls.clear();
         self.stop = None;
         self.is_stopped = false;
@@ -340,7 +349,7 @@ impl Disk for MemDisk {
         if self.failing_reads.count_call() || self.is_stopped {
             return Err(count_fault(&mut self.faults));
         }
-        *into = self.pages[page as usize];
+        self.pages[page as usize].give(into);
         Ok(())
     }
 

@@ -23,3 +23,5 @@ pub mod Besides
 pub mod Downs
 pub mod Inserts
 pub mod TreeHeights
+pub mod PutLaws
+pub mod LevelLaws

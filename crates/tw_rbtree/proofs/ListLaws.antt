@@ -1,10 +1,12 @@
 -- Listing the nodes of a page, part by part.
 use Rattle.tw_disk.specs.Image.{Image}
 use Rattle.std.proofs.Common.{◌≡◌, ◌≢◌, ℕ, suc, zero, ◌+◌, ◌-◌, ◌<◌, ◌≤◌, List, [], length, Bool, true, false, refl, ap, sym, ◌∙◌, subst, arith, slice_get}
-use Rattle.std.specs.Prelude.{◌==◌, ◌||◌, Option, Some, None, if◌then◌else◌}
+use Rattle.std.specs.Prelude.{◌==◌, ◌||◌, Option, Some, None, Result, Err, if◌then◌else◌}
 use Rattle.tw_base.specs.declared.history.root.Root.{Root}
 use Rattle.tw_base.specs.declared.history.thread.Entry.{Entry}
 use Rattle.tw_disk.specs.declared.limits.TheConstants.{FIRST_PAGE}
+use Rattle.tw_disk.specs.Answers.{AnswersAs, FaultSort, SaysOf}
+use Rattle.tw_disk.specs.Answers.FaultSort.{OfPage}
 use Rattle.tw_disk.specs.Found.{Found, ◌>>=◌}
 use Rattle.tw_disk.specs.Found.Found.{Is, Bad}
 use Rattle.tw_rbnode.specs.Page.{IsNode, TreePage}
@@ -12,11 +14,15 @@ use Rattle.tw_rbnode.specs.Shape.{Shape, Empty, Node, size}
 use Rattle.tw_rbnode.specs.Slots.{below_at, slot_of}
 use Rattle.tw_rbnode.proofs.Descents.{before, not_before, other, same}
 use Rattle.tw_rbtree.specs.declared.listing.Part.{Part}
+use Rattle.tw_rbtree.specs.declared.fault.TreeFault.{TreeFault}
 use Rattle.tw_rbtree.specs.declared.new_node.NewNode.{NewNode}
+use Rattle.tw_rbtree.specs.declared.new_node.Side.{Side}
 use Rattle.tw_rbtree.specs.declared.new_node.Side.TheVariants.{Empty as NoTree, Old}
+use Rattle.tw_rbtree.specs.FaultWords.{tree_faults}
 use Rattle.tw_rbtree.specs.Listing.{IsPartAt, IsSplit, Listed, ListsAt, child_listed, is_old, listed, listed_at, node_behind, part_listed, part_of}
 use Rattle.tw_rbtree.specs.Reading.{child_in, node_in}
 use Rattle.tw_rbtree.specs.Ways.{child_page}
+use Rattle.tw_disk.proofs.FoundLaws.{bad_ends}
 use Rattle.tw_rbtree.proofs.Downs.{child-level}
 use Rattle.tw_rbtree.proofs.WayLaws.{on_each}
 
@@ -206,6 +212,15 @@ module _ (dig : List ℕ → List ℕ) (ps : Image) (since : ℕ) (p : TreePage)
       >>= (λ left. listed_at child p.entries 0 (Some e) high top (sym (part-is p top end rs parts.r parts.right) i) left.nodes >>= (λ right. Is (node_behind (Some e) page left.side right))))
 
 pub ruleset parts_listed = (part-leaf, part-old, part-on)
+
+-- where the listing of the part before a slot meets a fault, so does that of the whole
+says-left : (sort : FaultSort) (left all : Found Listed) (next : Listed → Found Listed) → all ≡ (left >>= next) → SaysOf tree_faults sort left → SaysOf tree_faults sort all
+says-left (OfPage page) left all next is says = is ∙ bad_ends left next page says
+says-left _ left all next is says = tt
+
+pub stopped-left : (value : Side → Listed) (fault : TreeFault) (result : Result Side TreeFault) (left all : Found Listed) (next : Listed → Found Listed) → all ≡ (left >>= next)
+    → SaysOf tree_faults (tree_faults fault) left → result ≡ Err fault → AnswersAs tree_faults value result all
+stopped-left value fault result left all next is says same = subst (λ (r : Result Side TreeFault). AnswersAs tree_faults value r all) (sym same) (says-left (tree_faults fault) left all next is says)
 
 -- a part taken apart
 pub is-split : (p : TreePage) (part before behind : Part) (e : Entry) → part.top ≢ 0 → IsPartAt p part.base part.end part.top (part_of part.top 0 p.shape) → (before.top, behind.top) ≡ below_at part.top 0 p.shape

@@ -7,6 +7,7 @@ pub mod Listing
 pub mod Planting
 pub mod Answers
 pub mod Growing
+pub mod Putting
 pub mod Beside
 pub mod Downs
 pub mod OwnPages

@@ -19,9 +19,14 @@ ghost use Rattle.tw_rbnode.specs.Trees.{woven};
 ghost use Rattle.tw_rbtree.specs.Answers.{NeverUntrue, found_insert};
 ghost use Rattle.tw_rbtree.specs.FaultWords.{tree_faults};
 ghost use Rattle.tw_rbtree.specs.Growing.{AddedAreNodes, AddedLists, GrownLists, IsGrownIn, IsLast, IsStaged, IsStagedAs, IsWith, LiesIn, MayGoInto, SidesList, grows_from, is_full, is_two, leaf_of};
+ghost use Rattle.tw_rbtree.specs.Putting.{ArePages, AreRegrown, IsRegrown, IsTop, PutsIn};
 ghost use Rattle.tw_rbtree.specs.Reading.{is_above, is_below, lie_between};
 ghost use Rattle.tw_rbtree.specs.Standing.{AreTrees, IsTreeBelow, HasNamed, Named, StandsFor, StandsWith};
+ghost use Rattle.tw_rbtree.specs.Ways.{Stop, way_from};
+ghost use Rattle.tw_rbtree.specs.declared.inserting.Grown.TheVariants.{Two};
 ghost use Rattle.tw_rbtree.specs.declared.limits.TheConstants.{MOST_STAGED};
+ghost use Rattle.tw_base.specs.declared.history.tree_proof.Ask.TheVariants.{Absent};
+ghost use Rattle.tw_disk.specs.Found.Found.{Is};
 
 use crate::descending::{Down, descend};
 use crate::fault::TreeFault;
@@ -81,6 +86,7 @@ fn stage_added<P: Pages, H: Hasher>(pages: &mut P, added: Added) -> Result<Grown
         (named : Named) → named.below ≤ (P.view pages.old).used →
         (own least : ℕ) (es : List Entry) → AddedLists H.dig (HasNamed named) ps own least es added →
         IfOk result (λ g. (now : Image) × ((P.view pages.new).list ≡ Some now) × GrownLists H.dig (HasNamed named) now own least es g) }
+    ensures put { (ps : Image) → (P.view pages.old).list ≡ Some ps → IfOk result (λ g. (own : Image) × ((P.view pages.new).list ≡ Some (ps ++ own)) × ArePages added own) }
     ensures staged { IfOk result (λ g. IsStagedAs H.dig ((P.view pages.old).used) added g) }
     ensures last { IfOk result (λ g. IsLast ((P.view pages.new).used) g) }
     ensures more { IfOk result (λ g. (P.view pages.old).used < (P.view pages.new).used) }
@@ -131,6 +137,8 @@ fn regrow<P: Pages, H: Hasher>(
 ) -> Result<Grown, NoMemory>
     requires used { (P.view pages.old).used < 2 ^ 48 - 5 }
     requires goes { MayGoInto H.dig node.now place below.now }
+    ensures put { (ps : Image) → (P.view pages.old).list ≡ Some ps → IfOk result (λ g. (own : Image) × ((P.view pages.new).list ≡ Some (ps ++ own))
+        × IsRegrown H.dig ((P.view pages.old).used) node.now place below.now own g) }
     ensures two { IfOk result (λ g. is_two g ≡ (is_two below.now && is_full node.now)) }
     ensures grown { (low high : Option Entry) → lie_between low high node.now.entries ≡ true → LiesIn low high below.now → IfOk result (IsGrownIn low high) }
     ensures lists { (ps : Image) → (P.view pages.old).list ≡ Some ps → HasChildren H.dig node.now → (named : Named) → named.below ≤ (P.view pages.old).used →
@@ -191,6 +199,9 @@ fn grow_below<P: Pages, H: Hasher>(
         IsRising (woven (map entries ts) node.now.entries) →
         IfOk result (λ g. (now : Image) × ((P.view pages.new).list ≡ Some now)
         × GrownLists H.dig (HasNamed named) now node.now.level (length node.now.entries) (with_entry (woven (map entries ts) node.now.entries) entry.now) g) }
+    ensures put { (ps : Image) → (P.view pages.old).list ≡ Some ps → IfOk result (λ g. (stops : List Stop) × (more : Image) × ((P.view pages.new).list ≡ Some (ps ++ more))
+        × (way_from H.dig ps (Absent (key_of entry.now)) node.now.level low.now high.now node.now ≡ Is stops)
+        × AreRegrown H.dig ((P.view pages.old).used) entry.now stops more g) }
     ensures grown { IfOk result (IsGrownIn low.now high.now) }
     ensures last { IfOk result (λ g. IsLast ((P.view pages.new).used) g) }
     ensures more { IfOk result (λ g. (P.view pages.old).used < (P.view pages.new).used) }
@@ -235,6 +246,8 @@ fn stage_single<P: Pages, H: Hasher>(
         (ts : List Tree) → AreTrees (IsTreeBelow H.dig (HasNamed named) ps own) (left ∷ right ∷ []) ts →
         IsRising (woven (map entries ts) (middle ∷ [])) →
         IfOk result (λ new. (now : Image) × (t : Tree) × ((P.view pages.new).list ≡ Some now) × StandsWith H.dig (HasNamed named) now new t × (entries t ≡ woven (map entries ts) (middle ∷ []))) }
+    ensures put { (ps : Image) → (P.view pages.old).list ≡ Some ps → IfOk result (λ new. (top : Image) × ((P.view pages.new).list ≡ Some (ps ++ top))
+        × IsTop H.dig ((P.view pages.old).used) own (Two left middle right) top new) }
     ensures page { IfOk result (λ new. (P.view pages.new).used ≡ new.page + 1) }
     ensures more { IfOk result (λ new. (P.view pages.old).used < (P.view pages.new).used) }
     ensures few { (P.view pages.new).used ≤ (P.view pages.old).used + 1 }
@@ -276,6 +289,11 @@ pub fn insert<P: Pages, H: Hasher>(
     ensures plain { (ps : Image) → (P.view pages.old).list ≡ Some ps → (t : Tree) → StandsFor H.dig ps root.now t →
         IfOk result (λ new. (now : Image) × (grown : Tree) × ((P.view pages.new).list ≡ Some now)
         × StandsFor H.dig now new grown × (entries grown ≡ with_entry (entries t) entry)) }
+    // The pages that are staged are those of the way down to the entry's place, as it is found, each as one page or two with what stands
+    // below it now, and a new root's page above them where the way's first page is two now, or there was no page; and no others. So what
+    // stands beside the way is named as before, whatever it keeps.
+    ensures put { (ps : Image) → (P.view pages.old).list ≡ Some ps → IfOk result (λ new. (more : Image) × ((P.view pages.new).list ≡ Some (ps ++ more))
+        × PutsIn H.dig ps root.now entry more new) }
     // The new root's page is the last one.
     ensures page { IfOk result (λ new. (P.view pages.new).used ≡ new.page + 1) }
     // One page is staged at least, so the new root's page stands behind those that were there.

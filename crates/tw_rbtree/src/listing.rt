@@ -1,17 +1,19 @@
 // The nodes of a tree that are new since a page.
 
-ghost use Rattle.std.specs.Prelude.{◌≡◌, ◌≢◌, ◌==◌, ◌||◌, None};
+ghost use Rattle.std.specs.Prelude.{◌≡◌, ◌≢◌, ◌==◌, ◌||◌, None, IfOk};
 ghost use Rattle.tw_disk.specs.Answers.{ReadsPages};
+ghost use Rattle.tw_rbnode.specs.Page.{IsNode};
 ghost use Rattle.tw_rbnode.specs.Slots.{slot_of};
 ghost use Rattle.tw_rbtree.specs.FaultWords.{tree_faults};
+ghost use Rattle.tw_rbtree.specs.Reading.{child_in};
 ghost use Rattle.tw_rbtree.specs.Listing.{IsPartAt, IsSplit, is_old as is_old_page, listed, part_listed, part_of};
 
 use crate::descending::child_page;
 use crate::fault::TreeFault;
 use crate::new_node::{NewNode, NewNodes, Side};
-use crate::reading::{read_child, read_root};
+use crate::reading::{read_child, read_root, see_node};
 use std::alloc::Global;
-use tw_base::{Entry, Hasher, Root};
+use tw_base::{Entry, Hasher, NoMemory, Root};
 use tw_disk::Pages;
 use tw_disk::limits::FIRST_PAGE;
 use tw_rbnode::{RbNode, below, entry_at, keys, level, top};
@@ -90,10 +92,41 @@ fn is_old(page: u64, since: u64) -> bool
     FIRST_PAGE <= page && page < since
 }
 
+/// The page, on the heap. It stays a call, so that no call that reads holds what it has on the stack.
+#[inline(never)]
+fn on_heap(alloc: Global, node: RbNode) -> Result<Box<RbNode>, NoMemory>
+    ensures { IfOk result (λ n. n.value ≡ node) }
+{
+    let node = Box::new(alloc, node)?;
+    Ok(node)
+}
+
+/// Reads the tree page of this number, of this level and between these two entries, to the heap: no call of [`list_part`] has a page
+/// on the stack. So this stays a call too.
+#[inline(never)]
+fn child_on_heap<P: Pages, H: Hasher>(
+    alloc: Global,
+    pages: &mut P,
+    page: u64,
+    wanted: u8,
+    low: &Option<Entry>,
+    high: &Option<Entry>,
+) -> Result<Box<RbNode>, TreeFault>
+    ensures reads { ReadsPages tree_faults P.view P.same pages.old pages.new (λ n. n.value) result (λ ps. child_in H.dig ps wanted low.now high.now page) }
+    ensures level { IfOk result (λ n. n.value.level ≡ wanted) }
+    ensures node { IfOk result (λ n. IsNode n.value) }
+{
+    let child = read_child::<P, H>(pages, page, wanted, low, high)?;
+    see_node(&child);
+    let child = on_heap(alloc, child)?;
+    Ok(child)
+}
+
 /// Lists the nodes of this part of a page, which lies between these two entries, and of the pages below it from number `since` on,
 /// behind those that are listed; the part's root gets this page number. Calls itself for each side.
 #[tactic(auto, using(crate::proofs::ListLaws::parts_listed))]
 fn list_part<P: Pages, H: Hasher>(
+    alloc: Global,
     pages: &mut P,
     nodes: &mut NewNodes,
     since: u64,
@@ -115,8 +148,10 @@ fn list_part<P: Pages, H: Hasher>(
         if is_old(page, since) {
             return Ok(Side::Old(page));
         }
-        let child = read_child::<P, H>(pages, page, level(node) - 1, low, high)?;
-        return list_part::<P, H>(pages, nodes, since, page, &child, whole(&child), low, high);
+        let child = child_on_heap::<P, H>(alloc, pages, page, level(node) - 1, low, high)?;
+        let below = &*child;
+        let tree = whole(below);
+        return list_part::<P, H>(alloc, pages, nodes, since, page, below, tree, low, high);
     }
     let Split {
         before,
@@ -124,14 +159,15 @@ fn list_part<P: Pages, H: Hasher>(
         behind,
     } = take_apart(node, part);
     let middle = Some(entry);
-    let left = list_part::<P, H>(pages, nodes, since, 0, node, before, low, &middle)?;
-    let right = list_part::<P, H>(pages, nodes, since, 0, node, behind, &middle, high)?;
+    let left = list_part::<P, H>(alloc, pages, nodes, since, 0, node, before, low, &middle)?;
+    let right = list_part::<P, H>(alloc, pages, nodes, since, 0, node, behind, &middle, high)?;
     nodes.push(between(left, &entry, right, page))?;
     Ok(Side::New(nodes.len() as u64))
 }
 
 /// Lists the nodes of a page, and of those below it, behind those that are listed.
 fn list_page<P: Pages, H: Hasher>(
+    alloc: Global,
     pages: &mut P,
     nodes: &mut NewNodes,
     since: u64,
@@ -141,7 +177,8 @@ fn list_page<P: Pages, H: Hasher>(
     ensures reads { ReadsPages tree_faults P.view P.same pages.old pages.new (λ side. record { nodes = nodes.new; side = side }) result
         (λ ps. part_listed H.dig ps since node.now page None None 0 (slot_of 0 node.now.shape) nodes.old) }
 {
-    list_part::<P, H>(pages, nodes, since, page, node, whole(node), &None, &None)
+    let tree = whole(node);
+    list_part::<P, H>(alloc, pages, nodes, since, page, node, tree, &None, &None)
 }
 
 /// Whether the root has no page, or an older one than this.
@@ -170,6 +207,6 @@ pub fn fresh<P: Pages, H: Hasher>(
         return Ok(nodes);
     }
     let first = read_root::<P, H>(pages, root.page)?;
-    list_page::<P, H>(pages, &mut nodes, since, root.page, &first)?;
+    list_page::<P, H>(alloc, pages, &mut nodes, since, root.page, &first)?;
     Ok(nodes)
 }

@@ -31,13 +31,13 @@ use Rattle.tw_service.proofs.Receptions.{room_kept}
 module _ (dig : List ℕ → List ℕ) (ps : Image) (r : RootRecord) (t : Thread) (time : Option ℕ) (head : Head) (archive : Root) where
   -- nothing was told of the pages
   pub archived-fault : AnswersArchived dig ps r t time head archive (Err DiskFault)
-  archived-fault = record { tree_pages = []; grown = r.archive; answer = tt; few = tt; tree = tt; step = tt }
+  archived-fault = record { tree_pages = []; grown = r.archive; answer = tt; few = tt; put = tt; tree = tt; step = tt }
 
   -- a refused one tells a bad page that is found, behind pages of some tree
   pub archived-refused : (refusal : Refusal) → IsFault refusal → ArchivesAs dig ps r t time refusal → AnswersArchived dig ps r t time head archive (Err refusal)
-  archived-refused (BadPage page) fault found = record { tree_pages = found.0; grown = found.1; answer = found.2; few = tt; tree = tt; step = tt }
+  archived-refused (BadPage page) fault found = record { tree_pages = found.0; grown = found.1; answer = found.2; few = tt; put = tt; tree = tt; step = tt }
   archived-refused DiskFault fault found = archived-fault
-  archived-refused NoMemory fault found = record { tree_pages = []; grown = r.archive; answer = tt; few = tt; tree = tt; step = tt }
+  archived-refused NoMemory fault found = record { tree_pages = []; grown = r.archive; answer = tt; few = tt; put = tt; tree = tt; step = tt }
   archived-refused _ fault found = absurd fault
 
   -- one that was staged is found behind its pages
@@ -49,6 +49,7 @@ module _ (dig : List ℕ → List ℕ) (ps : Image) (r : RootRecord) (t : Thread
     answer = is_on (found_room dig ps r.archive t) (λ room. appended dig (ps ++ staged.tree_pages) r.head (Received t) archive time >>= (λ next. Is (Ok (receipt_at r.name next.value t)))) tt staged.room
         ∙ is_on (appended dig (ps ++ staged.tree_pages) r.head (Received t) archive time) (λ (next : Next Head). Is (Ok (receipt_at r.name next.value t))) (record { pages = staged.pages; value = head }) staged.is;
     few = staged.few;
+    put = staged.put;
     tree = (refl, staged.tree);
     step = (staged.pages, staged.is);
   }

@@ -27,6 +27,7 @@ use Rattle.tw_disk.specs.Image.{Image}
 use Rattle.tw_disk.proofs.FoundLaws.{is_on}
 use Rattle.tw_rbtree.specs.Standing.{StandsFor}
 use Rattle.tw_rbtree.specs.Ways.{found_with}
+use Rattle.tw_rbtree.proofs.LevelLaws.{levels-few}
 use Rattle.tw_rbtree.proofs.RootWays.{root-way, with-found}
 use Rattle.tw_rbtree.proofs.TreeHeights.{stands-height}
 use Rattle.tw_treeproof.specs.Answers.{ancestors_of}
@@ -71,12 +72,14 @@ pub one_absence : (bytes : List ℕ) (p q : AbsenceProof) → Spells proof_layou
 one_absence bytes p q one other = let same : ◌≡◌ {A = Proof} (Absent p) (Absent q) = one_value proof_layout bytes (Absent p) (Absent q) one other in cc
 
 -- a tree proof that is the tree's own has few nodes
-few_nodes : (dig : List ℕ → List ℕ) (ps : Image) (root : Root) (t : Tree) (asked : Ask) (shown : TreeProof) → StandsFor dig ps root t → shown ≡ proof_of dig t asked → IsFewNodes (length (entries t)) (length (ancestors_of shown))
+pub few_nodes : (dig : List ℕ → List ℕ) (ps : Image) (root : Root) (t : Tree) (asked : Ask) (shown : TreeProof) → StandsFor dig ps root t → shown ≡ proof_of dig t asked → IsFewNodes (length (entries t)) (length (ancestors_of shown))
 few_nodes dig ps root t asked shown stands is =
     let w = root-way dig ps asked root t stands in
     let same = w.up ∙ sym (at-ancestors dig (place_of asked t) (way_up dig asked t)) in
     let few : length (ancestors_of (proof_of dig t asked)) ≤ 9 * w.levels = subst (λ (xs : List Ancestor). length xs ≤ 9 * w.levels) same w.few in
-    (w.levels, subst (λ (p : TreeProof). length (ancestors_of p) ≤ 9 * w.levels) (sym is) few, w.many)
+    let own = subst (λ (p : TreeProof). length (ancestors_of p) ≤ 9 * w.levels) (sym is) few in
+    let low = levels-few dig ps root.page w.levels w.levels_is in
+    (w.levels, own, omega (arith, own, low), w.many)
 
 module _ (dig : List ℕ → List ℕ) (size : (text : List ℕ) → IsDigest (dig text)) (ps : Image) (h : History) (r : RootRecord) (whole : KeepsWhole dig ps h r) (sound : IsSound h) (name : List ℕ) (named : h.name ≡ name)
     (step : ℕ) (key : Key) (top : ℕ) (some : 1 ≤ step) (order : step ≤ top) (below : top ≤ r.head.step) where

@@ -16,6 +16,7 @@ pub mod Staging
 pub mod Standing
 pub mod KeptAnswers
 pub mod KeptMaps
+pub mod MapSizes
 pub mod ShortFiles
 pub mod PageNumberings
 pub mod KnownPages

@@ -52,6 +52,7 @@ use Rattle.tw_service.specs.Tops.{top_of}
 use Rattle.tw_service.proofs.ExportAnswers.{export_kept, too_long_told}
 use Rattle.tw_service.proofs.KeptAnswers.{beyond, in_range, kept_link, kept_path, no_such}
 use Rattle.tw_service.proofs.KeptMaps.{high_kept, low_kept}
+use Rattle.tw_service.proofs.MapSizes.{high_few, low_few}
 use Rattle.tw_service.proofs.KeptThreads.{absence_few, absence_is, has_thread_told, lacks, made_absence, made_thread, makes, no_bad_is, no_thread_told, one_absence, one_thread, thread_few, thread_is}
 
 -- ---- what pages that keep a history have of a question
@@ -289,6 +290,12 @@ module _ (dig : List ℕ → List ℕ) (size : (text : List ℕ) → IsDigest (d
       let n : ℕ = top_of top (length h.steps) in
       absence_few dig size ps h r whole sound name named step key n order.0 order.1 (omega (arith, order.2, ends)) p
       (subst (λ (x : AbsenceProof). IsAbsenceProofOf dig h step n x) (one_absence bytes makes.0 p makes.1 spells) makes.2)
+  few_at (ask.Low step peer top) order bytes makes =
+      let n : ℕ = top_of top (length h.steps) in
+      low_few dig ps h r whole step peer n bytes (omega (arith, order.1, order.2)) makes
+  few_at (ask.High step peer top) order bytes makes =
+      let n : ℕ = top_of top (length h.steps) in
+      high_few dig ps h r whole step peer n bytes order.1 makes
   few_at _ order bytes makes = tt
 
   pub few_for : (q : Question) → AreInOrder last q → (bytes : List ℕ) → Makes dig h q bytes → HasFewFor h q bytes

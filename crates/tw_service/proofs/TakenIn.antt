@@ -89,13 +89,13 @@ module _ (dig : List ℕ → List ℕ) (ps : Image) (root : RootRecord) (m : Mes
   of_disk (Bad page) = tt
   of_disk (Is (Refuse refusal)) = tt
   of_disk (Is (Known archived)) = tt
-  of_disk (Is Archive) = record { tree_pages = []; grown = root.archive; answer = tt; few = tt; tree = tt; step = tt }
+  of_disk (Is Archive) = record { tree_pages = []; grown = root.archive; answer = tt; few = tt; put = tt; tree = tt; step = tt }
 
   of_memory : (found : Found Reception) → Answered NoMemory found
   of_memory (Bad page) = tt
   of_memory (Is (Refuse refusal)) = tt
   of_memory (Is (Known archived)) = tt
-  of_memory (Is Archive) = record { tree_pages = []; grown = root.archive; answer = tt; few = tt; tree = tt; step = tt }
+  of_memory (Is Archive) = record { tree_pages = []; grown = root.archive; answer = tt; few = tt; put = tt; tree = tt; step = tt }
 
   pub fault_answered : (r : Refusal) → IsFault r → (found : Found Reception) → SaysOf refusals (refusals r) found → Answered r found
   fault_answered (BadPage page) fault found is = subst (Answered (BadPage page)) (sym is) refl

@@ -1,5 +1,5 @@
 -- What more holds of the bytes that answer a question.
-use Rattle.std.specs.Prelude.{◌≡◌, ℕ, List, length, Some, Ok}
+use Rattle.std.specs.Prelude.{◌≡◌, ℕ, ◌-◌, List, length, IfSome, Some, Ok}
 use Rattle.tw_base.specs.declared.history.thread.Thread.{Thread}
 use Rattle.tw_base.specs.format.Formats.{Spells}
 use Rattle.tw_base.specs.history.Anchors.{anchor_of}
@@ -12,6 +12,9 @@ use Rattle.tw_chain.specs.declared.proof.ThreadProof.{ThreadProof}
 use Rattle.tw_chain.specs.Accepting.{Accepts}
 use Rattle.tw_chain.specs.Proofs.{proof_layout}
 use Rattle.tw_history.specs.Refusals.{ReadsHistory}
+use Rattle.tw_tmap.specs.declared.map_file.HighFile.{HighFile}
+use Rattle.tw_tmap.specs.declared.map_file.LowFile.{LowFile}
+use Rattle.tw_tmap.specs.MapFiles.{high_layout, low_layout}
 use Rattle.tw_treeproof.specs.Answers.{ancestors_of}
 use Rattle.tw_base.specs.declared.history.question.Question.{Question}
 use Rattle.tw_base.specs.declared.history.question.Question.TheVariants as ask
@@ -31,9 +34,13 @@ IsAcceptedFor dig h (ask.Link step top) bytes = IsAcceptedUnder dig h (top_of to
 IsAcceptedFor dig h ask.Export bytes = ReadsHistory bytes (Ok h)
 IsAcceptedFor dig h _ bytes = Unit {0}
 
--- the tree proof in them has at most 9 nodes above its place for each of some number of levels, of which each one more takes 13 times the
--- threads; over an archive of no thread it has none
+-- the tree proof in them, of the archive that it shows, has at most 9 nodes above its place for each of some number of levels, of which each one
+-- more takes 13 times the threads, and at most 99; over an archive of no thread it has none
 unfoldable pub HasFewFor : History → Question → (bytes : List ℕ) → Type 0
 HasFewFor h (ask.Thread step key top) bytes = (p : ThreadProof) → Spells proof_layout bytes (Archived p) → IsFewNodes (length (entries (tree h step))) (length (ancestors_of p.shown))
 HasFewFor h (ask.Absent step key top) bytes = (p : AbsenceProof) → Spells proof_layout bytes (Absent p) → IsFewNodes (length (entries (tree h step))) (length (ancestors_of p.shown))
+HasFewFor h (ask.Low step peer top) bytes =
+    (f : LowFile) → Spells low_layout bytes f → IfSome f.shown (λ p. IsFewNodes (length (entries (tree h (step - 1)))) (length (ancestors_of p.shown)))
+HasFewFor h (ask.High step peer top) bytes =
+    (f : HighFile) → Spells high_layout bytes f → IsFewNodes (length (entries (tree h (top_of top (length h.steps))))) (length (ancestors_of f.shown))
 HasFewFor h _ bytes = Unit {0}

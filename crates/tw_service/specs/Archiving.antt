@@ -13,6 +13,7 @@ use Rattle.tw_disk.specs.Image.{Image}
 use Rattle.tw_msg.specs.declared.message.Message.{Message}
 use Rattle.tw_msg.specs.declared.receipt.Receipt.{Receipt}
 use Rattle.tw_rbtree.specs.declared.limits.TheConstants.{MOST_STAGED}
+use Rattle.tw_rbtree.specs.Putting.{PutsIn}
 use Rattle.tw_rbtree.specs.Standing.{HasNamed, Named, StandsWith}
 use Rattle.tw_skiplist.specs.declared.head.Head.{Head}
 use Rattle.tw_skiplist.specs.Appended.{appended}
@@ -36,10 +37,16 @@ module _ (dig : List ℕ → List ℕ) (ps : Image) (root : RootRecord) (t : Thr
       (named : Named) → named.below ≤ FIRST_PAGE + length ps → (old : Tree) → StandsWith dig (HasNamed named) ps root.archive old
       → (new : Tree) × StandsWith dig (HasNamed named) (ps ++ tree_pages) archive new × (entries new ≡ with_entry (entries old) (entry_of root.head.step t))
 
+  -- these pages put the thread into the archive's tree, as the next step receives it, and no other page is among them: those of the way
+  -- to its place, as it is found in the pages, whatever else they keep, each with what stands below it now
+  abbrev pub PutsThreadIn : (tree_pages : Image) → (archive : Root) → Type 0
+  PutsThreadIn tree_pages archive = PutsIn dig ps root.archive (entry_of root.head.step t) tree_pages archive
+
   -- the pages told now are those, the tree's, and then the step's, which is found behind the others
   pub record IsStagedBehind (time : Option ℕ) (now : Option Image) (head : Head) (archive : Root) : Type 0 where
     pub tree_pages : Image
     pub few : length tree_pages ≤ MOST_STAGED
+    pub put : PutsThreadIn tree_pages archive
     pub tree : HasTreeBehind tree_pages archive
     pub room : found_room dig ps root.archive t ≡ Is tt
     pub pages : Image
@@ -51,14 +58,15 @@ module _ (dig : List ℕ → List ℕ) (ps : Image) (root : RootRecord) (t : Thr
   ArchivesAs time refusal =
       OfBadPage refusal (λ page. (tree_pages : Image) × (archive : Root) × (found_archived dig ps root.name root.head root.archive t time tree_pages archive ≡ Bad page))
 
-  -- What is answered where the next step is to archive the thread: the receipt that is found behind pages of some tree, or the first page
-  -- that is bad then, with a disk fault and want of memory excepted; and a receipt is by the step of this new head, which is found with
-  -- the tree's new root, that of this archive.
+  -- What is answered where the next step is to archive the thread: the receipt that is found behind the pages that put it into the tree, or
+  -- the first page that is bad behind pages of some tree, with a disk fault and want of memory excepted; and a receipt is by the step of this
+  -- new head, which is found with the tree's new root, that of this archive.
   pub record AnswersArchived (time : Option ℕ) (head : Head) (archive : Root) (result : Result Receipt Refusal) : Type 0 where
     pub tree_pages : Image
     pub grown : Root
     pub answer : IsAnswer result (found_archived dig ps root.name root.head root.archive t time tree_pages grown)
     pub few : IfOk result (λ receipt. length tree_pages ≤ MOST_STAGED)
+    pub put : IfOk result (λ receipt. PutsThreadIn tree_pages archive)
     pub tree : IfOk result (λ receipt. (grown ≡ archive) × HasTreeBehind tree_pages archive)
     pub step : IfOk result (λ receipt. (pages : Image) × (appended dig (ps ++ tree_pages) root.head (Received t) archive time ≡ Is (record { pages = pages; value = head })))
 

@@ -63,10 +63,10 @@ Archives t time h next = (s : Step) × (next ≡ plus h s) × (s.content ≡ Rec
 abbrev pub append_table : History → List (List ℕ) → (time : Option ℕ) → Option Refusal
 append_table h events time = append_refusal false (length h.steps) (greatest_time h) events time
 
--- so many nodes above a place in a tree of so many entries, whose pages have some number of levels: at most 9 for each level; and each
--- level more takes 13 times the entries, so that of no entries there is no node
+-- so many nodes above a place in a tree of so many entries, whose pages have some number of levels: at most 9 for each level, so at most 99;
+-- and each level more takes 13 times the entries, so that of no entries there is no node
 abbrev pub IsFewNodes : (entries nodes : ℕ) → Type 0
-IsFewNodes entries nodes = (levels : ℕ) × (nodes ≤ 9 * levels) × (0 < levels → 2 * 13 ^ (levels - 1) ≤ entries + 1)
+IsFewNodes entries nodes = (levels : ℕ) × (nodes ≤ 9 * levels) × (nodes ≤ 99) × (0 < levels → 2 * 13 ^ (levels - 1) ≤ entries + 1)
 
 module _ (dig : List ℕ → List ℕ) where
   -- the receipt by which a step of the history tells that it received the thread

@@ -38,8 +38,9 @@ module _ (dig : List ℕ → List ℕ) where
     pub is : appended dig w.pages w.root.head (Events events) w.root.archive time ≡ Is (record { pages = next.pages; value = next.root.head })
 
   -- A step of this thread makes the record of a step that is found behind new pages of a tree, with the root of that tree, which is one of
-  -- them, and the pages that are found with it. Where the pages that were there stand for the archive's tree, those of the tree stand for
-  -- the one with the thread in it; where one of them is bad, of the new tree nothing more is said.
+  -- them, and the pages that are found with it. The new pages are those that put the thread into the archive's tree, and no others: the pages
+  -- of the way to its place, as it is found, whatever the pages beside it keep. Where the pages that were there stand for the archive's tree,
+  -- those of the tree stand for the one with the thread in it.
   pub record AddsThread (t : Thread) (time : Option ℕ) (w next : Written RootRecord) : Type 0 where
     pub more : Image
     pub behind : next.pages ≡ w.pages ++ more

@@ -1,6 +1,6 @@
 // A step that archives a thread: the pages of its archive's tree, and then its own.
 
-ghost use Rattle.std.specs.Prelude.{◌≡◌, ◌⊎◌, ℕ, ◌+◌, ◌<◌, ◌≤◌, ◌^◌, IfErr, IfOk, Some, false};
+ghost use Rattle.std.specs.Prelude.{◌≡◌, ◌⊎◌, ℕ, ◌+◌, ◌++◌, ◌<◌, ◌≤◌, ◌^◌, IfErr, IfOk, Some, false};
 ghost use Rattle.tw_base.specs.history.Asking.{with_entry};
 ghost use Rattle.tw_base.specs.history.Limits.{IsStep, IsThread, IsTimeWithinLimits};
 ghost use Rattle.tw_base.specs.history.Tree.{Tree, entries};
@@ -10,7 +10,7 @@ ghost use Rattle.tw_disk.specs.Answers.{AddsBy, AnswersAs, FaultsRise, has_faile
 ghost use Rattle.tw_disk.specs.Image.{Image};
 ghost use Rattle.tw_disk.specs.Pages.{OnlyAdds};
 ghost use Rattle.tw_rbtree.specs.Standing.{HasNamed, Named, StandsWith};
-ghost use Rattle.tw_service.specs.Archiving.{ArchivesAs, IsStagedBehind, entry_of};
+ghost use Rattle.tw_service.specs.Archiving.{ArchivesAs, IsStagedBehind, PutsThreadIn, entry_of};
 ghost use Rattle.tw_service.specs.Finds.{found_room};
 ghost use Rattle.tw_answers.specs.Refusals.{IsFault, refusals};
 
@@ -64,6 +64,8 @@ fn stage_tree<P: Pages, H: Hasher>(
         (t : Tree) → StandsWith H.dig (HasNamed named) ps root.now.archive t →
         IfOk result (λ new. (now : Image) × (grown : Tree) × ((P.view pages.new).list ≡ Some now)
         × StandsWith H.dig (HasNamed named) now new grown × (entries grown ≡ with_entry (entries t) (entry_of root.now.head.step thread.now))) }
+    ensures put { (ps : Image) → (P.view pages.old).list ≡ Some ps → IfOk result (λ new. (more : Image) × ((P.view pages.new).list ≡ Some (ps ++ more))
+        × PutsThreadIn H.dig ps root.now thread.now more new) }
     ensures behind { IfOk result (λ new. (P.view pages.old).used ≤ new.page) }
     ensures page { IfOk result (λ new. new.page < (P.view pages.new).used) }
     ensures few { (P.view pages.new).used ≤ (P.view pages.old).used + 23 }

@@ -42,3 +42,7 @@ stands-closed disk name h rest = record {
   only = rest.only;
   has = subst (λ n. StandsFor sha256 rest.image n h) (sym rest.has.named) rest.has;
 }
+
+-- so is what is left by a crash of such a disk
+pub stands-left_one : (old new : MemDisk) (h : History) → IsAtRest (view_of new) (view_of old).may_leave → StandsForGood old h → StandsForGood new h
+stands-left_one old new h rest stands = record { image = rest.image; told = rest.told; only = rest.only; has = stands-each old h stands rest.image rest.has }

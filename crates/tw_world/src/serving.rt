@@ -77,13 +77,22 @@ struct Rested {
     steps: u64,
 }
 
+/// The disk, at rest, without what its calls wrote over: a crash that leaves the new bytes changes nothing that such a disk holds.
+fn settled(disk: MemDisk) -> MemDisk
+    ensures { (h : History) → StandsForGood disk h → StandsForGood result h }
+{
+    let mut disk = disk;
+    disk.crash(number_of(CrashChoice::New));
+    disk
+}
+
 /// Closes a service.
 fn closed(service: MemService) -> Rested
     ensures { (h : History) → Serves sha256 view_of service h → RestsAs result.disk result.steps h }
 {
     let steps = service.steps();
     Rested {
-        disk: service.close(),
+        disk: settled(service.close()),
         steps,
     }
 }

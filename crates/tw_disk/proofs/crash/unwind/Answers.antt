@@ -1,5 +1,4 @@
-use Rattle.std.proofs.Common.{◌≡◌, ◌<◌, ◌++◌, ◌∷◌, [], ℕ, List, ap, ◌∙◌, subst, sym, refl, length, arith}
-use Rattle.std.proofs.Math.ListN.{set}
+use Rattle.std.proofs.Common.{◌<◌, ◌++◌, ◌∷◌, [], ap, ◌∙◌, subst, sym, refl, length, arith}
 use Rattle.tw_disk.specs.Image.{Image}
 use Rattle.tw_disk.specs.KeptCalls.{AllFit, written_of}
 use Rattle.tw_disk.specs.declared.call.Call.{Call}
@@ -18,10 +17,9 @@ loop-call-preserved-in-Overwrite c =
     let call = Overwrite c.in-Overwrite.page c.in-Overwrite.before in
     let image = c.loop-call.pages.items in
     let popped = c.in-Some.ensures.items ∙ ap (λ (k : Call). c.pop.new.self.items ++ k ∷ []) c.in-Overwrite.is in
-    let back : set image c.in-Overwrite.page c.in-Overwrite.before.value ≡ set image c.in-Overwrite.page c.deref.result.now = ap (λ (b : List ℕ). set image c.in-Overwrite.page b) (sym c.deref.ensures) in
     record {
-      fits = subst (λ (i : Image). AllFit c.pop.new.self.items i) back (fits_rest _ _ call image popped c.loop-call.invariant.fits);
-      settled = ap (λ (i : Image). (written_of c.pop.new.self.items i).settled) (sym back) ∙ settled-write _ _ call image popped c.loop-call.invariant.fits _ _ refl ∙ c.loop-call.invariant.settled;
+      fits = fits_rest _ _ call image popped c.loop-call.invariant.fits;
+      settled = settled-write _ _ call image popped c.loop-call.invariant.fits _ _ refl ∙ c.loop-call.invariant.settled;
     }
 
 pub loop-call-preserved : goal.loop-call-preserved

@@ -1,4 +1,4 @@
-use Rattle.std.proofs.Common.{◌≡◌, [], ◌++◌, ◌∙◌, arith, refl, rules, sym, subst}
+use Rattle.std.proofs.Common.{◌≡◌, ◌+◌, [], ◌++◌, ◌∙◌, arith, length, length-append, refl, rules, sym, subst}
 use Rattle.std.specs.Prelude.{map, slice_index_or}
 use Rattle.std.proofs.lemmas.Option.{same_Some}
 use Rattle.tw_base.specs.declared.history.tree_proof.Ask.TheVariants.{Absent}
@@ -10,6 +10,7 @@ use Rattle.tw_rbtree.specs.Growing.{MayGoInto, SidesList}
 use Rattle.tw_rbtree.specs.Standing.{HasNamed, IsTreeBelow}
 use Rattle.tw_rbtree.proofs.Downs.{grows-down}
 use Rattle.tw_rbtree.proofs.GrowLaws.{are-kept, down-node, entry-between, goes-into, leaf-goes, leaf-sides, lies-below, own-below, place-room, same-down, sides-up}
+use Rattle.tw_rbtree.proofs.PutLaws.{put-child, put-leaf}
 use Rattle.tw_rbtree.proofs.inserting.+grow_below.Goals as goal
 
 pub returns-in_err-descend-clause-adds : goal.returns-in_err-descend-clause-adds
@@ -100,3 +101,28 @@ returns-in_ok-regrow-in-Child-clause-lists g t c = λ ps told named under ts are
     (are-kept dig (HasNamed named) ps p d.0.node ts are rising place room q d.2 more.0 below.0 now_is) rising entry
     (entry-between dig c.args.low.now c.args.high.now p entry _ d.0 c.requires.lie place d.1 c.requires.above c.requires.below)
     (sides-up dig (HasNamed named) ps p d.0.node ts are rising place room q d.2 below.0 entry own c.in_ok-below-in-Child.below below.2)
+
+pub returns-in_ok-regrow-in-Leaf-clause-put : goal.returns-in_ok-regrow-in-Leaf-clause-put
+returns-in_ok-regrow-in-Leaf-clause-put g t c = λ ps told.
+    let p = c.args.node.now in
+    let entry = c.args.entry.now in
+    let d = same-down g.H.Hasher.dig c.args.low.now c.args.high.now p c.entry_key.result entry _ _ c.entry_key.ensures c.in-Leaf.is c.in_ok-descend.ensures.down in
+    let reads = c.in_ok-descend.ensures.reads in
+    let put = c.in_ok-regrow-in-Leaf.ensures.put ps (reads.kept.list_kept ∙ told) in
+    put-leaf g.H.Hasher.dig ps ((g.P.Pages.view c.args.pages.now).used) ((g.P.Pages.view c.descend.new.pages).used) c.entry_key.result entry c.args.low.now c.args.high.now p _ _ c.in-Leaf.place put.0 _ _ _
+    c.entry_key.ensures (reads.answer ps told) d.1 put.2 c.in-Leaf.is c.leaf.ensures reads.kept.used_kept put.1
+
+pub returns-in_ok-regrow-in-Child-clause-put : goal.returns-in_ok-regrow-in-Child-clause-put
+returns-in_ok-regrow-in-Child-clause-put g t c = λ ps told.
+    let p = c.args.node.now in
+    let entry = c.args.entry.now in
+    let d = same-down g.H.Hasher.dig c.args.low.now c.args.high.now p c.entry_key.result entry _ _ c.entry_key.ensures c.in-Child.is c.in_ok-descend.ensures.down in
+    let reads = c.in_ok-descend.ensures.reads in
+    let below = c.in_ok-below-in-Child.ensures.put ps (reads.kept.list_kept ∙ told) in
+    let put = c.in_ok-regrow-in-Child.ensures.put (ps ++ below.1) below.2 in
+    let before = g.met.P.Pages.told_count c.args.pages.now ps told in
+    let after = g.met.P.Pages.told_count c.grow_below.new.pages (ps ++ below.1) below.2 in
+    let sum = length-append ps below.1 in
+    let ends : (g.P.Pages.view c.grow_below.new.pages).used ≡ (g.P.Pages.view c.args.pages.now).used + length below.1 = omega (arith, before, after, sum) in
+    put-child g.H.Hasher.dig ps ((g.P.Pages.view c.args.pages.now).used) ((g.P.Pages.view c.grow_below.new.pages).used) c.entry_key.result entry c.args.low.now c.args.high.now p _ c.in-Child.here c.in-Child.place put.0
+    c.in_ok-below-in-Child.below _ _ c.entry_key.ensures (reads.answer ps told) d.1 put.2 c.in-Child.child below.0 below.1 ((g.P.Pages.view c.descend.new.pages).used) c.in-Child.is below.3 reads.kept.used_kept below.4 ends put.1

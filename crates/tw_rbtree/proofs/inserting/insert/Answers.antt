@@ -1,4 +1,4 @@
-use Rattle.std.proofs.Common.{◌≡◌, ℕ, suc, ◌+◌, List, [], ◌∷◌, ◌++◌, length, ap, refl, sym, ◌∙◌, subst, arith, rules}
+use Rattle.std.proofs.Common.{◌≡◌, ℕ, suc, ◌+◌, List, [], ◌∷◌, ◌++◌, length, length-append, ap, refl, sym, ◌∙◌, subst, arith, rules}
 use Rattle.std.specs.Prelude.{map}
 use Rattle.tw_base.specs.declared.history.thread.Entry.{Entry}
 use Rattle.tw_base.specs.history.Asking.{with_entry}
@@ -11,6 +11,7 @@ use Rattle.tw_rbtree.specs.Standing.{IsTreeBelow, HasNamed, Named}
 use Rattle.tw_rbtree.proofs.GrowLaws.{leaf-below, less-keys}
 use Rattle.tw_rbtree.proofs.Inserts.{insert-root}
 use Rattle.tw_rbtree.proofs.Keeping.{stands-any, stands-unnamed}
+use Rattle.tw_rbtree.proofs.PutLaws.{put-empty, put-one, put-two}
 use Rattle.tw_rbtree.proofs.RootGrowing.{all-lie_between, empty-tree, own-trees, rises-with, root-stands}
 use Rattle.tw_rbtree.proofs.inserting.insert.Goals as goal
 
@@ -98,3 +99,30 @@ returns-in_ok-stage_single-in-Two-clause-plain g c = λ ps told t stands.
     let dig = g.H.Hasher.dig in
     let all = returns-in_ok-stage_single-in-Two-clause-inserted g c ps told unnamed (omega arith) t (stands-unnamed dig unnamed ps refl c.args.root.now t stands) in
     (all.0, all.1, all.2, stands-any dig (HasNamed unnamed) all.0 _ all.1 all.3, all.4)
+
+pub returns-then-root-eq0-clause-put : goal.returns-then-root-eq0-clause-put
+returns-then-root-eq0-clause-put g c = λ ps told.
+    let put = c.in_ok-stage_single.ensures.put ps told in
+    put-empty g.H.Hasher.dig ps c.args.root.now c.args.entry c.in_ok-stage_single.field-0 _ c.empty_tree.result ((g.P.Pages.view c.args.pages.now).used) put.0 c.if-root-eq0.true c.empty_tree.ensures
+    (g.met.P.Pages.told_count c.args.pages.now ps told) put.1 put.2
+
+pub returns-in-One-clause-put : goal.returns-in-One-clause-put
+returns-in-One-clause-put g c = λ ps told.
+    let reads = c.in_ok-first.ensures.reads in
+    let put = c.in_ok-child.ensures.put ps (reads.kept.list_kept ∙ told) in
+    let first = reads.kept.used_kept ∙ g.met.P.Pages.told_count c.args.pages.now ps told in
+    put-one g.H.Hasher.dig ps c.args.root.now c.args.entry c.root_of.result _ c.in_ok-first.first put.0 put.1 ((g.P.Pages.view c.read_root.new.pages).used) c.in_ok-child.field-0 c.if-root-eq0.false (reads.answer ps told) put.3
+    first put.4 c.in-One.child c.in-One.is put.2 c.root_of.ensures.page c.root_of.ensures.label
+
+pub returns-in_ok-stage_single-in-Two-clause-put : goal.returns-in_ok-stage_single-in-Two-clause-put
+returns-in_ok-stage_single-in-Two-clause-put g c = λ ps told.
+    let reads = c.in_ok-first.ensures.reads in
+    let put = c.in_ok-child.ensures.put ps (reads.kept.list_kept ∙ told) in
+    let top = c.in_ok-stage_single-in-Two.ensures.put (ps ++ put.1) put.2 in
+    let first = reads.kept.used_kept ∙ g.met.P.Pages.told_count c.args.pages.now ps told in
+    let after = g.met.P.Pages.told_count c.grow_below.new.pages (ps ++ put.1) put.2 in
+    let sum = length-append ps put.1 in
+    let last : (g.P.Pages.view c.grow_below.new.pages).used ≡ 4 + length ps + length put.1 = omega (arith, after, sum) in
+    let level : c.level-in-Two.result ≡ c.in_ok-first.first.level = omega (arith, c.level-in-Two.ensures) in
+    put-two g.H.Hasher.dig ps c.args.root.now c.args.entry c.in_ok-stage_single-in-Two.field-0 _ c.in_ok-first.first put.0 put.1 ((g.P.Pages.view c.read_root.new.pages).used) c.in_ok-child.field-0 c.if-root-eq0.false
+    (reads.answer ps told) put.3 first put.4 c.in-Two.left c.in-Two.middle c.in-Two.right top.0 ((g.P.Pages.view c.grow_below.new.pages).used) c.level-in-Two.result c.in-Two.is last level top.1 top.2

@@ -21,3 +21,8 @@ returns-clause-lists g c = λ ps told kinds named under ts are rising entry betw
     let p = c.args.node.now in
     c.in_ok-grown.ensures.lists ps told (c.with_grown-added.ensures.kinds kinds) named under p.level (length p.entries) (with_entry (woven (map entries ts) p.entries) entry)
     (with-lists g.H.Hasher.dig (HasNamed named) ps p.level p c.see_node.ensures refl ts are rising c.args.place entry between c.args.below.now sides c.with_grown-added.result c.with_grown-added.ensures.with c.see_added.ensures)
+
+pub returns-clause-put : goal.returns-clause-put
+returns-clause-put g c = λ ps told.
+    let put = c.in_ok-grown.ensures.put ps told in
+    (put.0, put.1, record { added = c.with_grown-added.result; with_it = c.with_grown-added.ensures.with; staged = c.in_ok-grown.ensures.staged; are = put.2 })

@@ -1,8 +1,11 @@
-use Rattle.std.proofs.Common.{arith, [], ◌∷◌, ◌++◌, ◌∙◌, subst}
+use Rattle.std.proofs.Common.{arith, [], ◌∷◌, ◌++◌, ◌∙◌, append_assoc, ap, refl, subst, sym}
+use Rattle.std.specs.Prelude.{Some}
 use Rattle.tw_disk.specs.Image.{Image}
+use Rattle.tw_rbnode.specs.declared.node.Added.{Added}
 use Rattle.tw_rbnode.specs.Children.{AddedHasChildren}
 use Rattle.tw_rbtree.specs.Standing.{HasNamed}
 use Rattle.tw_rbtree.specs.Growing.{AddedLists}
+use Rattle.tw_rbtree.specs.Putting.{ArePages}
 use Rattle.tw_disk.proofs.ReadingLaws.{only_adds_on}
 use Rattle.tw_rbtree.proofs.Staging.{above-named, child_tree-kept, over-kept, put_behind, staged-tree}
 use Rattle.tw_rbtree.proofs.inserting.stage_added.Goals as goal
@@ -46,3 +49,23 @@ pub returns-in_ok-right-in-Two-clause-kept : goal.returns-in_ok-right-in-Two-cla
 returns-in_ok-right-in-Two-clause-kept g c =
     only_adds_on g.P.Pages.view g.P.Pages.same _ _ _ (Unit {0}) (Unit {0}) (Unit {0}) g.met.P.Pages.same_on (λ good. tt) (λ good. tt)
     c.in_ok-left-in-Two.ensures.kept c.in_ok-right-in-Two.ensures.kept
+
+pub returns-in_ok-stage_node-in-One-clause-put : goal.returns-in_ok-stage_node-in-One-clause-put
+returns-in_ok-stage_node-in-One-clause-put g c = λ ps told.
+    let ok = c.in_ok-stage_node-in-One in
+    let put = ok.ensures.put in
+    (put.0 ∷ [], put_behind _ ps put.0 _ told put.2, subst (λ (a : Added). ArePages a (put.0 ∷ [])) (sym c.in-One.is) (put.0, record { node = ok.ensures.node; spelled = put.1 }, refl))
+
+pub returns-in_ok-right-in-Two-clause-put : goal.returns-in_ok-right-in-Two-clause-put
+returns-in_ok-right-in-Two-clause-put g c = λ ps told.
+    let first = c.in_ok-left-in-Two in
+    let second = c.in_ok-right-in-Two in
+    let put = first.ensures.put in
+    let mid : Image = ps ++ put.0 ∷ [] in
+    let told_mid = put_behind _ ps put.0 _ told put.2 in
+    let more = second.ensures.put in
+    let both : Image = put.0 ∷ more.0 ∷ [] in (
+      both,
+      put_behind _ mid more.0 _ told_mid more.2 ∙ ap (λ (xs : Image). Some xs) (append_assoc ps (put.0 ∷ []) (more.0 ∷ [])),
+      subst (λ (a : Added). ArePages a both) (sym c.in-Two.is) (put.0, more.0, record { node = first.ensures.node; spelled = put.1 }, record { node = second.ensures.node; spelled = more.1 }, refl),
+    )

@@ -1,10 +1,11 @@
-use Rattle.std.proofs.Common.{List, [], ◌∷◌, ◌++◌, length, ap, sym, subst, arith}
+use Rattle.std.proofs.Common.{List, [], ◌∷◌, ◌++◌, length, ap, refl, sym, ◌∙◌, subst, arith}
 use Rattle.std.specs.Prelude.{map}
 use Rattle.tw_base.specs.history.Tree.{IsRising, entries}
 use Rattle.tw_rbnode.specs.declared.child.Child.{Child}
-use Rattle.tw_rbnode.specs.Trees.{woven}
+use Rattle.tw_rbnode.specs.Trees.{page_label, woven}
 use Rattle.tw_rbtree.specs.Growing.{IsOver}
 use Rattle.tw_rbtree.specs.Standing.{AreTrees, IsTreeBelow, HasNamed}
+use Rattle.tw_rbtree.proofs.PutLaws.{root-is_of}
 use Rattle.tw_rbtree.proofs.RootGrowing.{root-stands}
 use Rattle.tw_rbtree.proofs.Staging.{above-named, put_behind, staged-tree}
 use Rattle.tw_rbtree.proofs.inserting.stage_single.Goals as goal
@@ -30,4 +31,15 @@ returns-clause-lists g c = λ ps told named under ts are rising.
       put_behind _ ps put.0 _ told put.2,
       root-stands dig (HasNamed named) (ps ++ put.0 ∷ []) c.args.own 1 ok.field-0 tree.0 c.root_of.result (omega arith) tree.1 (subst IsRising (sym tree.2) rising) c.root_of.ensures.page c.root_of.ensures.label,
       tree.2,
+    )
+
+pub returns-clause-put : goal.returns-clause-put
+returns-clause-put g c = λ ps told.
+    let node = c.single-node in
+    let ok = c.in_ok-stage_node in
+    let put = ok.ensures.put in
+    let is = root-is_of c.root_of.result ((g.P.Pages.view c.args.pages.now).used) (page_label g.H.Hasher.dig node.result) (c.root_of.ensures.page ∙ ok.ensures.staged.page_is) (c.root_of.ensures.label ∙ ok.ensures.staged.label_is) in (
+      put.0 ∷ [],
+      put_behind _ ps put.0 _ told put.2,
+      (node.result, put.0, record { node = ok.ensures.node; spelled = put.1 }, refl, is, node.ensures.level, node.ensures.entries, node.ensures.children),
     )

@@ -30,7 +30,7 @@ pub returns-clause-staged : goal.returns-clause-staged
 returns-clause-staged g c = λ ps list.
     let dig = g.H.Hasher.dig in
     let archive = c.in_ok-archive.archive in
-    let more = c.in_ok-archive.ensures.adds.kept.list_grows ps list in
+    let more = c.in_ok-archive.ensures.put ps list in
     let before = g.met.P.Pages.told_count c.args.pages.now ps list in
     let now = g.met.P.Pages.told_count c.stage_tree.new.pages (ps ++ more.0) more.1 in
     let few = c.in_ok-archive.ensures.few in
@@ -38,6 +38,7 @@ returns-clause-staged g c = λ ps list.
     record {
       tree_pages = more.0;
       few = (let sum = length-append ps more.0 in omega (arith, before, now, few, sum));
+      put = more.2;
       tree = λ named below old stands.
           let grown = c.in_ok-archive.ensures.inserted ps list named (omega (arith, below, before)) old stands in
           (grown.1, subst (λ (qs : Image). StandsWith dig (HasNamed named) qs archive grown.1) (one_list (sym grown.2 ∙ more.1)) grown.3, grown.4);

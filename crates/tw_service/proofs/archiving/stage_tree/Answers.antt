@@ -11,6 +11,7 @@ use Rattle.tw_disk.specs.Found.{Found, ◌>>=◌}
 use Rattle.tw_disk.specs.Pages.{OnlyAdds}
 use Rattle.tw_rbtree.specs.Answers.{found_insert}
 use Rattle.tw_rbtree.specs.declared.fault.TreeFault.{TreeFault}
+use Rattle.tw_rbtree.specs.Putting.{PutsIn}
 use Rattle.tw_answers.specs.declared.refusal.Refusal.{Refusal}
 use Rattle.tw_service.specs.Finds.{found_room, room_in}
 use Rattle.tw_answers.specs.Refusals.{IsFault, refusal_of_tree, refusals}
@@ -49,3 +50,8 @@ pub returns-in-Ok-clause-inserted : goal.returns-in-Ok-clause-inserted
 returns-in-Ok-clause-inserted g c = λ ps list named below t stands.
     let own = c.in-Ok.ensures.inserted ps list named below t stands in
     (own.0, own.1, own.2, own.3, own.4 ∙ ap (λ (e : Entry). with_entry (entries t) e) c.next_entry-entry.ensures)
+
+pub returns-in-Ok-clause-put : goal.returns-in-Ok-clause-put
+returns-in-Ok-clause-put g c = λ ps list.
+    let put = c.in-Ok.ensures.put ps list in
+    (put.0, put.1, subst (λ (e : Entry). PutsIn g.H.Hasher.dig ps c.args.root.now.archive e put.0 c.in-Ok.new) c.next_entry-entry.ensures put.2)
