@@ -23,17 +23,18 @@ use Rattle.tw_filecmd.specs.Joining.{JoinComes}
 use Rattle.tw_filecmd.specs.Showing.{ShowComes}
 use Rattle.tw_filecmd.specs.Verifying.{HasAnchors, IsJudged, VerifyFileComes, VerifyOneComes}
 use Rattle.tw_diskcmd.specs.Asking.{AskComes}
-use Rattle.tw_diskcmd.specs.Disks.{IsLeft, Keeps, ReadLeaves, ReadsAs}
+use Rattle.tw_kept.proofs.AtRest.{untouched_left}
+use Rattle.tw_storecmd.specs.Leaves.{WritesNothing}
+use Rattle.tw_diskcmd.proofs.AtRest.{left_keeps}
+use Rattle.tw_storecmd.proofs.CommandLaws.{HasCauses, IsSafe}
+use Rattle.tw_diskcmd.specs.Disks.{IsLeft, IsOf, Keeps, ReadLeaves, ReadsAs}
 use Rattle.tw_diskcmd.specs.Receiving.{ReceiveComes, ReceiveLeaves, ReceiveSafe}
-use Rattle.tw_diskcmd.specs.WorkSteps.{WritesNothing}
-use Rattle.tw_diskcmd.proofs.AtRest.{left_keeps, untouched_left}
-use Rattle.tw_diskcmd.proofs.CommandLaws.{HasCauses, IsSafe, append_causes, append_is_safe, ask_causes, init_causes, init_is_safe, reading_is_safe, receive_causes, receive_is_safe}
-use Rattle.tw_followcmd.specs.Disks.{ReadsAs as ReadsAsList}
+use Rattle.tw_diskcmd.proofs.CommandLaws.{append_causes, append_is_safe, ask_causes, asking_is_safe, init_causes, init_is_safe, receive_causes, receive_is_safe}
+use Rattle.tw_followcmd.specs.Disks.{IsOf as IsOfList, ReadsAs as ReadsAsList}
 use Rattle.tw_followcmd.specs.Listing.{HeadsComes, HeadsLeaves, HeadsSafe}
 use Rattle.tw_followcmd.specs.Offering.{OfferComes, OfferLeaves, OfferSafe}
-use Rattle.tw_followcmd.specs.OfferSteps.{WritesNothing as MovesNothing}
 use Rattle.tw_followcmd.specs.Watching.{WatchComes, WatchLeaves, WatchSafe}
-use Rattle.tw_followcmd.proofs.CommandLaws.{HasCauses as HasListCauses, IsSafe as IsSafeList, heads_causes, heads_is_safe, offer_causes, offer_is_safe, watch_causes, watch_is_safe}
+use Rattle.tw_followcmd.proofs.CommandLaws.{heads_causes, heads_is_safe, offer_causes, offer_is_safe, watch_causes, watch_is_safe}
 use Rattle.tw_follow.specs.HeadLists.{Kept}
 use Rattle.tw_app.specs.declared.outcome.Outcome.{Outcome}
 use Rattle.tw_app.specs.declared.outcome.Outcome.TheVariants.{Judged, Written, Joined, Made, Received, Answered, BadWords, Undone}
@@ -217,21 +218,13 @@ module _ {D : Type 0} (view : D → DiskView)
     serves : (IsOfFollower c → ⊥) → (h : History) → ReadsAs (view o.disk.before).content h → (why : StoreCause) → Comes (Err (Unserved why)) → ⊥
     memory : Comes (Err NoMemory)
 
-  of_service : {X : Type 0} {NamesFile UsesDisk : Type 0} {Comes : Result X CommandFault → Type 0} → (c : Command) → HasCauses o.inputs (found_of view o) NamesFile UsesDisk Comes
+  of_service : {X : Type 0} {NamesFile UsesDisk : Type 0} {Comes : Result X CommandFault → Type 0} → (c : Command) → HasCauses IsOf o.inputs (found_of view o) NamesFile UsesDisk Comes
       → Causes c NamesFile UsesDisk Comes
   of_service c causes = record { input = causes.input; disk = causes.disk; serves = λ _. causes.serves; memory = causes.memory }
 
   of_follower : {X : Type 0} {NamesFile UsesDisk : Type 0} {Comes : Result X CommandFault → Type 0} → (c : Command) → IsOfFollower c
-      → HasListCauses o.inputs (view o.disk.before).content (view o.disk.before).faults (view o.disk.after).faults NamesFile UsesDisk Comes → Causes c NamesFile UsesDisk Comes
+      → HasCauses IsOfList o.inputs (found_of view o) NamesFile UsesDisk Comes → Causes c NamesFile UsesDisk Comes
   of_follower c is causes = record { input = causes.input; disk = causes.disk; serves = λ other. absurd (other is); memory = causes.memory }
-
-  moves_nothing : {X : Type 0} → (r : Result X CommandFault) → WritesNothing r → MovesNothing r
-  moves_nothing (Ok x) nothing = nothing
-  moves_nothing (Err DiskFault) nothing = nothing
-  moves_nothing _ nothing = tt
-
-  safe_list : {X : Type 0} {Leaves : Result X CommandFault → Type 0} {Safe : Type 0} → IsSafeList view o.disk.before o.disk.after Leaves Safe → IsSafe view o.disk.before o.disk.after Leaves Safe
-  safe_list safe = record { idle = λ r left nothing. safe.idle r left (moves_nothing r nothing); no_memory = safe.no_memory; safe = safe.safe }
 
   module _ {X : Type 0} (c : Command) (of : X → Outcome) (tells : Tells of) (Comes Leaves : Result X CommandFault → Type 0) (Safe : Type 0) (access : Option StoreAccess)
       (causes : Causes c (NamesFile c) (UsesDisk access) Comes) where
@@ -279,7 +272,7 @@ module _ {D : Type 0} (view : D → DiskView)
         (λ x v is comes. absurd (of_disk.unjudged x v is)) (λ x place is comes. absurd (of_disk.unjoined x (Unfit place) is))
 
   files_row : {X : Type 0} (c : Command) (of : X → Outcome) → Tells of → (Comes : Result X CommandFault → Type 0)
-      → HasCauses o.inputs (found_of view o) (NamesFile c) ⊥ Comes
+      → HasCauses IsOf o.inputs (found_of view o) (NamesFile c) ⊥ Comes
       → ((x : X) (v : Verdict) → Judged v ≡ of x → Comes (Ok x) → Judges o.inputs.told c v)
       → ((x : X) (place : ℕ) → Joined (Unfit place) ≡ of x → Comes (Ok x) → LeavesGap o.inputs c place) → Row c (over_files view o of Comes)
   files_row c of tells Comes causes judging joining =
@@ -288,7 +281,7 @@ module _ {D : Type 0} (view : D → DiskView)
 
   -- one that makes a service or a step, and one that asks a service a question
   made_row : {Comes Leaves : Result Thread CommandFault → Type 0} {Safe : Type 0} → (c : Command)
-      → HasCauses o.inputs (found_of view o) (NamesFile c) (Unit {0}) Comes → IsSafe view o.disk.before o.disk.after Leaves Safe → Row c (writing view o Made Comes Leaves Safe)
+      → HasCauses IsOf o.inputs (found_of view o) (NamesFile c) (Unit {0}) Comes → IsSafe view o.disk.before o.disk.after Leaves Safe → Row c (writing view o Made Comes Leaves Safe)
   made_row {Comes} {Leaves} {Safe} c causes is_safe = disk_row c Made made_tells Comes Leaves Safe (Some Write) (of_service c causes) made_of_disk is_safe
 
   received_row : (file : List ℕ) (time : Option ℕ) → Row (Receive file time) (work view o (Receive file time))
@@ -304,7 +297,7 @@ module _ {D : Type 0} (view : D → DiskView)
       let causes = ask_causes o.inputs (found_of view o) q in
       disk_row c Written written_tells (AskComes (found_of view o) q) (ReadLeaves view o.disk.before o.disk.after) (Left × Keeps view o.disk.before o.disk.after) (Some Read)
       (record { input = λ came. absurd (causes.input came).0; disk = causes.disk; serves = λ other. causes.serves; memory = causes.memory })
-      written_of_disk (reading_is_safe view o.disk.before o.disk.after)
+      written_of_disk (asking_is_safe view o.disk.before o.disk.after)
 
   show_row : (history : List ℕ) (step index : ℕ) → Row (Show history step index) (work view o (Show history step index))
   show_row history step index =
@@ -363,7 +356,7 @@ module _ {D : Type 0} (view : D → DiskView)
 
   -- one over files that reach beyond one proof
   answer_row : {X : Type 0} (c : Command) (of : X → Answer) → (Comes : Result X CommandFault → Type 0)
-      → HasCauses o.inputs (found_of view o) (NamesFile c) ⊥ Comes → Row c (over_files view o (λ x. Answered (of x)) Comes)
+      → HasCauses IsOf o.inputs (found_of view o) (NamesFile c) ⊥ Comes → Row c (over_files view o (λ x. Answered (of x)) Comes)
   answer_row c of Comes causes =
       files_row c (λ x. Answered (of x)) (answered_tells of) Comes causes (λ x v is comes. cc) (λ x place is comes. cc)
 
@@ -426,30 +419,30 @@ module _ {D : Type 0} (view : D → DiskView)
   rows (Accuse first second link) = accuse_row first second link
   rows (CheckFork file anchors) = check_fork_row file anchors
   rows (Watch name) =
-      disk_row (Watch name) Made made_tells (WatchComes (view o.disk.before).content (view o.disk.before).faults (view o.disk.after).faults name)
+      disk_row (Watch name) Made made_tells (WatchComes (found_of view o) name)
       (WatchLeaves view o.disk.before o.disk.after name) (WatchSafe view o.disk.before o.disk.after name) (Some Write)
-      (of_follower (Watch name) tt (watch_causes o.inputs (view o.disk.before).content (view o.disk.before).faults (view o.disk.after).faults name))
-      made_of_disk (safe_list (watch_is_safe view o.disk.before o.disk.after only_now as_it_reads name))
+      (of_follower (Watch name) tt (watch_causes o.inputs (found_of view o) name))
+      made_of_disk (watch_is_safe view o.disk.before o.disk.after only_now as_it_reads name)
   rows (Offer file) =
-      disk_row (Offer file) Made made_tells (OfferComes o.inputs (view o.disk.before).content (view o.disk.before).faults (view o.disk.after).faults file)
+      disk_row (Offer file) Made made_tells (OfferComes o.inputs (found_of view o) file)
       (OfferLeaves view o.disk.before o.disk.after o.inputs.told file) (OfferSafe view o.disk.before o.disk.after o.inputs.told file) (Some Write)
-      (of_follower (Offer file) tt (offer_causes o.inputs (view o.disk.before).content (view o.disk.before).faults (view o.disk.after).faults file))
-      made_of_disk (safe_list (offer_is_safe view o.disk.before o.disk.after only_now as_it_reads o.inputs.told file))
+      (of_follower (Offer file) tt (offer_causes o.inputs (found_of view o) file))
+      made_of_disk (offer_is_safe view o.disk.before o.disk.after only_now as_it_reads o.inputs.told file)
   rows Heads =
-      disk_row Heads Written written_tells (HeadsComes (view o.disk.before).content (view o.disk.before).faults (view o.disk.after).faults)
+      disk_row Heads Written written_tells (HeadsComes (found_of view o))
       (HeadsLeaves view o.disk.before o.disk.after) (HeadsSafe view o.disk.before o.disk.after) (Some Read)
-      (of_follower Heads tt (heads_causes o.inputs (view o.disk.before).content (view o.disk.before).faults (view o.disk.after).faults))
-      written_of_disk (safe_list (heads_is_safe view o.disk.before o.disk.after))
+      (of_follower Heads tt (heads_causes o.inputs (found_of view o)))
+      written_of_disk (heads_is_safe view o.disk.before o.disk.after)
   rows c = asked_row c (question_of c) refl
 
   -- a disk that reads as a list of heads serves each command of a follower
   pub serves_list : (c : Command) → IsOfFollower c → (k : Kept) → ReadsAsList (view o.disk.before).content k → (why : StoreCause) → (work view o c).undone (Unserved why) → ⊥
   serves_list (Watch name) of k reads why came =
-      (watch_causes o.inputs (view o.disk.before).content (view o.disk.before).faults (view o.disk.after).faults name).serves k reads why came.0
+      (watch_causes o.inputs (found_of view o) name).serves k reads why came.0
   serves_list (Offer file) of k reads why came =
-      (offer_causes o.inputs (view o.disk.before).content (view o.disk.before).faults (view o.disk.after).faults file).serves k reads why came.0
+      (offer_causes o.inputs (found_of view o) file).serves k reads why came.0
   serves_list Heads of k reads why came =
-      (heads_causes o.inputs (view o.disk.before).content (view o.disk.before).faults (view o.disk.after).faults).serves k reads why came.0
+      (heads_causes o.inputs (found_of view o)).serves k reads why came.0
   serves_list _ of k reads why came = absurd of
 
 -- a command that judges comes to a verdict or isn't done

@@ -26,7 +26,7 @@ use Rattle.tw_filecmd.specs.Showing.{ShowComes}
 use Rattle.tw_filecmd.specs.Verifying.{VerifyFileComes}
 use Rattle.tw_diskcmd.specs.Appending.{AppendComes, IsBadEventsByte}
 use Rattle.tw_diskcmd.specs.Asking.{AskComes}
-use Rattle.tw_diskcmd.specs.Disks.{FoundDisk}
+use Rattle.tw_storecmd.specs.Comes.{FoundDisk}
 use Rattle.tw_diskcmd.specs.Receiving.{ReceiveComes}
 use Rattle.tw_diskcmd.proofs.CommandLaws.{ask_causes}
 use Rattle.tw_followcmd.specs.Offering.{OfferComes}
@@ -76,20 +76,16 @@ bad_script bytes line is (inr bad) = let both = sym is.1 ∙ bad in cc
 module _ (a : Asked) where
   append_reads : (t : FoundDisk) (file : List ℕ) (time : Option ℕ) (bad : BadInput) → HasFile a.told IsEventsFile file → AppendComes a t file time (Err (Unreadable bad)) → ⊥
   append_reads t file time (BadByte named place) has came = bad_events has.bytes place has.is (came.2 has.bytes has.tells)
-  append_reads t file time (BadLine named number) has came = came.2
-  append_reads t file time (Unsound named step rule) has came = came.2
+  append_reads t file time _ has came = came
 
   receive_reads : (t : FoundDisk) (file : List ℕ) (time : Option ℕ) (bad : BadInput) → HasFile a.told (IsWord message_layout) file
       → ReceiveComes a t file time (Err (Unreadable bad)) → ⊥
   receive_reads t file time (BadByte named place) has came = word_held a.told message_layout file place has came.2
-  receive_reads t file time (BadLine named number) has came = came.2
-  receive_reads t file time (Unsound named step rule) has came = came.2
+  receive_reads t file time _ has came = came
 
-  offer_reads : (found : Option Image) (before after : ℕ) (file : List ℕ) (bad : BadInput) → HasFile a.told (IsWord message_layout) file
-      → OfferComes a found before after file (Err (Unreadable bad)) → ⊥
-  offer_reads found before after file (BadByte named place) has came = word_held a.told message_layout file place has came.2
-  offer_reads found before after file (BadLine named number) has came = came.2
-  offer_reads found before after file (Unsound named step rule) has came = came.2
+  offer_reads : (t : FoundDisk) (file : List ℕ) (bad : BadInput) → HasFile a.told (IsWord message_layout) file → OfferComes a t file (Err (Unreadable bad)) → ⊥
+  offer_reads t file (BadByte named place) has came = word_held a.told message_layout file place has came.2
+  offer_reads t file _ has came = came
 
   show_reads : (file : List ℕ) (step index : ℕ) (bad : BadInput) → HasFile a.told IsHistoryFile file → ShowComes a file step index (Err (Unreadable bad)) → ⊥
   show_reads file step index (BadByte named place) has came = file_not_bad has.bytes has.is.0 place has.is.1 (came.2 has.bytes has.tells)
@@ -183,7 +179,7 @@ module _ {D : Type 0} (view : D → DiskView) (o : Outside D) where
   reads (Adopt history anchors proof more) valid bad came = adopt_reads o.inputs history anchors (proof ∷ more) bad valid.0 valid.1 came.0
   reads (Accuse first second link) valid bad came = accuse_reads o.inputs first second link bad valid.0 valid.1 valid.2 came.0
   reads (CheckFork file anchors) valid bad came = check_fork_reads o.inputs file anchors bad valid came.0
-  reads (Offer file) valid bad came = offer_reads o.inputs (view o.disk.before).content (view o.disk.before).faults (view o.disk.after).faults file bad valid came.0
+  reads (Offer file) valid bad came = offer_reads o.inputs (found_of view o) file bad valid came.0
   reads (Replay file) valid bad came = replay_reads o.inputs file bad valid came.0
   reads _ valid bad came = came.0
 

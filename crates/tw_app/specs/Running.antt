@@ -131,14 +131,12 @@ module _ {D : Type 0} (view : D → DiskView) (o : Outside D) where
   work (Replay file) = over_files Written (ReplayComes o.inputs file)
   work (Generate number rounds) = over_files Written (GenerateComes number rounds)
   work (Watch name) =
-      writing Made (WatchComes (view o.disk.before).content (view o.disk.before).faults (view o.disk.after).faults name)
-      (WatchLeaves view o.disk.before o.disk.after name) (WatchSafe view o.disk.before o.disk.after name)
+      writing Made (WatchComes (found_of view o) name) (WatchLeaves view o.disk.before o.disk.after name) (WatchSafe view o.disk.before o.disk.after name)
   work (Offer file) =
-      writing Made (OfferComes o.inputs (view o.disk.before).content (view o.disk.before).faults (view o.disk.after).faults file)
+      writing Made (OfferComes o.inputs (found_of view o) file)
       (OfferLeaves view o.disk.before o.disk.after o.inputs.told file) (OfferSafe view o.disk.before o.disk.after o.inputs.told file)
   work Heads =
-      by_results Written
-      (λ result. HeadsComes (view o.disk.before).content (view o.disk.before).faults (view o.disk.after).faults result × HeadsLeaves view o.disk.before o.disk.after result)
+      by_results Written (λ result. HeadsComes (found_of view o) result × HeadsLeaves view o.disk.before o.disk.after result)
       (HeadsSafe view o.disk.before o.disk.after) (Some Read)
   work command = asking (question_of command)
 

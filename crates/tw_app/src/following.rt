@@ -20,14 +20,15 @@ use crate::replaying::play_file;
 use std::alloc::Global;
 use tw_base::{Bytes, Key, Name, Question, Thread};
 use tw_disk::Disk;
-use tw_diskcmd::{Worked, append, ask, make, receive};
+use tw_diskcmd::{append, ask, make, receive};
 use tw_filecmd::{join_files, show, verify_file, verify_one};
-use tw_followcmd::{Worked as FollowWorked, list_heads, offer, watch};
+use tw_followcmd::{list_heads, offer, watch};
 use tw_msg::Receipt;
 use tw_outside::Inputs;
 use tw_reachcmd::{
     accuse_linked, accuse_pair, adopt_files, audit_files, check_fork, check_maps, plan_files,
 };
+use tw_storecmd::Worked;
 use tw_text::CommandFault;
 use tw_words::{Command, WordFault, read_words};
 
@@ -210,13 +211,13 @@ fn follow<D: Disk, I: Inputs>(
             outcome: written(generate_world(alloc, *number, *steps)),
             disk,
         },
-        Command::Watch { name } => with_head(watch(alloc, disk, *name)),
-        Command::Offer { file } => with_head(offer(alloc, disk, inputs, file.as_str())),
-        Command::Heads => with_heads(list_heads(alloc, disk)),
+        Command::Watch { name } => with_thread(watch(alloc, disk, *name)),
+        Command::Offer { file } => with_thread(offer(alloc, disk, inputs, file.as_str())),
+        Command::Heads => with_bytes(list_heads(alloc, disk)),
     }
 }
 
-/// What came of a command that makes a service or a step.
+/// What came of a command that makes a service, a step or a follower, or offers a follower a message.
 fn with_thread<D>(worked: Worked<D, Thread>) -> Followed<D>
     ensures outcome { result.outcome ≡ outcome_by OfThread worked.outcome }
     ensures disk { result.disk ≡ worked.disk }
@@ -227,30 +228,8 @@ fn with_thread<D>(worked: Worked<D, Thread>) -> Followed<D>
     }
 }
 
-/// What came of a command that makes a proof, a map file, a history file or a message.
+/// What came of a command that makes a proof, a map file, a history file or a message, or tells heads.
 fn with_bytes<D>(worked: Worked<D, Bytes>) -> Followed<D>
-    ensures outcome { result.outcome ≡ outcome_by OfBytes worked.outcome }
-    ensures disk { result.disk ≡ worked.disk }
-{
-    Followed {
-        outcome: written(worked.outcome),
-        disk: worked.disk,
-    }
-}
-
-/// What came of a command that makes a follower or offers it a message.
-fn with_head<D>(worked: FollowWorked<D, Thread>) -> Followed<D>
-    ensures outcome { result.outcome ≡ outcome_by OfThread worked.outcome }
-    ensures disk { result.disk ≡ worked.disk }
-{
-    Followed {
-        outcome: made(worked.outcome),
-        disk: worked.disk,
-    }
-}
-
-/// What came of a command that tells the heads of a follower.
-fn with_heads<D>(worked: FollowWorked<D, Bytes>) -> Followed<D>
     ensures outcome { result.outcome ≡ outcome_by OfBytes worked.outcome }
     ensures disk { result.disk ≡ worked.disk }
 {

@@ -11,9 +11,9 @@ use Rattle.tw_outside.specs.Files.{Tells}
 use Rattle.tw_text.specs.declared.refusal.BadInput.TheVariants.{BadByte}
 use Rattle.tw_text.specs.declared.fault.CommandFault.{CommandFault}
 use Rattle.tw_text.specs.declared.fault.CommandFault.TheVariants as fault
-use Rattle.tw_diskcmd.specs.Answers.{TellsContent}
-use Rattle.tw_diskcmd.specs.Appending.{AppendComes, AreEventsOf, IsBadEventsByte, MachineAdds, OfEvents, StepComes, TableAdds, TellsOfFile, added}
-use Rattle.tw_diskcmd.specs.Disks.{FoundDisk, found_disk}
+use Rattle.tw_storecmd.specs.Comes.{FoundDisk, TellsContent, found_disk}
+use Rattle.tw_storecmd.specs.Files.{OfFile}
+use Rattle.tw_diskcmd.specs.Appending.{AppendComes, AreEventsOf, IsBadEventsByte, MachineAdds, StepComes, TableAdds, TellsOfFile, added}
 use Rattle.tw_diskcmd.proofs.Results.{one_answer}
 
 same_place : (bytes : List ℕ) (one other : ℕ) → IsPlace events_file bytes one → IsPlace events_file bytes other → one ≡ other
@@ -48,10 +48,11 @@ module _ (a : Asked) (file bytes : List ℕ) (tells : Tells a.told file bytes) w
 
     -- it tells the bad byte of the file, or comes of its events
     abbrev IsOfFile : Result Thread CommandFault → Type 0
-    IsOfFile r = ((place : ℕ) × (r ≡ bad place) × IsBadEventsByte bytes place) ⊎ OfEvents a.told file (λ events. StepComes t events time r)
+    IsOfFile r = ((place : ℕ) × (r ≡ bad place) × IsBadEventsByte bytes place) ⊎ OfFile (AreEventsOf a.told file) (λ events. StepComes t events time r)
 
     of_file : (r : Result Thread CommandFault) → TellsOfFile r → AppendComes a t file time r → IsOfFile r
     of_file (Err (fault.Unreadable (BadByte named place))) told comes = inl (place, (λ j. Err (fault.Unreadable (BadByte (comes.0 j) place))), comes.2 bytes tells)
+    of_file (Err (fault.Unreadable bad)) told comes = absurd comes
     of_file (Err fault.InputFault) told comes = absurd told
     of_file (Err fault.NoMemory) told comes = absurd told
     of_file r told comes = inr comes

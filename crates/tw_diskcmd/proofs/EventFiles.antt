@@ -1,7 +1,7 @@
 -- From an events file that was read to its events, or to the byte at which it is none.
 use Rattle.std.proofs.Common.{◌≡◌, ℕ, ◌<◌, ◌≤◌, List, length, take, refl, subst, sym, ap, ◌∙◌, arith, inl, inr}
 use Rattle.tw_outside.specs.Asked.{Asked}
-use Rattle.tw_diskcmd.specs.WorkSteps.{ComesOfFile}
+use Rattle.tw_storecmd.specs.Files.{StopsAt}
 use Rattle.std.proofs.lemmas.Bool.{cases_lt}
 use Rattle.std.proofs.lemmas.List.{length-take, length-take-le, take_all}
 use Rattle.tw_base.specs.format.Formats.{IsPlace, Spells, SpellsNothing}
@@ -11,7 +11,7 @@ use Rattle.tw_text.specs.declared.fault.CommandFault.{CommandFault}
 use Rattle.tw_text.specs.declared.fault.CommandFault.TheVariants.{Unreadable}
 use Rattle.tw_text.specs.declared.refusal.BadInput.TheVariants.{BadByte}
 use Rattle.tw_diskcmd.specs.declared.limits.TheConstants.{EVENTS_LIMIT}
-use Rattle.tw_diskcmd.specs.Appending.{AreEventsOf}
+use Rattle.tw_diskcmd.specs.Appending.{AreEventsOf, IsBadEventsByte}
 
 -- of an events file so many bytes are read
 abbrev pub events_read : ℕ
@@ -37,22 +37,19 @@ module _ (a : Asked) (file all : List ℕ) (there : IsThere a.told file) (read :
     spelled = λ bytes tells. subst (λ (b : List ℕ). Spells events_file b events) (is_whole all bytes (read bytes tells) short) spelled;
   }
 
-  pub too_long : (came : CommandFault) → EVENTS_LIMIT < length all → came ≡ Unreadable (BadByte file EVENTS_LIMIT) → ComesOfFile a file came
-  too_long came longer is = subst (ComesOfFile a file) (sym is) (record { stops = tt; comes = λ t time. (refl, there, λ bytes tells. inl (is_longer all bytes (read bytes tells) longer, refl)) })
+  pub too_long : (came : CommandFault) → EVENTS_LIMIT < length all → came ≡ Unreadable (BadByte file EVENTS_LIMIT) → StopsAt a file IsBadEventsByte came
+  too_long came longer is = subst (StopsAt a file IsBadEventsByte) (sym is) (refl, there, λ bytes tells. inl (is_longer all bytes (read bytes tells) longer, refl))
 
   pub no_events : (place : ℕ) (came : CommandFault) → length all ≤ EVENTS_LIMIT → SpellsNothing events_file all × IsPlace events_file all place
-      → came ≡ Unreadable (BadByte file place) → ComesOfFile a file came
-  no_events place came short none is = subst (ComesOfFile a file) (sym is) (record {
-    stops = tt;
-    comes = λ t time. (
-      refl,
-      there,
-      λ bytes tells.
-          let whole : all ≡ bytes = is_whole all bytes (read bytes tells) short in
-          inr (
-            subst (λ (b : List ℕ). length b ≤ EVENTS_LIMIT) whole short,
-            subst (λ (b : List ℕ). SpellsNothing events_file b) whole none.0,
-            subst (λ (b : List ℕ). IsPlace events_file b place) whole none.1,
-          ),
-    );
-  })
+      → came ≡ Unreadable (BadByte file place) → StopsAt a file IsBadEventsByte came
+  no_events place came short none is = subst (StopsAt a file IsBadEventsByte) (sym is) (
+    refl,
+    there,
+    λ bytes tells.
+        let whole : all ≡ bytes = is_whole all bytes (read bytes tells) short in
+        inr (
+          subst (λ (b : List ℕ). length b ≤ EVENTS_LIMIT) whole short,
+          subst (λ (b : List ℕ). SpellsNothing events_file b) whole none.0,
+          subst (λ (b : List ℕ). IsPlace events_file b place) whole none.1,
+        ),
+  )

@@ -1,9 +1,7 @@
 pub mod EventFiles
 pub mod AtRest
-pub mod Writing
 pub mod Results
 pub mod Steps
-pub mod Landings
 pub mod CommandLaws
 pub mod AskedCalls
 pub mod Appendings

@@ -12,8 +12,7 @@ use Rattle.tw_outside.specs.Files.{IsReadTo, IsThere}
 use Rattle.tw_text.specs.declared.fault.CommandFault.{CommandFault}
 use Rattle.tw_text.specs.declared.fault.CommandFault.TheVariants.{Unreadable}
 use Rattle.tw_text.specs.declared.refusal.BadInput.TheVariants.{BadByte}
-use Rattle.tw_diskcmd.specs.Receiving.{IsMessageIn}
-use Rattle.tw_diskcmd.specs.WorkSteps.{ComesOfMessageFile}
+use Rattle.tw_storecmd.specs.Files.{IsBadMessageByte, IsMessageIn, StopsAt}
 
 short : (word : List ℕ) (m : Message) → Spells message_layout word m → length word < file_limit
 short word m spelled = let size = word-size message_codec message-lawful 53828 message-most word m spelled in omega (arith, size)
@@ -28,8 +27,6 @@ module _ (a : Asked) (file all : List ℕ) (there : IsThere a.told file) (read :
   }
 
   pub no_message : (place : ℕ) (came : CommandFault) → SpellsNothing message_layout all × IsPlace message_layout all place → came ≡ Unreadable (BadByte file place)
-      → ComesOfMessageFile a file came
-  no_message place came none is = subst (ComesOfMessageFile a file) (sym is) (record {
-    stops = tt;
-    comes = λ t time. (refl, there, λ bytes tells. none_is_none message_layout file_limit short all bytes (read bytes tells) place none.0 none.1);
-  })
+      → StopsAt a file IsBadMessageByte came
+  no_message place came none is =
+      subst (StopsAt a file IsBadMessageByte) (sym is) (refl, there, λ bytes tells. none_is_none message_layout file_limit short all bytes (read bytes tells) place none.0 none.1)

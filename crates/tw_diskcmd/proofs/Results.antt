@@ -23,9 +23,12 @@ use Rattle.tw_text.specs.declared.refusal.StoreCause.{StoreCause}
 use Rattle.tw_text.specs.declared.refusal.StoreCause.TheVariants.{Blank, NotAStore}
 use Rattle.tw_text.specs.declared.fault.CommandFault.{CommandFault}
 use Rattle.tw_text.specs.declared.fault.CommandFault.TheVariants as fault
-use Rattle.tw_diskcmd.specs.Answers.{ComesOver, ComesTo, IsOpened, IsResult, IsResultOver, IsTheAnswer, MachineRefuses, TableAnswersOr, TableRefuses, TellsContent, answer_over, result_of}
+use Rattle.tw_diskcmd.specs.Answers.{ComesOver, ComesTo, IsOpened, IsResult, IsResultOver, IsTheAnswer, MachineRefuses, TableAnswersOr, TableRefuses, answer_over, result_of}
 use Rattle.tw_diskcmd.specs.Disks.{FoundDisk, ReadsAs, found_disk}
-use Rattle.tw_diskcmd.specs.Faults.{fault_of_service, fault_of_store}
+use Rattle.tw_storecmd.specs.Comes.{TellsContent}
+use Rattle.tw_storecmd.specs.Faults.{fault_of_store}
+use Rattle.tw_storecmd.proofs.Landings.{told_result}
+use Rattle.tw_diskcmd.specs.Faults.{fault_of_service}
 
 -- ---- refusals
 
@@ -222,17 +225,9 @@ module _ {X : Type 0} (finds : RootRecord → Image → Found (Result X Refusal)
   -- ---- one answer
 
   module _ (image : Image) (before after : ℕ) where
-    told : (r : Result X CommandFault) → TellsContent r → Comes (found_disk (Some image) before after) r → IsOne (Some image) r
-    told (Ok x) tells is = is
-    told (Err (fault.Refused refusal)) tells is = is
-    told (Err (fault.Unserved cause)) tells is = is
-    told (Err fault.DiskFault) tells is = absurd tells
-    told (Err fault.NoMemory) tells is = absurd tells
-    told _ tells is = absurd is
-
     pub one_answer : (one other : Result X CommandFault) → TellsContent one → TellsContent other
         → Comes (found_disk (Some image) before after) one → Comes (found_disk (Some image) before after) other → one ≡ other
     one_answer one other tells tells' a b =
-        let x = (told one tells a).answer image refl in
-        let y = (told other tells' b).answer image refl in
+        let x = (told_result (λ found r. IsOne found r) (found_disk (Some image) before after) one tells a).answer image refl in
+        let y = (told_result (λ found r. IsOne found r) (found_disk (Some image) before after) other tells' b).answer image refl in
         x.2 ∙ ap (λ (s : Served). answer_over finds s) (served_once image x.0 y.0 x.1 y.1) ∙ sym y.2

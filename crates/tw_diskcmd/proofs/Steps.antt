@@ -1,10 +1,9 @@
--- From what a service answers to the adding of a step to what the command comes to, and what it leaves.
-use Rattle.std.proofs.Common.{◌≡◌, ◌∙◌, ℕ, ◌+◌, List, Bool, false, refl, ap, sym, subst, inl, inr, ◌⊎◌}
+-- From what a service answers to the adding of a step to what the command comes to.
+use Rattle.std.proofs.Common.{◌≡◌, ◌∙◌, ℕ, ◌+◌, List, Bool, false, refl, ap, subst}
 use Rattle.std.specs.Prelude.{Option, Some, None, Result, Ok, Err, MatchOption}
 use Rattle.sha2.specs.Sha256.{sha256}
 use Rattle.tw_base.specs.declared.history.thread.Thread.{Thread}
 use Rattle.tw_base.specs.history.History.{History}
-use Rattle.tw_disk.specs.Disk.{DiskView}
 use Rattle.tw_disk.specs.Image.{Image}
 use Rattle.tw_base.specs.kinds.Faults.{Rose}
 use Rattle.tw_disk.specs.Found.Found.{Is}
@@ -22,9 +21,8 @@ use Rattle.tw_service.specs.Machine.Reply.{OfThread, Refused}
 use Rattle.tw_text.specs.declared.fault.CommandFault.{CommandFault}
 use Rattle.tw_diskcmd.specs.Answers.{IsOpened}
 use Rattle.tw_diskcmd.specs.Appending.{MachineAdds, StepComes, TableAdds, added, table_of}
-use Rattle.tw_diskcmd.specs.Disks.{FoundDisk, IsLeft, LeavesOldOrOneOf, ReadsAs, ReadsAsOneOf, Rests}
+use Rattle.tw_diskcmd.specs.Disks.{FoundDisk, ReadsAs}
 use Rattle.tw_diskcmd.specs.Faults.{fault_of_service}
-use Rattle.tw_diskcmd.specs.WorkSteps.{LeavesStep, WritesNothing}
 use Rattle.tw_diskcmd.proofs.Results.{Table, allowed, by_table, done, fault_can, machine_refuses, no_never, refused}
 use Rattle.tw_diskcmd.proofs.Tables.{append_can}
 
@@ -80,31 +78,3 @@ module _ (t : FoundDisk) (events : List (List ℕ)) (time : Option ℕ) (is_brok
       (λ ps told. subst (λ b. IsRefusalOf r (found_thread sha256 ps root.name root.head b root.time events time root.archive)) whole (finds ps told))
       (λ tells. by_table Thread (table_of events time) here (table_of events time here) refl r tells (whole_table (Err r) table))
       (λ tells h reads. machine_refuses h (Append events time) (λ t. OfThread t) NewServes r tells (machine h (serves h reads)))
-
--- ---- what it leaves
-
-module _ {D : Type 0} (view : D → DiskView)
-    (old new : D) (h next : History) where
-  abbrev Kept : Type 0
-  Kept = Rests view new h
-
-  pub step_leaves : (X : Type 0) (r : Refusal) (came : CommandFault) → came ≡ fault_of_service r → LeavesOldOrOneOf view old new h next × ReadsAsOneOf view new h next
-      → (r ≡ service.DiskFault) ⊎ Kept → LeavesStep view old new {X = X} h next (Err came)
-  step_leaves X r came is any kept = subst (λ (f : CommandFault). LeavesStep view old new {X = X} h next (Err f)) (sym is) (by r kept)
-    where
-      here : (r : Refusal) → (r ≡ service.DiskFault → ⊥) → (r ≡ service.DiskFault) ⊎ Kept → Kept
-      here r other (inl same) = absurd (other same)
-      here r other (inr kept) = kept
-
-      by : (r : Refusal) → (r ≡ service.DiskFault) ⊎ Kept → LeavesStep view old new {X = X} h next (Err (fault_of_service r))
-      by service.DiskFault kept = any
-      by service.Reopen kept = any
-      by (service.Malformed place) kept = any
-      by r kept = here r (λ same. cc) kept
-
-module _ {D : Type 0} (view : D → DiskView) (old new : D) where
-  -- what it wrote: nothing, but where there was a disk fault
-  pub step_unwritten : (X : Type 0) (r : Refusal) (came : CommandFault) → came ≡ fault_of_service r
-      → (r ≡ service.DiskFault) ⊎ IsLeft view old new → WritesNothing {X = X} (Err came) → IsLeft view old new
-  step_unwritten X r came is (inr left) nothing = left
-  step_unwritten X r came is (inl fault) nothing = absurd (subst (λ (f : CommandFault). WritesNothing {X = X} (Err f)) (is ∙ ap fault_of_service fault) nothing)

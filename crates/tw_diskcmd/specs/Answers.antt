@@ -1,7 +1,6 @@
 -- What a command over the disk of a service answers: a function of what the disk is served as.
 use Rattle.std.specs.Prelude.{◌≡◌, ◌⊎◌, ℕ, Option, Some, None, Result, Ok, Err}
 use Rattle.sha2.specs.Sha256.{sha256}
-use Rattle.tw_base.specs.kinds.Faults.{Rose}
 use Rattle.tw_base.specs.history.History.{History}
 use Rattle.tw_disk.specs.Image.{Image}
 use Rattle.tw_disk.specs.Found.{Found}
@@ -15,8 +14,10 @@ use Rattle.tw_answers.specs.declared.root.RootRecord.{RootRecord}
 use Rattle.tw_text.specs.declared.refusal.StoreCause.TheVariants.{BadPage}
 use Rattle.tw_text.specs.declared.fault.CommandFault.{CommandFault}
 use Rattle.tw_text.specs.declared.fault.CommandFault.TheVariants as fault
-use Rattle.tw_diskcmd.specs.Disks.{FoundDisk, ReadsAs}
-use Rattle.tw_diskcmd.specs.Faults.{fault_of_service, fault_of_store}
+use Rattle.tw_storecmd.specs.Comes.{DiskComes, FoundDisk}
+use Rattle.tw_storecmd.specs.Faults.{fault_of_store}
+use Rattle.tw_diskcmd.specs.Disks.{ReadsAs}
+use Rattle.tw_diskcmd.specs.Faults.{fault_of_service}
 
 -- where what the disk read as is told, it opens with this root record and these pages
 abbrev pub IsOpened : (found : Option Image) → RootRecord → (pages : Option Image) → Type 0
@@ -82,12 +83,6 @@ module _ {X : Type 0} where
 -- ---- what a command comes to
 
 module _ {X : Type 0} where
-  -- the result tells of the disk's content, and isn't one that may always come or comes of a fault
-  abbrev pub TellsContent : Result X CommandFault → Type 0
-  TellsContent (Err fault.DiskFault) = ⊥
-  TellsContent (Err fault.NoMemory) = ⊥
-  TellsContent _ = Unit {0}
-
   module _ (Over : Served → Result X CommandFault → Type 0) (ByTable : Result X CommandFault → Type 0) (ByMachine : History → Result X CommandFault → Type 0) where
     -- the result is an answer, the table allows it, and where the disk reads as a history, it is what the machine does
     pub record IsResultOver (found : Option Image) (result : Result X CommandFault) : Type 0 where
@@ -95,14 +90,9 @@ module _ {X : Type 0} where
       pub table : ByTable result
       pub machine : (h : History) → ReadsAs found h → ByMachine h result
 
-    -- what it comes to; want of memory is free
+    -- what it comes to
     abbrev pub ComesOver : FoundDisk → Result X CommandFault → Type 0
-    ComesOver t (Ok value) = IsResultOver t.found (Ok value)
-    ComesOver t (Err (fault.Refused refusal)) = IsResultOver t.found (Err (fault.Refused refusal))
-    ComesOver t (Err (fault.Unserved cause)) = IsResultOver t.found (Err (fault.Unserved cause))
-    ComesOver t (Err fault.DiskFault) = Rose t.before t.after
-    ComesOver t (Err fault.NoMemory) = Unit {0}
-    ComesOver t _ = ⊥
+    ComesOver t result = DiskComes IsResultOver t result
 
   -- the same of a command whose answer is a function of what the disk is served as
   module _ (finds : RootRecord → Image → Found (Result X Refusal)) (ByTable : Result X CommandFault → Type 0) (ByMachine : History → Result X CommandFault → Type 0) where

@@ -1,20 +1,10 @@
--- How the faults of stores and the refusals of services are told.
-use Rattle.tw_pages.specs.declared.open.StoreFault.{StoreFault}
-use Rattle.tw_pages.specs.declared.open.StoreFault.TheVariants as store
+-- How the refusals of services are told.
 use Rattle.tw_answers.specs.declared.refusal.Refusal.{Refusal}
 use Rattle.tw_answers.specs.declared.refusal.Refusal.TheVariants as service
-use Rattle.tw_text.specs.declared.refusal.Refusal.TheVariants.{NoStep, NoEvent, NoThread, HasThread, Taken, Full, TooMany, TooLong, ClockBack, Own, Stale, Forked, BadLink}
-use Rattle.tw_text.specs.declared.refusal.StoreCause.TheVariants.{Blank, NotAStore, BadPage}
+use Rattle.tw_text.specs.declared.refusal.Refusal.TheVariants.{NoStep, NoEvent, NoThread, HasThread, Full, TooMany, TooLong, ClockBack, Own, Stale, Forked, BadLink}
+use Rattle.tw_text.specs.declared.refusal.StoreCause.TheVariants.{BadPage}
 use Rattle.tw_text.specs.declared.fault.CommandFault.{CommandFault}
 use Rattle.tw_text.specs.declared.fault.CommandFault.TheVariants.{Refused, Unserved, DiskFault, NoMemory}
-
--- what a store that isn't made or opened comes to
-abbrev pub fault_of_store : StoreFault → CommandFault
-fault_of_store store.Taken = Refused Taken
-fault_of_store store.Blank = Unserved Blank
-fault_of_store (store.NotAStore slot) = Unserved (NotAStore slot)
-fault_of_store store.DiskFault = DiskFault
-fault_of_store store.NoMemory = NoMemory
 
 -- what a service's refusal comes to; the value is given up after each call, so that it has to be opened anew never comes, and its messages
 -- are read before, so that bytes are none never does

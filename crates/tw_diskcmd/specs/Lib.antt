@@ -4,6 +4,4 @@ pub mod Answers
 pub mod Making
 pub mod Receiving
 pub mod Appending
-pub mod WorkSteps
 pub mod Asking
-pub mod Writing

@@ -6,25 +6,27 @@ ghost use Rattle.tw_base.specs.history.History.{History};
 ghost use Rattle.tw_disk.specs.Image.{Image};
 ghost use Rattle.tw_outside.specs.Asked.{asked};
 ghost use Rattle.tw_service.specs.Adding.{Appends};
-ghost use Rattle.tw_service.specs.EventSteps.{with_events};
 ghost use Rattle.tw_service.specs.Serves.{IsOver, Serves, disk_of, has_failed, pages_of, record_of};
-ghost use Rattle.tw_diskcmd.specs.Appending.{AppendComes, AppendLeaves, AreEventsOf, StepComes};
+ghost use Rattle.tw_service.specs.Machine.Call.{Append};
+ghost use Rattle.tw_service.specs.Machine.Reply.{OfThread};
+ghost use Rattle.tw_diskcmd.specs.Appending.{AppendComes, AppendLeaves, AreEventsOf, IsBadEventsByte, StepComes};
 ghost use Rattle.tw_diskcmd.specs.Answers.{IsOpened};
-ghost use Rattle.tw_diskcmd.specs.Disks.{IsLeft, ReadsAs, SparesOther, found_disk};
-ghost use Rattle.tw_diskcmd.specs.WorkSteps.{ComesOfFile, LeavesStep, WritesNothing};
-ghost use Rattle.tw_diskcmd.specs.Writing.{Writes, WritesFrom};
+ghost use Rattle.tw_diskcmd.specs.Disks.{IsLeft, IsOf, IsService, NextBy, ReadsAs, SparesOther, StepsBy, found_disk};
 ghost use Rattle.tw_kept.specs.Records.{written};
+ghost use Rattle.tw_storecmd.specs.Files.{StopsAt};
+ghost use Rattle.tw_storecmd.specs.Leaves.{StaysOr, WritesNothing};
+ghost use Rattle.tw_storecmd.specs.Steps.{AddsFrom, AddsTo};
 ghost use Rattle.tw_service.specs.Writing.{AppendsTo, IsThreadOfNext};
 
-use crate::faults::{bad_byte, fault_of_service, fault_of_store};
+use crate::faults::fault_of_service;
 use crate::limits::{EVENTS_LIMIT, EVENTS_READ};
-use crate::worked::Worked;
 use std::alloc::Global;
 use tw_base::{EventList, ReadFault, Sha, Thread};
 use tw_disk::Disk;
 use tw_msg::read_events;
 use tw_outside::{Inputs, read_all};
 use tw_service::{Refusal as ServiceRefusal, Service};
+use tw_storecmd::{Worked, bad_byte, fault_of_store};
 use tw_text::{ClaimedTime, CommandFault};
 
 /// Adds a step of the events of the named file to the service on the disk, at this time or at none, and
@@ -64,7 +66,7 @@ fn read_step<I: Inputs>(
 ) -> Result<EventList, CommandFault>
     requires { I.may_ask inputs.old file.now }
     ensures read { IfOk result (AreEventsOf (I.told inputs.old) file.now) }
-    ensures stopped { IfErr result (ComesOfFile (asked (I.told inputs.old) (I.faults inputs.old) (I.faults inputs.new)) file.now) }
+    ensures stopped { IfErr result (StopsAt (asked (I.told inputs.old) (I.faults inputs.old) (I.faults inputs.new)) file.now IsBadEventsByte) }
 {
     let bytes = read_all(alloc, inputs, file, EVENTS_READ)?;
     if bytes.len() > EVENTS_LIMIT {
@@ -85,11 +87,12 @@ fn append_events<D: Disk>(
     time: Option<ClaimedTime>,
 ) -> Worked<D, Thread>
     ensures comes { StepComes (found_disk (D.view disk).content (D.view disk).faults (D.view result.disk).faults) events.now time result.outcome }
-    ensures leaves { (h : History) → ReadsAs (D.view disk).content h
-        → LeavesStep D.view disk result.disk h (with_events h events.now time) result.outcome }
+    ensures leaves { AddsTo IsOf D.view disk result.disk (NextBy (Append events.now time))
+        (λ thread. StepsBy (Append events.now time) (OfThread thread)) result.outcome }
     ensures unwritten { WritesNothing result.outcome → IsLeft D.view disk result.disk }
     ensures spares { SparesOther D.view disk result.disk }
-    ensures writes { Writes D.view disk result.disk (AppendsTo sha256 events.now time) (IsThreadOfNext sha256 events.now time) result.outcome }
+    ensures writes { AddsTo IsService D.view disk result.disk (StaysOr (AppendsTo sha256 events.now time))
+        (IsThreadOfNext sha256 events.now time) result.outcome }
 {
     match Service::<D, Sha>::open(alloc, disk) {
         Ok(service) => append_to(service, events, time),
@@ -124,11 +127,11 @@ fn append_to<D: Disk>(
     ensures comes { (found : Option Image) (before : ℕ) → IsOpened found (record_of service) (pages_of D.view service)
         → ((h : History) → ReadsAs found h → Serves sha256 D.view service h) → before ≤ (D.view (disk_of service)).faults
         → StepComes (found_disk found before (D.view result.disk).faults) events.now time result.outcome }
-    ensures leaves { (h : History) → Serves sha256 D.view service h
-        → LeavesStep D.view (disk_of service) result.disk h (with_events h events.now time) result.outcome }
+    ensures leaves { (h : History) → Serves sha256 D.view service h → AddsFrom IsOf D.view (disk_of service) result.disk
+        (NextBy (Append events.now time)) (λ thread. StepsBy (Append events.now time) (OfThread thread)) h result.outcome }
     ensures unwritten { WritesNothing result.outcome → IsLeft D.view (disk_of service) result.disk }
-    ensures writes { (ps : Image) → IsOver D.view service ps → WritesFrom D.view (disk_of service) result.disk
-        (AppendsTo sha256 events.now time) (IsThreadOfNext sha256 events.now time) (written (record_of service) ps) result.outcome }
+    ensures writes { (ps : Image) → IsOver D.view service ps → AddsFrom IsService D.view (disk_of service) result.disk
+        (StaysOr (AppendsTo sha256 events.now time)) (IsThreadOfNext sha256 events.now time) (written (record_of service) ps) result.outcome }
 {
     let mut service = service;
     match add(&mut service, events, time) {

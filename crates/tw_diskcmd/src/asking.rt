@@ -12,12 +12,12 @@ ghost use Rattle.tw_kept.specs.Disks.{Rests as RestsAs};
 ghost use Rattle.tw_kept.specs.Records.{written};
 ghost use Rattle.tw_diskcmd.specs.Disks.{IsLeft, IsService, ReadLeaves, ReadsAs, Rests, found_disk};
 
-use crate::faults::{fault_of_service, fault_of_store};
-use crate::worked::Worked;
+use crate::faults::fault_of_service;
 use std::alloc::Global;
 use tw_base::{Bytes, Question, Sha};
 use tw_disk::Disk;
 use tw_service::{Refusal as ServiceRefusal, Service};
+use tw_storecmd::{Worked, fault_of_store};
 use tw_text::CommandFault;
 
 /// Asks the service on the disk this question.

@@ -9,7 +9,6 @@ mod laws;
 mod limits;
 mod making;
 mod receiving;
-mod worked;
 
 pub use appending::append;
 pub use asking::ask;
@@ -17,4 +16,3 @@ pub use laws::{idle_laws, told_laws};
 pub use limits::limit_laws;
 pub use making::make;
 pub use receiving::receive;
-pub use worked::Worked;

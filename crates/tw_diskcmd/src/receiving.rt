@@ -8,17 +8,18 @@ ghost use Rattle.tw_disk.specs.Image.{Image};
 ghost use Rattle.tw_msg.specs.Messages.{IsLinked};
 ghost use Rattle.tw_outside.specs.Asked.{asked};
 ghost use Rattle.tw_service.specs.Serves.{IsOver, Serves, disk_of, has_failed, pages_of, record_of};
+ghost use Rattle.tw_service.specs.Machine.Call.{Receive};
+ghost use Rattle.tw_service.specs.Machine.Reply.{OfReceipt};
 ghost use Rattle.tw_diskcmd.specs.Answers.{IsOpened};
-ghost use Rattle.tw_diskcmd.specs.Disks.{IsLeft, ReadsAs, SparesOther, found_disk};
-ghost use Rattle.tw_diskcmd.specs.Receiving.{IsMessageIn, MessageComes, ReceiveComes, ReceiveLeaves};
-ghost use Rattle.tw_diskcmd.specs.WorkSteps.{ComesOfMessageFile, LeavesReceived, WritesNothing};
-ghost use Rattle.tw_diskcmd.specs.Writing.{Writes, WritesFrom};
-ghost use Rattle.tw_disk.specs.Image.{Image};
+ghost use Rattle.tw_diskcmd.specs.Disks.{IsLeft, IsOf, IsService, NextBy, ReadsAs, SparesOther, StepsBy, found_disk};
+ghost use Rattle.tw_diskcmd.specs.Receiving.{MessageComes, ReceiveComes, ReceiveLeaves};
 ghost use Rattle.tw_kept.specs.Records.{written};
+ghost use Rattle.tw_storecmd.specs.Files.{IsBadMessageByte, IsMessageIn, StopsAt};
+ghost use Rattle.tw_storecmd.specs.Leaves.{StaysOr, WritesNothing};
+ghost use Rattle.tw_storecmd.specs.Steps.{AddsFrom, AddsTo};
 ghost use Rattle.tw_service.specs.Writing.{ArchivesTo, IsReceiptOf};
 
-use crate::faults::{bad_byte, fault_of_service, fault_of_store};
-use crate::worked::Worked;
+use crate::faults::fault_of_service;
 use std::alloc::Global;
 use tw_base::{ReadFault, Sha};
 use tw_disk::Disk;
@@ -26,6 +27,7 @@ use tw_filecmd::limits::FILE_READ;
 use tw_msg::{Message, Receipt, message_laws, read_message};
 use tw_outside::{Inputs, read_all};
 use tw_service::Service;
+use tw_storecmd::{Worked, bad_byte, fault_of_store};
 use tw_text::{ClaimedTime, CommandFault};
 
 /// Archives the thread of the message in the named file in a step of the service on the disk, at this time
@@ -69,7 +71,7 @@ fn read_thread<I: Inputs>(
     ensures read { IfOk result (IsMessageIn (I.told inputs.old) file.now) }
     ensures linked { IfOk result IsLinked }
     ensures thread { IfOk result (λ message. IsThread message.thread) }
-    ensures stopped { IfErr result (ComesOfMessageFile (asked (I.told inputs.old) (I.faults inputs.old) (I.faults inputs.new)) file.now) }
+    ensures stopped { IfErr result (StopsAt (asked (I.told inputs.old) (I.faults inputs.old) (I.faults inputs.new)) file.now IsBadMessageByte) }
 {
     let bytes = read_all(alloc, inputs, file, FILE_READ)?;
     message_laws();
@@ -90,10 +92,12 @@ fn receive_message<D: Disk>(
     requires linked { IsLinked message.now }
     requires thread { IsThread message.now.thread }
     ensures comes { MessageComes message.now time (found_disk (D.view disk).content (D.view disk).faults (D.view result.disk).faults) result.outcome }
-    ensures leaves { (h : History) → ReadsAs (D.view disk).content h → LeavesReceived D.view disk result.disk message.now time h result.outcome }
+    ensures leaves { AddsTo IsOf D.view disk result.disk (NextBy (Receive message.now time))
+        (λ receipt. StepsBy (Receive message.now time) (OfReceipt receipt)) result.outcome }
     ensures unwritten { WritesNothing result.outcome → IsLeft D.view disk result.disk }
     ensures spares { SparesOther D.view disk result.disk }
-    ensures writes { Writes D.view disk result.disk (ArchivesTo sha256 message.now time) (IsReceiptOf sha256 message.now time) result.outcome }
+    ensures writes { AddsTo IsService D.view disk result.disk (StaysOr (ArchivesTo sha256 message.now time))
+        (IsReceiptOf sha256 message.now time) result.outcome }
 {
     match Service::<D, Sha>::open(alloc, disk) {
         Ok(service) => receive_by(service, message, time),
@@ -127,11 +131,11 @@ fn receive_by<D: Disk>(
     ensures comes { (found : Option Image) (before : ℕ) → IsOpened found (record_of service) (pages_of D.view service)
         → ((h : History) → ReadsAs found h → Serves sha256 D.view service h) → before ≤ (D.view (disk_of service)).faults
         → MessageComes message.now time (found_disk found before (D.view result.disk).faults) result.outcome }
-    ensures leaves { (h : History) → Serves sha256 D.view service h
-        → LeavesReceived D.view (disk_of service) result.disk message.now time h result.outcome }
+    ensures leaves { (h : History) → Serves sha256 D.view service h → AddsFrom IsOf D.view (disk_of service) result.disk
+        (NextBy (Receive message.now time)) (λ receipt. StepsBy (Receive message.now time) (OfReceipt receipt)) h result.outcome }
     ensures unwritten { WritesNothing result.outcome → IsLeft D.view (disk_of service) result.disk }
-    ensures writes { (ps : Image) → IsOver D.view service ps → WritesFrom D.view (disk_of service) result.disk
-        (ArchivesTo sha256 message.now time) (IsReceiptOf sha256 message.now time) (written (record_of service) ps) result.outcome }
+    ensures writes { (ps : Image) → IsOver D.view service ps → AddsFrom IsService D.view (disk_of service) result.disk
+        (StaysOr (ArchivesTo sha256 message.now time)) (IsReceiptOf sha256 message.now time) (written (record_of service) ps) result.outcome }
 {
     let mut service = service;
     match service.take(message, seconds_of(time)) {

@@ -21,7 +21,7 @@ use Rattle.tw_follow.specs.declared.root.RootRecord.{RootRecord}
 use Rattle.tw_follow.specs.Calls.{Offers, Tells}
 use Rattle.tw_follow.specs.Writing.{moved_to}
 use Rattle.tw_follow.specs.Follows.{Follows, HasSameDisk, IsOver, disk_of, has_failed, head_of, pages_of, record_of}
-use Rattle.tw_follow.specs.HeadLists.{HasHead, Kept, with_head}
+use Rattle.tw_follow.specs.HeadLists.{HasHead, Kept, RiseTo, with_head}
 use Rattle.tw_follow.specs.HeadPages.{found_heads}
 use Rattle.tw_follow.specs.Offers.{AnswersOffer, Judges, answer_to, judged}
 use Rattle.tw_follow.specs.Refusals.{IsFault, refusals}
@@ -160,6 +160,7 @@ module _ {D H : Type 0} {g : _} {k : _} (view : D → DiskView) (only_now : (d :
       reopen = (λ e. failed_is failed, λ is. refl);
       faults = inl refl;
       answer = λ whole. absurd (not_both (has_failed f) whole (failed_is failed));
+      rises = tt;
       heads = tt;
       still = λ kept follows. (follows, still kept follows);
       unwritten = is_same_itself view f.recorded.store;
@@ -295,12 +296,13 @@ module _ {D H : Type 0} {g : _} {k : _} (view : D → DiskView) (only_now : (d :
       read_leaves view only_now dig old.recorded.store new.recorded.store old.recorded.root kept same follows,
     )
 
-    pub told_heads : (heads : List Thread) → ((ps : Image) → pages_of view old ≡ Some ps → AnswersAs refusals (λ (hs : List Thread). hs) (Ok heads) (found_heads ps (record_of old))) → has_failed new ≡ has_failed old
+    pub told_heads : (heads : List Thread) → ((ps : Image) → pages_of view old ≡ Some ps → AnswersAs refusals (λ (hs : List Thread). hs) (Ok heads) (found_heads ps (record_of old))) → RiseTo (head_of old) heads → has_failed new ≡ has_failed old
         → Tells dig view old new (Ok heads)
-    told_heads heads answer failed = record {
+    told_heads heads answer rises failed = record {
       reopen = (λ e. absurd (never_ok (List Thread) heads Reopen e), λ is. absurd (not_both (has_failed old) whole is));
       faults = tt;
       answer = λ _. answer;
+      rises = rises;
       heads = λ kept follows.
           same_found heads kept.heads (sym (answer follows.pages (told_list view (root_kind dig) old.recorded.store (written old.recorded.root follows.pages) follows.rests old.clean)) ∙ follows.keeps.found);
       still = kept_on;
@@ -317,6 +319,7 @@ module _ {D H : Type 0} {g : _} {k : _} (view : D → DiskView) (only_now : (d :
       reopen = (λ e. absurd (subst (λ (x : FollowRefusal). IsShared (refusals x)) (same_refusal (List Thread) r Reopen e) shared), λ is. absurd (not_both (has_failed old) whole is));
       faults = inr (shared_fault r shared);
       answer = λ _. answer;
+      rises = tt;
       heads = tt;
       still = kept_on;
       unwritten = same;

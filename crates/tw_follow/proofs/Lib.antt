@@ -2,6 +2,7 @@ pub mod Spelling
 pub mod Pages
 pub mod Walks
 pub mod Lists
+pub mod Rising
 pub mod Growing
 pub mod Offering
 pub mod Running

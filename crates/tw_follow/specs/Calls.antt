@@ -10,7 +10,7 @@ use Rattle.tw_follow.specs.declared.refusal.FollowRefusal.{FollowRefusal}
 use Rattle.tw_follow.specs.declared.refusal.FollowRefusal.TheVariants.{DiskFault, Reopen}
 use Rattle.tw_kept.specs.Commits.{Commits}
 use Rattle.tw_follow.specs.Follows.{Follows, HasSameDisk, IsOver, disk_of, has_failed, head_of, pages_of, record_of}
-use Rattle.tw_follow.specs.HeadLists.{Kept}
+use Rattle.tw_follow.specs.HeadLists.{Kept, RiseTo}
 use Rattle.tw_follow.specs.HeadPages.{found_heads}
 use Rattle.tw_follow.specs.Offers.{AnswersOffer}
 use Rattle.tw_follow.specs.Refusals.{IsFault, refusals}
@@ -60,6 +60,8 @@ module _ {D H : Type 0} {g : _} {k : _} (dig : List ℕ → List ℕ) (view : D 
     pub faults : IfErr result (λ refusal. (refusal ≡ Reopen) ⊎ IsFault refusal)
     -- over told pages, whatever they keep, the answer is what is found in them, a disk fault and want of memory excepted
     pub answer : has_failed old ≡ false → (ps : Image) → pages_of view old ≡ Some ps → AnswersAs refusals (λ heads. heads) result (found_heads ps (record_of old))
+    -- over whatever disk, also one that contradicts itself: the answer rises to the value's head
+    pub rises : IfOk result (RiseTo (head_of old))
     -- where a list is kept, the answer is it
     pub heads : IfOk result (λ heads. (kept : Kept) → Follows dig view old kept → heads ≡ kept.heads)
     -- whatever the answer, the list is kept as before, at rest, nothing is written, and the root record is as before

@@ -4,6 +4,7 @@ use Rattle.tw_base.specs.declared.history.thread.Thread.{Thread}
 use Rattle.tw_base.specs.history.Auth.{auth}
 use Rattle.tw_base.specs.history.History.{History}
 use Rattle.tw_base.specs.kinds.Lists.{Each}
+use Rattle.tw_base.specs.kinds.Names.{IsName}
 use Rattle.tw_base.specs.kinds.Texts.{genesis_text}
 
 -- the heads that a follower of this name keeps
@@ -33,6 +34,14 @@ pub record IsRising (kept : Kept) : Type 0 where
 abbrev pub last_from : Thread → List Thread → Thread
 last_from thread [] = thread
 last_from thread (head ∷ heads) = last_from head heads
+
+-- The heads of a record with this last one: threads of its service, which has a name, with steps from 1 on that rise, of which it is the
+-- last; and none where it is of step 0.
+pub record RiseTo (head : Thread) (heads : List Thread) : Type 0 where
+  pub name : IsName head.from
+  pub rising : IsRising (record { name = head.from; heads = heads })
+  pub none : head.step ≡ 0 → heads ≡ []
+  pub last : 0 < head.step → (before : Thread) → last_from before heads ≡ head
 
 module _ (dig : List ℕ → List ℕ) where
   -- step 0 of the name, with its authenticator

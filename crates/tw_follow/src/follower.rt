@@ -213,9 +213,11 @@ impl<D: Disk, H: Hasher> Follower<D, H> {
     pub fn heads(&mut self) -> Result<Threads, FollowRefusal>
         // Telling the heads. `Reopen` comes exactly where an earlier call on the value answered `DiskFault`; else only
         // `DiskFault`, `BadPage` and `NoMemory` come. Over told pages, whatever they keep, the answer is what is found
-        // in them, a disk fault and want of memory excepted. Where a list is kept, the answer is it. Whatever the
-        // answer, the list is kept as before, at rest, nothing is written, and the root record is as before. The value
-        // remembers that a call answered `DiskFault`, which comes only where the disk's count of faults rose.
+        // in them, a disk fault and want of memory excepted. Over whatever disk, also one whose reads contradict each
+        // other, the heads that are told are threads of the value's service with steps that rise to its head. Where a
+        // list is kept, the answer is it. Whatever the answer, the list is kept as before, at rest, nothing is written,
+        // and the root record is as before. The value remembers that a call answered `DiskFault`, which comes only
+        // where the disk's count of faults rose.
         ensures { Tells H.dig D.view self.old self.new result }
     {
         if self.is_broken {

@@ -52,6 +52,7 @@ fn take_head(bytes: &[u8], at: &mut u64) -> Result<HeadPage, ReadFault>
 pub(crate) fn read_head_page(page: u64, bytes: &Page) -> Option<HeadPage>
     ensures answer { MatchOption result (head_in page bytes.now ≡ Bad page) (λ p. head_in page bytes.now ≡ Is p) }
     ensures below { IfSome result (λ p. p.before < page) }
+    ensures some { IfSome result (λ p. 0 < p.step) }
 {
     let mut at = 0;
     let read = take_head(bytes, &mut at);

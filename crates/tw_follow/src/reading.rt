@@ -3,6 +3,7 @@
 ghost use Rattle.std.specs.Prelude.{◌≡◌, ◌<◌, IfOk};
 ghost use Rattle.tw_disk.specs.Answers.{ReadsPages};
 ghost use Rattle.tw_disk.specs.WalkFaults.{walk_faults};
+ghost use Rattle.tw_follow.specs.HeadLists.{RiseTo};
 ghost use Rattle.tw_follow.specs.HeadPages.{earlier_page, found_heads, heads_below, last_page, page_of_head};
 ghost use Rattle.tw_follow.specs.Refusals.{refusals};
 
@@ -19,6 +20,7 @@ use tw_disk::{Pages, WalkFault, read_page};
 fn read_head<P: Pages>(pages: &mut P, page: u64) -> Result<HeadPage, WalkFault>
     ensures reads { ReadsPages walk_faults P.view P.same pages.old pages.new (λ p. p) result (λ ps. page_of_head ps page) }
     ensures below { IfOk result (λ p. p.before < page) }
+    ensures some { IfOk result (λ p. 0 < p.step) }
 {
     let mut bytes = [0; PAGE_SIZE];
     read_page(pages, page, &mut bytes)?;
@@ -32,6 +34,7 @@ fn read_head<P: Pages>(pages: &mut P, page: u64) -> Result<HeadPage, WalkFault>
 #[tactic(auto, unfolding(crate::specs::HeadPages::last_page))]
 fn read_last<P: Pages>(pages: &mut P, root: &RootRecord) -> Result<HeadPage, WalkFault>
     ensures reads { ReadsPages walk_faults P.view P.same pages.old pages.new (λ p. p) result (λ ps. last_page ps root.now) }
+    ensures step { IfOk result (λ p. p.step ≡ root.now.head.step) }
 {
     let found = read_head(pages, root.page)?;
     if found.step == root.head.step && found.auth == root.head.auth {
@@ -46,6 +49,7 @@ fn read_last<P: Pages>(pages: &mut P, root: &RootRecord) -> Result<HeadPage, Wal
 fn read_earlier<P: Pages>(pages: &mut P, page: u64, above: u64) -> Result<HeadPage, WalkFault>
     ensures reads { ReadsPages walk_faults P.view P.same pages.old pages.new (λ p. p) result (λ ps. earlier_page ps page above) }
     ensures below { IfOk result (λ p. p.before < page) }
+    ensures some { IfOk result (λ p. (0 < p.step) × (p.step < above)) }
 {
     let found = read_head(pages, page)?;
     if found.step < above {
@@ -63,7 +67,10 @@ fn read_below<P: Pages>(
     last: &HeadPage,
     head: &Thread,
 ) -> Result<Threads, FollowRefusal>
-    ensures { ReadsPages refusals P.view P.same pages.old pages.new (λ heads. heads) result (λ ps. heads_below ps last.now head.now) }
+    requires step { last.now.step ≡ head.now.step }
+    requires some { 0 < head.now.step }
+    ensures reads { ReadsPages refusals P.view P.same pages.old pages.new (λ heads. heads) result (λ ps. heads_below ps last.now head.now) }
+    ensures rises { IfOk result (RiseTo head.now) }
 {
     let mut heads = Threads::new(alloc);
     heads.push(*head)?;
@@ -80,6 +87,7 @@ fn read_below<P: Pages>(
         above = found.step;
     }
     heads.reverse();
+    let _ = head.from.as_bytes();
     Ok(heads)
 }
 
@@ -90,9 +98,11 @@ pub(crate) fn read_heads<P: Pages>(
     pages: &mut P,
     root: &RootRecord,
 ) -> Result<Threads, FollowRefusal>
-    ensures { ReadsPages refusals P.view P.same pages.old pages.new (λ heads. heads) result (λ ps. found_heads ps root.now) }
+    ensures reads { ReadsPages refusals P.view P.same pages.old pages.new (λ heads. heads) result (λ ps. found_heads ps root.now) }
+    ensures rises { IfOk result (RiseTo root.now.head) }
 {
     if root.head.step == 0 {
+        let _ = root.head.from.as_bytes();
         return Ok(Threads::new(alloc));
     }
     let last = read_last(pages, root)?;

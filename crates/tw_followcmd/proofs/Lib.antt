@@ -1,7 +1,6 @@
 pub mod AtRest
 pub mod MessageFiles
 pub mod Offered
-pub mod Landings
 pub mod Listed
 pub mod CommandLaws
 pub mod OneResult

@@ -1,13 +1,11 @@
--- From what a follower answers to a message to what the command comes to, and what it leaves.
+-- From what a follower answers to a message to what the command comes to, and which list is next.
 use Rattle.std.proofs.Common.{◌≡◌, ◌≢◌, ◌∙◌, ℕ, List, refl, ap, sym, subst, inl, inr, ◌⊎◌, ⊎_elim}
 use Rattle.std.specs.Prelude.{false, Option, Some, Result, Ok, Err}
 use Rattle.sha2.specs.Sha256.{sha256}
 use Rattle.tw_base.specs.declared.history.thread.Thread.{Thread}
 use Rattle.tw_base.specs.format.Formats.{Spells}
 use Rattle.tw_base.specs.kinds.Faults.{Rose}
-use Rattle.tw_disk.specs.Disk.{DiskView, LeavesOnly, Reads}
 use Rattle.tw_disk.specs.Image.{Image}
-use Rattle.tw_disk.proofs.Moments.{leaves_weaker}
 use Rattle.tw_msg.specs.declared.message.Message.{Message}
 use Rattle.tw_msg.specs.Messages.{message_layout}
 use Rattle.tw_pages.specs.declared.open.StoreFault.{StoreFault}
@@ -29,11 +27,10 @@ use Rattle.tw_text.specs.declared.fault.CommandFault.{CommandFault}
 use Rattle.tw_text.specs.declared.fault.CommandFault.TheVariants as fault
 use Rattle.tw_text.specs.declared.refusal.StoreCause.{StoreCause}
 use Rattle.tw_text.specs.declared.refusal.StoreCause.TheVariants.{Blank, NotAStore}
-use Rattle.tw_followcmd.specs.Disks.{LeavesOldOrOneOf, ReadsAs, ReadsAsOneOf, Rests}
-use Rattle.tw_followcmd.specs.Faults.{fault_of_follower, fault_of_store}
+use Rattle.tw_storecmd.specs.Faults.{fault_of_store}
+use Rattle.tw_followcmd.specs.Disks.{ReadsAs, found_disk}
+use Rattle.tw_followcmd.specs.Faults.{fault_of_follower}
 use Rattle.tw_followcmd.specs.Offering.{IsOffered, MessageComes, TableOffers, as_told, list_after, next_list, offered_to}
-use Rattle.tw_followcmd.specs.OfferSteps.{LeavesOffered, WritesNothing}
-use Rattle.tw_followcmd.proofs.AtRest.{one_or_old}
 
 -- a follower's answer, as the command's result
 abbrev pub as_result : Result Thread FollowRefusal → Result Thread CommandFault
@@ -81,7 +78,7 @@ module _ (bytes : List ℕ) (m : Message) (spells : Spells message_layout bytes 
       list = λ k reads. is ∙ ap (λ (head : Thread). offered_to head m) (sym (list_head k reads));
     }
 
-    pub answered : (thread : Thread) → AnswersOffer sha256 false root.head bytes (Ok thread) → MessageComes found before after m (Ok thread)
+    pub answered : (thread : Thread) → AnswersOffer sha256 false root.head bytes (Ok thread) → MessageComes (found_disk found before after) m (Ok thread)
     answered thread t =
         let is : ◌≡◌ {A = Result Thread CommandFault} (Ok thread) (offered_to root.head m) =
         ap (λ (x : Thread). Ok x) t.2 ∙ ap (as_told root.head) (sym (judged-ok root.head t.0 t.1)) in
@@ -90,7 +87,7 @@ module _ (bytes : List ℕ) (m : Message) (spells : Spells message_layout bytes 
     told : (r : FollowRefusal) → IsTold r → Judges sha256 root.head bytes (Err r) → ◌≡◌ {A = Result Thread CommandFault} (Err (fault_of_follower r)) (offered_to root.head m)
     told r is j = ap (as_told root.head) (sym (judged-err root.head r is j))
 
-    pub refused : (r : FollowRefusal) → AnswersOffer sha256 false root.head bytes (Err r) → (r ≡ follower.DiskFault → Rose before after) → MessageComes found before after m (Err (fault_of_follower r))
+    pub refused : (r : FollowRefusal) → AnswersOffer sha256 false root.head bytes (Err r) → (r ≡ follower.DiskFault → Rose before after) → MessageComes (found_disk found before after) m (Err (fault_of_follower r))
     refused (follower.Other name) t rose = is_offered _ (told (follower.Other name) tt t) (root.head, told (follower.Other name) tt t)
     refused (follower.Stale last) t rose = is_offered _ (told (follower.Stale last) tt t) (root.head, told (follower.Stale last) tt t)
     refused (follower.Forked step kept offered) t rose = is_offered _ (told (follower.Forked step kept offered) tt t) (root.head, told (follower.Forked step kept offered) tt t)
@@ -100,13 +97,6 @@ module _ (bytes : List ℕ) (m : Message) (spells : Spells message_layout bytes 
     refused (follower.Malformed place) t rose = absurd (t.0 m spells)
     refused follower.DiskFault t rose = rose refl
     refused follower.NoMemory t rose = tt
-
-  -- the last two refusals never come to a follower that was just opened
-  pub never_reopen : (head : Thread) (r : FollowRefusal) → AnswersOffer sha256 false head bytes (Err r) → r ≢ follower.Reopen
-  never_reopen head r t is = no_reopen head (judged-err head follower.Reopen tt (subst (λ (x : FollowRefusal). AnswersOffer sha256 false head bytes (Err x)) is t))
-
-  pub never_malformed : (head : Thread) (r : FollowRefusal) → AnswersOffer sha256 false head bytes (Err r) → (place : ℕ) → r ≢ follower.Malformed place
-  never_malformed head r t place is = (subst (λ (x : FollowRefusal). AnswersOffer sha256 false head bytes (Err x)) is t).0 m spells
 
   -- ---- what it leaves
 
@@ -121,17 +111,9 @@ module _ (bytes : List ℕ) (m : Message) (spells : Spells message_layout bytes 
   answered_next k next thread (inr (n, by)) = by.0.adds ∙ ap (list_after k) (sym (of_message (head_of sha256 k) n (Ok (Moves n.thread)) by.0.spelled by.0.moves))
 
   -- what stands for the list or for where it goes stands for it or the next one
-  widen : (k next : Kept) → Goes sha256 k (Stopped bytes) next → (image : Image) → StandsForOneOf sha256 k next image → StandsForOneOf sha256 k (next_list k m) image
+  pub widen : (k next : Kept) → Goes sha256 k (Stopped bytes) next → (image : Image) → StandsForOneOf sha256 k next image → StandsForOneOf sha256 k (next_list k m) image
   widen k next goes image (inl stands) = inl stands
   widen k next goes image (inr stands) = ⊎_elim (λ is. inl (subst (λ (x : Kept). StandsFor sha256 image x) is stands)) (λ is. inr (subst (λ (x : Kept). StandsFor sha256 image x) is stands)) (stays_or_next k next goes)
-
-  module _ {D : Type 0} (view : D → DiskView) where
-    pub leaves_one_of : (old new : D) (k next : Kept) → Goes sha256 k (Stopped bytes) next → LeavesOnly (view old) (view new) (StandsForOneOf sha256 k next) → LeavesOldOrOneOf view old new k (next_list k m)
-    leaves_one_of old new k next goes left =
-        one_or_old view old new k (next_list k m) (leaves_weaker (view old) (view new) (StandsForOneOf sha256 k next) (StandsForOneOf sha256 k (next_list k m)) (widen k next goes) left)
-
-    pub reads_one_of : (new : D) (k next : Kept) → Goes sha256 k (Stopped bytes) next → Reads (view new) (StandsForOneOf sha256 k next) → ReadsAsOneOf view new k (next_list k m)
-    reads_one_of new k next goes reads = record { image = reads.image; told = reads.told; has = widen k next goes reads.image reads.has }
 
 -- a table never tells that nothing is served
 pub never_unserved : (m : Message) (head : Thread) (why : StoreCause) → ◌≡◌ {A = Result Thread CommandFault} (Err (fault.Unserved why)) (offered_to head m) → ⊥
@@ -165,32 +147,9 @@ module _ (found : Option Image) (before after : ℕ) (m : Message) where
 
   -- where no follower is opened
   pub unserved : (f : StoreFault) → ((image : Image) → found ≡ Some image → (f ≡ store.DiskFault) ⊎ IsNotOpenedFor sha256 image f) → (f ≢ store.Taken) × (f ≢ store.NoMemory)
-      → (f ≡ store.DiskFault → Rose before after) → MessageComes found before after m (Err (fault_of_store f))
+      → (f ≡ store.DiskFault → Rose before after) → MessageComes (found_disk found before after) m (Err (fault_of_store f))
   unserved store.Taken why never rose = absurd (never.0 refl)
   unserved store.NoMemory why never rose = absurd (never.1 refl)
   unserved store.DiskFault why never rose = rose refl
   unserved store.Blank why never rose = unserved_for store.Blank (fault.Unserved Blank) refl tt (λ e. cc) why
   unserved (store.NotAStore slot) why never rose = unserved_for (store.NotAStore slot) (fault.Unserved (NotAStore slot)) refl tt (λ e. cc) why
-
--- a refusal that isn't told as a disk fault is none
-pub refusal_writes : (r : FollowRefusal) → WritesNothing {X = Thread} (Err (fault_of_follower r)) → (P : Type 0) → (r ≡ follower.DiskFault) ⊎ P → P
-refusal_writes r nothing P (inl is) = absurd (subst (λ (x : FollowRefusal). WritesNothing {X = Thread} (Err (fault_of_follower x))) is nothing)
-refusal_writes r nothing P (inr holds) = holds
-
--- what a refused offering leaves, by its refusal
-module _ {D : Type 0} (view : D → DiskView) (old new : D) (m : Message) (k : Kept) where
-  rest_of : (r : FollowRefusal) → (r ≡ follower.DiskFault) ⊎ Rests view new k → r ≢ follower.DiskFault → Rests view new k
-  rest_of r (inl is) other = absurd (other is)
-  rest_of r (inr rests) other = rests
-
-  pub refusal_leaves : (r : FollowRefusal) → LeavesOldOrOneOf view old new k (next_list k m) × ReadsAsOneOf view new k (next_list k m) → (r ≡ follower.DiskFault) ⊎ Rests view new k
-      → r ≢ follower.Reopen → ((place : ℕ) → r ≢ follower.Malformed place) → LeavesOffered view old new m k (Err (fault_of_follower r))
-  refusal_leaves (follower.Other name) left rests fresh read = rest_of (follower.Other name) rests (λ e. cc)
-  refusal_leaves (follower.Stale last) left rests fresh read = rest_of (follower.Stale last) rests (λ e. cc)
-  refusal_leaves (follower.Forked step kept offered) left rests fresh read = rest_of (follower.Forked step kept offered) rests (λ e. cc)
-  refusal_leaves (follower.BadLink last kept) left rests fresh read = rest_of (follower.BadLink last kept) rests (λ e. cc)
-  refusal_leaves (follower.BadPage page) left rests fresh read = rest_of (follower.BadPage page) rests (λ e. cc)
-  refusal_leaves follower.Reopen left rests fresh read = absurd (fresh refl)
-  refusal_leaves (follower.Malformed place) left rests fresh read = absurd (read place refl)
-  refusal_leaves follower.DiskFault left rests fresh read = left
-  refusal_leaves follower.NoMemory left rests fresh read = rest_of follower.NoMemory rests (λ e. cc)

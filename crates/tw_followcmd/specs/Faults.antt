@@ -1,20 +1,10 @@
--- How the faults of stores and the refusals of followers are told.
-use Rattle.tw_pages.specs.declared.open.StoreFault.{StoreFault}
-use Rattle.tw_pages.specs.declared.open.StoreFault.TheVariants as store
+-- How the refusals of followers are told.
 use Rattle.tw_follow.specs.declared.refusal.FollowRefusal.{FollowRefusal}
 use Rattle.tw_follow.specs.declared.refusal.FollowRefusal.TheVariants as follower
-use Rattle.tw_text.specs.declared.refusal.Refusal.TheVariants.{Taken, Other, Stale, Forked, BadLink}
-use Rattle.tw_text.specs.declared.refusal.StoreCause.TheVariants.{Blank, NotAStore, BadPage}
+use Rattle.tw_text.specs.declared.refusal.Refusal.TheVariants.{Other, Stale, Forked, BadLink}
+use Rattle.tw_text.specs.declared.refusal.StoreCause.TheVariants.{BadPage}
 use Rattle.tw_text.specs.declared.fault.CommandFault.{CommandFault}
 use Rattle.tw_text.specs.declared.fault.CommandFault.TheVariants.{Refused, Unserved, DiskFault, NoMemory}
-
--- what a store that isn't made or opened comes to
-abbrev pub fault_of_store : StoreFault → CommandFault
-fault_of_store store.Taken = Refused Taken
-fault_of_store store.Blank = Unserved Blank
-fault_of_store (store.NotAStore slot) = Unserved (NotAStore slot)
-fault_of_store store.DiskFault = DiskFault
-fault_of_store store.NoMemory = NoMemory
 
 -- what a follower's refusal comes to; the value is given up after each call, and the message was read before it, so that the value has
 -- to be opened anew or the bytes are no message never comes

@@ -7,16 +7,17 @@ use Rattle.tw_disk.specs.Disk.{DiskView}
 use Rattle.tw_disk.specs.Found.{Found}
 use Rattle.tw_disk.specs.Found.Found.{Is, Bad}
 use Rattle.tw_disk.specs.Image.{Image}
-use Rattle.tw_follow.specs.HeadLists.{Kept}
+use Rattle.tw_follow.specs.HeadLists.{Kept, RiseTo}
 use Rattle.tw_follow.specs.HeadPages.{found_heads}
-use Rattle.tw_follow.specs.Stands.{IsServed, Served}
+use Rattle.tw_follow.specs.Stands.{IsServed, Served, root_kind}
 use Rattle.tw_follow.specs.Stands.Served.{Opened, Unopened}
 use Rattle.tw_text.specs.Lines.{anchor_text}
 use Rattle.tw_text.specs.declared.refusal.StoreCause.TheVariants.{BadPage}
 use Rattle.tw_text.specs.declared.fault.CommandFault.{CommandFault}
 use Rattle.tw_text.specs.declared.fault.CommandFault.TheVariants as fault
-use Rattle.tw_followcmd.specs.Disks.{IsLeft, Keeps, ReadsAs, Settles}
-use Rattle.tw_followcmd.specs.Faults.{fault_of_store}
+use Rattle.tw_storecmd.specs.Faults.{fault_of_store}
+use Rattle.tw_storecmd.specs.Leaves.{ReadLeaves, ReadSafe}
+use Rattle.tw_followcmd.specs.Disks.{FoundDisk, IsOf, ReadsAs}
 
 -- the anchor line of each
 abbrev pub lines_of : List Thread → List ℕ
@@ -32,25 +33,34 @@ abbrev pub lines_over : Served → Result (List ℕ) CommandFault
 lines_over (Opened root pages) = as_lines (found_heads pages root)
 lines_over (Unopened why) = Err (fault_of_store why)
 
--- where what the disk read as is told, the result is that of the follower that it is served as; and where the disk reads as a list of
--- heads, it is the list's lines
+-- the lines are those of heads that rise to this one
+abbrev pub ListsTo : (head : Thread) → (lines : List ℕ) → Type 0
+ListsTo head lines = (heads : List Thread) × RiseTo head heads × (lines ≡ lines_of heads)
+
+-- over whatever disk, also one that contradicts itself: the lines are those of heads that rise to one
+abbrev pub TableLists : Result (List ℕ) CommandFault → Type 0
+TableLists (Ok lines) = (head : Thread) × ListsTo head lines
+TableLists _ = Unit {0}
+
+-- where what the disk read as is told, the result is that of the follower that it is served as; the table allows it; and where the disk
+-- reads as a list of heads, it is the list's lines
 pub record IsListed (found : Option Image) (result : Result (List ℕ) CommandFault) : Type 0 where
   pub answer : (image : Image) → found ≡ Some image → (served : Served) × IsServed sha256 image served × (result ≡ lines_over served)
+  pub table : TableLists result
   pub list : (kept : Kept) → ReadsAs found kept → result ≡ Ok (lines_of kept.heads)
 
--- what it comes to over a disk that read as this and had failed so often before and after; want of memory is free
-abbrev pub HeadsComes : (found : Option Image) (before after : ℕ) → Result (List ℕ) CommandFault → Type 0
-HeadsComes found before after (Ok lines) = IsListed found (Ok lines)
-HeadsComes found before after (Err (fault.Unserved cause)) = IsListed found (Err (fault.Unserved cause))
-HeadsComes found before after (Err fault.DiskFault) = Rose before after
-HeadsComes found before after (Err fault.NoMemory) = Unit {0}
-HeadsComes found before after _ = ⊥
+-- what it comes to; want of memory is free
+abbrev pub HeadsComes : FoundDisk → Result (List ℕ) CommandFault → Type 0
+HeadsComes t (Ok lines) = IsListed t.found (Ok lines)
+HeadsComes t (Err (fault.Unserved cause)) = IsListed t.found (Err (fault.Unserved cause))
+HeadsComes t (Err fault.DiskFault) = Rose t.before t.after
+HeadsComes t (Err fault.NoMemory) = Unit {0}
+HeadsComes t _ = ⊥
 
 module _ {D : Type 0} (view : D → DiskView) (old new : D) where
-  -- nothing was written, and where the heads are told, the disk became stable
+  -- it only reads
   abbrev pub HeadsLeaves : Result (List ℕ) CommandFault → Type 0
-  HeadsLeaves (Ok lines) = IsLeft view old new × Settles view old new
-  HeadsLeaves _ = IsLeft view old new
+  HeadsLeaves result = ReadLeaves (root_kind sha256) IsOf view old new result
 
   abbrev pub HeadsSafe : Type 0
-  HeadsSafe = IsLeft view old new × Keeps view old new
+  HeadsSafe = ReadSafe (root_kind sha256) IsOf view old new

@@ -5,10 +5,10 @@ ghost use Rattle.tw_base.specs.declared.history.thread.Thread.{Thread};
 ghost use Rattle.tw_disk.specs.Image.{Image};
 ghost use Rattle.tw_msg.specs.declared.message.Message.{Message};
 ghost use Rattle.tw_text.specs.declared.fault.CommandFault.{CommandFault};
-ghost use Rattle.tw_followcmd.specs.Disks.{IsLeft, Keeps};
+ghost use Rattle.tw_followcmd.specs.Disks.{IsLeft, Keeps, found_disk};
 ghost use Rattle.tw_followcmd.specs.Listing.{HeadsComes};
 ghost use Rattle.tw_followcmd.specs.Offering.{MessageComes};
-ghost use Rattle.tw_followcmd.specs.Telling.{TellsContent};
+ghost use Rattle.tw_storecmd.specs.Comes.{TellsContent};
 
 use tw_disk::Disk;
 
@@ -20,10 +20,10 @@ pub fn told_laws()
     // with its fields, or one reason of status 8 with its slot. So each of these comes exactly where it stands, but for a
     // disk fault, want of memory and status 4.
     ensures offering { (image : Image) (m : Message) (before after : ℕ) (one other : Result Thread CommandFault) → TellsContent one → TellsContent other →
-        MessageComes (Some image) before after m one → MessageComes (Some image) before after m other → one ≡ other }
+        MessageComes (found_disk (Some image) before after) m one → MessageComes (found_disk (Some image) before after) m other → one ≡ other }
     // So is what `heads` comes to: the same lines, or one reason of status 8 with its slot or page.
     ensures listing { (image : Image) (before after : ℕ) (one other : Result (List ℕ) CommandFault) → TellsContent one → TellsContent other →
-        HeadsComes (Some image) before after one → HeadsComes (Some image) before after other → one ≡ other }
+        HeadsComes (found_disk (Some image) before after) one → HeadsComes (found_disk (Some image) before after) other → one ≡ other }
 {}
 
 /// A disk that is left as it was keeps the list of heads that it stands for, and whatever record and pages it opens with.

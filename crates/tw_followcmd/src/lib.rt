@@ -6,10 +6,8 @@ mod laws;
 mod listing;
 mod offering;
 mod watching;
-mod worked;
 
 pub use laws::{idle_laws, told_laws};
 pub use listing::list_heads;
 pub use offering::offer;
 pub use watching::watch;
-pub use worked::Worked;

@@ -3,28 +3,30 @@
 ghost use Rattle.std.specs.Prelude.{◌≡◌, ◌≤◌, ◌++◌, ℕ, Option, Some, IfErr, IfOk, OnOk, false};
 ghost use Rattle.sha2.specs.Sha256.{sha256};
 ghost use Rattle.tw_disk.specs.Image.{Image};
-ghost use Rattle.tw_follow.specs.Follows.{Follows, IsOver, disk_of, has_failed, pages_of, record_of};
+ghost use Rattle.tw_follow.specs.Follows.{Follows, IsOver, disk_of, has_failed, head_of, pages_of, record_of};
 ghost use Rattle.tw_follow.specs.HeadLists.{Kept};
 ghost use Rattle.tw_follow.specs.Stands.{OpensWith};
 ghost use Rattle.tw_kept.specs.Disks.{Rests as RestsAs};
 ghost use Rattle.tw_kept.specs.Records.{written};
 ghost use Rattle.tw_text.specs.Lines.{anchor_text};
 ghost use Rattle.tw_text.specs.declared.fault.CommandFault.TheVariants.{NoMemory as WantedMemory};
-ghost use Rattle.tw_followcmd.specs.Disks.{IsFollower, IsLeft, ReadsAs, Rests};
-ghost use Rattle.tw_followcmd.specs.Listing.{HeadsComes, HeadsLeaves, lines_of};
+ghost use Rattle.tw_followcmd.specs.Disks.{IsFollower, IsLeft, ReadsAs, Rests, found_disk};
+ghost use Rattle.tw_followcmd.specs.Listing.{HeadsComes, HeadsLeaves, ListsTo, lines_of};
 
-use crate::faults::{fault_of_follower, fault_of_store};
-use crate::worked::Worked;
+use crate::faults::fault_of_follower;
 use std::alloc::Global;
 use tw_base::{Bytes, NoMemory, Sha, Thread};
 use tw_disk::Disk;
 use tw_follow::Follower;
+use tw_storecmd::{Worked, fault_of_store};
 use tw_text::{CommandFault, anchor_line};
 
 /// Tells the heads of the follower on the disk, oldest first: the anchor line of each.
 pub fn list_heads<D: Disk>(alloc: Global, disk: D) -> Worked<D, Bytes>
-    // What `heads` comes to is what the disk and its count of faults allow: the lines, or a fault with its cause.
-    ensures comes { HeadsComes (D.view disk).content (D.view disk).faults (D.view result.disk).faults result.outcome }
+    // What `heads` comes to is what the disk and its count of faults allow: the lines, or a fault with its cause. Over
+    // whatever disk, also one whose reads contradict each other, the lines are of heads of one service that rise, whichever
+    // it is, or there are none.
+    ensures comes { HeadsComes (found_disk (D.view disk).content (D.view disk).faults (D.view result.disk).faults) result.outcome }
     // It writes nothing. Where the heads are told, the disk stands for the list that it read as, at rest, and with whatever
     // record and pages: so no head that was told can be lost any more.
     ensures leaves { HeadsLeaves D.view disk result.disk result.outcome }
@@ -44,7 +46,9 @@ fn list_by<D: Disk>(alloc: Global, follower: Follower<D, Sha>) -> Worked<D, Byte
     ensures comes { (found : Option Image) (before : ℕ)
         → ((image : Image) → found ≡ Some image → OpensWith sha256 image (record_of follower) (λ ps. pages_of D.view follower ≡ Some ps))
         → ((k : Kept) → ReadsAs found k → Follows sha256 D.view follower k) → before ≤ (D.view (disk_of follower)).faults
-        → HeadsComes found before (D.view result.disk).faults result.outcome }
+        → HeadsComes (found_disk found before (D.view result.disk).faults) result.outcome }
+    // Over whatever disk, the lines are of heads that rise to the follower's own.
+    ensures rises { IfOk result.outcome (λ lines. ListsTo (head_of follower) lines) }
     ensures leaves { IsLeft D.view (disk_of follower) result.disk }
     ensures rests { (k : Kept) → Follows sha256 D.view follower k → Rests D.view result.disk k }
     ensures over { (ps : Image) → IsOver sha256 D.view follower ps

@@ -10,14 +10,14 @@ ghost use Rattle.tw_follow.specs.HeadLists.{Kept};
 ghost use Rattle.tw_follow.specs.Stands.{OpensWith};
 ghost use Rattle.tw_msg.specs.Messages.{IsLinked, message_layout};
 ghost use Rattle.tw_outside.specs.Asked.{asked};
-ghost use Rattle.tw_followcmd.specs.Disks.{IsLeft, ReadsAs, SparesOther};
-ghost use Rattle.tw_followcmd.specs.Offering.{IsMessageIn, MessageComes, OfferComes, OfferLeaves};
-ghost use Rattle.tw_followcmd.specs.OfferSteps.{ComesOfFile, LeavesOffered, WritesNothing};
-ghost use Rattle.tw_followcmd.specs.Writing.{WritesFrom, WritesMessage};
+ghost use Rattle.tw_followcmd.specs.Disks.{IsFollower, IsLeft, IsOf, ReadsAs, SparesOther, found_disk};
+ghost use Rattle.tw_followcmd.specs.Offering.{IsNextBy, IsNextListBy, MessageComes, OfferComes, OfferLeaves};
 ghost use Rattle.tw_kept.specs.Records.{written};
+ghost use Rattle.tw_storecmd.specs.Files.{IsBadMessageByte, IsMessageIn, StopsAt};
+ghost use Rattle.tw_storecmd.specs.Leaves.{WritesNothing};
+ghost use Rattle.tw_storecmd.specs.Steps.{AddsFrom, AddsTo};
 
-use crate::faults::{bad_byte, fault_of_follower, fault_of_store};
-use crate::worked::Worked;
+use crate::faults::fault_of_follower;
 use std::alloc::Global;
 use tw_base::{ReadFault, Sha, Thread};
 use tw_disk::Disk;
@@ -25,6 +25,7 @@ use tw_filecmd::limits::FILE_READ;
 use tw_follow::Follower;
 use tw_msg::{Message, message_laws, read_message};
 use tw_outside::{Inputs, read_all};
+use tw_storecmd::{Worked, bad_byte, fault_of_store};
 use tw_text::CommandFault;
 
 /// Offers the message of the named file to the follower on the disk, and answers its head then, which is
@@ -39,7 +40,7 @@ pub fn offer<D: Disk, I: Inputs>(
     // What `offer` comes to is what its file, the disk and the counts of faults allow: the head, or a fault with its
     // cause.
     ensures comes { OfferComes (asked (I.told inputs.old) (I.faults inputs.old) (I.faults inputs.new))
-        (D.view disk).content (D.view disk).faults (D.view result.disk).faults file.now result.outcome }
+        (found_disk (D.view disk).content (D.view disk).faults (D.view result.disk).faults) file.now result.outcome }
     // It leaves the disk as is right for what it came to. So it does whatever the pages of the follower's store keep: after
     // the answer the disk rests with the record and pages that the message makes of those that it opened with, which are those of
     // its thread, with the page of that head behind the others, where it moves the head, and else the same; after a disk fault the
@@ -60,7 +61,7 @@ pub fn offer<D: Disk, I: Inputs>(
 fn read_offer<I: Inputs>(alloc: Global, inputs: &mut I, file: &str) -> Result<Message, CommandFault>
     requires { I.may_ask inputs.old file.now }
     ensures read { IfOk result (IsMessageIn (I.told inputs.old) file.now) }
-    ensures stopped { IfErr result (ComesOfFile (asked (I.told inputs.old) (I.faults inputs.old) (I.faults inputs.new)) file.now) }
+    ensures stopped { IfErr result (StopsAt (asked (I.told inputs.old) (I.faults inputs.old) (I.faults inputs.new)) file.now IsBadMessageByte) }
 {
     let bytes = read_all(alloc, inputs, file, FILE_READ)?;
     match read_message(alloc, bytes.as_slice()) {
@@ -75,12 +76,13 @@ fn offer_message<D: Disk>(alloc: Global, disk: D, message: &Message) -> Worked<D
     requires linked { IsLinked message.now }
     requires thread { IsThread message.now.thread }
     ensures comes { (bytes : List ℕ) → Spells message_layout bytes message.now
-        → MessageComes (D.view disk).content (D.view disk).faults (D.view result.disk).faults message.now result.outcome }
-    ensures leaves { (bytes : List ℕ) → Spells message_layout bytes message.now → (k : Kept) → ReadsAs (D.view disk).content k
-        → LeavesOffered D.view disk result.disk message.now k result.outcome }
+        → MessageComes (found_disk (D.view disk).content (D.view disk).faults (D.view result.disk).faults) message.now result.outcome }
+    ensures leaves { (bytes : List ℕ) → Spells message_layout bytes message.now
+        → AddsTo IsOf D.view disk result.disk (IsNextListBy message.now) (λ thread. IsNextListBy message.now) result.outcome }
     ensures unwritten { (bytes : List ℕ) → Spells message_layout bytes message.now → WritesNothing result.outcome → IsLeft D.view disk result.disk }
     ensures spares { SparesOther D.view disk result.disk }
-    ensures writes { (bytes : List ℕ) → Spells message_layout bytes message.now → WritesMessage D.view disk result.disk message.now result.outcome }
+    ensures writes { (bytes : List ℕ) → Spells message_layout bytes message.now
+        → AddsTo IsFollower D.view disk result.disk (IsNextBy message.now) (λ thread. IsNextBy message.now) result.outcome }
 {
     match Follower::<D, Sha>::open(alloc, disk) {
         Ok(follower) => offer_to(follower, message),
@@ -99,13 +101,14 @@ fn offer_to<D: Disk>(follower: Follower<D, Sha>, message: &Message) -> Worked<D,
     ensures comes { (bytes : List ℕ) → Spells message_layout bytes message.now → (found : Option Image) (before : ℕ)
         → ((image : Image) → found ≡ Some image → OpensWith sha256 image (record_of follower) (λ ps. pages_of D.view follower ≡ Some ps))
         → ((k : Kept) → ReadsAs found k → Follows sha256 D.view follower k) → before ≤ (D.view (disk_of follower)).faults
-        → MessageComes found before (D.view result.disk).faults message.now result.outcome }
+        → MessageComes (found_disk found before (D.view result.disk).faults) message.now result.outcome }
     ensures leaves { (bytes : List ℕ) → Spells message_layout bytes message.now → (k : Kept) → Follows sha256 D.view follower k
-        → LeavesOffered D.view (disk_of follower) result.disk message.now k result.outcome }
+        → AddsFrom IsOf D.view (disk_of follower) result.disk (IsNextListBy message.now) (λ thread. IsNextListBy message.now) k result.outcome }
     ensures unwritten { (bytes : List ℕ) → Spells message_layout bytes message.now → WritesNothing result.outcome
         → IsLeft D.view (disk_of follower) result.disk }
     ensures writes { (bytes : List ℕ) → Spells message_layout bytes message.now → (ps : Image) → IsOver sha256 D.view follower ps
-        → WritesFrom D.view (disk_of follower) result.disk message.now (written (record_of follower) ps) result.outcome }
+        → AddsFrom IsFollower D.view (disk_of follower) result.disk (IsNextBy message.now) (λ thread. IsNextBy message.now)
+        (written (record_of follower) ps) result.outcome }
 {
     let mut follower = follower;
     match follower.take(message) {

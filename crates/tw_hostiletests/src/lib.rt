@@ -1,8 +1,10 @@
-//! Tests of services over disks that aren't honest, are stopped or fail: each call answers one of its named answers, and ends.
+//! Tests of services and followers over disks that aren't honest, are stopped or fail: each call answers one of its named answers, and ends.
 #![tactic(auto)]
 
 #[cfg(test)]
 mod fickle_disk;
+#[cfg(test)]
+mod followers;
 #[cfg(test)]
 mod runs;
 #[cfg(test)]

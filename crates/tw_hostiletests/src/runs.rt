@@ -10,7 +10,7 @@ use tw_outside::{MemInputs, MemSink};
 /// How many seeds are tried.
 const SEEDS: u64 = 6;
 
-/// After how many reads the disk gives other bytes: at once, and once a service is opened.
+/// After how many reads the disk gives other bytes: at once, and once a service or a follower is opened.
 const HONEST: [u64; 2] = [0, 4];
 
 /// The words of each command that works on a service; `e` is an events file, and `n` a message that goes on from the thread that was received.
@@ -27,6 +27,9 @@ const ASKED: [&str; 11] = [
     "map d high 1 b",
     "export d",
 ];
+
+/// The words of each command that works on a follower.
+const FOLLOWED: [&str; 3] = ["watch d b", "offer d n", "heads d"];
 
 /// The words of a line, with one blank between.
 fn words(rt: &impl Abort, alloc: Global, line: &str) -> Vec<String> {
@@ -89,21 +92,52 @@ fn made<R: Abort>(rt: &R, alloc: Global, inputs: &mut MemInputs) -> MemDisk {
     disk
 }
 
-/// The status of the words over such a disk.
-fn status_of<R: Abort>(rt: &R, alloc: Global, honest: u64, seed: u64, line: &str) -> u8 {
-    let mut inputs = files(rt, alloc);
-    let disk = FickleDisk::new(made(rt, alloc, &mut inputs), honest, seed);
+/// A disk with a follower of `b` that was moved to its first step.
+fn followed<R: Abort>(rt: &R, alloc: Global, inputs: &mut MemInputs) -> MemDisk {
+    let mut disk = MemDisk::new(alloc);
+    for line in ["watch d b", "offer d m"] {
+        disk = after(rt, alloc, disk, inputs, line, "line");
+    }
+    disk
+}
+
+/// The status of the words over this disk, which gives other bytes after so many reads.
+fn status_of<R: Abort>(
+    rt: &R,
+    alloc: Global,
+    disk: FickleDisk,
+    inputs: &mut MemInputs,
+    line: &str,
+) -> u8 {
     let words = words(rt, alloc, line);
     let mut out = MemSink::new(alloc);
-    run(alloc, words.as_slice(), disk, &mut inputs, &mut out).status
+    run(alloc, words.as_slice(), disk, inputs, &mut out).status
 }
 
 #[test]
 fn each_command_ends_by_name(rt: HostRuntime) {
+    let alloc = rt.alloc();
     for line in ASKED {
         for honest in HONEST {
             for seed in 0..SEEDS {
-                let status = status_of(&rt, rt.alloc(), honest, seed, line);
+                let mut inputs = files(&rt, alloc);
+                let disk = FickleDisk::new(made(&rt, alloc, &mut inputs), honest, seed);
+                let status = status_of(&rt, alloc, disk, &mut inputs, line);
+                assert!(rt; status == 0 || status == 7 || status == 8, "{line}");
+            }
+        }
+    }
+}
+
+#[test]
+fn each_command_of_a_follower_ends_by_name(rt: HostRuntime) {
+    let alloc = rt.alloc();
+    for line in FOLLOWED {
+        for honest in HONEST {
+            for seed in 0..SEEDS {
+                let mut inputs = files(&rt, alloc);
+                let disk = FickleDisk::new(followed(&rt, alloc, &mut inputs), honest, seed);
+                let status = status_of(&rt, alloc, disk, &mut inputs, line);
                 assert!(rt; status == 0 || status == 7 || status == 8, "{line}");
             }
         }

@@ -13,15 +13,19 @@ use Rattle.tw_pages.specs.Slots.{IsTaken}
 use Rattle.tw_service.specs.Machine.{Call, NextOf, last_thread}
 use Rattle.tw_service.specs.Machine.Call.{Append as Appending, Ask, Receive as Receiving}
 use Rattle.tw_service.specs.Machine.Reply.{OfBytes, OfReceipt}
-use Rattle.tw_service.specs.Stands.{StandsFor, StandsForOneOf}
+use Rattle.tw_service.specs.Stands.{StandsFor}
 use Rattle.tw_text.specs.declared.fault.CommandFault.{CommandFault}
 use Rattle.tw_diskcmd.specs.Appending.{AppendComes, AppendLeaves, AppendSafe, AreEventsOf}
 use Rattle.tw_diskcmd.specs.Asking.{AskComes}
-use Rattle.tw_diskcmd.specs.Disks.{AddsSafe, FoundDisk, IsLeft, ReadLeaves, ReadsAs, Rests, Stands}
+use Rattle.tw_kept.specs.Disks.{AddsSafe, OneOf}
+use Rattle.tw_kept.proofs.AtRest.{untouched_left}
+use Rattle.tw_storecmd.specs.Comes.{FoundDisk}
+use Rattle.tw_storecmd.specs.Files.{IsMessageIn}
+use Rattle.tw_diskcmd.specs.Disks.{IsLeft, IsOf, NextBy, ReadLeaves, ReadsAs, Rests, Stands}
 use Rattle.tw_diskcmd.specs.Making.{InitComes, InitLeaves}
-use Rattle.tw_diskcmd.specs.Receiving.{IsMessageIn, ReceiveComes, ReceiveLeaves, ReceiveSafe}
-use Rattle.tw_diskcmd.proofs.AtRest.{own_name, stands_taken, untouched_left}
-use Rattle.tw_diskcmd.proofs.CommandLaws.{reading_is_safe}
+use Rattle.tw_diskcmd.specs.Receiving.{ReceiveComes, ReceiveLeaves, ReceiveSafe}
+use Rattle.tw_diskcmd.proofs.AtRest.{own_name, stands_taken}
+use Rattle.tw_diskcmd.proofs.CommandLaws.{asking_is_safe}
 use Rattle.tw_words.specs.declared.command.Command.{Command}
 use Rattle.tw_words.specs.declared.command.Command.TheVariants as command
 use Rattle.tw_app.specs.declared.outcome.Outcome.{Outcome}
@@ -84,12 +88,12 @@ module _ {D : Type 0} (view : D → DiskView) (name : List ℕ)
       abbrev reads : ReadsAs (view o.disk.before).content read
       reads = record { image = waver.0.image; told = waver.0.told; stands = own_name name read waver.0.image waver.0.has.1 }
 
-      one_goes : (call : Call) (next : History) → NextOf sha256 call read next → (c : Image) → StandsForOneOf sha256 read.name read next c → GoesOnFrom sha256 view name h c
+      one_goes : (call : Call) (next : History) → NextOf sha256 call read next → (c : Image) → OneOf IsOf read next c → GoesOnFrom sha256 view name h c
       one_goes call next is_next c one = ⊎_elim
           (λ stands. (read, subst (λ (n : List ℕ). StandsFor sha256 c n read) named stands, read_has))
           (λ stands. (
             next,
-            subst (λ (n : List ℕ). StandsFor sha256 c n next) named stands,
+            subst (λ (n : List ℕ). StandsFor sha256 c n next) (next_name sha256 call read next is_next ∙ named) stands,
             λ t own. next_has sha256 call read next is_next t (read_has t own),
           ))
           one
@@ -118,7 +122,7 @@ module _ {D : Type 0} (view : D → DiskView) (name : List ℕ)
 
       -- ---- a step that may be added
 
-      module _ {X : Type 0} (In : X → Type 0) (call : X → Call) (safe : AddsSafe view In call o.disk.before o.disk.after) where
+      module _ {X : Type 0} (In : X → Type 0) (call : X → Call) (safe : AddsSafe IsOf view In (λ x. NextBy (call x)) o.disk.before o.disk.after) where
         adds_moment : (c : Image) → (view o.disk.after).left_since (view o.disk.before).moment c → GoesOnFrom sha256 view name h c
         adds_moment c since = ⊎_elim
             (λ kept. waver.1 c (kept.0.each c since))
@@ -171,7 +175,7 @@ module _ {D : Type 0} (view : D → DiskView) (name : List ℕ)
               (settled_behind (IsOutByAnswer q (Written bytes)) may.1.0 (may.1.1.0 read reads) (λ t told. answer_told (found_of view o) read reads q bytes t may.0 told))
           of_result (Err f) may is =
               subst (λ (x : Outcome). Behind h (IsOutByAnswer q x)) (sym is)
-              (left_behind (IsOutByAnswer q (Undone f)) ((reading_is_safe view o.disk.before o.disk.after {X = List ℕ}).safe (Err f) may.1).0 (λ t told. told))
+              (left_behind (IsOutByAnswer q (Undone f)) ((asking_is_safe view o.disk.before o.disk.after {X = List ℕ}).safe (Err f) may.1).0 (λ t told. told))
 
       taken : IsTaken waver.0.image
       taken = stands_taken read waver.0.image reads.stands
@@ -198,9 +202,9 @@ module _ {D : Type 0} (view : D → DiskView) (name : List ℕ)
               let events = may.1.0.0 in
               let step = may.1.0.2.0.machine read reads in
               let added = may.1.0.2.1 read reads in
-              let last : thread ≡ last_thread sha256 added.0 = step.0 ∙ ap (λ (n : History). last_thread sha256 n) (sym added.1) in
+              let last : thread ≡ last_thread sha256 added.0 = step.0 ∙ ap (λ (n : History). last_thread sha256 n) (sym added.1.0) in
               subst (λ (x : Outcome). By (command.Append file time) x) (sym is)
-              (added_behind (AreEventsOf o.inputs.told file) (λ events. Appending events time) safe.1 (IsOutBy (command.Append file time) (Made thread)) (Appending events time) added.0 added.1 added.2.0
+              (added_behind (AreEventsOf o.inputs.told file) (λ events. Appending events time) safe.1 (IsOutBy (command.Append file time) (Made thread)) (Appending events time) added.0 added.1.0 added.2.0
               (λ t told. subst (λ (u : Thread). IsThreadOf sha256 added.0 u) (sym (told ∙ last)) (last_own sha256 added.0)))
           of_result (Err f) may is =
               subst (λ (x : Outcome). By (command.Append file time) x) (sym is)
@@ -218,8 +222,8 @@ module _ {D : Type 0} (view : D → DiskView) (name : List ℕ)
               let m = may.1.0.0 in
               let added = may.1.0.2.1 read reads in
               subst (λ (x : Outcome). By (command.Receive file time) x) (sym is)
-              (added_behind (IsMessageIn o.inputs.told file) (λ m. Receiving m time) safe.1 (IsOutBy (command.Receive file time) (Received receipt)) (Receiving m time) added.0 added.1 added.2.1
-              (λ t told. told_own sha256 read reads.stands.stands.keeps.sound (Receiving m time) (OfReceipt receipt) added.0 tt added.2.0 t told))
+              (added_behind (IsMessageIn o.inputs.told file) (λ m. Receiving m time) safe.1 (IsOutBy (command.Receive file time) (Received receipt)) (Receiving m time) added.0 added.1.0 added.2.0
+              (λ t told. told_own sha256 read reads.stands.stands.keeps.sound (Receiving m time) (OfReceipt receipt) added.0 tt added.1.1 t told))
           of_result (Err f) may is =
               subst (λ (x : Outcome). By (command.Receive file time) x) (sym is)
               (adds_behind (IsMessageIn o.inputs.told file) (λ m. Receiving m time) safe.1 (IsOutBy (command.Receive file time) (Undone f)) (λ t told. told))

@@ -1,5 +1,5 @@
 -- No told head is lost over runs on one disk: behind each of them all images go on from one list, in which all is that was told.
-use Rattle.std.proofs.Common.{◌≡◌, ◌⊎◌, ◌∙◌, ℕ, List, [], ◌∷◌, ◌++◌, refl, ap, sym, subst, inl, inr, ⊎_elim}
+use Rattle.std.proofs.Common.{◌≡◌, ◌∙◌, ℕ, List, [], ◌∷◌, ◌++◌, refl, ap, sym, subst, inl, inr, ⊎_elim}
 use Rattle.std.specs.Prelude.{Option, Some, None, Result, Ok, Err, MatchOption}
 use Rattle.sha2.specs.Sha256.{sha256}
 use Rattle.tw_base.specs.declared.history.thread.Thread.{Thread}
@@ -21,7 +21,7 @@ use Rattle.tw_follow.specs.declared.refusal.FollowRefusal.{FollowRefusal}
 use Rattle.tw_follow.specs.DiskRuns.{GoesOn, IsOf, KeepsAll}
 use Rattle.tw_follow.specs.HeadLists.{Kept, head_of, with_head}
 use Rattle.tw_follow.specs.Offers.{judged}
-use Rattle.tw_follow.specs.Runs.{Goes, Runs}
+use Rattle.tw_follow.specs.Runs.{Goes}
 use Rattle.tw_follow.specs.Runs.Move.{Answered, Stopped as StoppedOffer}
 use Rattle.tw_follow.specs.Stands.{StandsFor, StandsForOneOf}
 use Rattle.tw_follow.proofs.DiskRunning.{both, has_on, none, one}
@@ -29,14 +29,16 @@ use Rattle.tw_follow.proofs.Offering.{moved-is}
 use Rattle.tw_follow.proofs.Running.{runs-answered, runs-rise}
 use Rattle.tw_follow.proofs.Standing.{stands_rising}
 use Rattle.tw_followcmd.specs.Disks.{IsLeft, ReadsAs, Rests}
-use Rattle.tw_followcmd.specs.Offering.{IsMessageIn, OfferComes, OfferLeaves, OfferSafe, as_told, list_after, next_list}
-use Rattle.tw_followcmd.proofs.AtRest.{stands_taken, untouched_left}
+use Rattle.tw_followcmd.specs.Offering.{OfferComes, OfferLeaves, OfferSafe, as_told, list_after, next_list}
+use Rattle.tw_kept.proofs.AtRest.{untouched_left}
+use Rattle.tw_storecmd.specs.Files.{IsMessageIn}
+use Rattle.tw_followcmd.proofs.AtRest.{stands_taken}
 use Rattle.tw_words.specs.CommandLine.{command_of}
 use Rattle.tw_words.specs.declared.command.Command.{Command}
 use Rattle.tw_words.specs.declared.command.Command.TheVariants as command
 use Rattle.tw_app.specs.declared.outcome.Outcome.{Outcome}
 use Rattle.tw_app.specs.declared.outcome.Outcome.TheVariants.{Made}
-use Rattle.tw_app.specs.Around.{Around, Outside}
+use Rattle.tw_app.specs.Around.{Around, Outside, found_of}
 use Rattle.tw_app.specs.Outcomes.{outcome_by}
 use Rattle.tw_app.specs.Running.{HaveNoForm, IsUntouched, work}
 use Rattle.tw_app.proofs.Commands.{rows}
@@ -128,34 +130,34 @@ module _ {D : Type 0} (view : D → DiskView)
       -- ---- an offer
 
       module _ (file : List ℕ) (outcome : Outcome) (safe : OfferSafe view o.disk.before o.disk.after o.inputs.told file) where
-        one_goes : (m : Message) → IsMessageIn o.inputs.told file m → (c : Image) → StandsForOneOf sha256 read (next_list read m) c → GoesFrom k c
-        one_goes m is c each = ⊎_elim
+        one_goes : (m : Message) → IsMessageIn o.inputs.told file m → (next : Kept) → next ≡ next_list read m → (c : Image) → StandsForOneOf sha256 read next c → GoesFrom k c
+        one_goes m is next same c each = ⊎_elim
             (λ was. (read, was, waver.0.has.2))
             (λ now.
             let on = one sha256 read (StoppedOffer is.bytes) (next_list read m) (goes_by read is.bytes m is.spelled (judged sha256 (head_of sha256 read) m) refl) in
-            (next_list read m, now, goes_then k read (next_list read m) waver.0.has.2 (StoppedOffer is.bytes ∷ [], on.0, on.1)))
+            (next_list read m, subst (λ (x : Kept). StandsFor sha256 c x) same now, goes_then k read (next_list read m) waver.0.has.2 (StoppedOffer is.bytes ∷ [], on.0, on.1)))
             each
 
         moments : (c : Image) → (view o.disk.after).left_since (view o.disk.before).moment c → GoesFrom k c
         moments c since = ⊎_elim
             (λ stayed. waver.1 c (stayed.0.each c since))
-            (λ may. ⊎_elim (λ was. waver.1 c was) (λ each. one_goes may.0 may.1 c each) (may.2.0.each c since))
-            ((safe.2 read).0 reads)
+            (λ may. ⊎_elim (λ was. waver.1 c was) (λ each. one_goes may.0 may.1 may.2 may.3 c each) (may.4.each c since))
+            ((safe.1 read).0 reads)
 
         still : Wavers o.disk.after k
         still = ⊎_elim
             (λ stayed. (record { image = stayed.1.image; told = stayed.1.told; has = (read, stayed.1.stands, waver.0.has.2) }, λ c may. waver.1 c (stayed.0.now c may)))
             (λ may. (
-              record { image = may.2.1.image; told = may.2.1.told; has = one_goes may.0 may.1 may.2.1.image may.2.1.has },
-              λ c left. ⊎_elim (λ was. waver.1 c was) (λ each. one_goes may.0 may.1 c each) (may.2.0.now c left),
+              record { image = may.5.image; told = may.5.told; has = one_goes may.0 may.1 may.2 may.3 may.5.image may.5.has },
+              λ c left. ⊎_elim (λ was. waver.1 c was) (λ each. one_goes may.0 may.1 may.2 may.3 c each) (may.4.now c left),
             ))
-            ((safe.2 read).0 reads)
+            ((safe.1 read).0 reads)
 
         untold : (Tells : Thread → Type 0) → ((t : Thread) → Tells t → ⊥) → Left k Tells
         untold Tells nothing = record { now = k; goes_on = stays_on k; settled = still; any_moment = moments; tells = λ t told. absurd (nothing t told) }
 
         of_result : (r : Result Thread CommandFault)
-            → OfferComes o.inputs (view o.disk.before).content (view o.disk.before).faults (view o.disk.after).faults file r × OfferLeaves view o.disk.before o.disk.after o.inputs.told file r
+            → OfferComes o.inputs (found_of view o) file r × OfferLeaves view o.disk.before o.disk.after o.inputs.told file r
             → outcome ≡ outcome_by Made r → By (command.Offer file) outcome
         of_result (Ok thread) may is =
             let m = may.1.0.0 in
@@ -167,7 +169,7 @@ module _ {D : Type 0} (view : D → DiskView)
             subst (λ (x : Outcome). By (command.Offer file) x) (sym is) (record {
               now = next_list read m;
               goes_on = goes_then k read (next_list read m) waver.0.has.2 (Answered there.bytes (Ok thread) ∷ [], on.0, on.1);
-              settled = rests_waver o.disk.after (next_list read m) moved.0;
+              settled = rests_waver o.disk.after (next_list read m) (subst (λ (x : Kept). Rests view o.disk.after x) moved.1 moved.2.0);
               any_moment = moments;
               tells = λ t told. subst (λ (u : Thread). In u (next_list read m).heads) (sym told) has;
             })

@@ -1,19 +1,22 @@
-use Rattle.tw_base.specs.declared.history.thread.Thread.{Thread}
-use Rattle.tw_service.specs.EventSteps.{with_events}
-use Rattle.tw_service.specs.Serves.{disk_of, record_of}
-use Rattle.std.proofs.Common.{subst}
+use Rattle.std.proofs.Common.{inl, refl, subst}
 use Rattle.sha2.specs.Sha256.{sha256}
+use Rattle.tw_base.specs.declared.history.thread.Thread.{Thread}
 use Rattle.tw_kept.specs.Records.{Written, written}
+use Rattle.tw_kept.proofs.AtRest.{left_on}
 use Rattle.tw_kept.proofs.Standing.{written_once}
 use Rattle.tw_answers.specs.declared.root.RootRecord.{RootRecord}
 use Rattle.tw_answers.specs.Roots.{root_kind}
+use Rattle.tw_service.specs.EventSteps.{with_events}
+use Rattle.tw_service.specs.Machine.Call.{Append}
+use Rattle.tw_service.specs.Machine.Reply.{OfThread}
+use Rattle.tw_service.specs.Serves.{disk_of, record_of}
 use Rattle.tw_service.specs.Writing.{AppendsTo, IsThreadOfNext}
 use Rattle.tw_service.proofs.Standing.{once}
-use Rattle.tw_diskcmd.specs.Writing.{WritesFrom}
-use Rattle.tw_diskcmd.proofs.Writing.{unopened_writes, writes_of}
+use Rattle.tw_storecmd.specs.Leaves.{StaysOr}
+use Rattle.tw_storecmd.specs.Steps.{AddsFrom}
+use Rattle.tw_storecmd.proofs.Steps.{adds_on, unopened_adds}
 use Rattle.tw_diskcmd.specs.Appending.{MachineAdds, TableAdds, added}
-use Rattle.tw_diskcmd.proofs.AtRest.{leaves_from, left_on}
-use Rattle.tw_diskcmd.proofs.Landings.{unopened_leaves}
+use Rattle.tw_diskcmd.specs.Disks.{IsOf, IsService, NextBy, StepsBy}
 use Rattle.tw_diskcmd.proofs.Results.{unserved}
 use Rattle.tw_diskcmd.proofs.appending.append_events.Goals as goal
 
@@ -23,11 +26,11 @@ returns-in-Ok-clause-comes g c =
     c.in-Ok.ensures.opened (λ h reads. c.in-Ok.ensures.served reads.image h.name h reads.told reads.stands) c.in-Ok.ensures.later
 
 pub returns-in-Ok-clause-leaves : goal.returns-in-Ok-clause-leaves
-returns-in-Ok-clause-leaves g c = λ h reads.
+returns-in-Ok-clause-leaves g c =
     let d = g.D.Disk in
-    let mid = disk_of c.in-Ok.service in
-    leaves_from d.view c.args.disk mid c.append_to.result.disk (with_events h c.args.events.now c.args.time) h c.append_to.result.outcome
-    c.in-Ok.ensures.any_moment (c.append_to.ensures.leaves h (c.in-Ok.ensures.served reads.image h.name h reads.told reads.stands))
+    let call = Append c.args.events.now c.args.time in
+    adds_on IsOf d.view (NextBy call) (λ (thread : Thread). StepsBy call (OfThread thread)) c.args.disk (disk_of c.in-Ok.service) c.append_to.result.disk c.append_to.result.outcome
+    c.in-Ok.ensures.any_moment (λ h reads. c.append_to.ensures.leaves h (c.in-Ok.ensures.served reads.image h.name h reads.told reads.stands))
 
 pub returns-in-Err-clause-comes : goal.returns-in-Err-clause-comes
 returns-in-Err-clause-comes g c =
@@ -37,18 +40,14 @@ returns-in-Err-clause-comes g c =
     c.in-Err.fault c.in-Err.ensures.refused c.in-Err.ensures.answers c.in-Err.ensures.fault c.fault_of_store.result c.fault_of_store.ensures
 
 pub returns-in-Err-clause-leaves : goal.returns-in-Err-clause-leaves
-returns-in-Err-clause-leaves g c = λ h reads.
-    let d = g.D.Disk in
-    unopened_leaves d.view c.args.disk c.in-Err.disk Thread h (with_events h c.args.events.now c.args.time) reads c.in-Err.ensures.unchanged c.in-Err.fault c.fault_of_store.result c.fault_of_store.ensures
-    (c.in-Err.ensures.served reads.image h.name h reads.told reads.stands) c.in-Err.ensures.any_moment_err
+returns-in-Err-clause-leaves g c =
+    let call = Append c.args.events.now c.args.time in
+    unopened_adds IsOf g.D.Disk.view (NextBy call) (λ (thread : Thread). StepsBy call (OfThread thread)) (λ h. (with_events h c.args.events.now c.args.time, refl)) c.args.disk c.in-Err.disk
+    c.in-Err.fault c.fault_of_store.result c.fault_of_store.ensures c.in-Err.ensures.answers c.in-Err.ensures.unchanged c.in-Err.ensures.any_moment_err
 
 pub returns-in-Ok-clause-unwritten : goal.returns-in-Ok-clause-unwritten
 returns-in-Ok-clause-unwritten g c = λ nothing.
-    let d = g.D.Disk in
-    let mid = disk_of c.in-Ok.service in
-    left_on d.view c.args.disk mid c.append_to.result.disk
-    (c.in-Ok.ensures.unchanged, c.in-Ok.ensures.any_moment)
-    (c.append_to.ensures.unwritten nothing)
+    left_on g.D.Disk.view c.args.disk (disk_of c.in-Ok.service) c.append_to.result.disk (c.in-Ok.ensures.unchanged, c.in-Ok.ensures.any_moment) (c.append_to.ensures.unwritten nothing)
 
 pub returns-in-Err-clause-unwritten : goal.returns-in-Err-clause-unwritten
 returns-in-Err-clause-unwritten g c = λ nothing. (c.in-Err.ensures.unchanged, c.in-Err.ensures.any_moment_err)
@@ -63,13 +62,14 @@ pub returns-in-Ok-clause-writes : goal.returns-in-Ok-clause-writes
 returns-in-Ok-clause-writes g c =
     let d = g.D.Disk in
     let s = c.in-Ok.service in
-    writes_of d.view (AppendsTo sha256 c.args.events.now c.args.time) (IsThreadOfNext sha256 c.args.events.now c.args.time) c.args.disk (disk_of s) c.append_to.result.disk c.append_to.result.outcome c.in-Ok.ensures.any_moment
-    (λ w reads.
+    let Next = StaysOr (AppendsTo sha256 c.args.events.now c.args.time) in
+    let Answers = IsThreadOfNext sha256 c.args.events.now c.args.time in
+    adds_on IsService d.view Next Answers c.args.disk (disk_of s) c.append_to.result.disk c.append_to.result.outcome c.in-Ok.ensures.any_moment (λ w reads.
     let own = c.in-Ok.ensures.over reads.image reads.told in
-    subst (λ (v : Written RootRecord). WritesFrom d.view (disk_of s) c.append_to.result.disk (AppendsTo sha256 c.args.events.now c.args.time) (IsThreadOfNext sha256 c.args.events.now c.args.time) v c.append_to.result.outcome)
+    subst (λ (v : Written RootRecord). AddsFrom IsService d.view (disk_of s) c.append_to.result.disk Next Answers v c.append_to.result.outcome)
     (written_once root_kind once reads.image (written (record_of s) own.0) w own.2 reads.stands) (c.append_to.ensures.writes own.0 own.3))
 
 pub returns-in-Err-clause-writes : goal.returns-in-Err-clause-writes
 returns-in-Err-clause-writes g c =
-    unopened_writes g.D.Disk.view (AppendsTo sha256 c.args.events.now c.args.time) (IsThreadOfNext sha256 c.args.events.now c.args.time) c.args.disk c.in-Err.disk c.in-Err.fault c.fault_of_store.result c.fault_of_store.ensures
-    c.in-Err.ensures.answers c.in-Err.ensures.unchanged c.in-Err.ensures.any_moment_err
+    unopened_adds IsService g.D.Disk.view (StaysOr (AppendsTo sha256 c.args.events.now c.args.time)) (IsThreadOfNext sha256 c.args.events.now c.args.time) (λ w. (w, inl refl)) c.args.disk c.in-Err.disk
+    c.in-Err.fault c.fault_of_store.result c.fault_of_store.ensures c.in-Err.ensures.answers c.in-Err.ensures.unchanged c.in-Err.ensures.any_moment_err

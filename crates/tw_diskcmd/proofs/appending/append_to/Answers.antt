@@ -1,19 +1,23 @@
-use Rattle.std.proofs.Common.{sym, subst, inl, inr, ⊎_elim}
+use Rattle.std.proofs.Common.{refl, sym, subst, inl, inr, ⊎_elim}
 use Rattle.std.specs.Prelude.{Err, Ok}
 use Rattle.sha2.specs.Sha256.{sha256}
-use Rattle.tw_service.specs.EventSteps.{with_events}
 use Rattle.tw_base.specs.declared.history.thread.Thread.{Thread}
 use Rattle.tw_base.specs.kinds.Faults.{Rose}
-use Rattle.tw_disk.specs.Disk.{LeavesOnly, Reads}
-use Rattle.tw_service.specs.Stands.{StandsForOneOf}
+use Rattle.tw_answers.specs.declared.refusal.Refusal.TheVariants as service
+use Rattle.tw_answers.specs.Roots.{root_kind}
+use Rattle.tw_service.specs.Machine.Call.{Append}
+use Rattle.tw_service.specs.Machine.Reply.{OfThread}
 use Rattle.tw_service.specs.Serves.{Serves, disk_of, pages_of, record_of}
 use Rattle.tw_service.specs.Writing.{AppendsTo, IsThreadOfNext}
 use Rattle.tw_kept.specs.Records.{written}
-use Rattle.tw_diskcmd.specs.Writing.{WritesFrom}
-use Rattle.tw_diskcmd.proofs.Writing.{answered_writes, refused_writes}
-use Rattle.tw_diskcmd.specs.Disks.{IsLeft, LeavesOldOrOneOf, ReadsAsOneOf, found_disk}
-use Rattle.tw_diskcmd.proofs.AtRest.{named_one_of, named_reads, own_rest, rose_since, same_left}
-use Rattle.tw_diskcmd.proofs.Steps.{step_done, step_leaves, step_refused, step_unwritten}
+use Rattle.tw_storecmd.specs.Leaves.{StaysOr}
+use Rattle.tw_storecmd.specs.Steps.{AddsFrom}
+use Rattle.tw_storecmd.proofs.AtRest.{rose_since, same_left}
+use Rattle.tw_storecmd.proofs.Steps.{answered_commits, nothing_written, refused_commits}
+use Rattle.tw_diskcmd.specs.Disks.{IsLeft, IsOf, IsService, NextBy, StepsBy, found_disk}
+use Rattle.tw_diskcmd.specs.Faults.{fault_of_service}
+use Rattle.tw_diskcmd.proofs.AtRest.{answered_steps, refused_steps}
+use Rattle.tw_diskcmd.proofs.Steps.{step_done, step_refused}
 use Rattle.tw_diskcmd.proofs.appending.append_to.Goals as goal
 
 pub returns-in-Ok-clause-comes : goal.returns-in-Ok-clause-comes
@@ -22,21 +26,6 @@ returns-in-Ok-clause-comes g c = λ found before opens serves le.
     step_done (found_disk found before (d.view c.close.result).faults) c.args.events.now c.args.time c.args.service.is_broken c.args.service.recorded.kept.root (pages_of d.view c.args.service) opens c.requires
     (Serves sha256 d.view c.args.service) (Serves sha256 d.view c.add.new.service) serves
     c.in-Ok.thread c.in-Ok.ensures.table c.in-Ok.ensures.thread.2 (λ h served. let made = c.in-Ok.ensures.steps h served in (made.next, made.done.0)) c.in-Ok.ensures.answer
-
-pub returns-in-Ok-clause-leaves : goal.returns-in-Ok-clause-leaves
-returns-in-Ok-clause-leaves g c = λ h served.
-    let d = g.D.Disk in
-    let old = c.args.service in
-    let new = c.add.new.service in
-    let events = c.args.events.now in
-    let made = c.in-Ok.ensures.steps h served in
-    let next = with_events h events c.args.time in
-    let serves = subst (λ n. Serves sha256 d.view new n) made.is_next made.done.1 in (
-      own_rest d.view c.close.result new.recorded.kept.root.name next (c.close.ensures.stands next serves),
-      subst (λ disk. LeavesOldOrOneOf d.view (disk_of old) disk h next) (sym c.close.ensures.disk)
-          (named_one_of d.view (disk_of old) (disk_of new) old.recorded.kept.root.name next h served.keeps.named
-          (subst (λ n. LeavesOnly (d.view (disk_of old)) (d.view (disk_of new)) (StandsForOneOf sha256 old.recorded.kept.root.name h n)) made.is_next made.any_moment)),
-    )
 
 pub returns-in-Err-clause-comes : goal.returns-in-Err-clause-comes
 returns-in-Err-clause-comes g c = λ found before opens serves le.
@@ -48,25 +37,19 @@ returns-in-Err-clause-comes g c = λ found before opens serves le.
     (subst (λ disk. Rose (d.view (disk_of c.args.service)).faults (d.view disk).faults) (sym c.close-in-Err.ensures.disk) (c.in-Err.ensures.fault is)))
     c.in-Err.ensures.answer
 
+pub returns-in-Ok-clause-leaves : goal.returns-in-Ok-clause-leaves
+returns-in-Ok-clause-leaves g c = λ h served.
+    let d = g.D.Disk in
+    let call = Append c.args.events.now c.args.time in
+    subst (λ disk. AddsFrom IsOf d.view (disk_of c.args.service) disk (NextBy call) (λ thread. StepsBy call (OfThread thread)) h (Ok c.in-Ok.thread)) (sym c.close.ensures.disk)
+    (answered_steps d.view g.met.D.Disk.only_now call (λ (thread : Thread). OfThread thread) c.args.service c.add.new.service h c.in-Ok.thread (c.in-Ok.ensures.steps h served))
+
 pub returns-in-Err-clause-leaves : goal.returns-in-Err-clause-leaves
 returns-in-Err-clause-leaves g c = λ h served.
     let d = g.D.Disk in
-    let old = c.args.service in
-    let new = c.add.new.service in
-    let events = c.args.events.now in
-    let made = c.in-Err.ensures.steps h served in
-    let next = with_events h events c.args.time in
-    step_leaves d.view (disk_of old) c.close-in-Err.result h next Thread c.in-Err.refusal c.fault_of_service.result c.fault_of_service.ensures
-    (subst
-    (λ disk. LeavesOldOrOneOf d.view (disk_of old) disk h next × ReadsAsOneOf d.view disk h next)
-    (sym c.close-in-Err.ensures.disk) (
-      named_one_of d.view (disk_of old) (disk_of new) old.recorded.kept.root.name next h served.keeps.named
-          (subst (λ n. LeavesOnly (d.view (disk_of old)) (d.view (disk_of new)) (StandsForOneOf sha256 old.recorded.kept.root.name h n)) made.is_next made.any_moment),
-      named_reads d.view (disk_of new) old.recorded.kept.root.name next h served.keeps.named (subst (λ n. Reads (d.view (disk_of new)) (StandsForOneOf sha256 old.recorded.kept.root.name h n)) made.is_next made.told),
-    ))
-    (⊎_elim (λ is. inl is)
-    (λ keeps. inr (own_rest d.view c.close-in-Err.result new.recorded.kept.root.name h (c.close-in-Err.ensures.stands h keeps.0)))
-    made.refused)
+    let call = Append c.args.events.now c.args.time in
+    subst (λ disk. AddsFrom IsOf d.view (disk_of c.args.service) disk (NextBy call) (λ thread. StepsBy call (OfThread thread)) h (Err c.fault_of_service.result)) (sym c.close-in-Err.ensures.disk)
+    (refused_steps d.view g.met.D.Disk.only_now call (λ (thread : Thread). OfThread thread) c.args.service c.add.new.service h c.in-Err.refusal c.fault_of_service.result c.fault_of_service.ensures (c.in-Err.ensures.steps h served))
 
 pub returns-in-Err-clause-unwritten : goal.returns-in-Err-clause-unwritten
 returns-in-Err-clause-unwritten g c = λ nothing.
@@ -74,8 +57,8 @@ returns-in-Err-clause-unwritten g c = λ nothing.
     let old = c.args.service in
     let new = c.add.new.service in
     subst (λ disk. IsLeft d.view (disk_of old) disk) (sym c.close-in-Err.ensures.disk)
-    (step_unwritten d.view (disk_of old) (disk_of new) Thread c.in-Err.refusal c.fault_of_service.result c.fault_of_service.ensures
-    (⊎_elim (λ is. inl is) (λ same. inr (same_left d.view g.met.D.Disk.only_now old new same)) c.in-Err.ensures.unwritten) nothing)
+    (nothing_written Thread service.DiskFault fault_of_service refl c.in-Err.refusal c.fault_of_service.result c.fault_of_service.ensures (IsLeft d.view (disk_of old) (disk_of new))
+    (⊎_elim (λ is. inl is) (λ same. inr (same_left d.view g.met.D.Disk.only_now old.recorded.kept.store new.recorded.kept.store same)) c.in-Err.ensures.unwritten) nothing)
 
 pub returns-in-Ok-clause-writes : goal.returns-in-Ok-clause-writes
 returns-in-Ok-clause-writes g c = λ ps over.
@@ -83,9 +66,9 @@ returns-in-Ok-clause-writes g c = λ ps over.
     let old = c.args.service in
     let new = c.add.new.service in
     let events = c.args.events.now in
-    subst (λ disk. WritesFrom d.view (disk_of old) disk (AppendsTo sha256 events c.args.time) (IsThreadOfNext sha256 events c.args.time) (written (record_of old) ps) (Ok c.in-Ok.thread)) (sym c.close.ensures.disk)
-    (answered_writes d.view (AppendsTo sha256 events c.args.time) (IsThreadOfNext sha256 events c.args.time) old.recorded.kept.store new.recorded.kept.store (record_of old) (record_of new) ps c.in-Ok.thread
-    (c.in-Ok.ensures.written ps over))
+    subst (λ disk. AddsFrom IsService d.view (disk_of old) disk (StaysOr (AppendsTo sha256 events c.args.time)) (IsThreadOfNext sha256 events c.args.time) (written (record_of old) ps) (Ok c.in-Ok.thread)) (sym c.close.ensures.disk)
+    (answered_commits d.view root_kind service.DiskFault (AppendsTo sha256 events c.args.time) (IsThreadOfNext sha256 events c.args.time) old.recorded.kept.store new.recorded.kept.store (record_of old) (record_of new) ps
+    c.in-Ok.thread (c.in-Ok.ensures.written ps over))
 
 pub returns-in-Err-clause-writes : goal.returns-in-Err-clause-writes
 returns-in-Err-clause-writes g c = λ ps over.
@@ -93,6 +76,6 @@ returns-in-Err-clause-writes g c = λ ps over.
     let old = c.args.service in
     let new = c.add.new.service in
     let events = c.args.events.now in
-    subst (λ disk. WritesFrom d.view (disk_of old) disk (AppendsTo sha256 events c.args.time) (IsThreadOfNext sha256 events c.args.time) (written (record_of old) ps) (Err c.fault_of_service.result)) (sym c.close-in-Err.ensures.disk)
-    (refused_writes d.view (AppendsTo sha256 events c.args.time) (IsThreadOfNext sha256 events c.args.time) old.recorded.kept.store new.recorded.kept.store (record_of old) (record_of new) ps
-    c.in-Err.refusal c.fault_of_service.result c.fault_of_service.ensures (c.in-Err.ensures.written ps over))
+    subst (λ disk. AddsFrom IsService d.view (disk_of old) disk (StaysOr (AppendsTo sha256 events c.args.time)) (IsThreadOfNext sha256 events c.args.time) (written (record_of old) ps) (Err c.fault_of_service.result)) (sym c.close-in-Err.ensures.disk)
+    (refused_commits d.view root_kind service.DiskFault (AppendsTo sha256 events c.args.time) (IsThreadOfNext sha256 events c.args.time) old.recorded.kept.store new.recorded.kept.store (record_of old) (record_of new) ps
+    fault_of_service refl c.in-Err.refusal c.fault_of_service.result c.fault_of_service.ensures (c.in-Err.ensures.written ps over))

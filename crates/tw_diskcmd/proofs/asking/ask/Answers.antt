@@ -5,13 +5,13 @@ use Rattle.tw_kept.proofs.Standing.{written_once}
 use Rattle.tw_answers.specs.declared.root.RootRecord.{RootRecord}
 use Rattle.tw_answers.specs.Roots.{root_kind}
 use Rattle.tw_service.proofs.Standing.{once}
-use Rattle.tw_diskcmd.specs.Disks.{IsService}
 use Rattle.tw_service.specs.Questions.{Besides}
 use Rattle.tw_service.specs.Serves.{disk_of, record_of}
 use Rattle.tw_diskcmd.specs.Answers.{MachineAnswers, TableAnswersOr}
 use Rattle.tw_diskcmd.specs.Asking.{AnswersBy, AskComes, asked_bytes, asked_call, asked_table}
-use Rattle.tw_diskcmd.proofs.AtRest.{left_on}
-use Rattle.tw_diskcmd.proofs.Landings.{leaves_of_reading, unopened_reading_leaves}
+use Rattle.tw_kept.proofs.AtRest.{left_on}
+use Rattle.tw_storecmd.proofs.Landings.{leaves_of_reading, unopened_reading_leaves}
+use Rattle.tw_diskcmd.specs.Disks.{IsOf, IsService}
 use Rattle.tw_diskcmd.proofs.Results.{unserved}
 use Rattle.tw_diskcmd.proofs.asking.ask.Goals as goal
 
@@ -24,7 +24,7 @@ pub returns-in-Ok-clause-leaves : goal.returns-in-Ok-clause-leaves
 returns-in-Ok-clause-leaves g c =
     let d = g.D.Disk in
     let mid = disk_of c.in-Ok.service in
-    leaves_of_reading d.view c.args.disk c.ask_by.result.disk c.ask_by.result.outcome
+    leaves_of_reading root_kind IsOf d.view c.args.disk c.ask_by.result.disk c.ask_by.result.outcome
     (left_on d.view c.args.disk mid c.ask_by.result.disk (c.in-Ok.ensures.unchanged, c.in-Ok.ensures.any_moment) c.ask_by.ensures.leaves) (
       λ h reads. c.ask_by.ensures.rests h (c.in-Ok.ensures.served reads.image h.name h reads.told reads.stands),
       λ w reads.
@@ -45,5 +45,5 @@ returns-in-Err-clause-comes g c =
 
 pub returns-in-Err-clause-leaves : goal.returns-in-Err-clause-leaves
 returns-in-Err-clause-leaves g c =
-    unopened_reading_leaves g.D.Disk.view c.args.disk c.in-Err.disk (List ℕ) c.in-Err.fault c.fault_of_store.result c.fault_of_store.ensures
+    unopened_reading_leaves root_kind IsOf g.D.Disk.view c.args.disk c.in-Err.disk (List ℕ) c.in-Err.fault c.fault_of_store.result c.fault_of_store.ensures
     c.in-Err.ensures.answers.0 (c.in-Err.ensures.unchanged, c.in-Err.ensures.any_moment_err)

@@ -8,7 +8,8 @@ use Rattle.tw_kept.proofs.AtRest.{own_rest as own_rest_as}
 use Rattle.tw_kept.proofs.Written.{rest_for_good, still_rests}
 use Rattle.tw_answers.specs.Roots.{root_kind}
 use Rattle.tw_diskcmd.specs.Disks.{IsLeft, IsService, found_disk}
-use Rattle.tw_diskcmd.proofs.AtRest.{own_rest, rose_since, same_left}
+use Rattle.tw_storecmd.proofs.AtRest.{rose_since, same_left}
+use Rattle.tw_diskcmd.proofs.AtRest.{own_rest}
 use Rattle.tw_diskcmd.proofs.QuestionAnswers.{asked_came}
 use Rattle.tw_diskcmd.proofs.asking.ask_by.Goals as goal
 
@@ -27,7 +28,7 @@ pub returns-clause-leaves : goal.returns-clause-leaves
 returns-clause-leaves g c =
     let d = g.D.Disk in
     let old = c.args.service in
-    subst (λ disk. IsLeft d.view (disk_of old) disk) (sym c.close.ensures.disk) (same_left d.view g.met.D.Disk.only_now old c.ask.new.self c.ask.ensures.asks.unwritten)
+    subst (λ disk. IsLeft d.view (disk_of old) disk) (sym c.close.ensures.disk) (same_left d.view g.met.D.Disk.only_now old.recorded.kept.store c.ask.new.self.recorded.kept.store c.ask.ensures.asks.unwritten)
 
 pub returns-clause-rests : goal.returns-clause-rests
 returns-clause-rests g c = λ h served.

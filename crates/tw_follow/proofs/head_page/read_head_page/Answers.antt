@@ -7,6 +7,7 @@ use Rattle.tw_disk.proofs.FoundLaws.{is_on}
 use Rattle.tw_disk.proofs.SpelledLaws.{page-is, page-none}
 use Rattle.tw_follow.specs.declared.head_page.HeadPage.{HeadPage}
 use Rattle.tw_follow.specs.HeadPages.{head_codec, head_in}
+use Rattle.tw_follow.proofs.Rising.{head-some}
 use Rattle.tw_follow.proofs.Spelling.{head-lawful}
 use Rattle.tw_follow.proofs.head_page.read_head_page.Goals as goal
 
@@ -37,3 +38,6 @@ returns-else-found-page-clause-answer c =
     let found = takes-page head_codec head-lawful (λ p. p) bytes _ _ _ c.take_head-read.ensures.takes c.take_head-read.ensures.memory c.in-Some.ensures in
     is_on (spelled page 4096 head_codec bytes) (λ p. when (nat_lt p.before page) page p) p (page-is page head_codec head-lawful bytes p found)
     ∙ ap (λ (b : Bool). when b page p) (le-ltb p.before page c.if-found-page.false)
+
+pub returns-then-found-page-clause-some : goal.returns-then-found-page-clause-some
+returns-then-found-page-clause-some c = head-some c.args.page c.args.bytes.now c.in-Some.found (returns-then-found-page-clause-answer c)

@@ -8,10 +8,10 @@ use Rattle.tw_kept.proofs.Written.{rest_for_good, still_rests, told_list}
 use Rattle.tw_follow.specs.Stands.{root_kind}
 use Rattle.tw_text.specs.declared.fault.CommandFault.{CommandFault}
 use Rattle.tw_kept.specs.Disks.{Rests as RestsAs}
-use Rattle.tw_kept.proofs.AtRest.{own_rest as own_rest_as}
-use Rattle.tw_followcmd.specs.Disks.{IsFollower, IsLeft}
+use Rattle.tw_kept.proofs.AtRest.{own_rest}
+use Rattle.tw_storecmd.proofs.AtRest.{rose_since, same_left}
+use Rattle.tw_followcmd.specs.Disks.{IsFollower, IsLeft, IsOf, found_disk}
 use Rattle.tw_followcmd.specs.Listing.{HeadsComes, lines_of}
-use Rattle.tw_followcmd.proofs.AtRest.{own_rest, rose_since, same_left}
 use Rattle.tw_followcmd.proofs.Listed.{listed, never_reopened, unlisted}
 use Rattle.tw_followcmd.proofs.listing.list_by.Goals as goal
 
@@ -22,25 +22,25 @@ returns-in-Ok-clause-comes g c = λ found before opens follows le.
     listed found before (d.view c.close.result).faults old.recorded.root (pages_of d.view old) opens
     (λ k reads. let at = follows k reads in
     (at.pages, told_list d.view (root_kind sha256) old.recorded.store (written old.recorded.root at.pages) at.rests old.clean, at.keeps.found))
-    c.in-Ok.heads c.print_heads.result (c.in-Ok.ensures.answer c.requires)
+    c.in-Ok.heads c.print_heads.result c.in-Ok.ensures.rises (c.in-Ok.ensures.answer c.requires)
     (subst (λ hs. IfOk c.print_heads.result (λ text. text ≡ lines_of hs)) c.as_slice.ensures c.print_heads.ensures.lines) c.print_heads.ensures.memory
 
 pub returns-in-Ok-clause-leaves : goal.returns-in-Ok-clause-leaves
 returns-in-Ok-clause-leaves g c =
     let d = g.D.Disk in
     let old = c.args.follower in
-    subst (λ disk. IsLeft d.view (disk_of old) disk) (sym c.close.ensures.disk) (same_left d.view g.met.D.Disk.only_now old c.heads.new.self c.in-Ok.ensures.unwritten)
+    subst (λ disk. IsLeft d.view (disk_of old) disk) (sym c.close.ensures.disk) (same_left d.view g.met.D.Disk.only_now old.recorded.store c.heads.new.self.recorded.store c.in-Ok.ensures.unwritten)
 
 pub returns-in-Ok-clause-rests : goal.returns-in-Ok-clause-rests
 returns-in-Ok-clause-rests g c = λ k follows.
-    own_rest g.D.Disk.view c.close.result k (c.close.ensures.stands k (c.in-Ok.ensures.still k follows).0)
+    own_rest IsOf g.D.Disk.view c.close.result k (c.close.ensures.stands k (c.in-Ok.ensures.still k follows).0)
 
 pub returns-in-Err-clause-comes : goal.returns-in-Err-clause-comes
 returns-in-Err-clause-comes g c = λ found before opens follows le.
     let d = g.D.Disk in
     let old = c.args.follower in
     let tells = c.in-Err.ensures in
-    subst (λ (f : CommandFault). HeadsComes found before (d.view c.close-in-Err.result).faults (Err f)) (sym c.fault_of_follower.ensures)
+    subst (λ (f : CommandFault). HeadsComes (found_disk found before (d.view c.close-in-Err.result).faults) (Err f)) (sym c.fault_of_follower.ensures)
     (unlisted found before (d.view c.close-in-Err.result).faults old.recorded.root (pages_of d.view old) opens
     (λ k reads. let at = follows k reads in
     (at.pages, told_list d.view (root_kind sha256) old.recorded.store (written old.recorded.root at.pages) at.rests old.clean, at.keeps.found))
@@ -52,11 +52,11 @@ pub returns-in-Err-clause-leaves : goal.returns-in-Err-clause-leaves
 returns-in-Err-clause-leaves g c =
     let d = g.D.Disk in
     let old = c.args.follower in
-    subst (λ disk. IsLeft d.view (disk_of old) disk) (sym c.close-in-Err.ensures.disk) (same_left d.view g.met.D.Disk.only_now old c.heads.new.self c.in-Err.ensures.unwritten)
+    subst (λ disk. IsLeft d.view (disk_of old) disk) (sym c.close-in-Err.ensures.disk) (same_left d.view g.met.D.Disk.only_now old.recorded.store c.heads.new.self.recorded.store c.in-Err.ensures.unwritten)
 
 pub returns-in-Err-clause-rests : goal.returns-in-Err-clause-rests
 returns-in-Err-clause-rests g c = λ k follows.
-    own_rest g.D.Disk.view c.close-in-Err.result k (c.close-in-Err.ensures.stands k (c.in-Err.ensures.still k follows).0)
+    own_rest IsOf g.D.Disk.view c.close-in-Err.result k (c.close-in-Err.ensures.stands k (c.in-Err.ensures.still k follows).0)
 
 pub returns-in-Ok-clause-over : goal.returns-in-Ok-clause-over
 returns-in-Ok-clause-over g c = λ ps over.
@@ -64,7 +64,7 @@ returns-in-Ok-clause-over g c = λ ps over.
     let old = c.args.follower in
     let w = written old.recorded.root ps in
     subst (λ disk. RestsAs IsFollower d.view disk w) (sym c.close.ensures.disk)
-    (own_rest_as IsFollower d.view (disk_of c.heads.new.self) w (rest_for_good d.view (root_kind sha256) c.heads.new.self.recorded.store w
+    (own_rest IsFollower d.view (disk_of c.heads.new.self) w (rest_for_good d.view (root_kind sha256) c.heads.new.self.recorded.store w
     (still_rests d.view (root_kind sha256) old.recorded.store c.heads.new.self.recorded.store w c.in-Ok.ensures.unwritten over)))
 
 pub returns-in-Err-clause-over : goal.returns-in-Err-clause-over
@@ -73,5 +73,5 @@ returns-in-Err-clause-over g c = λ ps over.
     let old = c.args.follower in
     let w = written old.recorded.root ps in
     subst (λ disk. RestsAs IsFollower d.view disk w) (sym c.close-in-Err.ensures.disk)
-    (own_rest_as IsFollower d.view (disk_of c.heads.new.self) w (rest_for_good d.view (root_kind sha256) c.heads.new.self.recorded.store w
+    (own_rest IsFollower d.view (disk_of c.heads.new.self) w (rest_for_good d.view (root_kind sha256) c.heads.new.self.recorded.store w
     (still_rests d.view (root_kind sha256) old.recorded.store c.heads.new.self.recorded.store w c.in-Err.ensures.unwritten over)))

@@ -1,4 +1,4 @@
-use Rattle.std.proofs.Common.{subst, sym}
+use Rattle.std.proofs.Common.{ℕ, List, subst, sym}
 use Rattle.std.specs.Prelude.{Err}
 use Rattle.sha2.specs.Sha256.{sha256}
 use Rattle.tw_kept.specs.Disks.{Rests as RestsAs}
@@ -8,11 +8,11 @@ use Rattle.tw_follow.specs.Follows.{disk_of, record_of}
 use Rattle.tw_follow.specs.Stands.{root_kind}
 use Rattle.tw_follow.specs.declared.root.RootRecord.{RootRecord}
 use Rattle.tw_follow.proofs.Standing.{once}
-use Rattle.tw_followcmd.specs.Disks.{IsFollower}
+use Rattle.tw_followcmd.specs.Disks.{IsFollower, IsOf, found_disk}
 use Rattle.tw_text.specs.declared.fault.CommandFault.{CommandFault}
 use Rattle.tw_followcmd.specs.Listing.{HeadsComes}
-use Rattle.tw_followcmd.proofs.AtRest.{left_on}
-use Rattle.tw_followcmd.proofs.Landings.{leaves_of_heads}
+use Rattle.tw_kept.proofs.AtRest.{left_on}
+use Rattle.tw_storecmd.proofs.Landings.{leaves_of_reading, unopened_reading_leaves}
 use Rattle.tw_followcmd.proofs.Listed.{unserved}
 use Rattle.tw_followcmd.proofs.listing.list_heads.Goals as goal
 
@@ -24,7 +24,7 @@ returns-in-Ok-clause-comes g c =
 pub returns-in-Ok-clause-leaves : goal.returns-in-Ok-clause-leaves
 returns-in-Ok-clause-leaves g c =
     let d = g.D.Disk in
-    leaves_of_heads d.view c.args.disk c.list_by.result.disk c.list_by.result.outcome
+    leaves_of_reading (root_kind sha256) IsOf d.view c.args.disk c.list_by.result.disk c.list_by.result.outcome
     (left_on d.view c.args.disk (disk_of c.in-Ok.follower) c.list_by.result.disk (c.in-Ok.ensures.unchanged, c.in-Ok.ensures.any_moment) c.list_by.ensures.leaves) (
       λ k reads. c.list_by.ensures.rests k (c.in-Ok.ensures.follows reads.image k reads.told reads.stands),
       λ w reads.
@@ -37,8 +37,10 @@ returns-in-Ok-clause-leaves g c =
 pub returns-in-Err-clause-comes : goal.returns-in-Err-clause-comes
 returns-in-Err-clause-comes g c =
     let d = g.D.Disk in
-    subst (λ (f : CommandFault). HeadsComes (d.view c.args.disk).content (d.view c.args.disk).faults (d.view c.in-Err.disk).faults (Err f)) (sym c.fault_of_store.ensures)
+    subst (λ (f : CommandFault). HeadsComes (found_disk (d.view c.args.disk).content (d.view c.args.disk).faults (d.view c.in-Err.disk).faults) (Err f)) (sym c.fault_of_store.ensures)
     (unserved (d.view c.args.disk).content (d.view c.args.disk).faults (d.view c.in-Err.disk).faults c.in-Err.fault c.in-Err.ensures.refused c.in-Err.ensures.answers c.in-Err.ensures.fault)
 
 pub returns-in-Err-clause-leaves : goal.returns-in-Err-clause-leaves
-returns-in-Err-clause-leaves g c = (c.in-Err.ensures.unchanged, c.in-Err.ensures.any_moment_err)
+returns-in-Err-clause-leaves g c =
+    unopened_reading_leaves (root_kind sha256) IsOf g.D.Disk.view c.args.disk c.in-Err.disk (List ℕ) c.in-Err.fault c.fault_of_store.result c.fault_of_store.ensures
+    c.in-Err.ensures.answers.0 (c.in-Err.ensures.unchanged, c.in-Err.ensures.any_moment_err)

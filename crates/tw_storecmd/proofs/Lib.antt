@@ -1,0 +1,4 @@
+pub mod AtRest
+pub mod Steps
+pub mod Landings
+pub mod CommandLaws
