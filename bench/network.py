@@ -13,65 +13,33 @@ import contextlib
 import json
 import os
 import random
-import shutil
 import sys
 import tempfile
 import time
+from collections import Counter
 from concurrent.futures import Executor, ProcessPoolExecutor
 from pathlib import Path
-from typing import NamedTuple
+from typing import Optional
 
+import network_devices as devices
+import network_files as files
+import network_found as found
+import network_told as told
 import network_truth as truth
 import network_turns as turns
-from network_turns import Fault, Task, Turn
+from network_carrier import Link, Load, carry
+from network_faults import KINDS, Fault
+from network_orders import drawn_pairs, orders
+from network_plan import LEAST_NIGHTS, LEAST_SERVICES, Plan, plan_of
+from network_turns import Task, Turn
 
-from weft import clusters
+from weft import clusters, signatures
 
-LOST, LATE, DAMAGED = 0.2, 0.1, 0.02
 FAULTY = 0.05
-FAULTS = ("before", "half", "ENOSPC", "EIO", "program", "full", "power")
 MOST_CALL = 60
-FLOOD_FILES, FLOOD_BYTES = 300, 1 << 30
 MOST_PAIRS = 10_000
-LEAST_SERVICES, LEAST_NIGHTS = 6, 24
-
-
-class Plan(NamedTuple):
-    """Who does what, and in which nights: who shows two histories, whose old store is put back and when it is mended, whose name is squatted, who
-    floods, and who goes away for good."""
-
-    names: list[str]
-    peers: dict[str, list[str]]
-    liar: str
-    lies_from: int
-    old: str
-    saved: int
-    set_back: int
-    mended: int
-    squatted: str
-    squats: int
-    flooder: str
-    floods: int
-    gone: str
-    leaves: int
-
-
-def plan_of(services: int, nights: int, seed: int, each: int = 4) -> Plan:
-    """A plan by a seed: each service exchanges with those beside it in a ring, and with some drawn by chance."""
-    drawn = random.Random(f"plan {seed}")
-    names = [f"s{number}" for number in range(services)]
-    peers: dict[str, set[str]] = {name: set() for name in names}
-    for number, name in enumerate(names):
-        others = [names[(number + 1) % services], *drawn.sample([it for it in names if it != name], max(0, each // 2 - 1))]
-        for other in others:
-            peers[name].add(other)
-            peers[other].add(name)
-    liar, old, squatted, flooder, gone = drawn.sample(names, 5)
-    part = nights // 6
-    return Plan(
-        names, {name: sorted(others) for name, others in peers.items()}, liar, 2 * part, old, part, 2 * part, 2 * part + max(2, part // 3), squatted,
-        3 * part, flooder, 3 * part + 2, gone, 5 * part,
-    )  # fmt: skip
+CALM_NIGHTS = 2
+PIECES = 16
 
 
 class Network:
@@ -80,180 +48,161 @@ class Network:
     def __init__(self, folder: Path, program: str, plan: Plan, seed: int, nights: int, executor: Executor):
         self.folder, self.program, self.plan, self.seed, self.nights, self.executor = folder, program, plan, seed, nights, executor
         self.truth = truth.Truth()
-        self.late: list[tuple[Path, bytes]] = []
         self.wrong: list[str] = []
-        self.found: dict[str, int] = {}
+        self.found = found.Found(plan)
+        self.saved: dict[str, int] = {}
+        self.faults: Counter[str] = Counter()
         self.seconds: list[float] = []
-        turns.make(folder, program, plan.names, plan.peers)
+        self.processor: list[float] = []
+        self.no_devices = devices.hindrance()
+        self.kinds = [kind for kind in KINDS if not (self.no_devices and kind.endswith("device"))]
+        files.make(folder, program, plan.peers)
 
     # ---- nights
 
-    def play(self) -> None:
-        """All nights; the last ones without faults and losses, so that what was sent is there."""
-        for night in range(self.nights):
+    def play(self, most_seconds: float = float("inf"), progress: bool = False) -> None:
+        """All nights, or as many as there are seconds for once each part has begun; the last ones without faults and losses, so that what was sent is there."""
+        until, night = time.monotonic() + most_seconds, 0
+        while night < self.nights:
             began = time.monotonic()
+            if began > until and night >= self.plan.begun:
+                self.nights, until = min(self.nights, night + CALM_NIGHTS), float("inf")
             self.schedule(night)
-            is_calm = night >= self.nights - 2
+            self.lie(night)
+            is_calm = night >= self.nights - CALM_NIGHTS
             tasks = [self.task(night, name, is_calm) for name in self.plan.names if self.is_at_work(night, name)]
-            for turn in self.executor.map(turns.turn, tasks):
+            for turn in self.executor.map(turns.turn, tasks, chunksize=max(1, len(tasks) // PIECES)):
                 self.judge(night, turn)
-            self.false_turn(night)
             self.carry(night, is_calm)
             self.squat_and_flood(night)
             self.seconds.append(time.monotonic() - began)
+            if progress:
+                print(f"night {night}: {self.seconds[-1]:.2f} s, {len(self.wrong)} wrong", file=sys.stderr, flush=True)
+            night += 1
 
     def is_at_work(self, night: int, name: str) -> bool:
-        """Whether the service makes a turn in this night."""
-        return name != self.plan.gone or night < self.plan.leaves
-
-    def is_old(self, night: int, name: str) -> bool:
-        """Whether the service has an old store in this night."""
-        return name == self.plan.old and self.plan.set_back <= night < self.plan.mended
+        """Whether the service makes a turn in this night. One with an old store doesn't while nobody hands it a later line of its own: nothing could tell it."""
+        if not self.plan.is_old(night, name) or self.holds_later_line(name):
+            return self.plan.is_at_work(night, name)
+        self.found.untold.add((night, name))
+        return False
 
     def task(self, night: int, name: str, is_calm: bool) -> Task:
         """What the service does in this night. With an old store it exchanges first, which tells it, and so records nothing."""
-        drawn = random.Random(f"{self.seed} {night} {name}")
-        events = None if self.is_old(night, name) or name == self.plan.liar and night >= self.plan.lies_from + 6 else (f"night {night} of {name}".encode(),)
-        fault = Fault(drawn.choice(FAULTS), drawn.randrange(1, MOST_CALL)) if not is_calm and drawn.random() < FAULTY else None
-        return Task(str(self.folder), self.program, name, events, fault, {peer: self.truth.lines(peer) for peer in self.plan.peers[name]})
+        drawn, plan, box = random.Random(f"{self.seed} {night} {name}"), self.plan, self.folder / f"box-{name}"
+        events = None if plan.is_old(night, name) else (f"night {night} of {name}".encode(),)
+        is_faulty = not is_calm and drawn.random() < FAULTY and name in plan.honest
+        fault = Fault(drawn.choice(self.kinds), drawn.randrange(1, MOST_CALL)) if is_faulty else None
+        known = {peer: self.truth.lines(peer) for peer in plan.peers[name] if not turns.is_accepted(box / peer)}
+        despite = tuple(plan.peers[name]) if plan.is_lying(night, name) else ()
+        return Task(str(self.folder), self.program, name, events, fault, known, despite)
+
+    def holds_later_line(self, name: str) -> bool:
+        """Whether a peer of a service with an old store hands back a later line of it, which wasn't damaged on its way."""
+        for peer in self.plan.peers[name]:
+            path = self.folder / f"box-{name}/{peer}/in/yours"
+            signed = signatures.split(path.read_bytes()) if path.exists() else None
+            if signed and signed.line.step > self.saved[name] and signatures.checked_by(signed, self.folder / f"{name}.key.pub"):
+                return True
+        return False
 
     def judge(self, night: int, turn: Turn) -> None:
         """Notes what a turn made, and what it told."""
         self.truth.add(turn.name, night, turn.lines)
-        accused = [line.split(":")[0] for line in turn.told.splitlines() if "EVIDENCE" in line]
-        for name in accused:
-            self.found[f"evidence against {name}"] = self.found.get(f"evidence against {name}", 0) + 1
-            if name != self.plan.liar:
-                self.wrong.append(f"night {night}: {turn.name} accuses {name}: {turn.told}")
-        is_fault = turn.fault is not None
-        if turn.status == 17:
-            self.found[f"old store of {turn.name}"] = self.found.get(f"old store of {turn.name}", 0) + 1
-        if turn.status == 17 and not self.is_old(night, turn.name) and turn.name != self.plan.liar:
-            self.wrong.append(f"night {night}: a false alarm of {turn.name}: {turn.told}")
-        if self.is_old(night, turn.name) and turn.status != 17 and not is_fault:
-            self.wrong.append(f"night {night}: {turn.name} wasn't told that its store is old: {turn}")
-        if turn.status not in (0, 10, 11, 17) and not is_fault and turn.name != self.plan.liar:
-            self.wrong.append(f"night {night}: {turn.name}: {turn.status} {turn.told}")
+        self.processor.append(turn.processor)
+        self.wrong += self.found.note(night, turn)
+        if turn.fault is not None:
+            self.faults[turn.fault.kind if turn.status not in turns.DONE else "without harm"] += 1
 
     # ---- what is done by the schedule
 
     def schedule(self, night: int) -> None:
-        """Stores that are saved, set back, mended and doubled."""
-        plan = self.plan
-        if night == plan.saved:
-            turns.copy(self.folder, plan.old, self.folder / "saved")
-        if night == plan.set_back:
-            turns.copy(self.folder, plan.old, self.folder / "right")
-            turns.put_back(self.folder, plan.old, self.folder / "saved")
-        if night == plan.mended:
-            turns.put_back(self.folder, plan.old, self.folder / "right")
-        if night == plan.lies_from:
-            turns.copy(self.folder, plan.liar, self.folder / "false", with_box=True)
-            (self.folder / f"false/box-{plan.liar}/box.conf").write_text(f"key = {self.folder}/{plan.liar}.key\n")
+        """Stores that are saved, set back, mended and doubled, or lose a thread."""
+        plan, folder = self.plan, self.folder
+        for name, begin in plan.old.items():
+            if night == plan.saved:
+                files.copy(folder, name, folder / "saved")
+                self.saved[name] = self.truth.last(name)
+            if night == begin:
+                files.copy(folder, name, folder / "right")
+                files.put_back(folder, name, folder / "saved")
+            if night == begin + plan.old_nights:
+                files.put_back(folder, name, folder / "right")
+        for name, begin in plan.liars.items():
+            if night == begin:
+                files.begin_lying(folder, name)
+        for name, begin in plan.keepers.items():
+            if night == begin:
+                self.found.dropped[name] = files.drop_thread(folder, self.program, name)
 
-    def false_turn(self, night: int) -> None:
-        """The liar's other history, which one of its peers alone is shown for some nights; then all."""
-        plan = self.plan
-        if not plan.lies_from <= night:
-            return
-        task = Task(str(self.folder / "false"), self.program, plan.liar, (f"other {night}".encode(),), None, {}, tuple(plan.peers[plan.liar]))
-        turns.turn(task)
-        for peer in plan.peers[plan.liar][: 1 if night < plan.lies_from + 6 else None]:
-            for name in ("message", "line"):
-                source = self.folder / f"false/box-{plan.liar}/{peer}/out/{name}"
-                if source.exists() and (self.folder / f"box-{peer}/{plan.liar}/in").exists():
-                    shutil.copyfile(source, self.folder / f"box-{peer}/{plan.liar}/in/{name}")
+    def lie(self, night: int) -> None:
+        """The other histories of the liars go on, up to as many steps as the first ones have."""
+        lying = [name for name, begin in self.plan.liars.items() if begin < night]
+        for name in lying:
+            files.go_on_lying(self.folder, self.program, name, self.truth.last(name))
+        tasks = [Task(str(self.folder / "false"), self.program, name, None, None, {}, tuple(self.plan.peers[name])) for name in lying]
+        for turn in self.executor.map(turns.turn, tasks):
+            self.found.note_other(turn.name, turn.lines)
 
     def squat_and_flood(self, night: int) -> None:
-        """A made-up message in somebody's name, and a folder full of files, one of them long."""
+        """A made-up message in somebody's name, and a folder full of files, some of them long."""
         plan = self.plan
-        if night == plan.squats:
-            forged = turns.forged(self.folder, self.program, plan.squatted)
-            turns.put(self.folder / f"box-{plan.peers[plan.squatted][0]}/{plan.squatted}/in/message", forged)
-        if night == plan.floods:
-            for peer in plan.peers[plan.flooder]:
-                into = self.folder / f"box-{peer}/{plan.flooder}/in"
-                for number in range(FLOOD_FILES):
-                    turns.put(into / f"answers/{number}", b"x" * 100)
-                for name in ("message", "seen", "requests"):
-                    turns.put(into / name, b"")
-                    os.truncate(into / name, FLOOD_BYTES)
-
-    # ---- the carrier
+        for name, begin in plan.squatted.items():
+            if night == begin:
+                files.put(self.folder / f"box-{plan.peers[name][0]}/{name}/in/message", files.forged(self.folder, self.program, name))
+        for name, begin in plan.flooders.items():
+            if night == begin:
+                for peer in plan.peers[name]:
+                    files.flood(self.folder / f"box-{peer}/{name}/in")
 
     def carry(self, night: int, is_calm: bool) -> None:
-        """Carries what isn't lost; some of it comes once more a night later, and some is damaged."""
-        late, self.late = self.late, []
-        for to, data in late:
-            turns.put(to, data)
-        for name in self.plan.names:
-            for peer in self.plan.peers[name]:
-                if not (self.is_at_work(night, name) and (self.folder / f"box-{peer}/{name}").exists()):
-                    continue
-                out, into = self.folder / f"box-{name}/{peer}/out", self.folder / f"box-{peer}/{name}/in"
-                for path in sorted(it for it in out.rglob("*") if it.is_file() and not it.name.endswith(".new")):
-                    self.carry_file(night, path, into / path.relative_to(out), is_calm)
+        """Carries what was put out."""
+        links = [self.link(night, name, peer) for name in self.plan.names if self.plan.is_at_work(night, name) for peer in self.plan.peers[name]]
+        size = len(links) // PIECES + 1
+        loads = [Load(self.seed, night, is_calm, str(self.folder / "late"), links[at : at + size]) for at in range(0, len(links), size)]
+        for _ in self.executor.map(carry, loads):
+            pass
 
-    def carry_file(self, night: int, path: Path, to: Path, is_calm: bool) -> None:
-        """Carries a file, or not."""
-        drawn = random.Random(f"{self.seed} {night} {path.relative_to(self.folder)}")
-        data = path.read_bytes()
-        if is_calm:
-            turns.put(to, data)
-            return
-        if drawn.random() < LOST:
-            return
-        if drawn.random() < LATE:
-            self.late.append((to, data))
-        if data and drawn.random() < DAMAGED:
-            place = drawn.randrange(len(data))
-            data = data[:place] if drawn.random() < 0.5 else data[:place] + bytes([data[place] ^ 1 << drawn.randrange(8)]) + data[place + 1 :]
-        turns.put(to, data)
+    def link(self, night: int, name: str, peer: str) -> Link:
+        """The way from a service to its peer. One that is shown a liar's other history answers that one; of its messages nothing gets there."""
+        out, into = self.folder / f"box-{name}/{peer}/out", self.folder / f"box-{peer}/{name}/in"
+        if self.plan.is_shown_other(night, name, peer):
+            out = self.folder / f"false/box-{name}/{peer}/out"
+        if self.plan.is_shown_other(night, peer, name):
+            return Link(f"{name}-{peer}", str(out), str(self.folder / f"false/box-{peer}/{name}/in"), ("receipt", "refusal"))
+        return Link(f"{name}-{peer}", str(out), str(into))
 
     # ---- the end
 
-    def check(self, most_pairs: int) -> dict[str, object]:
+    def check(self, most_pairs: int) -> told.Figures:
         """Holds all against the truth; answers the figures."""
-        honest = [name for name in self.plan.names if name != self.plan.liar]
-        histories = {name: truth.history(self.folder, self.program, name) for name in self.plan.names}
-        for name in honest:
+        plan = self.plan
+        histories = {name: truth.history(self.folder, self.program, name) for name in plan.honest}
+        for name in plan.honest:
             self.wrong += self.truth.wrong_with(name, histories[name])
-        for name in honest:
-            for peer in self.plan.peers[name]:
-                forks = self.folder / f"box-{name}/{peer}/kept/forks"
-                if peer != self.plan.liar and forks.exists() and any(forks.iterdir()):
-                    self.wrong.append(f"{name} keeps evidence against {peer}, who is honest")
-        if not any(key.startswith("evidence against") for key in self.found):
-            self.wrong.append(f"nobody found that {self.plan.liar} shows two histories")
-        if f"old store of {self.plan.old}" not in self.found:
-            self.wrong.append(f"the old store of {self.plan.old} wasn't told")
-        self.wrong += truth.taken_over(self.folder, self.program, self.plan.gone, [it for it in self.plan.peers[self.plan.gone] if it in honest], histories)
-        figures = self.orders(honest, histories, most_pairs)
-        sizes = [os.path.getsize(self.folder / name / "timeline.tw") for name in self.plan.names]
-        return {**figures, "store bytes": sum(sizes) // len(sizes), "seconds a night": round(sum(self.seconds) / len(self.seconds), 2), "found": self.found}
-
-    def orders(self, honest: list[str], histories: truth.Histories, most: int) -> dict[str, object]:
-        """Has `weft chain` show the orders of pairs of events, and holds each against the truth."""
-        events = self.truth.events(honest, histories, self.nights)
-        pairs = [(first, second) for first in events for second in events if first.name != second.name]
-        if len(pairs) > most:
-            pairs = random.Random(self.seed).sample(pairs, most)
-        reached = truth.Reach({name: histories[name] for name in honest})
-        size = max(1, len(pairs) // 16 + 1)
-        work = [truth.Pairs(str(self.folder), self.program, honest, pairs[at : at + size]) for at in range(0, len(pairs), size)]
-        shown, hops, sizes = 0, 0, 0
-        for one, results in zip(work, self.executor.map(truth.shown_orders, work)):
-            for (first, second), (proof_bytes, count, why) in zip(one.pairs, results):
-                can = reached.can(first, second)
-                if can != bool(proof_bytes) or proof_bytes and first.night > second.night:
-                    self.wrong.append(f"{first} before {second}: the receipts {'can' if can else 'cannot'} show it, and weft chain says {why or 'shown'}")
-                shown, hops, sizes = shown + bool(proof_bytes), hops + count, sizes + proof_bytes
-        connected = reached.nights_until(0.99, self.truth)
-        mean = {"hops, mean": round(hops / max(1, shown), 2), "bytes of a proof, mean": sizes // max(1, shown)}
-        return {"pairs": len(pairs), "shown": shown, **mean, "nights until 99 % of pairs are connected": connected}
+        for name in plan.gone:
+            receivers = [it for it in plan.peers[name] if it in histories]
+            if receivers:
+                self.wrong += truth.taken_over(self.folder, self.program, name, receivers, histories)
+                self.found.taken_over.add(name)
+        counts, wrong = self.found.counted(self.folder, self.program, histories)
+        self.wrong += wrong
+        events, reach = self.truth.events(plan.honest, histories, self.nights), truth.Reach(histories)
+        found_orders = orders(self.folder, self.program, plan.honest, drawn_pairs(events, most_pairs, self.seed), reach, self.executor)
+        self.wrong += found_orders.wrong
+        staying = [name for name in plan.honest if name not in plan.gone]
+        spread = truth.spread_of(reach, self.truth, [event for event in events if event.name in staying], staying, self.nights)
+        sizes = [os.path.getsize(self.folder / name / "timeline.tw") for name in plan.honest]
+        steps = [len(histories[name]) for name in plan.honest]
+        return told.Figures(
+            len(plan.names), self.nights, self.seed, found_orders.pairs, len(found_orders.shown),
+            told.mean([order.hops for order in found_orders.shown]), max((order.hops for order in found_orders.shown), default=0),
+            told.mean([order.size for order in found_orders.shown]), spread, told.mean(sizes), told.mean(steps), told.mean(self.seconds),
+            told.mean(self.processor), round(os.getloadavg()[2]), dict(self.faults), counts, self.no_devices,
+        )  # fmt: skip
 
 
-def played(folder: Path, program: str, services: int, nights: int, seed: int, executor: Executor) -> tuple[list[str], dict[str, object]]:
+def played(folder: Path, program: str, services: int, nights: int, seed: int, executor: Executor) -> tuple[list[str], told.Figures]:
     """Plays a network over an executor; answers what was wrong, and the figures."""
     network = Network(folder, os.path.abspath(program), plan_of(services, nights, seed), seed, nights, executor)
     network.play()
@@ -270,23 +219,37 @@ def read_words() -> argparse.Namespace:
     words.add_argument("--dask", metavar="ADDRESS", help="over the Dask cluster whose scheduler has this address; then runs of weft aren't killed amid")
     words.add_argument("--tls", metavar=("CA", "CERT", "KEY"), nargs=3, help="with --dask: files for TLS")
     words.add_argument("--folder", metavar="FOLDER", help="an empty folder for all files, which stays; of a cluster one that its machines share")
-    found = words.parse_args()
-    if found.services < LEAST_SERVICES or found.nights < LEAST_NIGHTS:
+    words.add_argument("--seconds", metavar="N", type=float, default=float("inf"), help="no night begins after so many seconds, once each part has begun; else none is left out")
+    words.add_argument("--pairs", metavar="N", type=int, default=MOST_PAIRS, help=f"so many pairs of events at most; else {MOST_PAIRS:,}")
+    words.add_argument("--write", action="store_true", help="writes the figures into bench/RESULTS.md, and the picture bench/NETWORK.svg")
+    given = words.parse_args()
+    if given.services < LEAST_SERVICES or given.nights < LEAST_NIGHTS:
         words.error(f"there are {LEAST_SERVICES} services and {LEAST_NIGHTS} nights at least, so that each has its part")
-    return found
+    return given
+
+
+def over(words: argparse.Namespace) -> "contextlib.AbstractContextManager[Executor]":
+    """The executor that the words ask for."""
+    return clusters.executor(words.dask, words.tls) if words.dask else ProcessPoolExecutor(words.workers)
 
 
 def main() -> int:
     """Plays the network of the command line."""
     words, began = read_words(), time.monotonic()
     with contextlib.ExitStack() as stack:
-        executor = stack.enter_context(clusters.executor(words.dask, words.tls) if words.dask else ProcessPoolExecutor(words.workers))
-        folder = words.folder or stack.enter_context(tempfile.TemporaryDirectory(prefix="network-"))
-        wrong, figures = played(Path(folder).absolute(), words.program, words.services, words.nights, words.seed, executor)
-    told = {"services": words.services, "nights": words.nights, "seed": words.seed, **figures, "seconds": round(time.monotonic() - began, 1)}
-    print(json.dumps(told))
-    print("\n".join(wrong) or "all as it has to be")
-    return 1 if wrong else 0
+        executor = stack.enter_context(over(words))
+        folder: Optional[str] = words.folder or stack.enter_context(tempfile.TemporaryDirectory(prefix="network-"))
+        assert folder is not None
+        place = Path(folder).absolute()
+        plan = plan_of(words.services, words.nights, words.seed)
+        network = Network(place, os.path.abspath(words.program), plan, words.seed, words.nights, executor)
+        network.play(words.seconds, progress=sys.stderr.isatty() or words.write)
+        figures = network.check(words.pairs)
+    print(json.dumps({**figures.as_json(), "seconds": round(time.monotonic() - began, 1)}))
+    print("\n".join(network.wrong) or "all as it has to be")
+    if words.write and not network.wrong:
+        told.write(figures)
+    return 1 if network.wrong else 0
 
 
 if __name__ == "__main__":

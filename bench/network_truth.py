@@ -1,23 +1,16 @@
-"""The truth beside a network: what was acknowledged, what the stores have, which orders of events their receipts can show; and what `weft chain` shows."""
+"""The truth beside a network: what was acknowledged, what the stores have, and which orders of events their receipts can show."""
 
-import contextlib
-import functools
-import os
-import tempfile
+from bisect import bisect_left
 from collections import defaultdict
 from pathlib import Path
-from typing import Dict, NamedTuple, Optional
+from typing import Dict, Iterator, NamedTuple, Optional
 
 import network_turns as turns
+from network_files import put
 from timeweave_reference.histories import Step, history_to_bytes, read_history, timeline_of
 
-from weft import chains, choosing, formats, judges
-from weft.lines import KeptLines
-from weft.reports import read_report
-from weft.stores import Store
-from weft.trouble import Trouble
-
 Histories = Dict[str, list[Step]]
+PARTS = 6
 
 
 class Event(NamedTuple):
@@ -43,6 +36,10 @@ class Truth:
         """The lines of a service."""
         return frozenset(line for line, _ in self.told[name].values())
 
+    def last(self, name: str) -> int:
+        """The last step that a service was told."""
+        return max(self.told[name], default=0)
+
     def wrong_with(self, name: str, steps: list[Step]) -> list[str]:
         """What of a service's history isn't as it was acknowledged."""
         auths = timeline_of(name, steps).auths
@@ -52,8 +49,8 @@ class Truth:
         return [f"{name} lost a step that was acknowledged: {line}" for line in lost] + [f"{name} received {twice} lines twice"] * bool(twice)
 
     def events(self, names: list[str], histories: Histories, nights: int) -> list[Event]:
-        """Events of all services, of some nights: of every tenth where they are few, and the last ones."""
-        between = max(1, nights // 6)
+        """The events of all services of some nights, the last one of each part."""
+        between = max(1, nights // PARTS)
         found = []
         for name in names:
             of_night: dict[int, int] = {}
@@ -81,11 +78,11 @@ def taken_over(folder: Path, program: str, gone: str, receivers: list[str], hist
         most, top = max(received)[0], len(histories[name])
         _, proof = turns.run_program(str(folder), program, "prove", name, "thread", str(top), gone, str(most), str(top))
         lines += f"{name} {top} {timeline_of(name, histories[name]).auths[top].hex()}\n".encode()
-        turns.put(folder / f"tmp/by-{name}", proof)
+        put(folder / f"tmp/by-{name}", proof)
         proofs.append(f"tmp/by-{name}")
         last = max(last, most)
-    turns.put(folder / "tmp/lost", history_to_bytes(gone, histories[gone]))
-    turns.put(folder / "tmp/lines", lines)
+    put(folder / "tmp/lost", history_to_bytes(gone, histories[gone]))
+    put(folder / "tmp/lines", lines)
     status, data = turns.run_program(str(folder), program, "adopt", "tmp/lost", "tmp/lines", *proofs)
     is_good = status == 0 and [step.events for step in read_history(data)[1]] == [step.events for step in histories[gone][:last]]
     return [] if is_good else [f"the history of {gone} isn't taken over up to its step {last}: {status} {data[:100]!r}"]
@@ -95,24 +92,29 @@ class Reach:
     """Which steps the archives of services lead back to, over as many hops as there are."""
 
     def __init__(self, histories: Histories) -> None:
-        self.hops = [
-            (step.thread.service, step.thread.step, name, at)
-            for name, steps in histories.items() for at, step in enumerate(steps, 1) if step.thread and step.thread.service in histories
-        ]  # fmt: skip
+        received: dict[tuple[str, str], list[tuple[int, int]]] = defaultdict(list)
+        for name, steps in histories.items():
+            for at, step in enumerate(steps, 1):
+                if step.thread and step.thread.service in histories:
+                    received[step.thread.service, name].append((step.thread.step, at))
+        self.by: dict[str, list[tuple[str, list[int], list[int]]]] = defaultdict(list)
+        for (service, name), found in received.items():
+            found.sort()
+            assert [at for _, at in found] == sorted(at for _, at in found), "a service's steps are received in their order"
+            self.by[service].append((name, [step for step, _ in found], [at for _, at in found]))
         self.known: dict[tuple[str, int], dict[str, int]] = {}
 
     def from_step(self, name: str, step: int) -> dict[str, int]:
         """The least step of each service behind which this step stands."""
         if (name, step) not in self.known:
-            reached = {name: step}
-            while True:
-                found = dict(reached)
-                for service, at, by, archived in self.hops:
-                    if service in reached and reached[service] <= at and archived < found.get(by, archived + 1):
-                        found[by] = archived
-                if found == reached:
-                    break
-                reached = found
+            reached, changed = {name: step}, [name]
+            while changed:
+                service = changed.pop()
+                for by, steps, archived in self.by[service]:
+                    place = bisect_left(steps, reached[service])
+                    if place < len(steps) and archived[place] < reached.get(by, archived[place] + 1):
+                        reached[by] = archived[place]
+                        changed.append(by)
             self.known[name, step] = reached
         return self.known[name, step]
 
@@ -120,68 +122,38 @@ class Reach:
         """Whether the receipts can show that the first event precedes the second."""
         return self.from_step(first.name, first.step).get(second.name, second.step) < second.step
 
-    def nights_until(self, share: float, truth: Truth) -> Optional[float]:
-        """The mean number of nights until this share of the other services stands behind a step; over the first steps."""
-        found = []
-        names = sorted({hop[0] for hop in self.hops})
-        for name in names:
-            own = {step: night for step, (_, night) in truth.told[name].items()}
-            if not own:
-                continue
-            first = min(own)
-            nights = []
-            for other, step in self.from_step(name, first).items():
-                after = [night for at, (_, night) in truth.told[other].items() if at >= step]
-                if other != name and after:
-                    nights.append(min(after) - own[first])
-            nights.sort()
-            if len(nights) >= share * (len(names) - 1):
-                found.append(nights[min(len(nights) - 1, int(share * len(nights)))])
-        return round(sum(found) / len(found), 1) if found else None
+
+class Spread(NamedTuple):
+    """In how many nights a step comes to the other services: of each number of nights, from 0 on, which share of them stands behind it by then; and the
+    mean number of nights until 99 of 100 do."""
+
+    shares: list[float]
+    until_99: Optional[float]
 
 
-# ---- what weft chain shows
+def spread_of(reach: Reach, truth: Truth, events: list[Event], names: list[str], nights: int) -> Spread:
+    """The spread of events that were recorded early enough to come to all."""
+    early = [event for event in events if event.night < nights - nights // PARTS]
+    ordered = {name: sorted((step, night) for step, (_, night) in truth.told[name].items()) for name in names}
+    arrived, until = [0] * (nights + 1), []
+    for event in early:
+        came = sorted(nights_until(reach, event, ordered))
+        for count in came:
+            arrived[count] += 1
+        needed = -(-99 * (len(names) - 1) // 100)
+        if len(came) >= needed:
+            until.append(came[needed - 1])
+    total, so_far, shares = max(1, len(early) * (len(names) - 1)), 0, []
+    for count in arrived:
+        so_far += count
+        shares.append(so_far / total)
+    return Spread(shares, sum(until) / len(until) if until and len(until) == len(early) else None)
 
 
-class Pairs(NamedTuple):
-    """Pairs of events whose orders are to be shown."""
-
-    folder: str
-    program: str
-    names: list[str]
-    pairs: list[tuple[Event, Event]]
-
-
-def shown_orders(work: Pairs) -> list[tuple[int, int, str]]:
-    """Of each pair the bytes of the proof that `weft chain` makes of the first event before the second, or 0; its hops; and why there is none."""
-    os.environ.update(turns.environment(work.folder, work.program))
-    tempfile.tempdir = None
-    with contextlib.ExitStack() as stack:
-        bench = judges.bench()
-        stack.enter_context(bench.working())
-        sources = sources_of(work.folder, tuple(work.names))
-        return [shown(sources, bench, chains.Event(one.name, one.step, 0), chains.Event(other.name, other.step, 0)) for one, other in work.pairs]
-
-
-@functools.lru_cache(maxsize=1)
-def sources_of(folder: str, names: tuple[str, ...]) -> chains.Sources:
-    """All stores and boxes of the network, as who asks them all has them at hand."""
-    place = Path(folder)
-    return chains.Sources([Store(place / name) for name in names], [place / f"box-{name}" for name in names], [], KeptLines(), judges.bench())
-
-
-def shown(sources: chains.Sources, bench: judges.Bench, first: chains.Event, second: chains.Event) -> tuple[int, int, str]:
-    """The bytes of the proof, its hops; or why there is none."""
-    try:
-        proof = chains.gathered(sources, first, second).proof
-    except Trouble as trouble:
-        return 0, 0, trouble.told()
-    if proof is None:
-        return 0, 0, "a part isn't at hand"
-    judgement = choosing.judge_proof(bench, proof, sources.kept, allow_carried=False)
-    if not judgement.is_shown or judgement.verdict is None:
-        return 0, 0, f"not shown: {judgement}"
-    report = read_report(judgement.verdict)
-    wanted = [(first.service, first.step), (second.service, second.step)]
-    found = [(event.service, event.step) for event in report.events]
-    return (len(proof), len(report.hops), "") if found == wanted and formats.read_proof(proof) else (0, 0, f"another order: {report}")
+def nights_until(reach: Reach, event: Event, ordered: dict[str, list[tuple[int, int]]]) -> Iterator[int]:
+    """Of each other service that an event comes to, the number of nights until it stands behind it."""
+    for other, step in reach.from_step(event.name, event.step).items():
+        told = ordered.get(other, [])
+        place = bisect_left(told, (step, -1))
+        if other != event.name and place < len(told):
+            yield max(0, told[place][1] - event.night)

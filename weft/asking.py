@@ -89,7 +89,7 @@ def ask(peer: Peer, request: str) -> None:
     """Notes a request, which the next turn puts out."""
     pending = read_requests(peer.read("asked"))
     if request not in pending:
-        files.renew(peer.kept / "asked", "".join(f"{it}\n" for it in [*pending, request][-MOST_REQUESTS:]).encode())
+        peer.renew("asked", "".join(f"{it}\n" for it in [*pending, request][-MOST_REQUESTS:]).encode())
 
 
 def known(peer: Peer, request: str) -> Optional[bytes]:
@@ -110,5 +110,5 @@ def take_answers(peer: Peer) -> int:
         else:
             left.append(request)
     if len(left) < len(pending):
-        files.renew(peer.kept / "asked", "".join(f"{it}\n" for it in left).encode())
+        peer.renew("asked", "".join(f"{it}\n" for it in left).encode())
     return len(pending) - len(left)

@@ -12,7 +12,7 @@ from __future__ import annotations
 import os
 import re
 from pathlib import Path
-from typing import NamedTuple, Optional
+from typing import Container, NamedTuple, Optional
 
 from weft import files, signatures
 from weft.lines import NAME, Kept, Line, read_kept, read_line
@@ -58,10 +58,11 @@ def read_settings(box: Path) -> Settings:
     return found
 
 
-def split_signed(data: bytes) -> list[Signed]:
-    """The signed lines of a file that has them one after another; what is none is left out."""
+def split_signed(data: bytes, services: Optional[Container[str]] = None) -> list[Signed]:
+    """The signed lines of a file that has them one after another, all or those of these services; what is none is left out."""
     end = signatures.END.encode() + b"\n"
-    return [signed for signed in (signatures.split(piece + end) for piece in data.split(end)[:-1]) if signed]
+    pieces = [piece for piece in data.split(end)[:-1] if services is None or piece.partition(b" ")[0].decode("ascii", "replace") in services]
+    return [signed for signed in (signatures.split(piece + end) for piece in pieces) if signed]
 
 
 def opened_folder(folder: Path, below: list[str]) -> Optional[int]:
@@ -89,6 +90,8 @@ class Peer:
         self.files, self.bytes = 0, 0
         self.told: list[str] = []
         self.seen: list[Signed] = []
+        self.signed: Optional[list[Signed]] = None
+        self.known: dict[str, bytes] = {}
 
     def make(self) -> None:
         """Makes its folders."""
@@ -127,21 +130,37 @@ class Peer:
     # ---- what is kept
 
     def read(self, name: str) -> bytes:
-        """A file of `kept`, empty where it isn't there."""
-        return files.read_if_there(self.kept / name, MOST_KEPT) or b""
+        """A file of `kept`, empty where it isn't there. Whoever changes these files has the lock of the box, so each is read once."""
+        if name not in self.known:
+            self.known[name] = files.read_if_there(os.path.join(self.kept, name), MOST_KEPT) or b""
+        return self.known[name]
+
+    def renew(self, name: str, data: bytes) -> None:
+        """Makes a file of `kept` anew, where it has other bytes."""
+        if self.read(name) != data:
+            files.renew(os.path.join(self.kept, name), data)
+            self.known[name] = data
+
+    def remove(self, name: str) -> None:
+        """Removes a file of `kept`, if it is there."""
+        files.remove(os.path.join(self.kept, name))
+        self.known[name] = b""
 
     def accepted(self) -> Optional[Kept]:
         """The line by which a person accepted the peer."""
         return read_kept(self.read("accepted").decode("utf-8", "replace").split("\n")[0])
 
     def signed_lines(self) -> list[Signed]:
-        """Its last signed lines, oldest first."""
-        return split_signed(self.read("signed"))
+        """Its last signed lines, oldest first; the file is read once."""
+        if self.signed is None:
+            self.signed = split_signed(self.read("signed"))
+        return self.signed
 
     def add_signed(self, signed: Signed) -> None:
         """Keeps one more."""
         lines = [it for it in self.signed_lines() if it.line != signed.line][-MOST_SIGNED + 1 :]
-        files.renew(self.kept / "signed", b"".join(it.data for it in [*lines, signed]))
+        self.signed = [*lines, signed]
+        self.renew("signed", b"".join(it.data for it in self.signed))
 
     def taken_line(self) -> Optional[Line]:
         """The line of its last message that was taken."""
@@ -161,7 +180,7 @@ class Peer:
 
     def put(self, name: str, data: bytes) -> None:
         """Puts a file out, whole."""
-        files.renew_if_other(self.out / name, data)
+        files.renew_if_other(os.path.join(self.out, name), data)
 
 
 def peers_of(box: Path, own: str, settings: Settings) -> tuple[list[Peer], list[str]]:

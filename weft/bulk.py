@@ -25,7 +25,7 @@ from weft.statuses import Status
 from weft.texts import beside, count_of, name_of, printable
 from weft.trouble import Trouble
 
-PIECE = 500
+PIECE, PIECES = 500, 64
 MOST_ROUNDS = 4
 HEAD = "file\tbytes\tmodified\tverdict\treason\tlines"
 SHOWN, NOT_SHOWN, LACKS, UNJUDGED, DIFFER = "shown", "not shown", "lacks a line", "not judged", "judges differ"
@@ -223,7 +223,8 @@ def judged(options: argparse.Namespace, kept: KeptLines, judge: Bench, executor:
         files.renew(part, ("\n".join([title, HEAD, *(row.text for row in rows.values())]) + "\n").encode())
         left = [name for name in names if name not in rows]
         by = told_by(judge, options.carried)
-        tasks = [Task(str(folder), left[at : at + PIECE], text, options.carried, options.reference, by) for at in range(0, len(left), PIECE)]
+        size = max(1, min(PIECE, len(left) // PIECES))  # (few files are spread over many workers too)
+        tasks = [Task(str(folder), left[at : at + size], text, options.carried, options.reference, by) for at in range(0, len(left), size)]
         progress = Progress("judging", len(left))
         try:
             for new in judged_rows(tasks, workers, executor):

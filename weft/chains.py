@@ -5,6 +5,7 @@ from __future__ import annotations
 
 import functools
 import tempfile
+from bisect import bisect_left
 from pathlib import Path
 from typing import Iterable, NamedTuple, Optional
 
@@ -52,6 +53,64 @@ class Part(NamedTuple):
         return f"timeweave prove DIR {self.request}"
 
 
+class Graph:
+    """Hops by the two services of each, so that the way from a step on is found without looking at all of them."""
+
+    def __init__(self, hops: Iterable[Hop]):
+        self.edges: dict[str, dict[str, Edge]] = {}
+        pairs: dict[tuple[str, str], list[Hop]] = {}
+        for hop in hops:
+            pairs.setdefault((hop.service, hop.by), []).append(hop)
+        for service, by in sorted(pairs):
+            self.edges.setdefault(service, {})[by] = Edge(pairs[service, by])
+
+    def way(self, first: Event, second: Event, shunned: frozenset[tuple[str, str]]) -> Optional[list[Hop]]:
+        """The fewest hops that lead from the first event's step to the step before the second's, from the first event on, none of them between two
+        services that are shunned; None where none do."""
+        reached: dict[str, tuple[int, list[Hop]]] = {first.service: (first.step, [])}
+        last = list(reached)
+        for _ in range(MOST_HOPS):
+            found = dict(reached)
+            for service in last:
+                step, before = reached[service]
+                for by, edge in self.edges.get(service, {}).items():
+                    hop = None if (service, by) in shunned else edge.first_from(step)
+                    if hop is not None and (by not in found or hop.archived < found[by][0]):
+                        found[by] = hop.archived, [*before, hop]
+            last = [service for service, it in found.items() if reached.get(service) is not it]
+            reached = found
+            end = reached.get(second.service)
+            if end is not None and end[1] and end[0] < second.step:
+                return end[1]
+            if not last:
+                return None
+        return None
+
+    def refute(self, part: Part) -> None:
+        """Takes out the hops by which a receiver would have a line that it can't prove: a receipt may be made up, or damaged on its way."""
+        _, received, service, step, _ = part.request.split(" ")
+        edges = self.edges.get(service, {})
+        if part.service in edges:
+            left = [hop for hop in edges[part.service].hops if hop.step != int(step) or hop.archived > int(received)]
+            edges[part.service] = Edge(left)
+
+
+class Edge:
+    """The hops from one service to another one."""
+
+    def __init__(self, hops: list[Hop]):
+        self.hops = sorted(hops)
+        self.steps = [hop.step for hop in self.hops]
+        self.best = self.hops[:]
+        for place in range(len(hops) - 2, -1, -1):
+            self.best[place] = min(self.hops[place], self.best[place + 1], key=lambda hop: hop.archived)
+
+    def first_from(self, step: int) -> Optional[Hop]:
+        """The hop of this step or a later one that is archived first."""
+        place = bisect_left(self.steps, step)
+        return self.best[place] if place < len(self.best) else None
+
+
 def matches(data: bytes, part: Part) -> bool:
     """Whether a proof is of what a part asks for; what it shows isn't judged."""
     proof, words = formats.read_proof(data), part.request.split(" ")
@@ -72,7 +131,8 @@ class Sources:
     def __init__(self, stores: list[Store], boxes: list[Path], hand: list[bytes], kept: KeptLines, judge: Bench):
         self.stores = {store.last().line.service: store for store in stores}
         self.judge, self.kept, self.hand = judge, kept, hand
-        self.refused: set[tuple[str, int, str]] = set()
+        self.refused: set[Part] = set()
+        self.graphs: dict[bool, Graph] = {}
         self.made: dict[Part, bytes] = {}
         self.peers: dict[str, list[Peer]] = {}
         for place in boxes:
@@ -82,7 +142,7 @@ class Sources:
         for peer in self.all_peers():
             kept.add_text(peer.kept / "lines", peer.read("lines").decode("utf-8", "replace"))
         for store in self.stores.values():
-            for line in {*OwnLines(store.folder).read(OwnLines(store.folder).lines), store.last().line}:
+            for line in {*OwnLines(store.folder).known, store.last().line}:
                 if line.step:
                     kept.add(kept_now(line, f"of the store in {name_of(store.path)}"))
 
@@ -90,15 +150,23 @@ class Sources:
         """The peers of all boxes."""
         return (peer for peers in self.peers.values() for peer in peers)
 
-    def hops(self) -> set[Hop]:
-        """What is known to have been received, by receipts and by the stores, but for what its receiver couldn't prove: a receipt may be made up."""
-        return {hop for hop in self.told_hops if (hop.service, hop.step, hop.by) not in self.refused}
+    def graph(self, is_bound: bool) -> Graph:
+        """What is known to have been received, by receipts and by the stores, but for what its receiver couldn't prove. All of it, or what a held line can
+        bind."""
+        if is_bound not in self.graphs:
+            found = Graph(hop for hop in self.told_hops if not is_bound or self.top(hop.service, hop.step) is not None)
+            for part in self.refused:
+                found.refute(part)
+            self.graphs[is_bound] = found
+        return self.graphs[is_bound]
 
     @functools.cached_property
     def told_hops(self) -> set[Hop]:
         """What receipts and the stores tell."""
         found: set[Hop] = set()
-        for data in [*self.hand, *(peer.read(name) for peer in self.all_peers() for name in ("heard", "given", "got"))]:
+        kept = [peer.read(name) for peer in self.all_peers() for name in ("heard", "given", "got")]
+        pieces = {piece for data in kept for piece in formats.receipt_pieces(data)}
+        for data in [*self.hand, *pieces]:
             if formats.kind_of(data) == "receipts":
                 found |= {Hop(it.service, it.step, it.recorder, it.archived) for it in formats.read_receipts(data)}
             proof = formats.read_proof(data) if formats.kind_of(data) == "thread" else None
@@ -149,9 +217,10 @@ class Sources:
         return self.made[part]
 
     def refuse(self, part: Part) -> None:
-        """Notes that the receiver of a line can't prove that it received it."""
-        _, _, service, step, _ = part.request.split(" ")
-        self.refused.add((service, int(step), part.service))
+        """Notes that the receiver of a line can't prove that it had received it by a step."""
+        self.refused.add(part)
+        for graph in self.graphs.values():
+            graph.refute(part)
 
     def ask(self, part: Part) -> str:
         """Asks for a part, or says whom to ask."""
@@ -171,31 +240,12 @@ class Sources:
 
     def top(self, service: str, step: int) -> Optional[int]:
         """The least step, from this one on, of which a line is held."""
-        return next((held for held in self.kept.steps(service) if held >= step), None)
+        steps = self.kept.steps(service)
+        place = bisect_left(steps, step)
+        return steps[place] if place < len(steps) else None
 
 
 # ---- the way
-
-
-def way(hops: set[Hop], first: Event, second: Event) -> Optional[list[Hop]]:
-    """The fewest hops that lead from the first event's step to the step before the second's, from the first event on; None where none do."""
-    reached: dict[str, tuple[int, list[Hop]]] = {first.service: (first.step, [])}
-    for _ in range(MOST_HOPS):
-        found = dict(reached)
-        for hop in hops:
-            start = reached.get(hop.service)
-            if start is None or start[0] > hop.step:
-                continue
-            known = found.get(hop.by)
-            if known is None or hop.archived < known[0]:
-                found[hop.by] = hop.archived, [*start[1], hop]
-        if found == reached:
-            return None
-        reached = found
-        end = reached.get(second.service)
-        if end is not None and end[1] and end[0] < second.step:
-            return end[1]
-    return None
 
 
 class Plan(NamedTuple):
@@ -251,12 +301,12 @@ def expect_held(sources: Sources, second: Event) -> None:
     raise Trouble(Status.MISSING, told, f"Ask {given.service} for it, and keep it (weft keep), or for the proof {wanted}.")
 
 
-def plan(sources: Sources, first: Event, second: Event, hops: set[Hop]) -> Plan:
-    """The parts of the chain over some of these hops; raises Trouble where no way is known, or a line is missing for each."""
+def plan(sources: Sources, first: Event, second: Event, shunned: frozenset[tuple[str, str]]) -> Plan:
+    """The parts of the chain over some hops, none of them between two services that are shunned; raises Trouble where no way is known, or a line is missing
+    for each."""
     if first.service == second.service and first.step < second.step:
         return planned(sources, [], first, second)
-    bindable = {hop for hop in hops if sources.top(hop.service, hop.step) is not None}
-    found = way(bindable, first, second) or way(hops, first, second)
+    found = sources.graph(True).way(first, second, shunned) or sources.graph(False).way(first, second, shunned)
     if found is None:
         told = (
             f"no way is known from step {first.step} of {first.service} to step {second.step} of {second.service}: no receipts show that {second.service} "
@@ -279,10 +329,11 @@ def gathered(sources: Sources, first: Event, second: Event) -> Gathered:
     prove, or that is of another history than the line that is held, is gone round. Raises Trouble where no way is known, or the later event's proof is
     under a line that isn't held."""
     expect_held(sources, second)
-    hops, shortest, hindrance = sources.hops(), None, None
+    shunned: frozenset[tuple[str, str]] = frozenset()
+    shortest, hindrance = None, None
     while True:
         try:
-            found = plan(sources, first, second, hops)
+            found = plan(sources, first, second, shunned)
         except Trouble as none:
             if shortest is not None:
                 return shortest
@@ -290,7 +341,6 @@ def gathered(sources: Sources, first: Event, second: Event) -> Gathered:
         refused = len(sources.refused)
         parts = [sources.part(part) for part in found.parts]
         if len(sources.refused) > refused:
-            hops &= sources.hops()
             continue
         lacking = [place for place, part in enumerate(parts) if part is None]
         if not lacking:
@@ -301,13 +351,12 @@ def gathered(sources: Sources, first: Event, second: Event) -> Gathered:
                 if not before.request.startswith("thread"):
                     raise
                 sources.refuse(before)
-                hops &= sources.hops()
                 continue
         shortest = shortest or Gathered(found, parts, None)
-        gone_round = {found.hop_of(place) for place in lacking} - {None}
+        gone_round = {(hop.service, hop.by) for hop in map(found.hop_of, lacking) if hop is not None}
         if not gone_round:
             return shortest
-        hops = {hop for hop in hops if not any(it is not None and (hop.by, hop.service) == (it.by, it.service) for it in gone_round)}
+        shunned |= gone_round
 
 
 class Misfit(Trouble):

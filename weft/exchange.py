@@ -2,12 +2,13 @@
 
 from __future__ import annotations
 
+import functools
 import re
 from pathlib import Path
 from typing import NamedTuple, Optional
 
 from weft import asking, files, formats, own, signatures
-from weft.box import Peer, Settings, split_signed
+from weft.box import Peer, Settings, peers_of, split_signed
 from weft.formats import Message
 from weft.judges import Bench
 from weft.lines import Kept, Line, keep, kept_now, read_line
@@ -35,15 +36,16 @@ class Contradiction(NamedTuple):
 
 
 class Turn:
-    """A turn of the service of a store with the peers of a box."""
+    """A turn of the service of a store with the peers of a box, which goes on despite lines that some of them hand back."""
 
-    def __init__(self, store: Store, box: Path, settings: Settings, judge: Bench, peers: list[Peer], despite: list[str]):
-        self.store, self.box, self.settings, self.judge, self.peers = store, box, settings, judge, peers
-        self.despite = despite
+    def __init__(self, store: Store, box: Path, settings: Settings, judge: Bench, despite: list[str]):
+        self.store, self.box, self.settings, self.judge, self.despite = store, box, settings, judge, despite
         self.lines = OwnLines(store.folder)
         self.signers = box / "allowed_signers"
-        self.last = Line("", 0, "")
+        self.last = store.last().line
+        self.peers, self.strange = peers_of(box, self.last.service, settings)
         self.known: dict[int, Line] = {}
+        self.messages: dict[int, bytes] = {}
         self.status = Status.DONE
         self.told: list[str] = []
 
@@ -55,7 +57,6 @@ class Turn:
 
     def begin(self) -> None:
         """Opens the service, and makes a first step where it has none. Raises Trouble where the store isn't the one whose lines went out."""
-        self.last = self.store.last().line
         self.lines.check(self.store, self.judge, self.last)
         for peer in self.peers:
             peer.make()
@@ -68,7 +69,8 @@ class Turn:
         """Holds the store against lines of its own that a peer hands back: those signed by its own key; in a box that takes unsigned messages those
         of its peers' word too."""
         returned = peer.take("yours", SIGNED_BYTES)
-        peer.seen = split_signed(peer.take("seen", SIGNED_BYTES * MOST_SEEN) or b"")[:MOST_SEEN]
+        services = {self.last.service, *(it.name for it in self.peers)}
+        peer.seen = split_signed(peer.take("seen", SIGNED_BYTES * MOST_SEEN) or b"", services)[:MOST_SEEN]
         seen = [signed for signed in peer.seen if signed.line.service == self.last.service]
         signed = signatures.split(returned or b"")
         plain = read_line((returned or b"").decode("utf-8", "replace").split("\n")[0])
@@ -85,7 +87,10 @@ class Turn:
                 raise Trouble(trouble.status, trouble.sentence, advice) from None
 
     def is_of_store(self, line: Line) -> bool:
-        """Whether the store has this line, as its own."""
+        """Whether the store has this line, as its own. One that was noted beside it is: each was noted behind the one before, and the last of them is held
+        against the store first."""
+        if line in self.lines.known:
+            return True
         if line.service != self.last.service or line.step > self.last.step:
             return False
         if line.step == self.last.step or self.last.step == 0:
@@ -114,9 +119,7 @@ class Turn:
         self.compare_seen(peer)
         signed = self.take_signed(peer)
         self.take_message(peer, signed)
-        heard = peer.take("receipts", formats.RECEIPT_SIZE * MOST_RECEIPTS)
-        if heard is not None and formats.read_receipts(heard):
-            files.renew_if_other(peer.kept / "heard", heard)
+        self.take_receipts(peer)
         asking.take_answers(peer)
 
     def has_key(self, peer: Peer) -> bool:
@@ -134,7 +137,7 @@ class Turn:
             peer.say(f"its receipt is of step {line.step}, which this store doesn't have so; nothing is concluded from that")
             return
         if has is None or line.step > has.step:
-            files.renew(peer.kept / "has", f"{line.text}\n".encode())
+            peer.renew("has", f"{line.text}\n".encode())
         self.add_receipt(peer, "got", receipt.to_bytes())
 
     def add_receipt(self, peer: Peer, name: str, receipt: bytes) -> None:
@@ -142,7 +145,16 @@ class Turn:
         size = formats.RECEIPT_SIZE
         old = peer.read(name)
         if not any(old[at : at + size] == receipt for at in range(0, len(old), size)):
-            files.renew(peer.kept / name, (old + receipt)[-OWN_RECEIPTS * size :])
+            peer.renew(name, (old + receipt)[-OWN_RECEIPTS * size :])
+
+    def take_receipts(self, peer: Peer) -> None:
+        """Takes receipts that it heard of, where the file has nothing else. Those that are kept already aren't read once more."""
+        heard = peer.take("receipts", formats.RECEIPT_SIZE * MOST_RECEIPTS)
+        if not heard or len(heard) % formats.RECEIPT_SIZE:
+            return
+        known = set(formats.receipt_pieces(peer.read("heard")))
+        if all(piece in known or formats.read_receipt(piece) for piece in formats.receipt_pieces(heard)):
+            peer.renew("heard", heard)
 
     def take_refusal(self, peer: Peer) -> None:
         """Takes its refusal of a message: it says what it has recorded."""
@@ -153,7 +165,7 @@ class Turn:
         if found is None or line is None or (has is not None and int(found[3]) <= has.step):
             return
         if self.is_of_store(line):
-            files.renew_if_other(peer.kept / "has", f"{line.text}\n".encode())
+            peer.renew("has", f"{line.text}\n".encode())
         else:
             peer.say(
                 f"it recorded another step {line.step} under the name {line.service} than this store has: somebody gave it a line in your name, or an "
@@ -175,14 +187,14 @@ class Turn:
         if key is None:
             self.unfit(peer, f"the line in its folder isn't signed by the key that {name_of(self.signers)} has for it: not taken")
             return None
-        files.remove(peer.kept / "unfit")
+        peer.remove("unfit")
         self.note_signed(peer, signed, key)
         return signed
 
     def unfit(self, peer: Peer, text: str) -> None:
         """Something of the peer didn't fit; after some turns in a row it needs a look."""
         turns = len(peer.read("unfit")) + 1
-        files.renew(peer.kept / "unfit", b"x" * min(turns, 99))
+        peer.renew("unfit", b"x" * min(turns, 99))
         peer.say(f"{text}; ask {peer.name}" if turns >= UNFIT_TURNS else f"{text}; a file may have been damaged on its way")
         if turns >= UNFIT_TURNS:
             self.look()
@@ -278,8 +290,9 @@ class Turn:
                 answer = second if second.status == 0 else answer
         words = answer.words
         if answer.status == 0:
+            self.note_step(answer.output)
             before = peer.taken_line()
-            files.renew_if_other(peer.kept / "taken", f"{line.text}\n".encode())
+            peer.renew("taken", f"{line.text}\n".encode())
             self.add_receipt(peer, "given", answer.output)
             peer.put("receipt", answer.output)
             files.remove(peer.out / "refusal")
@@ -291,7 +304,15 @@ class Turn:
             self.refuse(peer, message, words[1], words[2:])
         else:
             raise self.store.trouble(answer)
-        files.remove(peer.kept / "first")
+        peer.remove("first")
+
+    def note_step(self, data: bytes) -> None:
+        """Notes the step of this service that a receipt tells, where it is a new one."""
+        receipt = formats.read_receipt(data)
+        if receipt is None:
+            raise Trouble(Status.BUG, f"timeweave told no receipt of {name_of(self.store.path)}")
+        if receipt.archived > self.last.step:
+            self.last = Line(receipt.recorder, receipt.archived, receipt.recorder_authenticator.hex())
 
     def refuse(self, peer: Peer, message: Message, name: str, fields: list[str]) -> None:
         """Tells a refusal, here and there, in words that accuse nobody."""
@@ -310,34 +331,45 @@ class Turn:
         """Puts out what a peer is to get."""
         has = peer.has()
         since = has.step if has is not None and self.is_of_store(has) else 0
-        peer.put("message", self.store.done("thread", str(since)))
+        peer.put("message", self.message(since))
         self.put_next(peer, since)
         peer.put("line", signed.data if signed else f"{self.last.text}\n".encode())
         taken = peer.taken_line()
         if taken is not None:
             returned = next((it.data for it in peer.signed_lines() if it.line == taken), f"{taken.text}\n".encode())
             peer.put("yours", returned)
-        others = [it for other in self.peers if other is not peer for it in other.signed_lines()]
-        peer.put("seen", b"".join(it.data for it in sorted(others, key=lambda it: it.line)[-MOST_SEEN:]))
-        peer.put("receipts", self.known_receipts())
+        peer.put("seen", self.seen_by(peer))
+        peer.put("receipts", self.known_receipts)
         peer.put("requests", peer.read("asked"))
+
+    def message(self, since: int) -> bytes:
+        """The message of the last step since another one."""
+        if since not in self.messages:
+            self.messages[since] = self.store.done("thread", str(since))
+        return self.messages[since]
+
+    def seen_by(self, peer: Peer) -> bytes:
+        """The last signed lines of the other peers, of each as many as there is room for."""
+        others = [other.signed_lines() for other in self.peers if other is not peer]
+        each = max(1, MOST_SEEN // max(1, len(others)))
+        return b"".join(it.data for it in [it for lines in others for it in lines[-each:]][:MOST_SEEN])
 
     def put_next(self, peer: Peer, since: int) -> None:
         """Puts out the message since the step of the one before, which the peer may have recorded by now though its receipt is still on its way."""
         sent = [int(word) for word in peer.read("sent").split() if word.isdigit()]
         if self.last.step not in sent:
             sent = [*sent, self.last.step][-2:]
-            files.renew(peer.kept / "sent", f"{' '.join(map(str, sent))}\n".encode())
+            peer.renew("sent", f"{' '.join(map(str, sent))}\n".encode())
         if since < sent[0] < self.last.step:
-            peer.put("next", self.store.done("thread", str(sent[0])))
+            peer.put("next", self.message(sent[0]))
         else:
             files.remove(peer.out / "next")
 
+    @functools.cached_property
     def known_receipts(self) -> bytes:
         """The last receipts that were made here, came here, or were heard of, each once."""
-        size = formats.RECEIPT_SIZE
         parts = [peer.read(name) for name in ("heard", "given", "got") for peer in self.peers]
-        pieces = dict.fromkeys(part[at : at + size] for part in parts for at in range(0, len(part) - size + 1, size))
+        pieces = dict.fromkeys(piece for part in parts for piece in formats.receipt_pieces(part))
         return b"".join(list(pieces)[-MOST_RECEIPTS:])
 
     def run(self) -> Status:
@@ -345,7 +377,6 @@ class Turn:
         self.begin()
         for peer in self.peers:
             self.take(peer)
-        self.last = self.store.last().line
         self.lines.note(self.last)
         signed = self.signed_last()
         for peer in self.peers:

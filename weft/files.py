@@ -55,17 +55,30 @@ def read(path: AnyPath, most: int, follow: bool = True, within: Optional[int] = 
     """The bytes of a regular file. Raises Trouble where it can't be read, or has more bytes than `most`: its size is looked at before a byte
     is read, and no more is read of one that grows."""
     number = opened(path, follow, within)
-    with os.fdopen(number, "rb") as file:
+    try:
         size = os.fstat(number).st_size
         if size > most:
             raise Trouble(Status.UNREADABLE, f"{name_of(path)} has {size:,} bytes, and none that is read here has more than {most:,}")
-        try:
-            data = file.read(most + 1)
-        except OSError as failure:
-            raise unread(path, failure) from None
+        data = read_up_to(number, most + 1)
+    except OSError as failure:
+        raise unread(path, failure) from None
+    finally:
+        os.close(number)
     if len(data) > most:
         raise Trouble(Status.UNREADABLE, f"{name_of(path)} grew while it was read")
     return data
+
+
+def read_up_to(number: int, most: int) -> bytes:
+    """The bytes of an open file from its place on, so many at most."""
+    pieces, left = [], most
+    while left:
+        piece = os.read(number, min(left, PIECE))
+        if not piece:
+            break
+        pieces.append(piece)
+        left -= len(piece)
+    return b"".join(pieces)
 
 
 def read_if_there(path: AnyPath, most: int, follow: bool = True) -> Optional[bytes]:
@@ -92,8 +105,8 @@ def write_all(number: int, data: bytes) -> None:
 def renew(path: AnyPath, data: bytes, mode: int = 0o666) -> None:
     """Makes the file anew: at each moment it is the old one or the new one, whole, after a loss of power too. The new one is written beside it
     first, under its name with `.new` behind."""
-    whole = Path(path)
-    new = whole.with_name(whole.name + ".new")
+    whole = os.fspath(path)
+    new = f"{whole}.new"
     flags = os.O_WRONLY | os.O_CREAT | os.O_TRUNC | os.O_CLOEXEC | os.O_NOFOLLOW
     try:
         number = os.open(new, flags, mode)
@@ -103,7 +116,7 @@ def renew(path: AnyPath, data: bytes, mode: int = 0o666) -> None:
         finally:
             os.close(number)
         os.replace(new, whole)
-        sync_folder(whole.parent)
+        sync_folder(os.path.dirname(whole) or ".")
     except OSError as failure:
         raise unwritten(path, failure) from None
 
@@ -114,8 +127,10 @@ def renew_if_other(path: AnyPath, data: bytes) -> None:
         number = os.open(path, os.O_RDONLY | os.O_NONBLOCK | os.O_CLOEXEC | os.O_NOFOLLOW)
     except OSError:
         return renew(path, data)
-    with os.fdopen(number, "rb") as file:
-        is_same = os.fstat(number).st_size == len(data) and file.read(len(data) + 1) == data
+    try:
+        is_same = os.fstat(number).st_size == len(data) and read_up_to(number, len(data) + 1) == data
+    finally:
+        os.close(number)
     if not is_same:
         renew(path, data)
 

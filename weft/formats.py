@@ -64,6 +64,11 @@ def read_receipts(data: bytes) -> list[receipts.Receipt]:
         return []
 
 
+def receipt_pieces(data: bytes) -> list[bytes]:
+    """The bytes of each receipt of a file, unread; what stands behind the last whole one is left out."""
+    return [data[at : at + RECEIPT_SIZE] for at in range(0, len(data) - RECEIPT_SIZE + 1, RECEIPT_SIZE)]
+
+
 class Needed(NamedTuple):
     """A service and the step of which a line is needed."""
 

@@ -70,7 +70,7 @@ class LibraryJudge:
 
     def __init__(self, binding: Any, library: Any):
         self.binding, self.library = binding, library
-        self.name = f"proved library, SHA-256 {library_digest()}"
+        self.name = program.judge_name("library", library_path())
 
     def has(self, call: str) -> bool:
         """Whether the library has the call."""
@@ -91,7 +91,7 @@ class ProgramJudge:
     """The proved program, run on files in a folder of its own."""
 
     def __init__(self, path: str):
-        self.name = f"proved program, SHA-256 {program.digest_of(path)}"
+        self.name = program.judge_name("program", path)
         self.folder: Optional[str] = None
 
     @contextmanager

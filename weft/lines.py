@@ -118,6 +118,7 @@ class KeptLines:
 
     def __init__(self, paths: Iterable[AnyPath] = (), more: Iterable[Kept] = ()):
         self.found: dict[str, dict[int, list[Kept]]] = {}
+        self.rising: dict[str, list[int]] = {}
         for path in paths:
             data = files.read_if_there(path, MOST_BYTES)
             self.add_text(path, (data or b"").decode("utf-8", "replace"))
@@ -137,6 +138,7 @@ class KeptLines:
     def add(self, kept: Kept) -> None:
         """Adds one."""
         self.found.setdefault(kept.line.service, {}).setdefault(kept.line.step, []).append(kept)
+        self.rising.pop(kept.line.service, None)
 
     def at(self, service: str, step: int) -> list[Kept]:
         """All that were kept of this step."""
@@ -150,8 +152,10 @@ class KeptLines:
         return kept[0].line if kept else None
 
     def steps(self, service: str) -> list[int]:
-        """The steps of which lines were kept, rising."""
-        return sorted(self.found.get(service, {}))
+        """The steps of which lines were kept, rising; the list is sorted once."""
+        if service not in self.rising:
+            self.rising[service] = sorted(self.found.get(service, {}))
+        return self.rising[service]
 
     def services(self) -> list[str]:
         """The services of which lines were kept."""

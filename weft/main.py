@@ -3,6 +3,7 @@
 from __future__ import annotations
 
 import argparse
+import functools
 import os
 import sys
 import traceback
@@ -81,11 +82,16 @@ class Formatter(argparse.RawDescriptionHelpFormatter):
 
 def parser(words_given: Sequence[str]) -> Parser:
     """The parser of all words; where the first one is known, of that alone."""
+    return parser_for(words_given[0] if words_given[:1] and words_given[0] in WORDS else None)
+
+
+@functools.lru_cache(maxsize=None)
+def parser_for(known: Optional[str]) -> Parser:
+    """The parser of a word, or of all."""
     whole = Parser(prog="weft", description=ABOUT, epilog="example:\n  weft line /srv/log --sign ~/.ssh/id_ed25519", formatter_class=Formatter)
     whole.add_argument("--version", nargs=0, action=Version, help="tells the versions and digests of weft and of what it uses")
     words = whole.add_subparsers(metavar="WORD", required=True, parser_class=Parser)
-    known = [word for word in words_given[:1] if word in WORDS]
-    for word in known or WORDS:
+    for word in [known] if known else WORDS:
         module = module_of(word)
         parser_of(module, words.add_parser(module.NAME, help=module.SUMMARY))
     return whole

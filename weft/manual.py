@@ -7,6 +7,7 @@ from __future__ import annotations
 import argparse
 import os
 import sys
+import textwrap
 from typing import Iterator
 
 from weft import __version__
@@ -14,14 +15,21 @@ from weft.main import ABOUT
 from weft.statuses import MEANINGS
 from weft.words import WORDS, module_of
 
-DESCRIPTION = """Verdicts are the proved library's; where it can't be loaded or doesn't judge what is asked, the proved program's. The Python reference, which is
-tested and not proved, judges as well where it is there, and a difference ends with a status of its own. With
+DESCRIPTION = """The program judges where the library can't be loaded or doesn't judge what is asked. The Python reference, which is tested and not proved, judges as well where it is there, and a difference ends with a status of its own. A verdict names its judge: as proved where its file has the prover's mark, and by a digest to compare with the release's. With
 .B \\-\\-reference
-it judges alone. Sentences go to standard output, troubles with what to do to standard error; with
+it judges alone.
+.PP
+Sentences go to standard output, troubles with what to do to standard error; with
 .B \\-\\-json
-there is JSON in their place. On a terminal long work shows how far it is. Each file that is written is the old one or the new one, whole, at each moment;
-runs on one service or one box wait for one another by a lock; a run that was stopped anywhere is made good by the next one. No file is read that isn't
-regular, and none before its size was looked at. Names and events that can't be printed are told in escapes."""
+there is JSON in their place. On a terminal long work shows how far it is. At each moment a file that is written is the old one or the new one, whole.
+Runs on one service or one box wait for one another by a lock, 30 seconds or those of
+.BR \\-\\-wait .
+What a stopped run left undone, the next one does. No file is read that isn't
+regular, and none before its size was looked at. Names and events that can't be printed are told in escapes.
+.PP
+In examples
+.I ..
+stands for what is left out."""
 
 BOX = """A box has a folder for each peer, named as its service:
 .TP
@@ -32,23 +40,24 @@ It may be lost, late, repeated or damaged. No link in it is followed, and at mos
 .TP
 .I BOX/PEER/out
 What is to be carried to the peer's
-.IR in :
-.I message
-(the last step since the one that it recorded),
-.I next
-(the same since the step of the message before, which it may have recorded by now),
-.I line
-(the same line, signed),
+.IR in .
+The last step stands in
+.IR message ,
+since the step that the peer recorded, in
+.IR next ,
+since that of the message before, and in
+.IR line ,
+signed. Of the peer's last message there is the
 .I receipt
-and
-.I refusal
-(of its last message),
-.I yours
-(its last line that is recorded here, by which it finds an old store that was put back),
-.I seen
-(signed lines of others, by which services with two histories are found),
+or the
+.IR refusal .
+By
+.IR yours ,
+its last line that is recorded here, it finds an old store that was put back; by
+.IR seen ,
+signed lines of others, services with two histories are found; and by
 .I receipts
-(by which ways for proofs are found),
+the ways for proofs. There are also
 .I requests
 and
 .IR answers .
@@ -97,6 +106,21 @@ over its exact text with its line end, and checked by
 .BR "ssh\\-keygen \\-Y verify" ,
 the principal being the service's name."""
 
+# The options that several words have; the description tells them.
+COMMON = {"--json", "--reference", "--wait"}
+
+ANY = """Each word may end with 0, 2 to 9, 13, 14, 70 and 130; what else one ends with stands with it."""
+
+STATUSES = {
+    "keep": "10 11 12 15",
+    "judge": "1 10 11 12 15 20 21",
+    "log": "10 15 16 17",
+    "exchange": "10 11 15 17",
+    "accept": "10 11 15",
+    "chain": "1 12 20 21",
+    "check": "15 17",
+}
+
 VARIABLES = (
     ("TIMEWEAVE_PROGRAM", "The program timeweave, where it isn't the one on the path."),
     ("TIMEWEAVE_LIBRARY", "The library libtimeweave.so, where it isn't the installed one."),
@@ -138,8 +162,10 @@ def word_lines(word: str) -> Iterator[str]:
     module.add(parser)
     yield f".SS {plain(usage(parser))}"
     yield plain(f"{sentence(module.SUMMARY)} {module.DETAILS}")
+    yield from [".br", f"Status: {STATUSES[word]}."] if word in STATUSES else []
     for action in parser._actions:
-        yield from option_lines(action)
+        if not COMMON.intersection(action.option_strings):
+            yield from option_lines(action)
     yield ".PP"
     yield ".nf"
     for line in module.EXAMPLE.splitlines():
@@ -155,6 +181,20 @@ def status_lines() -> Iterator[str]:
         yield plain(meaning)
 
 
+def wrapped(lines: list[str]) -> Iterator[str]:
+    """The lines of the page, its text filled to 120 columns; what is shown as it is stays."""
+    is_shown = False
+    text: list[str] = []
+    for line in [*"\n".join(lines).split("\n"), "."]:
+        is_shown = line == ".nf" or (is_shown and line != ".fi")
+        if is_shown or line[:1] in ("", ".", "'"):
+            yield from textwrap.wrap(" ".join(text), 120, break_long_words=False, break_on_hyphens=False)
+            yield line
+            text = []
+        else:
+            text.append(line)
+
+
 def page() -> str:
     """The manual page."""
     os.environ["COLUMNS"] = "400"
@@ -162,11 +202,11 @@ def page() -> str:
     lines += [".SH SYNOPSIS", ".B weft", ".I WORD ..", ".SH DESCRIPTION", plain(ABOUT), DESCRIPTION, ".SH WORDS"]
     for word in WORDS:
         lines += word_lines(word)
-    lines += [".SH EXIT STATUS", *status_lines(), ".SH THE FILE OF KEPT LINES", KEPT, ".SH A BOX", BOX, ".SH ENVIRONMENT"]
+    lines += [".SH EXIT STATUS", ANY, *status_lines(), ".SH THE FILE OF KEPT LINES", KEPT, ".SH A BOX", BOX, ".SH ENVIRONMENT"]
     for name, meaning in VARIABLES:
         lines += [".TP", f".B {name}", plain(meaning)]
     lines += [".SH SEE ALSO", ".BR timeweave (1),", ".BR ssh\\-keygen (1),", ".BR flock (2)", ""]
-    return "\n".join(lines)
+    return "\n".join(list(wrapped(lines))[:-1])
 
 
 if __name__ == "__main__":

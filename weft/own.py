@@ -4,6 +4,7 @@ By them an old store that was put back is found before it makes a step."""
 
 from __future__ import annotations
 
+import functools
 from pathlib import Path
 from typing import Optional
 
@@ -74,6 +75,11 @@ class OwnLines:
         self.folder = folder
         self.lines, self.anchor = beside(folder, ".lines"), beside(folder, ".anchor")
 
+    @functools.cached_property
+    def known(self) -> dict[Line, None]:
+        """The lines that were noted, each once, in their order. Whoever notes lines has the lock of the service, so they are read once."""
+        return dict.fromkeys(self.read(self.lines))
+
     def read(self, path: Path) -> list[Line]:
         """The lines of one of the files, none where it isn't there or has none."""
         data = files.read_if_there(path, MOST_BYTES)
@@ -81,7 +87,7 @@ class OwnLines:
 
     def last(self) -> Optional[Line]:
         """The last line that was kept."""
-        found = [*self.read(self.lines), *self.read(self.anchor)]
+        found = [*self.known, *self.read(self.anchor)]
         return max(found, key=step_of) if found else None
 
     def check(self, store: Store, judge: Bench, last: Line) -> None:
@@ -92,9 +98,9 @@ class OwnLines:
 
     def note(self, line: Line) -> None:
         """Keeps a line of one's own among the others, and as the one to hand out where it is the last."""
-        known = self.read(self.lines)
-        if line not in known:
+        if line not in self.known:
             old = files.read_if_there(self.lines, MOST_BYTES) or b""
             files.renew(self.lines, old + f"{line.text}\n".encode())
-        if all(line.step >= it.step for it in known):
+            self.known[line] = None
+        if all(line.step >= it.step for it in self.known):
             files.renew_if_other(self.anchor, f"{line.text}\n".encode())

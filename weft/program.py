@@ -38,6 +38,10 @@ class Answer(NamedTuple):
         return lines[0].split(" ") if lines else []
 
 
+# What `logic_of` answers of a file that tells no logic.
+UNTOLD = "not told"
+
+
 @functools.lru_cache(maxsize=None)
 def found() -> Optional[str]:
     """The path of the program: what TIMEWEAVE_PROGRAM names, else that of the path, else the one that was built beside this package."""
@@ -122,8 +126,17 @@ def digest_of(path: str) -> str:
         return hashlib.sha256(file.read()).hexdigest()
 
 
+@functools.lru_cache(maxsize=None)
 def logic_of(path: str) -> str:
     """The digest of the logic that proved the file, as the file says it, or `not told`."""
     with open(path, "rb") as file:
         told = re.search(rb"rattle logic=([0-9a-f]{8,64})", file.read())
-    return told[1].decode() if told else "not told"
+    return told[1].decode() if told else UNTOLD
+
+
+def judge_name(kind: str, path: Optional[str]) -> str:
+    """How the program or the library of this path is named behind a verdict: as proved where the file has the prover's mark, and by its digest. (Whoever
+    makes a file can put the mark into it: the digest is to be compared with that of the release.)"""
+    if path is None:
+        return f"{kind}, not known to be proved"
+    return f"{kind + ', not known to be proved' if logic_of(path) == UNTOLD else 'proved ' + kind}, SHA-256 {digest_of(path)}"

@@ -169,7 +169,7 @@ REASONS = {
     "BadOpening": ("it was changed, or its store is damaged (part {0})", "Ask for it again."),
     "BadEvent": ("the event isn't the one of that step (part {0}): it was changed, or its store is damaged", "Ask for it again."),
     "BadTree": ("what it tells of received lines isn't so (part {0}): it was changed, or its store is damaged", "Ask for it again."),
-    "Carried": ("{0} of its hops are carried: only the receiver says that the step is the other service's", "Ask for links, or judge with --carried."),
+    "Carried": ("{0} of its hops are carried: in this proof only the receiver says that the step is the other service's", "Ask for links, or judge with --carried."),
     "Part": ("the proof of thread {0} in it isn't accepted (reason {1})", "Ask for the evidence again."),
     "NoConflict": ("both threads may lie on one history, so nothing is shown", ""),
     "BadLink": ("its link isn't of the history with the later thread", "Ask for another link."),

@@ -26,6 +26,7 @@ BEGIN, END = "-----BEGIN SSH SIGNATURE-----", "-----END SSH SIGNATURE-----"
 MOST_BYTES = 65_536
 MOST_SIGNERS = 1 << 20
 MOST_SECONDS = 120
+PATTERN = re.compile(rb"[*?\[]")
 
 
 class Signed(NamedTuple):
@@ -132,8 +133,9 @@ def public_key(service: str, key: AnyPath) -> PublicKey:
 
 def key_lines(signers: AnyPath, service: str) -> list[bytes]:
     """The lines of a file of signers whose principals, which may be patterns, have the service's name; none where the file isn't there."""
-    found = (files.read_if_there(signers, MOST_SIGNERS) or b"").splitlines()
-    return [line for line in found if line.strip() and any(fnmatchcase(service.encode(), it) for it in line.split()[0].strip(b'"').split(b","))]
+    found, name = (files.read_if_there(signers, MOST_SIGNERS) or b"").splitlines(), service.encode()
+    principals = ((line, line.split()[0].strip(b'"').split(b",")) for line in found if line.strip())
+    return [line for line, patterns in principals if name in patterns or any(fnmatchcase(name, it) for it in patterns if PATTERN.search(it))]
 
 
 def is_noted(signers: AnyPath, service: str, key: PublicKey) -> bool:

@@ -5,7 +5,7 @@ from __future__ import annotations
 import os
 import tempfile
 from pathlib import Path
-from typing import Iterator, NamedTuple, Optional
+from typing import NamedTuple, Optional
 
 from weft import program
 from weft.files import AnyPath
@@ -119,9 +119,3 @@ class ClockBack(Exception):
     def __init__(self, trouble: Trouble, greatest: int):
         super().__init__(trouble.sentence)
         self.trouble, self.greatest = trouble, greatest
-
-
-def each_piece(data: bytes, size: int) -> Iterator[bytes]:
-    """The pieces of this size of some bytes."""
-    for place in range(0, len(data), size):
-        yield data[place : place + size]

@@ -13,6 +13,8 @@ MOST_SHOWN = 4096
 def printable(text: str) -> str:
     """The text with each character that isn't printable (control characters, bidirectional marks, line ends, bytes that are no UTF-8) in
     an escape of Python's, and cut where it is longer than 4,096."""
+    if len(text) <= MOST_SHOWN and text.isprintable():
+        return text
     shown = "".join(c if c.isprintable() else c.encode("unicode_escape", "surrogatepass").decode("ascii") for c in text[:MOST_SHOWN])
     return shown + "…" if len(text) > MOST_SHOWN else shown
 

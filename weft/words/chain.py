@@ -19,12 +19,12 @@ from weft.trouble import Trouble
 NAME = "chain"
 SUMMARY = "makes the proof that one event precedes another"
 DETAILS = (
-    "It finds a way from the earlier event to the later one by the receipts of boxes, stores and files, takes each part from where it is at hand, asks "
-    "peers for the others by their requests (run weft exchange, let it be carried, and run weft chain again), joins them, and has the whole judged "
-    "strictly. Or it says which part is missing and whom to ask. Peers of your boxes are asked, and over them the services that they exchange with; of "
+    "It finds a way from the earlier event to the later one by the receipts of boxes, stores and files. It takes each part from where it is at hand, and "
+    "asks peers for the others by their requests: run weft exchange, let it be carried, and run weft chain again. It joins them, and has the whole "
+    "judged strictly. Or it says which part is missing and whom to ask. Peers of your boxes are asked, and over them the services that they exchange with; of "
     "others it says the command, to be asked for by hand (--hand). An event is named NAME:STEP:INDEX, or by a file that has its proof."
 )
-EXAMPLE = "weft chain log:12:0 bank:31:2 --store /srv/log --box /srv/box --out chain"
+EXAMPLE = "weft chain data:1:0 sent.proof --store /srv/log --store /srv/bank --box /srv/box --out chain"
 MOST_FILES = 10_000
 
 

@@ -42,22 +42,19 @@ def run(options: argparse.Namespace) -> Status:
     files.expect_folder(box, "the box, which has a folder for each peer: weft accept BOX PEER makes it")
     settings = boxes.read_settings(box)
     with locks.held(beside(folder, ".lock"), options.wait, folder), locks.held(box / ".lock", options.wait, box):
-        store = Store(folder)
-        own = store.last().line.service
-        peers, strange = boxes.peers_of(box, own, settings)
-        turn = Turn(store, box, settings, judges.bench(), peers, options.despite)
+        turn = Turn(Store(folder), box, settings, judges.bench(), options.despite)
         try:
             status = turn.run()
         finally:
-            told = [(peer.name, text) for peer in peers for text in peer.told]
+            told = [(peer.name, text) for peer in turn.peers for text in peer.told]
             if not options.json:
                 for name, text in told:
                     say(f"{name}: {text}.")
-    general = [*turn.told, *(f"{printable(name)} in {name_of(box)} is no peer's folder" for name in strange)]
+    general = [*turn.told, *(f"{printable(name)} in {name_of(box)} is no peer's folder" for name in turn.strange)]
     if settings.is_unsigned:
         general.append(f"Unsigned messages are taken here ({name_of(box / 'box.conf')}): whoever can write in a folder `in` can speak in a peer's name.")
     if options.json:
-        say_json({"line": turn.last._asdict(), "peers": {peer.name: peer.told for peer in peers}, "told": general, "status": int(status)})
+        say_json({"line": turn.last._asdict(), "peers": {peer.name: peer.told for peer in turn.peers}, "told": general, "status": int(status)})
         return status
     for text in general:
         say(text)

@@ -7,7 +7,7 @@ import os
 from pathlib import Path
 from typing import Optional
 
-from weft import choosing, files, judges, logs, own, reports
+from weft import choosing, files, formats, judges, logs, own, reports
 from weft.lines import KeptLines, kept_now
 from weft.output import say
 from weft.own import OwnLines
@@ -22,7 +22,7 @@ DETAILS = (
     "It looks the file's last entry up in SERVICE.entries, has the service prove it under its last line, or under that of the step --top, which the "
     "reader has to hold, and judges the proof before it is handed out. Give the reader the proof; he has the line already."
 )
-EXAMPLE = "weft prove /srv/log paid.csv --top 31 --out paid.proof"
+EXAMPLE = "weft prove /srv/log paid.csv --top 2 --out paid.proof"
 
 
 def add(parser: argparse.ArgumentParser) -> None:
@@ -31,7 +31,7 @@ def add(parser: argparse.ArgumentParser) -> None:
     parser.add_argument("file", metavar="FILE", help="the path of the file, from the logged folder on, or the end of it")
     parser.add_argument("--step", metavar="STEP", type=int, help="takes the entry of this step, and not the last one")
     parser.add_argument("--top", metavar="STEP", type=int, help="the step whose line the reader holds (else the last one)")
-    parser.add_argument("--out", metavar="PROOF", help="where the proof is written (else the file's name with .proof behind, in this folder)")
+    parser.add_argument("--out", metavar="PROOF", help="where the proof is written (else the file's name with .proof behind, in this folder, where no other file has it)")
 
 
 def run(options: argparse.Namespace) -> Status:
@@ -48,11 +48,21 @@ def run(options: argparse.Namespace) -> Status:
     proof = store.done("prove", "event", str(step), str(index), str(top.step))
     judgement = choosing.judge_proof(judge, proof, KeptLines(more=[kept_now(top, "own")]), allow_carried=False)
     check(service, judgement, event)
-    out = options.out or f"{os.path.basename(options.file)}.proof"
+    out = options.out or own_name(options.file, proof)
     files.renew(out, proof)
     say(f"{name_of(out)}: {shown_event(event)} in step {step} of {top.service}, for whoever holds its line of step {top.step}: {top.text}")
     say(f"  {judge.told(judgement.call)}")
     return Status.DONE
+
+
+def own_name(file: str, proof: bytes) -> str:
+    """The name of a proof for which none was chosen: the file's with .proof behind. Raises Trouble where another file has it: it may be the proof
+    under an older line, which somebody holds."""
+    name = f"{os.path.basename(file)}.proof"
+    if files.read_if_there(name, formats.MOST_PROOF) not in (None, proof):
+        told = f"{name_of(name)} is there already, and is another one; it is left as it is"
+        raise Trouble(Status.REFUSED, told, f"Name a file by --out; --out {name_of(name)} writes over it.")
+    return name
 
 
 def check(service: Path, judgement: choosing.Judgement, event: bytes) -> None:

@@ -1,5 +1,6 @@
 """Acceptance cases of `weft exchange`, `accept` and `chain`: services and their boxes, a carrier, hostile files, and faults at each write."""
 
+import dataclasses
 import os
 import shutil
 import subprocess
@@ -7,6 +8,7 @@ import subprocess
 from harness.places import TOP
 from harness.rooms import Wrong, case
 from harness.weft_room import SHARE, Loom, each_fault
+from timeweave_reference.receipts import Receipt, read_receipts
 
 
 class Net:
@@ -374,11 +376,12 @@ def chained(room):
         raise Wrong("  strict refuses it")
     stores = ["--store", "maker", "--store", "bank", "--store", "port"]
     loom.expect(["chain", earlier, f"port:{shipped}:0", *stores, "--out", "c2"], 0, "over" if False else "shown", "bank received step", "port received step")
-    from timeweave_reference.receipts import Receipt
-
     made_up = Receipt("port", 1, bytes(32), "maker", made + 1, bytes(32))
     loom.put("false", made_up.to_bytes())
     loom.expect(["chain", earlier, f"port:{shipped}:0", *stores, "--hand", "false", "--out", "c2"], 0, "port received step", absent=(f"port received step {made + 1} of maker",))
+    early = [dataclasses.replace(it, archived=1) for it in read_receipts(loom.read("box-maker/bank/kept/got"))]
+    loom.put("early", b"".join(it.to_bytes() for it in early))
+    loom.expect(["chain", earlier, f"port:{shipped}:0", *stores, "--hand", "early", "--out", "c2"], 0, "port received step")
     loom.expect(["chain", f"port:{shipped}:0", earlier, *stores], 12, "no way is known")
     again = int(loom.append("maker", b"again").split()[1])
     loom.expect(["chain", earlier, f"maker:{again}:0", "--store", "maker"], 0, "is before step")

@@ -3,6 +3,7 @@ tables of many proofs; pictures; stores checked whole."""
 
 import json
 import os
+import shlex
 import signal
 import subprocess
 import sys
@@ -210,6 +211,9 @@ def judges_differ(room):
     loom.expect("judge bread3", 13, "two judges differ", "This is a bug", patch=liar)
     loom.expect("judge forged", 13, "two judges differ", patch=liar)
     loom.expect("judge bread3", 0, "judged by: proved program", TIMEWEAVE_LIBRARY="/nowhere")
+    loom.put("other", f'#!/bin/sh\nexec {shlex.quote(loom.program)} "$@"\n').chmod(0o755)
+    other = {"TIMEWEAVE_LIBRARY": "/nowhere", "TIMEWEAVE_PROGRAM": str(loom.folder / "other")}
+    loom.expect("judge bread3", 0, "judged by: program, not known to be proved, SHA-256 ", **other)
 
 
 def contradictions(room):

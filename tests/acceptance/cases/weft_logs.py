@@ -356,6 +356,11 @@ def proof_of_a_file(room):
     loom.put("src/other", "changed")
     loom.expect("log src log", 0)
     loom.expect("prove log ./paid.csv --top 1", 0, "in step 1 of data", "line of step 1", "judged by: proved")
+    proof = loom.read("paid.csv.proof")
+    loom.expect("prove log ./paid.csv", 7, "paid.csv.proof is there already", "--out")
+    if loom.read("paid.csv.proof") != proof:
+        raise Wrong("  a proof under another line was written over one that was there")
+    loom.expect("prove log ./paid.csv --top 1", 0)
     loom.expect("judge paid.csv.proof --file src/paid.csv", 0, "paid.csv is that file", "by mail")
     loom.expect("judge paid.csv.proof --file src/sub/paid.csv", 1, "NOT SO")
     loom.put("copy.csv", loom.read("src/paid.csv"))

@@ -13,15 +13,22 @@ from concurrent.futures import ProcessPoolExecutor
 from pathlib import Path
 from types import SimpleNamespace
 
-from cases.weft_exchange import Net, received
+from cases.weft_exchange import Net, pair, received
 from harness.places import TOP
-from harness.rooms import Wrong, case
+from harness.rooms import Skipped, Wrong, case
+
+sys.path[:0] = [str(TOP / "bench")]
+
+import network  # noqa: E402
+import network_devices as devices  # noqa: E402
 
 NAMES = [f"s{number}" for number in range(6)]
 LOST, LATE = 0.3, 0.1
 # The service that shows two histories, the one whose old store is put back, and the one whose name a squatter uses.
 LIAR, OLD, SQUATTED = "s1", "s4", "s2"
 NIGHTS = 30
+# Of a small device so many pages are free at most.
+MOST_PAGES = 24
 
 
 def peers_of(number):
@@ -202,16 +209,45 @@ def fork_on(weave, number):
 
 def in_earnest(room):
     """eight services weave for sixty nights (bench/network.py) while files are lost, doubled, late and damaged, runs and the program are killed and devices
-    fail: each order that receipts can show is shown and no other, no step is lost, a fork, an old store, a squatter and a flood are told, nobody else is"""
-    sys.path[:0] = [str(TOP / "bench")]
-    import network
-
+    fail or are full: each order that receipts can show is shown and no other, no step is lost, a fork, an old store, a squatter and a flood are told, a
+    dropped thread is shown, and nobody else is accused"""
     folder = Path(room.folder) / "network"
     folder.mkdir()
     with ProcessPoolExecutor(len(os.sched_getaffinity(0))) as executor:
         wrong, figures = network.played(folder, room.program, 8, 60, 1, executor)
-    if wrong or figures["shown"] < 300:
+    if wrong or figures.shown < 300:
         raise Wrong(f"  {wrong[:5]}\n  {figures}")
+
+
+def small_devices(room):
+    """a turn whose store or box lies on a file system that is full, or has a few free pages, ends with a sentence, and what was there stands: the next one
+    goes on, no acknowledged step is lost, and no line is recorded twice"""
+    if devices.hindrance():
+        raise Skipped(devices.hindrance())
+    net = pair(room)
+    loom, lines = net.loom, []
+    for place, left_out in (("shop", ""), ("box-shop", "in")):
+        statuses = []
+        for pages in range(MOST_PAGES):
+            lines.append(loom.append("shop", b"%d pages of %s" % (pages, place.encode())))
+            net.turn("bank", 0)
+            net.carry("bank", "shop")
+            done = loom.run("exchange", "shop", "box-shop", patch=lambda: devices.move_to(loom.folder / place, pages, left_out))
+            if done.status not in (0, 5) or done.status == 5 and "weft: " not in done.err:
+                raise Wrong(f"  {pages} free pages for {place}: {done}")
+            statuses.append(done.status)
+            net.night()
+        if {*statuses} != {0, 5}:
+            raise Wrong(f"  {place} on a small device: {statuses}")
+    told = [loom.timeweave("prove", "shop", "event", line.split()[1], "0", line.split()[1]) for line in lines]
+    for line, proof in zip(lines, told):
+        loom.put("proof", proof)
+        loom.put("line", line)
+        loom.timeweave("strict", "proof", "line")
+    for name in net.peers:
+        threads = received(loom, name)
+        if len(set(threads)) != len(threads):
+            raise Wrong(f"  {name} received a line twice")
 
 
 def copy(path, to):
@@ -221,7 +257,7 @@ def copy(path, to):
 
 
 def cases():
-    return [case(work, "weft network") for work in (woven, liars, in_earnest)]
+    return [case(work, "weft network") for work in (woven, liars, small_devices, in_earnest)]
 
 
 if __name__ == "__main__":
