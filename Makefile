@@ -19,7 +19,7 @@ OTHER = 0f9cc8f6baef592ed6bf90b106ebe7b882f59a1cc9803a6d1eef6974da5f87ed
 .PHONY: build demo test check crash fuzz wrong-bodies bench
 
 # Builds the program. Only a proved program is built: a build proves every crate below it first, which takes long. Where nothing
-# has changed since the last one, nothing is done.
+# has changed since the last one, nothing is done. How far it is is shown; what the prover says stands in log/build.log.
 build:
 	@echo "building: only a proved program is built; where its sources changed, all below it is proved first, which takes long"
 	python3 tools/build.py timeweave
@@ -38,9 +38,10 @@ demo: build
 	@echo; examples/event_chain.sh $(PROGRAM)
 	@echo; examples/audited_chain.sh $(PROGRAM)
 
-# The gate: every proof, wrong body, test and program, and then the acceptance run.
+# The gate: every proof, wrong body, test and program, and then the acceptance run. How far it is is shown, and what it says stands in log/test.log; `.ci/run` by
+# itself says it on the screen.
 test:
-	.ci/run
+	python3 tools/progress.py test .ci/run
 
 # The acceptance run over the built program and the one of trees in pages, which are built where they aren't there; after an edit,
 # `make build` first.
@@ -113,7 +114,12 @@ check bench: | $(if $(HAS_PAGE),$(PAGE))
 
 INSTALL = python3 tools/install.py --prefix $(PREFIX) --libdir $(LIBDIR) --destdir "$(DESTDIR)" --program $(PROGRAM)
 
-.PHONY: install install-lib install-weft package twice
+.PHONY: tables install install-lib install-weft package twice
+
+# Writes tables/, of the sources' comments: what each public clause says, and what each definition means. Packages have both.
+tables:
+	python3 tools/claims.py --to tables/claims.md
+	python3 tools/definitions.py --to tables/definitions.md
 
 # Copies what is built, and builds nothing: the program, weft, the library, the page, the documents. What isn't built is told; without the program
 # nothing is copied.
@@ -135,6 +141,9 @@ KEY ?=
 package:
 	python3 tools/package.py $(if $(KEY),--key $(KEY))
 
-# Builds program, library, page and packages twice, in two folders, under two users, with nothing that an earlier build left, and compares: hours.
+# Builds program, library, page and packages twice, in two folders, under two users, with nothing that an earlier build left, and compares: hours. With BESIDE=1
+# it builds once, and compares with dist/, where a release may lie that somebody else made.
+BESIDE ?=
+
 twice:
-	python3 tools/twice.py
+	python3 tools/twice.py $(if $(BESIDE),--beside)

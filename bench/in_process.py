@@ -8,28 +8,43 @@ import subprocess
 import sys
 from pathlib import Path
 
-from instructions import counted
+import goals
 from timing import best_times
 
 TOP = Path(__file__).resolve().parent.parent
 LIBRARY = TOP / "lib/libtimeweave.a"
 MODULE = TOP / "web/timeweave.wasm"
+
+# How many threads check at once.
+THREADS = 4
+
 BY_PYTHON = """
-import sys, time
+import sys, threading, time
 sys.path.insert(0, sys.argv[1])
 import timeweave
-proof, anchors, count = open(sys.argv[2], "rb").read(), open(sys.argv[3], "rb").read(), int(sys.argv[4])
-begun = time.process_time()
-for _ in range(count):
-    timeweave.verify(proof, anchors)
-print(f"{count} of {count} accepted, {count / (time.process_time() - begun):.0f} a second of processor time")
+proof, anchors, count, threads = open(sys.argv[2], "rb").read(), open(sys.argv[3], "rb").read(), *map(int, [*sys.argv[4:], "1"][:2])
+def check():
+    for _ in range(count):
+        timeweave.verify(proof, anchors)
+begun, spent, running = time.monotonic(), time.process_time(), [threading.Thread(target=check) for _ in range(threads)]
+for each in running:
+    each.start()
+for each in running:
+    each.join()
+begun, spent, whole = time.monotonic() - begun, time.process_time() - spent, count * threads
+print(f"{whole} of {whole} accepted, {whole / spent:.0f} a second of processor time, {whole / begun:.0f} a second by the clock")
 """
 
 
-def rate(words):
-    """How many a second the command tells."""
+def rates(words):
+    """How many a second the command tells, of processor time, and by the clock where it tells that too."""
     told = subprocess.run(words, check=True, capture_output=True, text=True).stdout
-    return float(re.search(r"accepted, (\d+) a second", told)[1])
+    return [float(found) for found in re.findall(r"(\d+) a second", told)]
+
+
+def rate(words):
+    """How many a second of processor time the command tells."""
+    return rates(words)[0]
 
 
 def best_rate(words, runs):
@@ -59,37 +74,64 @@ def files(words):
     return [words[2], str(anchors)]
 
 
-def in_process_lines(bench):
-    """The table, and the instructions of a check."""
-    if not (LIBRARY.exists() and shutil.which("cc")):
-        return ["", "The library wasn't measured: it isn't built (`make lib`), or there is no C compiler."]
-    program, runs = f"{bench.folder}/many_proofs", 3
-    command = ["cc", "-O2", "-I", TOP / "include", "-o", program, TOP / "examples/many_proofs.c", LIBRARY]
-    subprocess.run(command, check=True)
-    count, python = bench.plan.checked, [sys.executable, "-c", BY_PYTHON, str(TOP / "bindings/python")]
-    rows = []
-    for name, words in (("145", bench.least), ("14,547", bench.deep)):
-        rows.append((f"the library from C, {name} bytes", best_rate([program, *files(words), str(count)], runs)))
-        rows.append((f"the library from Python, {name} bytes", best_rate([*python, *files(words), str(count)], runs)))
-        if MODULE.exists() and shutil.which("node"):
+def compiled(folder):
+    """The program in C that checks a proof many times, built."""
+    program = f"{folder}/many_proofs"
+    subprocess.run(["cc", "-O2", "-I", TOP / "include", "-o", program, TOP / "examples/many_proofs.c", LIBRARY, "-pthread"], check=True)
+    return program
+
+
+def asked(bench, program):
+    """What checks a proof many times, each with a label, the proof's size, and its words but for how often."""
+    python = [sys.executable, "-c", BY_PYTHON, str(TOP / "bindings/python")]
+    for size, words in (("145", bench.least), ("14,547", bench.deep)):
+        yield "the library from C", size, [program, *files(words)]
+        yield "the library from Python", size, [*python, *files(words)]
+
+
+def in_process_rows(bench, program, runs):
+    """The rows of one thread."""
+    count, rows = bench.plan.checked, []
+    for label, size, words in asked(bench, program):
+        rows.append((f"{label}, {size} bytes", best_rate([*words, str(count)], runs)))
+    if MODULE.exists() and shutil.which("node"):
+        for size, words in (("145", bench.least), ("14,547", bench.deep)):
             command = ["node", TOP / "web/tests/many.mjs", *files(words), str(count)]
-            rows.append((f"the module of WebAssembly from Node, {name} bytes", best_rate(command, runs)))
+            rows.append((f"the module of WebAssembly from Node, {size} bytes", best_rate(command, runs)))
     rows.append(("`timeweave verify`, 145 bytes, a process each", 1 / best_times([bench.least], bench.plan.runs)[0]))
     log = log_checker(bench.folder)
     if log:
         rows.append(("Go's `tlog.CheckRecord`, one of 65,536 records, 16 hashes", best_rate([log, "65536", str(count)], runs)))
     if shutil.which("openssl"):
         rows.append(("`openssl speed rsa2048`: one signature verified", signatures()))
-    lines = [f"| {label} | {rate:,.0f} | {1e6 / rate:,.1f} |" for label, rate in rows]
-    text = ["", "**Many proofs**, the anchors read and the report written each time:", "", "| check | a second | microseconds each |", "|---|---|---|", *lines]
-    if shutil.which("valgrind"):
-        several = [counted([program, *files(bench.deep), str(many)], bench.folder) for many in (10, 110)]
-        own, inside, blocks = (later - earlier for earlier, later in list(zip(*several))[1:])
-        text += [
-            "", f"A check more of the proof of 14,547 bytes takes {own // 100:,} instructions, {own / inside:.2f} times those inside the compression",
-            f"function of SHA-256, of which it takes {blocks // 100:,} blocks.",
-        ]
-    return text
+    return [f"| {label} | {found:,.0f} |" for label, found in rows]
+
+
+def thread_lines(bench, program, runs):
+    """The table of several threads at once: what they do together by the clock, beside one, and what each check takes of a processor."""
+    rows = []
+    for label, size, words in asked(bench, program):
+        count = bench.plan.checked // (1 if size == "145" else 10)
+        one, several = ([max(found) for found in zip(*(rates([*words, str(count), str(threads)]) for _ in range(runs)))] for threads in (1, THREADS))
+        if label.endswith("C") and size == "145":
+            goals.note("library", several[1])
+        # (in one thread nothing waits but for other programs: by the clock it is told too, of processor time it is the same)
+        rows.append(f"| {label}, {size} bytes | {one[0]:,.0f} | {several[0]:,.0f} | {several[1]:,.0f} |")
+    return [
+        "", f"In {THREADS} threads at once, on {os.cpu_count()} processors; the load of other work was {os.getloadavg()[0]:.1f}, and only near 0 the last column tells what {THREADS} threads are worth. In Python one thread at a time makes the call and",
+        "reads the report; during the call others run.", "",
+        "| check | one thread, a second | each of them, a second | together, a second by the clock |", "|---|---|---|---|", *rows,
+    ]  # fmt: skip
+
+
+def in_process_lines(bench):
+    """The tables."""
+    if not (LIBRARY.exists() and shutil.which("cc")):
+        return ["", "The library wasn't measured: it isn't built (`make lib`), or there is no C compiler."]
+    program, runs = compiled(bench.folder), 3
+    lines = in_process_rows(bench, program, runs)
+    text = ["", "## Proofs in one process", "", "The anchors are read and the report is written each time; by processor time:", "", "| check | a second |", "|---|---|", *lines]
+    return text + thread_lines(bench, program, runs)
 
 
 def main():

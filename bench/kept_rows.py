@@ -7,18 +7,14 @@ its own that opens the store, does one thing and ends, and each row is synced wh
 import os
 import re
 import shutil
-import statistics
 import subprocess
 from pathlib import Path
-
-from timing import seconds
 
 HERE = Path(__file__).resolve().parent
 STORES = (("LMDB", "lmdb_rows", "lmdb"), ("sqlite3", "sqlite_rows", "sqlite3"))
 
-# Bytes that are written and read, by the descriptor; the last group is how many.
+# Bytes that are written, by the descriptor; the last group is how many.
 WRITES = re.compile(r"p?write(?:v|64|v2)?\((\d+), .* = (\d+)$")
-READS = re.compile(r"p?read(?:v|64)?\((\d+), .* = (\d+)$")
 
 
 def built(folder):
@@ -50,7 +46,7 @@ class Rows:
 
 
 class Moved:
-    """What a command asks of files: how often it syncs, and how many bytes it writes and reads, its output and the loader's files apart."""
+    """What a command asks of files: how often it syncs, and how many bytes it writes, its output apart."""
 
     def __init__(self, words, folder, store):
         log = f"{folder}/strace"
@@ -61,20 +57,11 @@ class Moved:
         written = [found.groups() for line in own if (found := WRITES.match(line))]
         self.syncs = sum(line.startswith(("fsync", "fdatasync")) for line in own) + sum(file in at_once for file, _ in written)
         self.written = sum(int(size) for _, size in written)
-        self.read = sum(int(found[2]) for line in own if (found := READS.match(line)))
-
-
-def turns(asked, runs):
-    """The middle of each command's time over its turns, in seconds: each is asked for its words in turn, so that other work bears on all alike."""
-    null = os.open("/dev/null", os.O_RDWR)
-    times = [[seconds(words(), null) for words in asked] for _ in range(runs)]
-    os.close(null)
-    return [statistics.median(column) for column in zip(*times)]
 
 
 def kib(size):
     return f"{size / 1024:.1f}"
 
 
-def cell(moved, size, instructions):
-    return f"{moved.syncs}; {kib(size)}; {instructions / 1e6:.2f}"
+def cell(moved):
+    return f"{moved.syncs}; {kib(moved.written)}"

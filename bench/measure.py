@@ -3,7 +3,7 @@
     python3 bench/measure.py [PROGRAM]                  `make bench` calls it so
     python3 bench/measure.py PROGRAM --try FOLDER       a few runs on small stores, to try the script; writes into the folder
 
-Times are of whole commands, each the best of many runs that take turns in one go; only their ratio is worth anything on another
+Times are of whole commands, each the median of many runs that take turns in one go; only their ratio is worth anything on another
 machine. What isn't installed is left out, and the page says so: sqlite3, git, openssl, strace, valgrind, a C compiler, the library (`make lib`), LMDB and
 SQLite for C, and Python's `lmdb`.
 """
@@ -20,6 +20,8 @@ TOP = HERE.parent
 sys.path.insert(0, str(TOP / "tests/acceptance"))
 
 import calls  # noqa: E402
+import goals  # noqa: E402
+import own_parts  # noqa: E402
 from exported_histories import export_lines  # noqa: E402
 from in_process import in_process_lines  # noqa: E402
 from instructions import counted  # noqa: E402
@@ -27,7 +29,7 @@ from paged_trees import tree_lines  # noqa: E402
 from picture import drawn  # noqa: E402
 from received_threads import receiving_lines  # noqa: E402
 from rivals import all_rivals  # noqa: E402
-from timing import best_times  # noqa: E402
+from timing import best_times, middle_times  # noqa: E402
 from whole_histories import history_lines  # noqa: E402
 
 from harness.deep import deep_proof  # noqa: E402
@@ -53,14 +55,16 @@ class Plan:
         self.runs = 3 if is_trial else 1000
         self.appends = 3 if is_trial else 100
         self.shows = 1 if is_trial else 5
-        self.stores = (1_000,) if is_trial else (1_000, 10_000, 65_535, 100_000)
+        self.exports = 3 if is_trial else 15
+        self.stores = (1_000,) if is_trial else (1_000, 65_535)
         self.compared = 1_000 if is_trial else 10_000
-        self.histories = (1,) if is_trial else (1, 4, 16, 64)
+        self.histories = (1,) if is_trial else (1, 16, 64)
         self.counted = self.histories[-1] if is_trial else 16
         self.inserts = 1_000 if is_trial else 10_000
         self.found = 1_000 if is_trial else 100_000
+        self.turns = 100 if is_trial else 2_000
         self.checked = 1_000 if is_trial else 100_000
-        self.threads = ((20, 3),) if is_trial else tuple((threads, peers) for peers in (3, 100, 10_000) for threads in (1_000, 10_000, 100_000) if peers <= threads)
+        self.threads = ((20, 3),) if is_trial else ((1_000, 3), (10_000, 100), (10_000, 10_000))
 
 
 class Kept:
@@ -104,8 +108,8 @@ class Bench:
     def prove(self, store, step):
         return [self.program, "prove", store.folder, "event", str(step), "0"]
 
-    def append(self, store, *time):
-        return [self.program, "append", store.folder, self.events, *time]
+    def append(self, store):
+        return [self.program, "append", store.folder, self.events]
 
     def tell(self, store, since):
         return [self.program, "thread", store.folder, str(since)]
@@ -141,16 +145,27 @@ def size_of(words):
 def compared(title, rows, runs, before=lambda: None):
     """The rows of label and command as lines of a table, which the picture shows too."""
     rows = [(f"`{TRUE}`", [TRUE]), *rows]
-    best = best_times([words for _, words in rows], runs, before)
-    lines = [f"| {label} | {microseconds(time)} | {time / best[0]:.2f} |" for (label, _), time in zip(rows, best)]
-    return ["", f"**{title}**", "", f"| command | best of {runs:,} runs, in microseconds | ratio to `{TRUE}` |", "|---|---|---|", *lines]
+    middle = middle_times([words for _, words in rows], runs, before)
+    note_goals({label: time for (label, _), time in zip(rows, middle)})
+    lines = [f"| {label} | {microseconds(time)} | {time / middle[0]:.2f} |" for (label, _), time in zip(rows, middle)]
+    return ["", f"**{title}**", "", f"| command | median of {runs:,} runs, in microseconds | ratio to `{TRUE}` |", "|---|---|---|", *lines]
+
+
+def note_goals(times):
+    """Notes what these times say of goals: of a row by another one."""
+    for name, row, beside in (
+        ("verify", "`timeweave verify`, 145 bytes", f"`{TRUE}`"), ("append", "`timeweave append`", "the calls of `append`"),
+        ("thread", "`timeweave thread`, since the step before", "the calls of `thread`"),
+    ):  # fmt: skip
+        if row in times and beside in times:
+            goals.note(name, times[row] / times[beside])
 
 
 def comparisons(bench):
     """The commands beside nothing, beside the same calls in C, and beside other programs."""
     plan, store = bench.plan, Kept(bench.folder, bench.plan.compared)
     rivals, missing = all_rivals(bench.folder, plan.compared)
-    prove, append, timed = bench.prove(store, 1), bench.append(store), bench.append(store, "1700000000")
+    prove, append = bench.prove(store, 1), bench.append(store)
     tell, far, link = bench.tell(store, store.count - 1), bench.tell(store, 1), bench.link(store, 1)
     wanted = [
         ("verify", [
@@ -162,8 +177,6 @@ def comparisons(bench):
         ("append", [
             *bench.same_calls("the calls of `append`", append, store),
             ("`timeweave append`", append),
-            *bench.same_calls("the calls of `append`, at a time", timed, store),
-            ("`timeweave append`, at a time", timed),
         ], plan.appends, store.put_back),
         ("thread", [
             *bench.one_sync(store),
@@ -182,52 +195,29 @@ def comparisons(bench):
     return text
 
 
-def store_tables(bench):
-    """What `prove` and `append` cost on stores of several sizes."""
-    proofs, appends = [], []
-    for count in bench.plan.stores:
-        store = Kept(bench.folder, count)
-        for step in (1, count):
-            prove = bench.prove(store, step)
-            nothing, took = best_times([[TRUE], prove], bench.plan.runs)
-            proofs.append(f"| {count:,} | {step:,} | {bench.pages(prove)} | {microseconds(took)} | {took / nothing:.2f} |")
-        rows = [*bench.same_calls("", bench.append(store), store), ("", bench.append(store))]
-        *alone, took = best_times([words for _, words in rows], bench.plan.appends, store.put_back)
-        ratios = f"{microseconds(alone[0])} | {microseconds(took)} | {took / alone[0]:.2f}" if alone else f"? | {microseconds(took)} | ?"
-        appends.append(f"| {count:,} | {ratios} |")
-    return [
-        "", "`prove DIR event STEP 0`, on stores of steps of one event each; pages read are those of the opening too, four of them:", "",
-        f"| steps | step | pages read | best of {bench.plan.runs:,} runs, in microseconds | ratio to `{TRUE}` |", "|---|---|---|---|---|", *proofs,
-        "", "`append` of one event, beside a program in C that makes the same calls on files (`same_calls.c`):", "",
-        f"| steps before | the calls alone, best of {bench.plan.appends}, in microseconds | `append`, the same | ratio |", "|---|---|---|---|",
-        *appends,
-    ]
+def growth(bench, store):
+    """The row of a store of one size: what `prove` and `append` take, and what each command reads and computes."""
+    prove, append = bench.prove(store, 1), bench.append(store)
+    nothing, proved = middle_times([[TRUE], prove], bench.plan.runs)
+    rows = [*bench.same_calls("", append, store), ("", append)]
+    *alone, added = middle_times([words for _, words in rows], bench.plan.appends, store.put_back)
+    store.put_back()
+    cells = [f"{proved / nothing:.2f}", f"{added / alone[0]:.2f}" if alone else "?"]
+    for words in (append, bench.tell(store, 1), bench.link(store, 1), prove):
+        pages = bench.pages(words)
+        store.put_back()
+        cells.append(f"{pages}; {counted(words, bench.folder)[0]:,}" if shutil.which("valgrind") else str(pages))
+        store.put_back()
+    return f"| {store.count:,} | {' | '.join(cells)} |"
 
 
 def growth_table(bench):
-    """What each command reads and computes on stores of several sizes."""
-    asked = {
-        "`append`": lambda store: bench.append(store),
-        "`append`, at a time": lambda store: bench.append(store, "1700000000"),
-        "`thread`, since step 1": lambda store: bench.tell(store, 1),
-        "`prove link`, step 1": lambda store: bench.link(store, 1),
-        "`prove event`, step 1": lambda store: bench.prove(store, 1),
-    }
-    if not shutil.which("valgrind"):
-        return ["", "Growth wasn't measured: valgrind isn't installed."]
-    lines = []
-    for count in bench.plan.stores:
-        store, cells = Kept(bench.folder, count), []
-        for words in (command(store) for command in asked.values()):
-            pages = bench.pages(words)
-            store.put_back()
-            cells.append(f"{pages}; {counted(words, bench.folder)[0]:,}")
-            store.put_back()
-        lines.append(f"| {count:,} | {' | '.join(cells)} |")
+    """What commands take on stores of several sizes."""
     return [
-        "", "Whole pages that each command reads, and all its instructions, with the loader and the C library, on stores of steps of one event each:", "",
-        f"| steps | {' | '.join(asked)} |", f"|---{'|---' * len(asked)}|", *lines,
-    ]
+        "", "By the size of the store: times, and then pages read with all instructions:", "",
+        f"| steps | `prove`, step 1, by `{TRUE}` | `append`, by the calls | `append` | `thread`, since step 1 | `prove link`, step 1 | `prove event`, step 1 |",
+        "|---" * 7 + "|", *(growth(bench, Kept(bench.folder, count)) for count in bench.plan.stores),
+    ]  # fmt: skip
 
 
 def history_file(path, size, per_step):
@@ -241,62 +231,66 @@ def history_file(path, size, per_step):
     return count
 
 
-def shown_tables(bench):
+def shown_table(bench):
     """How long `show` takes on histories of several sizes, and its instructions beside those of the hashes."""
-    times, counts, path = [], [], f"{bench.folder}/history"
+    rows, ratios, path = [], [], f"{bench.folder}/history"
     words = [bench.program, "show", path, "1", "0"]
     for per_step in (300, 1):
+        cells = []
         for size in bench.plan.histories:
-            steps = history_file(path, size * 2**20, per_step)
+            history_file(path, size * 2**20, per_step)
             took, = best_times([words], bench.plan.shows)
-            times.append(f"| {size} | {per_step} | {steps:,} | {took * 1e3:.1f} | {took * 1e3 / size:.2f} |")
+            cells.append(f"{took * 1e3 / size:.2f}")
             if size == bench.plan.counted and shutil.which("valgrind"):
-                total, own, inside, blocks = counted(words, bench.folder)
-                ratios = [f"{part / inside:.2f}" if inside else "?" for part in (own, total)]
-                counts.append(f"| {per_step} | {blocks:,} | {inside:,} | {own:,} | {ratios[0]} | {total:,} | {ratios[1]} |")
+                _, own, inside, _, _ = counted(words, bench.folder)
+                goals.note("show", own / inside)
+                ratios.append(f"{own / inside:.2f}")
+        rows.append(f"| {per_step} | {' | '.join(cells)} |")
     text = [
-        "", "`show HISTORY 1 0` on histories of events of 200 bytes:", "",
-        f"| MiB | events a step | steps | best of {bench.plan.shows} runs, in milliseconds | milliseconds a MiB |", "|---|---|---|---|---|", *times,
-    ]
-    if counts:
-        text += [
-            "", f"The same on {bench.plan.counted} MiB, in instructions:", "",
-            "| events a step | blocks hashed | inside the compression function | the program's own code | ratio | in all | ratio |",
-            "|---|---|---|---|---|---|---|", *counts,
-        ]
-    return text
+        "", "## Whole histories", "",
+        f"`show HISTORY 1 0`, on histories of events of 200 bytes, best of {bench.plan.shows} runs, in milliseconds a MiB:", "",
+        f"| events a step | {' | '.join(f'{size} MiB' for size in bench.plan.histories)} |", "|---" * (1 + len(bench.plan.histories)) + "|", *rows,
+    ]  # fmt: skip
+    told = f"By instructions, on {bench.plan.counted} MiB, the program's own code takes {' and '.join(ratios)} times what its hashes take."
+    return [*text, "", told] if ratios else text
 
 
-def instruction_table(bench):
+def deep_lines(bench):
     """The instructions of `verify` on the deep proof, beside those inside the hashes."""
     if not shutil.which("valgrind"):
         return ["", "Instructions weren't counted: valgrind isn't installed."]
-    total, own, inside, blocks = counted(bench.deep, bench.folder)
+    total, own, inside, blocks, _ = counted(bench.deep, bench.folder)
     event = [1 + len(DEEP_EVENTS[INDEX])] + [65] * len(ways_down(len(DEEP_EVENTS), INDEX))
     wanted = large.blocks(large.part_sizes(STEP, TOP_STEP) + event)
-    ratios = [f"{part / inside:.2f}" if inside else "?" for part in (own, total)]
+    goals.note("deep", own / inside)
     return [
-        "", "| `verify` of the deep proof | instructions | ratio to the hashes |", "|---|---|---|",
-        f"| inside the compression function of SHA-256, {blocks:,} blocks | {inside:,} | 1.00 |",
-        f"| in the program's own code | {own:,} | {ratios[0]} |",
-        f"| in all, with the loader and the C library | {total:,} | {ratios[1]} |",
-        "",
-        "The hashes alone are what callgrind counts inside the compression function during that very run; no other program",
-        f"is measured for it. The texts that checking this proof hashes, each once, have {wanted:,} blocks.",
-    ]
+        "", f"`verify` of the longer proof takes {own:,} instructions in the program's own code: {own / inside:.2f} times the {inside:,} inside the compression function of SHA-256, for {blocks:,} blocks "
+        f"(the texts that checking hashes have {wanted:,}), counted by callgrind during that very run. With", f"the loader and the C library it takes {total / inside:.2f} times these.",
+    ]  # fmt: skip
+
+
+def generated_lines(bench):
+    """The instructions of `generate` beside those of its hashes."""
+    if not shutil.which("valgrind"):
+        return []
+    found = counted([bench.program, "generate", "7", str(bench.plan.turns)], bench.folder)
+    without = found.total - found.filled
+    goals.note("generate", without / found.inside)
+    return [
+        "", f"`generate 7 {bench.plan.turns}` takes {without / found.inside:.2f} times the instructions of its hashes ({found.blocks:,} blocks), without those that fill or copy memory, and "
+        f"{(without + found.filled) / found.inside:.2f} times with them. These are counted one for each byte or word, and take little time.",
+    ]  # fmt: skip
 
 
 def introduction(plan):
     return [
         "# Measured", "",
-        f"By `make bench`, on {platform.machine()} with {os.cpu_count()} processors, {platform.system()}. Each time is that of a whole command, the",
-        "best of many runs that took turns; ratios are to `/bin/true`, which is what starting a program takes.", "",
-        f"The longer proof of `verify` has a path of 40 links, from step {TOP_STEP:,} to step {STEP}, and is of one of 1,024 events. The store of",
-        f"the other commands has {plan.compared:,} steps of one event each; the table and the repository beside it have as many rows and commits.",
-        "The rows of the calls are of a program in C, `same_calls.c`, that makes the calls on files that `strace` sees the command make. The other",
-        "programs give something else than a proof gives (`rivals.py` says what each does): they tell how long commands take that are known.", "",
+        f"By `make bench`, on {platform.machine()} with {os.cpu_count()} processors, {platform.system()}; the load of other work was {os.getloadavg()[1]:.1f} when this began. Each time is that of a whole command, the median",
+        "of many runs that took turns. *The calls* are those on files that `strace` sees a command make, made by a program in C (`same_calls.c`). "
+        f"Stores have {plan.compared:,} steps of one event each, where nothing else is said. The",
+        f"longer proof of `verify` has a path of 40 links, and is of one of {len(DEEP_EVENTS):,} events. Other programs give something else than a proof (`rivals.py`): they tell how long known commands take.", "",
         "![each command's time as a ratio to /bin/true](RESULTS.svg)",
-    ]
+    ]  # fmt: skip
 
 
 def main():
@@ -306,14 +300,13 @@ def main():
     plan = Plan(is_trial)
     with tempfile.TemporaryDirectory() as folder:
         bench = Bench(program, folder, plan)
-        text = introduction(plan) + comparisons(bench) + store_tables(bench) + growth_table(bench) + shown_tables(bench)
-        text += export_lines(program, bench.calls, folder, plan.histories, plan.shows)
-        text += history_lines(program, folder, plan.histories, plan.histories[0]) + instruction_table(bench)
+        begins, text = introduction(plan), comparisons(bench) + growth_table(bench) + shown_table(bench)
+        text += history_lines(program, folder, plan.histories, plan.histories[0]) + deep_lines(bench) + generated_lines(bench) + tree_lines(plan, folder)
+        text += export_lines(program, bench.calls, folder, plan.histories, plan.exports)
         text += receiving_lines(bench, plan.threads, plan.appends)
         text += in_process_lines(bench)
-        text += tree_lines(plan, folder)
-    result = "\n".join(text) + "\n"
-    (target / "RESULTS.md").write_text(result)
+    result = "\n".join([*begins[:1], *goals.table(), *begins[1:], *text]) + "\n"
+    (target / "RESULTS.md").write_text(own_parts.kept(result, (HERE / "RESULTS.md").read_text()))
     (target / "RESULTS.svg").write_text(drawn(result))
     print(result, end="")
 

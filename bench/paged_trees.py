@@ -8,6 +8,7 @@ import subprocess
 import tempfile
 from pathlib import Path
 
+import goals
 from instructions import counted
 
 try:
@@ -83,31 +84,22 @@ def inserted(count, runs, folder):
     inserts, staged = asked("insert", numbers), pages_staged(numbers)
     took = seconds(inserts, runs)
     hashed = seconds(inserts + b"pages\n", runs) - took
-    text = [
-        f"{count:,} inserts into an archive's tree in pages in memory, of entries drawn by chance, stage {sum(staged):,} pages, {sum(staged) / count:.2f} each",
-        f"and at most {max(staged)}. They take {took / count * 1e6:.1f} microseconds of processor time each. The SHA-256 of the bytes of these pages, by the same",
-        f"code, takes {hashed / count * 1e6:.1f} for each insert.",
-    ]
-    if lmdb:
-        bytes_each = written_by_lmdb(numbers) / count
-        text.append(f"LMDB writes {bytes_each:,.0f} bytes for each of the same keys in a transaction of its own, or {bytes_each / PAGE:.2f} pages.")
-    else:
-        text.append("LMDB wasn't measured: Python has no module `lmdb`.")
-    return text + instruction_lines(inserts, PAGE // 64 * sum(staged), folder)
+    lines = [
+        f"An insert into an archive's tree in pages in memory, one of {count:,} of entries drawn by chance, stages {sum(staged) / count:.2f} pages, and at most {max(staged)}. It takes {took / count * 1e6:.1f} microseconds of processor time, of which the SHA-256 of the pages' bytes would",
+        f"take {hashed / count * 1e6:.1f}{times_hashes(inserts, PAGE // 64 * sum(staged), folder)}.",
+    ]  # fmt: skip
+    told = f"LMDB writes {written_by_lmdb(numbers) / count / PAGE:.2f} pages for the same key in a transaction of its own." if lmdb else "LMDB wasn't measured: Python has no module `lmdb`."
+    return [*lines, told]
 
 
-def instruction_lines(inserts, page_blocks, folder):
-    """The table of their instructions, beside those that the SHA-256 of so many blocks takes."""
+def times_hashes(inserts, page_blocks, folder):
+    """What their instructions are beside those that the SHA-256 of so many blocks takes, where they can be counted."""
     if not shutil.which("valgrind"):
-        return []
-    total, _, inside, blocks = counted([str(PROGRAM)], folder, inserts)
+        return ""
+    total, _, inside, blocks, _ = counted([str(PROGRAM)], folder, inserts)
     alone = inside * page_blocks // blocks
-    return [
-        "", "| these inserts | instructions | ratio to the hashes of the pages |", "|---|---|---|",
-        f"| SHA-256 of the pages' bytes alone, {page_blocks:,} blocks at what one takes below | {alone:,} | 1.00 |",
-        f"| inside the compression function of SHA-256, for the labels, {blocks:,} blocks | {inside:,} | {inside / alone:.2f} |",
-        f"| in all | {total:,} | {total / alone:.2f} |", "",
-    ]
+    goals.note("insert", total / alone)
+    return f"; by instructions {total / alone:.2f} times these hashes"
 
 
 def found(count, runs):
@@ -115,11 +107,11 @@ def found(count, runs):
     numbers = drawn(count)
     inserts = asked("insert", numbers)
     took = seconds(inserts + asked("get", numbers), runs) - seconds(inserts, runs)
-    return f"A `get` in a tree of {count:,} entries takes {took / count * 1e6:.1f} microseconds of processor time and reads {pages_read(numbers):.2f} pages."
+    return f"A `get` among {count:,} entries takes {took / count * 1e6:.1f} microseconds of processor time and reads {pages_read(numbers):.2f} pages."
 
 
 def tree_lines(plan, folder):
     """What inserts and gets cost, where the program is built."""
     if not PROGRAM.exists():
         return ["", "Trees in pages weren't measured: `tree_pages` isn't built."]
-    return ["", "**An archive's tree in pages**", "", *inserted(plan.inserts, plan.shows, folder), found(plan.found, min(plan.shows, 3))]
+    return ["", *inserted(plan.inserts, plan.shows, folder), found(plan.found, min(plan.shows, 3))]

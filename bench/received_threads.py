@@ -8,6 +8,8 @@ back as it was before. Beside it stand a program in C that makes the same calls 
 
 import os
 import re
+import shutil
+import statistics
 import subprocess
 import sys
 import tempfile
@@ -17,14 +19,18 @@ HERE = Path(__file__).resolve().parent
 sys.path.insert(0, str(HERE.parent / "reference"))
 
 import calls  # noqa: E402
+import goals  # noqa: E402
 import kept_rows  # noqa: E402
 from instructions import counted  # noqa: E402
-from timing import best_times  # noqa: E402
+from timing import middle_times, turns  # noqa: E402
 
 from timeweave_reference.messages import message_of  # noqa: E402
 from timeweave_reference.timelines import Timeline  # noqa: E402
 
 FRONT = 4 * 4096
+
+# The threads and peers by which the goal is told.
+TOLD = (1_000, 3)
 SYNCS_NOTHING = "int fsync(int file) { return file < 0; }\nint fdatasync(int file) { return file < 0; }\n"
 
 
@@ -94,49 +100,43 @@ def own_line(bench, store, runs):
     """The row of one store: what a further thread costs beside the same calls in C, and its proof."""
     written = pages_written(store.receive(), bench.folder)
     same = calls.same_calls(bench.calls, store.receive(), bench.folder)
+    blocks = counted(store.receive(), bench.folder).blocks if shutil.which("valgrind") else 0
     store.put_back()
-    alone, took = best_times([same, store.words], runs, store.put_back)
+    alone, hashed, took = middle_times([same, [*same, f"hash {blocks}"], store.words], runs, store.put_back)
+    if (store.threads, len(store.peers)) == TOLD and blocks:
+        goals.note("receive", took / hashed)
     read = calls.pages_read(store.proof(0, 1), bench.folder)
     each = store.size // store.threads
-    times = f"{alone * 1e6:,.0f} | {took * 1e6:,.0f} | {took / alone:.2f}"
+    times = f"{alone * 1e6:,.0f} | {took * 1e6:,.0f} | {took / alone:.2f} | {took / hashed:.2f}"
     return f"| {store.threads:,} | {len(store.peers):,} | {times} | {written} | {read} | {each:,} |"
 
 
-def row_lines(bench, store, kept, runs):
-    """The rows of one store beside stores of as many rows: a thread more and a row more, and a thread that is proved and a row that is read."""
+def beside_rows(bench, store, kept, runs):
+    """The row of one store beside stores of as many rows, a thread more and a row more; and how many times as long as a row that is read a proof takes,
+    by each of them."""
     peers, middle = len(store.peers), store.threads // 2
     found = {label: kept_rows.Rows(program, f"{bench.folder}/{label}", store.threads, peers) for label, program in kept}
-    proof = store.proof(middle, store.threads)
-    lines = []
-    for asked, size_of in (
-        ([store.receive, *(rows.add for rows in found.values())], lambda moved: moved.written),
-        ([lambda: proof, *((lambda rows=rows: rows.find(middle)) for rows in found.values())], lambda moved: moved.read),
-    ):
-        own, *others = kept_rows.turns(asked, runs)
-        cells = []
-        for words in asked:
-            moved = kept_rows.Moved(words(), bench.folder, bench.folder + "/")
-            cells.append(kept_rows.cell(moved, size_of(moved), counted(words(), bench.folder)[0]))
-        ratios = [f"{own / other:.2f}" for other in others]
-        lines.append(f"| {store.threads:,} | {peers:,} | {' | '.join([*cells, *ratios])} |")
+    asked = [store.receive, *(rows.add for rows in found.values())]
+    own, *others = map(statistics.median, turns(asked, runs))
+    cells = [kept_rows.cell(kept_rows.Moved(words(), bench.folder, bench.folder + "/")) for words in asked]
+    ratios = [f"{own / other:.2f}" for other in others]
     store.put_back()
-    return lines
+    proof = store.proof(middle, store.threads)
+    proved, *reads = map(statistics.median, turns([lambda: proof, *((lambda rows=rows: rows.find(middle)) for rows in found.values())], runs))
+    return f"| {store.threads:,} | {peers:,} | {' | '.join([*cells, *ratios])} |", [proved / read for read in reads]
 
 
-def row_tables(kept, received, proved, runs):
-    """The tables of these rows, with what they are."""
+def row_table(kept, received, proved, runs):
+    """The table of these rows, with what they are."""
     labels = [label for label, _ in kept]
-
-    def table(command, moved, lines):
-        ratios = " | ".join(f"time by {label}'s" for label in labels)
-        heads = " | ".join([f"`{command}`: syncs; KiB {moved}; million instructions", *(f"{label}: the same" for label in labels)])
-        return ["", f"| threads | peers | {heads} | {ratios} |", "|---" * (3 + 2 * len(labels)) + "|", *lines]
-
+    ratios = " | ".join(f"time by {label}'s" for label in labels)
+    heads = " | ".join(["`receive`: syncs; KiB written", *(f"{label}: the same" for label in labels)])
+    spans = [f"{min(each):.2f} to {max(each):.2f} times the time of {label}'s read" for label, each in zip(labels, zip(*proved))]
     return [
-        "", f"Beside stores of as many rows, which keep the same keys and prove nothing (`kept_rows.py`): a row of 40 bytes more, synced, beside `receive`, and a row read beside the proof of the same thread at",
-        f"the last step. Instructions have the loader and the C library in them. Times are medians of {runs} turns, a command of each in every turn. LMDB reads by mapping its file, which isn't counted.",
-        *table("receive", "written", received), *table("prove thread", "read", proved),
-    ]
+        "", f"Beside stores of as many rows, which keep the same keys and prove nothing (`kept_rows.py`): a row of 40 bytes more, synced, beside `receive`, and a row read beside the proof of a thread. Medians of {runs} turns.", "",
+        f"| threads | peers | {heads} | {ratios} |", "|---" * (3 + 2 * len(labels)) + "|", *received,
+        "", f"The proof takes {' and '.join(spans)}.",
+    ]  # fmt: skip
 
 
 def receiving_lines(bench, shapes, runs):
@@ -145,10 +145,10 @@ def receiving_lines(bench, shapes, runs):
     if not bench.calls:
         return [*heading, "Receiving wasn't measured: there is no strace or no C compiler."]
     lines = [
-        *heading, "A service that received so many threads, of so many peers in turn, receives one more, beside a program in C that makes the same calls on files. The store is made by the",
-        "program, a message at a time. `prove thread` is of the first thread, at the step that received it.", "",
-        f"| threads | peers | the calls alone, best of {runs}, in microseconds | `receive`, the same | ratio | new pages | `prove thread`, pages read | bytes a thread |", "|---|---|---|---|---|---|---|---|",
-    ]
+        *heading, "A service that received so many threads, of so many peers in turn, receives one more, beside the calls, and beside these and as many hashes as the labels of its new pages ask for. `prove thread` is of the",
+        "first thread, at the step that received it.", "",
+        f"| threads | peers | the calls, median of {runs}, in microseconds | `receive`, the same | by the calls | by calls and hashes | new pages | `prove thread`, pages read | bytes a thread |", "|---" * 9 + "|",
+    ]  # fmt: skip
     kept, unsynced = kept_rows.built(bench.folder), library_without_syncs(bench.folder)
     received, proved = [], []
     for peers in sorted({peers for _, peers in shapes}):
@@ -158,12 +158,12 @@ def receiving_lines(bench, shapes, runs):
             store.grow(threads, unsynced)
             lines.append(own_line(bench, store, runs))
             if kept:
-                more, proof = row_lines(bench, store, kept, runs)
+                more, proof = beside_rows(bench, store, kept, runs)
                 received.append(more)
                 proved.append(proof)
             print(lines[-1], *received[-1:], *proved[-1:], sep="\n", file=sys.stderr, flush=True)
         os.remove(store.path)
-    return lines + (row_tables(kept, received, proved, runs) if kept else [])
+    return lines + (row_table(kept, received, proved, runs) if kept else [])
 
 
 class Alone:

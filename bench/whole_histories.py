@@ -4,7 +4,6 @@
 """
 
 import os
-import resource
 import shutil
 import subprocess
 import sys
@@ -15,6 +14,7 @@ TOP = Path(__file__).resolve().parent.parent
 sys.path[:0] = [str(TOP / "tools"), str(TOP / "reference")]
 
 from example_files import Peer  # noqa: E402
+import goals  # noqa: E402
 from instructions import counted  # noqa: E402
 from timing import cost  # noqa: E402
 
@@ -41,7 +41,7 @@ def empty_step(number):
     return b"\x01" + (be(0, 4) if number else be(1, 4) + be(0, 4)) + NO_NODES
 
 
-# What stands in each history, and up to how many MiB it is tried: each step without events has 11 bytes, and takes 500 of memory.
+# What stands in each history, and up to how many MiB it is tried: each step without events has 11 bytes, and takes some 80 of memory.
 KINDS = (("300 events of 200 bytes a step", full_step, 64), ("no event but the first", empty_step, 16))
 
 
@@ -85,41 +85,44 @@ def adopt_words(program, folder, size, step):
 
 
 def of_memory(room, size):
-    """The most memory in MiB, and how many times the file that is; it is told from what this script has on, as which each command begins."""
-    own = resource.getrusage(resource.RUSAGE_SELF).ru_maxrss * 1024
-    return f"{room / MIB:,.0f} | {room / size / MIB:.1f}" if room > 1.1 * own else f"under {own / MIB:.0f} | ?"
+    """The most memory in MiB, and how many times the file that is."""
+    return f"{room / MIB:,.1f} | {room / size / MIB:.1f}" if room else "? | ?"
+
+
+def note_audit(room, size):
+    """Notes what an audit of so many MiB says of its goal: the largest one counts."""
+    if room:
+        goals.note("audit memory", room / size / MIB)
 
 
 def tables(head, words_of, program, folder, sizes, counted_size):
-    """The tables of a command on histories of so many MiB."""
-    times, counts = [], []
+    """The table of a command on histories of so many MiB, with the instructions beside those of the hashes."""
+    times, ratios = [], []
     for name, step, most in KINDS:
         for size in (size for size in sizes if size <= most):
-            words, steps = words_of(program, folder, size * MIB, step)
-            took, room = cost(words)
-            times.append(f"| {size} | {name} | {steps:,} | {took * 1e3:,.0f} | {took * 1e3 / size:.1f} | {of_memory(room, size)} |")
+            words, _ = words_of(program, folder, size * MIB, step)
+            took, room = cost(words, folder)
+            if words_of is audit_words and step is empty_step:
+                note_audit(room, size)
+            times.append(f"| {size} | {name} | {took:,.2f} | {of_memory(room, size)} |")
             if size == counted_size and shutil.which("valgrind"):
-                total, own, inside, blocks = counted(words, folder)
-                ratios = [f"{part / inside:.2f}" if inside else "?" for part in (own, total)]
-                counts.append(f"| {name} | {blocks:,} | {inside:,} | {own:,} | {ratios[0]} | {total:,} | {ratios[1]} |")
+                _, own, inside, _, _ = counted(words, folder)
+                if words_of is audit_words and step is empty_step:
+                    goals.note("audit", own / inside)
+                ratios.append(f"{own / inside:.2f}")
     text = [
         "", head, "",
-        "| MiB | history | steps | processor time, in milliseconds | milliseconds a MiB | most memory, in MiB | times the file |",
-        "|---|---|---|---|---|---|---|", *times,
-    ]
-    if counts:
-        text += [
-            "", f"The same on {counted_size} MiB, in instructions:", "",
-            "| history | blocks hashed | inside the compression function | the program's own code | ratio | in all | ratio |",
-            "|---|---|---|---|---|---|---|", *counts,
-        ]
+        "| MiB | history | processor time, in seconds | most memory, in MiB | times the file |", "|---|---|---|---|---|", *times,
+    ]  # fmt: skip
+    if ratios:
+        text += ["", f"By instructions, on {counted_size} MiB, the program's own code takes {' and '.join(ratios)} times what its hashes take."]
     return text
 
 
 def history_lines(program, folder, sizes, counted_size):
     """The tables of audits and of takings over of histories of so many MiB."""
     return [
-        *tables("`audit` of a proof against one history, all texts of which it keeps:", audit_words, program, folder, sizes, counted_size),
+        *tables("`audit` of a proof against one history:", audit_words, program, folder, sizes, counted_size),
         *tables("`adopt` of a history whose last step another service received, so that it is written whole:", adopt_words, program, folder, sizes, counted_size),
     ]
 

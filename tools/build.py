@@ -10,7 +10,6 @@ Right after the gate has passed this tree, `--of-gate` builds it of the crates t
 for every x86-64 processor; others are taken as the gate built them, for processors that have x86-64-v2.
 """
 
-import subprocess
 import sys
 import tempfile
 from pathlib import Path
@@ -18,17 +17,15 @@ from pathlib import Path
 import built
 from crate_copy import TOP, copy_crates
 from kit import program
+from progress import watched
 
 # The programs that are handed out: they run on every x86-64 processor.
 HANDED_OUT = ("timeweave",)
 
 
 def prove(copy, *words):
-    """Runs the gate over the copy, and tells what it says with the paths of this tree; returns its status."""
-    with subprocess.Popen(["rt", "ci", *words], cwd=copy, stdout=subprocess.PIPE, stderr=subprocess.STDOUT, text=True) as gate:
-        for line in gate.stdout:
-            print(line.replace(str(copy), str(TOP)), end="", flush=True)
-    return gate.returncode
+    """Runs the gate over the copy, shows how far it is, and writes what it says with the paths of this tree into log/build.log; returns its status."""
+    return watched(["rt", "ci", *words], copy, TOP / "log/build.log", lambda line: line.replace(str(copy), str(TOP)))
 
 
 def put(name, copy):

@@ -3,14 +3,19 @@
 
     python3 tools/twice.py           of the last commit
     python3 tools/twice.py --packs   makes only the packages twice, of the files that are built here
+    python3 tools/twice.py --beside  builds once, of the commit that dist/BUILD names, and compares with the dist/ that lies here
+
+With --processors N it takes so many processors, and it gives way to other work (--nice N, 15 if it isn't said).
 
 Run as root, it works as two users of the machine; else two names are told to the tools, and both folders are of one user. Folders, times, languages and the
 modes of new files differ as well. Nothing is to get into the files by which one could tell who made them, or where. It takes twice as long as `make build`
-from nothing, and lists each file of dist/ with its digest. The status is 1 where one differs.
+from nothing, beside a dist/ as long, and lists each file of dist/ with its digest. The status is 1 where one differs.
 """
 
+import argparse
 import hashlib
 import os
+import re
 import shutil
 import subprocess
 import sys
@@ -21,6 +26,7 @@ from typing import NamedTuple
 from crate_copy import TOP
 
 BUILT = ("bin", "lib", "web")
+DIST = TOP / "dist"
 
 
 class Place(NamedTuple):
@@ -53,17 +59,18 @@ def give(path, place):
             shutil.chown(each, place.user, "nogroup")
 
 
-def prepare(place, room):
-    """A clone of the last commit, and a home, both of the user."""
+def prepare(place, room, commit):
+    """A clone with this commit, and a home, both of the user."""
     folder, home = room / place.folder, room / f"home-{place.user}"
     home.mkdir()
     subprocess.run(["git", "clone", "--quiet", "--no-hardlinks", TOP, folder], check=True)
+    subprocess.run(["git", "checkout", "--quiet", "--detach", commit], cwd=folder, check=True)
     return folder, home
 
 
-def make(place, room, is_packs):
-    """Builds and packs at a place; answers its dist/."""
-    folder, home = prepare(place, room)
+def make(place, room, commit="HEAD", is_packs=False):
+    """Builds and packs a commit at a place; answers its dist/."""
+    folder, home = prepare(place, room, commit)
     if is_packs:
         for name in BUILT:
             shutil.copytree(TOP / name, folder / name, symlinks=True, dirs_exist_ok=True)
@@ -76,25 +83,48 @@ def make(place, room, is_packs):
 
 
 def compare(one, other):
-    """Tells each file with its digest; answers whether all are the same."""
-    names = sorted({path.name for folder in (one, other) for path in folder.iterdir()})
+    """Tells each file with its digest; answers whether all are the same. A signature is made once."""
+    names = sorted({path.name for folder in (one, other) for path in folder.iterdir() if path.suffix != ".sig"})
     digests = [[hashlib.sha256((folder / name).read_bytes()).hexdigest() if (folder / name).exists() else "-" for folder in (one, other)] for name in names]
     for name, (first, second) in zip(names, digests):
         print(f"same {first} {name}" if first == second else f"DIFFERENT {first} {second} {name}")
     return all(first == second for first, second in digests)
 
 
+def commit_of(dist):
+    """The commit that a release is of, by its own word."""
+    told = re.search(r"^commit (\w+)$", (dist / "BUILD").read_text(), re.M) if (dist / "BUILD").exists() else None
+    if not told:
+        sys.exit(f"twice: {dist}/BUILD isn't there, or names no commit; `make package` writes it, or put the files of a release there")
+    if subprocess.run(["git", "cat-file", "-e", f"{told[1]}^{{commit}}"], cwd=TOP, capture_output=True).returncode:
+        sys.exit(f"twice: {dist}/BUILD is of the commit {told[1]}, which isn't in this repository")
+    return told[1]
+
+
+def read_words():
+    words = argparse.ArgumentParser(description=__doc__, formatter_class=argparse.RawDescriptionHelpFormatter)
+    which = words.add_mutually_exclusive_group()
+    which.add_argument("--packs", action="store_true", help="the packages alone")
+    which.add_argument("--beside", action="store_true", help="once, beside the dist/ that lies here")
+    words.add_argument("--processors", type=int, metavar="N", help="so many of the processors; all if it isn't said")
+    words.add_argument("--nice", type=int, default=15, metavar="N", help="how far it gives way to other work")
+    return words.parse_args()
+
+
 def main():
-    if sys.argv[1:] not in ([], ["--packs"]):
-        sys.exit(__doc__)
+    words = read_words()
+    os.nice(words.nice)
+    if words.processors:
+        os.sched_setaffinity(0, sorted(os.sched_getaffinity(0))[: words.processors])
+    commit = commit_of(DIST) if words.beside else "HEAD"
     with tempfile.TemporaryDirectory(prefix="timeweave_twice_") as name:
         room = Path(name)
         room.chmod(0o755)
         try:
-            made = [make(place, room, bool(sys.argv[1:])) for place in PLACES]
+            made = [make(place, room, commit, words.packs) for place in (PLACES[1:] if words.beside else PLACES)]
         except subprocess.CalledProcessError as failed:
             return failed.returncode
-        return 0 if compare(*made) else 1
+        return 0 if compare(*([DIST] if words.beside else []), *made) else 1
 
 
 if __name__ == "__main__":

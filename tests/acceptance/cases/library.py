@@ -4,6 +4,7 @@ import os
 import re
 import subprocess
 import sys
+from concurrent.futures import ThreadPoolExecutor
 
 import timeweave
 from example_files import bounds, high_of, low_of, two_histories
@@ -12,12 +13,15 @@ from cases import archives
 from harness.library import ARCHIVE, SHARED, TRIED, built_library, checked_run, chosen, wanted_version
 from harness.making import proof_bytes
 from harness.places import HARNESS, LONGEST, TOP
-from harness.rooms import Wrong, case, needs
+from harness.rooms import Skipped, Wrong, case, needs
 from harness.running import difference
 from harness.samples import anchors_of, exchange, sample_fork
 from harness.ways import as_way, with_carried
 from timeweave_reference.anchors import anchors_to_bytes
 from timeweave_reference.timelines import Timeline
+
+# How many threads call it at once.
+THREADS = 4
 
 # What the library may call, and what its archive defines of the allocator's edge.
 CALLED = {"malloc", "realloc", "free", "memcpy", "memmove", "memset", "memcmp", "_GLOBAL_OFFSET_TABLE_"}
@@ -42,6 +46,49 @@ def calls(compiler):
 
     work.__doc__ = f"calls in C by {compiler}, under its sanitizers"
     return work
+
+
+def races(room):
+    """calls from four threads at once, under clang's sanitizer of threads: no two of them touch one thing unordered"""
+    built_library()
+    try_some(room.program)
+    clang, program = needs("clang", "clang"), str(room.folder / "calls")
+    room.put("proofs", chosen())
+    flags = ["-std=c11", "-O1", "-g", "-Wall", "-Wextra", "-Werror", "-fsanitize=thread", "-Wl,--wrap=malloc", "-Wl,--wrap=realloc", "-pthread"]
+    linked = subprocess.run([clang, *flags, "-I", TOP / "include", "-o", program, HARNESS / "library_calls.c", ARCHIVE], capture_output=True, text=True)
+    if "libclang_rt.tsan" in linked.stderr:
+        raise Skipped("there is no sanitizer of threads for clang (Debian: libclang-rt-14-dev)")
+    checked_run([needs("setarch", "util-linux"), "--addr-no-randomize", program, room.folder / "proofs", wanted_version()], env=os.environ | {"TSAN_OPTIONS": "halt_on_error=1"})
+
+
+def in_threads(room):
+    """four threads at once that judge all of the run's small proofs by the module for Python: each is told what one thread is"""
+    built_library()
+    try_some(room.program)
+    wanted = [(status, text) for _, status, _, _, text in TRIED]
+
+    def judged(first):
+        # (each begins at another proof)
+        order = [*range(first, len(TRIED)), *range(first)]
+        found = {place: timeweave.library().judge(TRIED[place][2], TRIED[place][3], TRIED[place][0] == "s") for place in order}
+        return [found[place] for place in range(len(TRIED))]
+
+    with ThreadPoolExecutor(THREADS) as pool:
+        told = list(pool.map(judged, (len(TRIED) * number // THREADS for number in range(THREADS))))
+    wrong = [place for found in told for place, answer in enumerate(found) if answer != wanted[place]]
+    if wrong:
+        raise Wrong(f"  of {len(wanted)} proofs {len(wrong)} are judged otherwise in {THREADS} threads, proof {wrong[0]} first")
+
+
+def no_state(room):
+    """the library has no variable: nothing in it can be written that outlives a call"""
+    built_library()
+    nm = needs("nm", "binutils")
+    listed = [line.split() for line in checked_run([nm, ARCHIVE]).splitlines()]
+    variables = {words[2] for words in listed if len(words) == 3 and words[1] in "dDbBC"}
+    # (the kit's allocator answers the address of `nothing` where there is no memory, and neither reads nor writes it)
+    if variables - {"nothing"} or not listed:
+        raise Wrong(f"  variables: {sorted(variables)}")
 
 
 def symbols(room):
@@ -157,5 +204,5 @@ def try_some(program):
 
 
 def cases():
-    for work in (each_proof, calls("gcc"), calls("clang"), symbols, installed, types, module):
+    for work in (each_proof, calls("gcc"), calls("clang"), races, in_threads, no_state, symbols, installed, types, module):
         yield case(work, "library")

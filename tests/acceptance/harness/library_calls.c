@@ -39,7 +39,7 @@ static size_t files_of(char form) {
 }
 
 static _Thread_local long calls_left = -1;
-static int wrong;
+static _Atomic int wrong;
 
 void *__real_malloc(size_t size);
 void *__real_realloc(void *block, size_t size);
