@@ -1,34 +1,39 @@
-"""Writes docs/claims.md and docs/claims-rest.md: what each public clause says, in words.
+#!/usr/bin/env python3
+"""Tells what each public clause says, in words: a table a crate, from above down.
 
-    python3 tools/claims.py           writes their tables anew
-    python3 tools/claims.py --check   tells where they differ, and writes nothing
+    python3 tools/claims.py [CRATE ..]              prints those of these crates, or of all
+    python3 tools/claims.py [CRATE ..] --to FILE    writes them into a file
 
-A claim is written once, in the source: as a plain comment right above the clause, in the contract of a public function. The tables stand
-between the lines `<!-- claims, by tools/claims.py -->` and `<!-- end of claims -->`; what is above them is written by hand.
-
-The first page has the crates that the commands and the library for C stand on; the second one the others, and the objects for tests. A claim that begins a sentence
-with `Status N of` has a row for each such sentence and what follows it. One that stands word for word above several clauses has one row, which
-names the others.
+A claim is written once, in the source: as a plain comment right above the clause, in the contract of a public function; docs/claims.md, by hand, has the
+theorems for which they are there. First come the crates that the commands and the library for C stand on, then the others, and the objects for tests. A
+claim that begins a sentence with `Status N of` has a row for each such sentence and what follows it. One that stands word for word above several clauses
+has one row, which names the others.
 
 Where a clause leaves it to a record of `specs` to say what it says, the comments of the record and of its fields are claims too: no comment stands
 above the clause, or its term begins with a definition that has the record. They stand once, behind the first function that says the record;
 its first row names all that do.
 """
 
+import argparse
 import re
-import sys
-from functools import cache
+from functools import lru_cache
 from itertools import groupby
 from pathlib import Path
-from typing import NamedTuple
+from typing import Dict, Iterable, Iterator, List, NamedTuple, Tuple
 
 import declared
 import pictures
 
 TOP = Path(__file__).resolve().parent.parent
 
-PAGES = {False: TOP / "docs/claims.md", True: TOP / "docs/claims-rest.md"}
-MARKED = re.compile(r"(<!-- claims, by tools/claims.py -->\n).*?(<!-- end of claims -->)", re.S)
+HEAD = """# What each clause says
+
+By `python3 tools/claims.py`. Each row is the comment that stands above the clause in the source, to which the function's name leads; where a row and its clause
+disagree, the clause counts. A clause without a row says what a constructor or an accessor gives, a size or range, that something else stays as it was, or what
+an object for tests does; or it says what a record of definitions says, whose own comments have rows then, once, with the functions that say it. What several
+clauses say in the same words stands once, with the names of the others. The words are those of docs/claims.md and docs/definitions.md.
+"""
+REST = "# What no command and no library reaches"
 USED = {"timeweave", "timeweave_c"}
 FOR_TESTS = re.compile(r"(Mem[A-Z]\w*|Weak)::")
 STATUS = re.compile(r"(?<=[.:]) (?=Status \d of )")
@@ -43,29 +48,29 @@ class Row(NamedTuple):
     """A claim, and the other places, each a crate and a claim, at which it stands word for word."""
 
     claim: declared.Claim
-    others: list
+    others: List[Tuple[str, declared.Claim]]
 
 
 class Record(NamedTuple):
     """A record of `specs`: its name, its claims, and the records that its fields are of."""
 
     name: str
-    claims: list
-    inner: list
+    claims: List[declared.Claim]
+    inner: List["Record"]
 
 
-@cache
-def records(path):
+@lru_cache(maxsize=None)
+def records(path: Path) -> Dict[str, Record]:
     """The records of a file of `specs`, by name. Those that fields are of stand before them in the same file."""
-    known = {}
+    known: Dict[str, Record] = {}
     for above, _, name, fields in RECORD.findall(path.read_text()):
         known[name] = Record(name, list(told(path, name, above, fields)), [known[of] for _, _, of in FIELD.findall(fields) if of in known])
     return known
 
 
-def told(path, name, above, fields):
+def told(path: Path, name: str, above: str, fields: str) -> Iterator[declared.Claim]:
     """The claims of a record: that of its own comment, and those of its fields'. A comment is of the fields below it up to the next one."""
-    groups = [(above, [])]
+    groups: List[Tuple[str, List[str]]] = [(above, [])]
     for comment, field, _ in FIELD.findall(fields):
         groups += [(comment, [])] * bool(comment)
         groups[-1][1].append(field)
@@ -74,7 +79,7 @@ def told(path, name, above, fields):
         yield declared.Claim(path, name, ", ".join(names), f"{words[:1].upper()}{words[1:]}.")
 
 
-def said(clause):
+def said(clause: declared.Claim) -> List[Record]:
     """The records with comments of fields that a clause says: the one that its term begins with, or those that stand in the definition that it
     begins with."""
     for crate, module, names in IMPORT.findall(clause.file.read_text()):
@@ -87,19 +92,19 @@ def said(clause):
     return []
 
 
-def is_short(clause):
+def is_short(clause: declared.Claim) -> bool:
     """Whether a clause leaves it to its records to say what it says: no comment stands above it, or its term begins with no record."""
     return not clause.words or all(record.name != clause.begins for record in said(clause))
 
 
-def with_records(clauses):
+def with_records(clauses: List[declared.Claim]) -> Iterator[declared.Claim]:
     """The claims of clauses, each with those of the records that it says, where some clause leaves it to them."""
-    users = {}
+    users: Dict[str, List[declared.Claim]] = {}
     for clause in clauses:
         for record in said(clause):
             users.setdefault(record.name, []).append(clause)
 
-    def of_record(record):
+    def of_record(record: Record) -> Iterator[declared.Claim]:
         known = users.pop(record.name, [])
         for other in record.inner:
             yield from of_record(other)
@@ -116,20 +121,18 @@ def with_records(clauses):
                 yield from of_record(record)
 
 
-def heading(name):
+def heading(name: str) -> List[str]:
     """The head of a crate's table: its name, and what its root file says that it is."""
-    root = next(path for path in ("src/lib.rt", "src/main.rt") if (TOP / "crates" / name / path).exists())
-    first = re.match(r"(?://.*\n)+", (TOP / "crates" / name / root).read_text())
-    return [f"## {name}", "", declared.plain(first[0]) if first else "", ""]
+    return [f"## {name}", "", declared.root_words(name), ""]
 
 
-def place(row, crate, claim):
+def place(row: Row, crate: str, claim: declared.Claim) -> str:
     """Another place of a row's claim: the function, with what else isn't that of the row."""
     besides = [f"`{claim.clause}`"] * (claim.clause not in ("", row.claim.clause)) + [f"in `{crate}`"] * (f"/{crate}/" not in str(row.claim.file))
     return f"`{claim.function}`" + (f" ({', '.join(besides)})" if besides else "")
 
 
-def cells(row):
+def cells(row: Row) -> Iterator[Tuple[str, str]]:
     """The cells of a claim's rows: the clause's name, which stands in the first one, and the words."""
     sentences, clause = STATUS.split(row.claim.words), ", ".join(f"`{name}`" for name in row.claim.clause.split(", ") if name)
     if row.others:
@@ -137,7 +140,7 @@ def cells(row):
     yield from ((clause if number == 0 else "", words) for number, words in enumerate(sentences))
 
 
-def table(rows):
+def table(rows: Iterable[Row]) -> Iterator[str]:
     """A crate's claims as the rows of a table; a function is named in its first row."""
     yield "| function | clause | what it says |"
     yield "|---|---|---|"
@@ -149,53 +152,43 @@ def table(rows):
                 cell = ""
 
 
-def claims(is_rest):
-    """The claims of a page with their crates, from above down."""
+def claims(is_rest: bool) -> Iterator[Tuple[str, declared.Claim]]:
+    """The claims of the crates that commands and the library reach, or of the others, from above down."""
     known = pictures.crates()
     reached = {name for user in USED & known.keys() for name in {user} | pictures.below_all(user, known)}
     for name in sorted(known, key=lambda name: (-pictures.height(name, known), name)):
-        of_page = [clause for clause in declared.crates()[name].clauses if is_rest == (name not in reached or bool(FOR_TESTS.match(clause.function)))]
-        yield from ((name, claim) for claim in with_records(of_page))
+        of_part = [clause for clause in declared.crates()[name].clauses if is_rest == (name not in reached or bool(FOR_TESTS.match(clause.function)))]
+        yield from ((name, claim) for claim in with_records(of_part))
 
 
-def rows(is_rest):
-    """The rows of a page with their crates: each claim where it stands first."""
-    found = {}
+def rows(is_rest: bool) -> List[Tuple[str, Row]]:
+    """The rows of a part with their crates: each claim where it stands first."""
+    found: Dict[str, List[Tuple[str, declared.Claim]]] = {}
     for name, claim in claims(is_rest):
         found.setdefault(claim.words, []).append((name, claim))
     return [(places[0][0], Row(places[0][1], places[1:])) for places in found.values()]
 
 
-def tables(is_rest):
-    """The tables of all crates of a page that claim something."""
+def tables(names: List[str], is_rest: bool) -> Iterator[str]:
+    """The tables of these crates that claim something, or of all."""
     for name, group in groupby(rows(is_rest), lambda row: row[0]):
-        yield from [*heading(name), *table([row for _, row in group]), ""]
+        if not names or name in names:
+            yield from [*heading(name), *table([row for _, row in group]), ""]
 
 
-def drawn(text, is_rest):
-    """The document with its tables written anew."""
-    return MARKED.sub(lambda marks: marks[1] + "\n" + "\n".join(tables(is_rest)) + "\n" + marks[2], text)
+def page(names: List[str]) -> str:
+    """The tables of these crates, or of all."""
+    reached, rest = list(tables(names, False)), list(tables(names, True))
+    return "\n".join([HEAD, *reached, *([REST, "", *rest] if rest else [])])
 
 
-def differences(old, new):
-    """The lines that differ."""
-    old, new = old.splitlines(), new.splitlines()
-    return [f"- {line}" for line in old if line not in new] + [f"+ {line}" for line in new if line not in old]
-
-
-def main():
-    wrong = []
-    for is_rest, document in PAGES.items():
-        text = document.read_text()
-        new = drawn(text, is_rest)
-        if sys.argv[1:] != ["--check"]:
-            document.write_text(new)
-        elif new != text:
-            wrong += [f"{document.name} differs", *differences(text, new)]
-    for line in wrong:
-        print(line)
-    return int(bool(wrong))
+def main() -> None:
+    words = argparse.ArgumentParser(description=__doc__, formatter_class=argparse.RawDescriptionHelpFormatter)
+    words.add_argument("crates", nargs="*", metavar="CRATE", help="a crate; all of them if none is named")
+    words.add_argument("--to", type=Path, metavar="FILE", help="where it is written, if it isn't printed")
+    chosen = words.parse_args()
+    declared.write_or_print(page(declared.known_crates(chosen.crates, words.error)), chosen.to)
 
 
 if __name__ == "__main__":
-    sys.exit(main())
+    main()

@@ -3,9 +3,9 @@
 a clause may be has its comments where it is defined."""
 
 import re
-from functools import cache
+from functools import lru_cache
 from pathlib import Path
-from typing import NamedTuple
+from typing import Callable, Dict, Iterable, List, Mapping, NamedTuple, Optional, Set, Tuple
 
 TOP = Path(__file__).resolve().parent.parent
 
@@ -32,18 +32,19 @@ class Claim(NamedTuple):
 class Crate:
     """What one crate declares."""
 
-    def __init__(self, folder):
+    def __init__(self, folder: Path) -> None:
         root = "src/lib.rt" if (folder / "src/lib.rt").exists() else "src/main.rt"
         files = sorted(folder.glob("src/**/*.rt"))
         sources = [path.read_text() for path in files]
         self.handed_out = set(re.findall(r"\w+", " ".join(re.findall(r"^pub use (.*?);", (folder / root).read_text(), re.M | re.S))))
-        self.functions, self.clauses = {}, []
+        self.functions: Dict[str, Set[str]] = {}
+        self.clauses: List[Claim] = []
         for path, text in zip(files, sources):
             self.add_functions(path, text)
         self.modules = {path.stem: definitions(path.read_text()) for path in sorted(folder.glob("specs/**/*.antt"))}
         self.items = {name for text in sources for pair in ITEM.findall(text) for name in pair if name}
 
-    def add_functions(self, path, text):
+    def add_functions(self, path: Path, text: str) -> None:
         """Adds what others may call: the functions that the root hands out, and methods that are public or of a trait, each by its name
         and, behind its type's, once more; and the clauses of all that the root hands out."""
         blocks = list(BLOCK.finditer(text))
@@ -59,24 +60,26 @@ class Crate:
             if not block or block[3] in self.handed_out:
                 self.clauses += [Claim(path, names[-1], clause, plain(above), begins) for above, clause, begins in clauses]
 
-    def names(self):
+    def names(self) -> Set[str]:
         """All names that stand in the crate."""
         return self.items.union(self.functions, self.modules, *(module for module in self.modules.values()))
 
-    def members(self, owner):
+    def members(self, owner: str) -> Optional[Set[str]]:
         """What stands in a module or a record, or the clauses of a function; None where there is no such owner."""
-        found = [members[owner] for members in (self.functions, self.modules, *self.modules.values()) if members.get(owner) is not None]
-        return set().union(*found) if found else None
+        known: List[Mapping[str, Iterable[str]]] = [self.functions, self.modules, *self.modules.values()]
+        found = [members[owner] for members in known if owner in members]
+        return {name for names in found for name in names} if found else None
 
 
-def plain(comment):
+def plain(comment: str) -> str:
     """The words of a comment, in one line."""
     return " ".join(line.strip().lstrip("/!").strip() for line in comment.splitlines())
 
 
-def definitions(text):
+def definitions(text: str) -> Dict[str, Set[str]]:
     """The names that a module declares, each with those below it where it is a record or data."""
-    found, owners = {}, []
+    found: Dict[str, Set[str]] = {}
+    owners: List[Tuple[int, str]] = []
     for indent, head, other in DEFINITION.findall(text):
         name = head or other
         owners = [(depth, owner) for depth, owner in owners if depth < len(indent)]
@@ -88,7 +91,34 @@ def definitions(text):
     return found
 
 
-@cache
-def crates():
+def root_words(name: str) -> str:
+    """What a crate's root file says that the crate is."""
+    root = next(path for path in ("src/lib.rt", "src/main.rt") if (TOP / "crates" / name / path).exists())
+    first = re.match(r"(?://.*\n)+", (TOP / "crates" / name / root).read_text())
+    return plain(first[0]) if first else ""
+
+
+@lru_cache(maxsize=None)
+def crates() -> Dict[str, Crate]:
     """The crates of the repository, by name."""
     return {folder.name: Crate(folder) for folder in sorted((TOP / "crates").iterdir()) if (folder / "src").is_dir()}
+
+
+# ---- what the pages that are made of the sources have in common
+
+
+def known_crates(names: List[str], refuse: Callable[[str], object]) -> List[str]:
+    """These names, where each is one of a crate; else `refuse` is called with what is wrong."""
+    for name in names:
+        if name not in crates():
+            refuse(f"there is no crate {name}")
+    return names
+
+
+def write_or_print(text: str, path: Optional[Path]) -> None:
+    """Writes a page into a file, whose folder is made, or prints it where none is named."""
+    if path:
+        path.parent.mkdir(parents=True, exist_ok=True)
+        path.write_text(f"{text}\n")
+    else:
+        print(text)

@@ -1,9 +1,9 @@
 #!/usr/bin/env python3
 """The forms of the command line: they stand in tools/forms.txt, and all else that names them follows from it.
 
-    python3 tools/forms.py           writes the forms of tools/completion.bash anew
-    python3 tools/forms.py --check   tells where they differ from those of the completion, the program's source, the manual page's synopsis, the
-                                     README's table of commands, the reference and the cases of words; writes nothing
+    python3 tools/forms.py           writes the forms of tools/completion.bash, of the README's list and of the manual page's synopsis anew
+    python3 tools/forms.py --check   tells where they differ from those of these three, the program's source, the headings of the manual page, the
+                                     reference and the cases of words; writes nothing
 """
 
 import json
@@ -16,13 +16,24 @@ sys.path.insert(0, str(TOP / "reference"))
 
 from timeweave_reference import words  # noqa: E402
 
-COMPLETION = TOP / "tools/completion.bash"
-MARKED = re.compile(r"(_timeweave_forms=\(\n).*?(^\)$)", re.S | re.M)
+COMPLETION, README, MANUAL = TOP / "tools/completion.bash", TOP / "README.md", TOP / "docs/timeweave.1"
+
+
+def groups():
+    """What the forms are for, each with its forms and what each does, in the order of the file."""
+    found = {}
+    for line in (TOP / "tools/forms.txt").read_text().splitlines():
+        if re.fullmatch(r"\[\w+\]", line):
+            found[line[1:-1]] = []
+        elif line and not line.startswith("#"):
+            form, does = re.split(r"\s{2,}", line)
+            list(found.values())[-1].append((form, does))
+    return found
 
 
 def forms():
     """The forms, in the order of the file."""
-    return [line for line in (TOP / "tools/forms.txt").read_text().splitlines() if line and not line.startswith("#")]
+    return [form for listed in groups().values() for form, _ in listed]
 
 
 def fixed(form):
@@ -30,7 +41,7 @@ def fixed(form):
     return tuple(word for word in form.split() if word.islower())
 
 
-# ---- the completion
+# ---- what is written from them
 
 
 def for_completion(form):
@@ -39,10 +50,37 @@ def for_completion(form):
     return " ".join("FILE" if kind in words.FILES else kind for kind in kinds)
 
 
-def completed(text):
-    """The completion with its forms written anew."""
-    lines = "".join(f'    "{form}"\n' for form in dict.fromkeys(map(for_completion, forms())))
-    return MARKED.sub(lambda marks: marks[1] + lines + marks[2], text)
+def completed():
+    """The forms of the completion."""
+    return "".join(f'    "{form}"\n' for form in dict.fromkeys(map(for_completion, forms())))
+
+
+def listed():
+    """The README's list: a heading for each group, and behind each form what it does."""
+    width = max(map(len, forms())) + 3
+    lines = []
+    for group, of_group in groups().items():
+        lines += [f"    to {group}", *(f"      {form:{width}}{does}" for form, does in of_group)]
+    return "".join(f"{line}\n" for line in lines)
+
+
+def synopsis():
+    """The manual page's synopsis: the forms, with a blank line between groups."""
+    return "\n".join("".join(f"timeweave {form}\n" for form, _ in of_group) for of_group in groups().values())
+
+
+# Each file that is written from the forms: what stands before them, and behind them.
+WRITTEN = {
+    COMPLETION: (r"_timeweave_forms=\(\n", r"^\)$", completed),
+    README: (r"^## Commands\n\n", r"^\n", listed),
+    MANUAL: (r"^\.SH SYNOPSIS\n\.nf\n", r"^\.fi$", synopsis),
+}
+
+
+def written(path):
+    """A file's text with its forms written anew."""
+    before, behind, made = WRITTEN[path]
+    return re.sub(rf"({before}).*?({behind})", lambda marks: marks[1] + made() + marks[2], path.read_text(), count=1, flags=re.S | re.M)
 
 
 # ---- what else names the forms
@@ -54,21 +92,8 @@ def of_source():
 
 
 def of_manual():
-    """The forms of the manual page's synopsis."""
-    synopsis = (TOP / "docs/timeweave.1").read_text().split("\n.SH SYNOPSIS\n")[1].split("\n.SH ")[0]
-    plain = re.sub(r"^\.[BRI]+ |\btimeweave\b", "", re.sub(r"^\.br$", "\0", synopsis, flags=re.M), flags=re.M)
-    return [" ".join(form.split()).replace("[ ", "[").replace(" ]", "]") for form in plain.split("\0")]
-
-
-def of_readme():
-    """The forms of the README's table of commands, where it has one; a single word behind a form, as `absent`, stands for the form with that word."""
-    table = re.search(r"^\| command \|.*\n\|---.*\n((?:\|.*\n)+)", (TOP / "README.md").read_text(), re.M)
-    found = []
-    for row in table[1].splitlines() if table else ():
-        for span in re.findall(r"`([^`]+)`", row.split("|")[1]):
-            alike = [form for form in forms() if found and " " not in span and fixed(form) == (fixed(found[-1])[0], span)]
-            found.append(alike[0] if alike else span)
-    return found
+    """The forms that are headings of the manual page's commands."""
+    return re.findall(r"^\.SS (.*)$", MANUAL.read_text().split("\n.SH COMMANDS\n")[1].split("\n.SH ")[0], re.M)
 
 
 def of_cases():
@@ -81,12 +106,15 @@ def of_cases():
 def differences():
     """What differs, a line each."""
     wanted = set(forms())
-    named = {"crates/tw_words": of_source(), "the manual page": of_manual(), "README.md": of_readme() or forms(), "the reference": words.FORMS}
+    named = {"crates/tw_words": of_source(), "the manual page": of_manual(), "the reference": words.FORMS}
     for place, found in named.items():
         yield from (f"{place} lacks `{form}`" for form in sorted(wanted - set(found)))
         yield from (f"{place} has `{form}`, which is none" for form in sorted(set(found) - wanted))
-    if completed(COMPLETION.read_text()) != COMPLETION.read_text():
-        yield "tools/completion.bash isn't as `python3 tools/forms.py` writes it"
+    if of_manual() != forms():
+        yield "the manual page has the commands in another order"
+    for path in WRITTEN:
+        if written(path) != path.read_text():
+            yield f"{path.relative_to(TOP)} isn't as `python3 tools/forms.py` writes it"
     yield from (f"no case of words is of `{' '.join(form)}`" for form in sorted({fixed(form) for form in wanted} - of_cases()))
 
 
@@ -95,7 +123,8 @@ def main():
         found = list(differences())
         print("\n".join(found), end="\n" * bool(found))
         return 1 if found else 0
-    COMPLETION.write_text(completed(COMPLETION.read_text()))
+    for path in WRITTEN:
+        path.write_text(written(path))
     return 0
 
 

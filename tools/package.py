@@ -24,6 +24,9 @@ from pathlib import Path
 import build_library
 import build_page
 import built
+import claims
+import declared
+import definitions
 import placed
 from crate_copy import TOP
 from kit import CPU, KIT, kit_line, run
@@ -70,6 +73,14 @@ def git(*words):
 
 def digest(path):
     return hashlib.sha256(Path(path).read_bytes()).hexdigest()
+
+
+def write_tables(folder):
+    """Writes the tables that are made of the sources' comments; answers them by their names in installed.txt."""
+    made = {"tables/claims.md": claims.page([]), "tables/definitions.md": definitions.page([])}
+    for name, text in made.items():
+        declared.write_or_print(text, Path(folder) / name)
+    return {name: Path(folder) / name for name in made}
 
 
 # ---- a package for Debian
@@ -238,9 +249,11 @@ def build_text(files):
 def write(into, files=None, key=None):
     """Writes all of dist/ into a folder."""
     when, files = placed.epoch(), files or {}
-    for fields in stanzas():
-        package(fields, into, when, files)
-    tar_file(into, when, files)
+    with tempfile.TemporaryDirectory() as folder:
+        packed = files | write_tables(folder)
+        for fields in stanzas():
+            package(fields, into, when, packed)
+        tar_file(into, when, packed)
     shutil.copyfile(files.get(PAGE, TOP / PAGE), into / "timeweave.html")
     (into / "BUILD").write_text(build_text(files))
     sums = "".join(f"{digest(path)}  {path.name}\n" for path in sorted(into.iterdir()))

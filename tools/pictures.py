@@ -1,4 +1,4 @@
-"""Draws the pictures of the documents that show data, from crates.txt and from the reference.
+"""Draws the pictures and tables of the documents that show data, from crates.txt, the crates' root files and the reference.
 
     python3 tools/pictures.py           writes them anew into docs/*.md
     python3 tools/pictures.py --check   tells those that differ, and writes nothing
@@ -8,11 +8,15 @@ Each stands between the lines `<!-- picture NAME, by tools/pictures.py -->` and 
 
 import re
 import sys
+import textwrap
+from itertools import groupby
 from pathlib import Path
+from typing import Dict, List, Set, Tuple
 
 TOP = Path(__file__).resolve().parent.parent
 sys.path[:0] = [str(TOP / "tools"), str(TOP / "reference")]
 
+import declared  # noqa: E402
 from example_files import ENTRY, SHOP, bounds, least_way, ledger_and_notary  # noqa: E402
 from timeweave_reference.archives import EMPTY, Entry, Node, absent, tree_proof, with_leaf  # noqa: E402
 from timeweave_reference.event_trees import audit_path, event_root  # noqa: E402
@@ -34,73 +38,47 @@ def short(digest):
 # ---- the crates
 
 
-def lines_of(path):
+def lines_of(path: str) -> List[Tuple[str, List[str]]]:
     """Each line of a list of crates: a name, and what it stands on."""
     pairs = [line.split(":") for line in (TOP / path).read_text().splitlines() if not line.startswith("#")]
     return [(name.split()[0], uses.split()) for name, uses in pairs]
 
 
-def crates():
+def crates() -> Dict[str, List[str]]:
     """Each crate with those of this repository that it stands on."""
     lines = lines_of("crates.txt")
     names = {name for name, _ in lines}
     return {name: [below for below in uses if below in names] for name, uses in lines}
 
 
-def crates_to_come():
-    """The same with the crates that are to come, and what those that stand will stand on besides."""
-    known = crates()
-    for name, uses in lines_of("docs/crates_to_come.txt"):
-        known[name.lstrip("+")] = known.get(name.lstrip("+"), []) + uses
-    return known
-
-
-def height(name, known):
+def height(name: str, known: Dict[str, List[str]]) -> int:
     """How many crates the longest chain down from a crate has."""
     return 1 + max((height(below, known) for below in known[name]), default=0)
 
 
-def below_all(name, known):
+def below_all(name: str, known: Dict[str, List[str]]) -> Set[str]:
     """The crates that a crate reaches."""
     return {reached for below in known[name] for reached in {below} | below_all(below, known)}
 
 
-def by_heights(known):
-    """The crates by their height, each beside those right below it: the ones that none of the others reaches."""
-    by_height = {}
-    for name in known:
-        by_height.setdefault(height(name, known), []).append(name)
-    lines = []
-    for level in sorted(by_height, reverse=True):
-        for place, name in enumerate(sorted(by_height[level])):
-            right_below = [x for x in known[name] if not any(x in below_all(y, known) for y in known[name])]
-            label = f"{level:2}" if place == 0 else "  "
-            lines.append(f"{label}  {name:<13} {'──> ' + ', '.join(sorted(right_below)) if right_below else ''}".rstrip())
-    return lines
+def in_short(words: str, most: int = 12) -> str:
+    """The first sentence; what it says behind a colon is left out where it has more words."""
+    first = words.partition(". ")[0].rstrip(".")
+    return first.partition(": ")[0] if len(first.split()) > most else first
 
 
-def heights():
-    """The crates that stand."""
-    return by_heights(crates())
-
-
-def coming():
-    """The crates that are to come, with the heights that all have then."""
-    known, standing = crates_to_come(), crates()
-    by_height = {}
-    for name in known:
-        by_height.setdefault(height(name, known), []).append(name if name in standing else f"+{name}")
-    return [line for level in sorted(by_height, reverse=True) for line in wrapped(level, sorted(by_height[level], key=lambda x: x.lstrip("+")))]
-
-
-def wrapped(level, names, width=100):
-    """A height's names, in lines of at most so many characters."""
-    lines = [[]]
-    for name in names:
-        if lines[-1] and len("  ".join(lines[-1] + [name])) > width:
-            lines.append([])
-        lines[-1].append(name)
-    return [f"{level if place == 0 else '':>2}  {'  '.join(line)}" for place, line in enumerate(lines)]
+def crate_list() -> List[str]:
+    """The crates by their height, each with what its root file says first that it is."""
+    known = crates()
+    lines: List[str] = []
+    by_height = sorted(known, key=lambda name: (-height(name, known), name))
+    for level, names in groupby(by_height, lambda name: height(name, known)):
+        lines += [f"Height {level}:", ""]
+        for name in names:
+            line = f"- `{name}`: {in_short(declared.root_words(name))}"
+            lines += textwrap.wrap(line, 120, subsequent_indent="  ", break_long_words=False, break_on_hyphens=False)
+        lines.append("")
+    return lines[:-1]
 
 
 # ---- a step, the links, a tree of events
@@ -152,17 +130,17 @@ def tree():
 
 
 def shown(part):
-    """The bytes of a field: of a long one the first eight, of a long one of equal bytes the first."""
+    """The bytes of a field, in fours: of a long one the first eight, of a long one of equal bytes the first."""
     if len(part) <= 8:
-        return part.hex(" ")
-    return (part[:1] if len(set(part)) == 1 else part[:8]).hex(" ") + " .."
+        return part.hex(" ", -4)
+    return (part[:1] if len(set(part)) == 1 else part[:8]).hex(" ", -4) + " .."
 
 
 def dumped(data, fields):
     """The bytes of the fields, each (size, what it is): place, bytes, size and meaning; and how many bytes they have."""
     lines, at = [], 0
     for size, meaning in fields:
-        lines.append(f"{at:4}  {shown(data[at : at + size]):<27}{size:4}  {meaning}")
+        lines.append(f"{at:4}  {shown(data[at : at + size]):<20}{size:4}  {meaning}")
         at += size
     return lines, at
 
@@ -366,14 +344,19 @@ def versions():
     ]
 
 
-PICTURES = {"heights": heights, "coming": coming, "step": step, "links": links, "tree": tree, "proof": proof, "absence": absence, "chain": chain, "between": between, "message": message, "receipt": receipt, "pages": pages, "heads": heads, "half": half, "versions": versions}
+PICTURES = {"crates": crate_list, "step": step, "links": links, "tree": tree, "proof": proof, "absence": absence, "chain": chain, "between": between, "message": message, "receipt": receipt, "pages": pages, "heads": heads, "half": half, "versions": versions}
+
+# Those that are no pictures, but lists.
+PROSE = {"crates"}
 
 
 def drawn(text):
     """The document with its pictures drawn anew."""
 
     def picture(match):
-        return f"{match[1]}```\n{chr(10).join(PICTURES[match[2]]())}\n```\n{match[3]}"
+        lines = PICTURES[match[2]]()
+        fence = "" if match[2] in PROSE else "```\n"
+        return f"{match[1]}{fence}{chr(10).join(lines)}\n{fence}{match[3]}"
 
     return re.sub(r"(<!-- picture (\w+), by tools/pictures.py -->\n).*?(<!-- end of picture -->)", picture, text, flags=re.S)
 

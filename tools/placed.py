@@ -13,7 +13,7 @@ VERSION = (TOP / "VERSION").read_text().strip()
 MAJOR = VERSION.split(".")[0]
 
 # How a file that isn't there is built, by its folder.
-BUILT_BY = {"bin": "make build", "lib": "make lib", "web": "make page"}
+BUILT_BY = {"bin": "make build", "lib": "make lib", "web": "make page", "tables": "make tables"}
 
 
 class Line(NamedTuple):

@@ -28,8 +28,8 @@ from harness.running import difference
 # The modules of cases/, in the order in which they run; and those whose cases come once all others have run.
 MODULES = (
     "data", "generated", "archives", "precedence", "forks", "atlases", "audits", "adoptions", "maps", "reaching", "steps", "pages", "failing", "messages",
-    "exported", "mapped", "played", "followers", "damaged", "receiving", "tree_runs", "edges", "beside", "guarded", "power", "faults", "fuzz", "found", "tables", "refused",
-    "documents", "cited", "reference", "vectors", "installed", "shown", "entries", "operated", "weft", "sources",
+    "exported", "mapped", "played", "stacks", "followers", "damaged", "receiving", "tree_runs", "edges", "beside", "guarded", "power", "faults", "fuzz", "found", "tables", "refused",
+    "documents", "prose", "cited", "reference", "vectors", "installed", "shown", "entries", "operated", "weft", "progress", "sources",
 )
 LATER = ("contradictions", "library", "web", "bindings")
 
@@ -57,12 +57,16 @@ class Wanted:
         return name == self.text if self.is_whole else self.text in name
 
 
-def cases_of(modules, wanted):
-    """The cases of modules, each with its whole name, as they are made."""
+def cases_of(modules, wanted, begin=lambda module: None):
+    """The cases of modules, each with its whole name, as they are made; before the first one of a module that begins."""
     for module in modules:
         if wanted.has_module(module):
+            has_begun = False
             for case in import_module(f"cases.{module}").cases():
                 if wanted.has(f"{module}/{case['name']}"):
+                    if not has_begun:
+                        begin(module)
+                    has_begun = True
                     yield f"{module}/{case['name']}", case
 
 
@@ -70,7 +74,7 @@ def texts():
     """The cases of documents and sources that need no program."""
     for module in ("documents", "vectors"):
         yield from ((f"{module}/{case['name']}", case) for case in import_module(f"cases.{module}").without_program())
-    for module in ("cited", "reference", "sources"):
+    for module in ("prose", "cited", "reference", "progress", "sources"):
         yield from ((f"{module}/{case['name']}", case) for case in import_module(f"cases.{module}").cases())
 
 
@@ -78,19 +82,38 @@ class Tally:
     """What became of the cases so far, told as it comes."""
 
     def __init__(self, program):
-        self.program, self.count, self.failed = program, 0, 0
+        self.program, self.count, self.failed, self.module = program, 0, 0, ""
+
+    def begin(self, module):
+        """The cases of a module begin, which is told: `make test` shows by these lines how far the run is."""
+        self.module = f"{module}, part {(MODULES + LATER).index(module) + 1} of {len(MODULES + LATER)}"
+        if sys.stderr.isatty():
+            self.show()
+        else:
+            print(f"cases: {self.module}, {self.count - self.failed} passed, {self.failed} failed", flush=True)
+
+    def clear(self):
+        """Takes away the line that goes on."""
+        if sys.stderr.isatty():
+            print("\r\x1b[K", end="", file=sys.stderr, flush=True)
+
+    def show(self):
+        """How far the run is, in one line that goes on."""
+        print(f"\r\x1b[K{self.count - self.failed} passed, {self.failed} failed: {self.module}", end="", file=sys.stderr, flush=True)
 
     def add(self, name, wrong):
         self.count += 1
         if wrong:
             self.failed += 1
+            self.clear()
             again = shlex.join(["python3", os.path.relpath(__file__), *([self.program] if self.program else []), "-k", f"={name}"])
             print(f"FAILED {name}\n{wrong}\n  again: {again}", flush=True)
-        elif self.count % 500 == 0 and sys.stderr.isatty():
-            print(f"\r{self.count} cases, {self.failed} failed", end="", file=sys.stderr, flush=True)
+        elif self.count % 50 == 0 and sys.stderr.isatty():
+            self.show()
 
     def told(self):
         """Tells what was skipped, and how many passed; answers the status."""
+        self.clear()
         for name in sorted(rooms.SKIPPED):
             print(f"skipped {name}")
         print(f"{len(rooms.SKIPPED)} skipped")
@@ -154,8 +177,8 @@ def main():
     if (TOP / "crates/timeweave/data/p").read_bytes() != LEAST:
         tally.add("least proof", "  crates/timeweave/data/p isn't the least proof of the reference")
         return tally.told()
-    run(program, cases_of(MODULES, wanted), tally, words.workers)
-    run(program, cases_of(LATER, wanted), tally, 1)
+    run(program, cases_of(MODULES, wanted, tally.begin), tally, words.workers)
+    run(program, cases_of(LATER, wanted, tally.begin), tally, 1)
     if words.pattern is None:
         tally.add(SEEN, "\n".join(seen.missing()) or None)
     return tally.told()

@@ -152,6 +152,16 @@ def limits():
     yield wanted("all left is taken by a bad file", "unreadable h0 byte 0\n", data, anchors, bytes(MOST_HISTORY), own)
 
 
+def without_events():
+    """A history of 8 MiB, of steps without events, is audited in eight times its bytes and what the program itself takes: of each step three texts
+    are hashed, each of some 74 bytes, and it has 11 in the file."""
+    line, count = Timeline("a", [[b""]]), 8 * 2**20 // 11
+    file = history_to_bytes("a", [Step([b""])] + [Step([])] * (count - 1))
+    files = {"p": proof_bytes(line, 1, 0, 1), "k": anchors_to_bytes({"a": (1, line.auths[1])}), "h": file}
+    told = {"status": 0, "bytes": b"stands\nevent a 1 0 -\n", "memory": 8 * len(file) + 2**24}
+    yield {"name": "audit: many steps without events, in little memory", "words": ["audit", "p", "k", "h"], "files": files, **told}
+
+
 def cases():
     yield from least()
     yield from chains()
@@ -159,3 +169,4 @@ def cases():
     yield from bad_histories()
     yield from by_chance()
     yield from limits()
+    yield from without_events()

@@ -1,5 +1,4 @@
-"""What the documents name is there: each clause in the contract of the function beside it, each definition in its module, each path. The
-claims of docs/claims.md are made from the sources, as documents.py checks."""
+"""What the documents name is there: each clause in the contract of the function beside it, each definition in its module, each path."""
 
 import re
 
@@ -10,7 +9,7 @@ from harness.places import TOP
 DOCUMENTS = [TOP / "README.md", TOP / "reference/README.md", TOP / "web/README.md", TOP / "vectors/README.md", *sorted((TOP / "docs").glob("*.md")), *sorted((TOP / "bench").glob("*.md"))]
 SOURCES = ("crates/*/src/**/*.rt", "crates/*/specs/**/*.antt", "crates/*/proofs/**/*.antt", "tests/acceptance/**/*.py", "reference/**/*.py", "weft/**/*.py", "web/tests/*.*", "tools/*.*", "bench/*.py", "docs/*.txt")
 CRATE = re.compile(r"`(tw_\w+|timeweave(?:_c)?)\b")
-NAMES = r"(?:`\w+`(?:,\s|\sand\s)?)+"
+NAMES = r"(?:`\w+`(?:,\s+|\s+and\s+)?)+"
 PATH = re.compile(r"(?<![\w/.$])(?:crates|tests|tools|specs|docs|bench|examples|reference|proofs|src|must-fail|cases|harness|tw_\w+)/[\w.*/-]*\w")
 
 
@@ -40,9 +39,9 @@ def of_owners(program):
     wrong = []
     for document in DOCUMENTS:
         text = document.read_text()
-        found = re.findall(rf"`([\w/:]+)`(?:\sof\s`((?:tw|timeweave)_\w+)`)?:\s({NAMES})", text)
+        found = re.findall(rf"`([\w/:]+)`(?:\s+of\s+`((?:tw|timeweave)_\w+)`)?:\s+({NAMES})", text)
         found += re.findall(rf"`(\w+/specs/\w+)`()\s\(({NAMES})\)", text)
-        found += [(crate, "", name) for name, crate in re.findall(r"(`\w+`)\s(?:of|in)\s`((?:tw|timeweave)_\w+)`", text)]
+        found += [(crate, "", name) for name, crate in re.findall(r"(`\w+`)\s+(?:of|in)\s+`((?:tw|timeweave)_\w+)`", text)]
         for owner, crate, names in found:
             known = members(owner, crate)
             if len(known) > 1:
@@ -63,29 +62,29 @@ def in_sections(program):
     return "\n".join(wrong) or None
 
 
-def in_modules(program):
-    """The definitions that a list of docs/definitions.md names in brackets, (`a`, `b`) or (`a` in `Module`), and that aren't in the modules
-    that the entry begins with, nor in the one beside them."""
-    wrong, text = [], (TOP / "docs/definitions.md").read_text()
-    for crate, listed in re.findall(r"In `(tw_\w+)/specs`:\n\n((?:(?:- |  +).*\n)+)", text):
-        for entry in re.split(r"^- ", listed, flags=re.M)[1:]:
-            heads = inside(re.match(NAMES, entry)[0])
-            for names, other in re.findall(rf"\(({NAMES})(?: in `(\w+)`)?\)", entry):
-                modules = [other] if other else heads
-                known = set().union(crates()[crate].functions, *(crates()[crate].members(module) or () for module in modules))
-                wrong += [f"  {crate}: {' and '.join(modules)} has no {name}" for name in inside(names) if name not in known]
+def theorems(program):
+    """The theorems of docs/claims.md that aren't said in one sentence first, or of which no clause is named that carries them; that what is named is there, `of_owners` checks.
+    The last one is carried by no clause."""
+    text = (TOP / "docs/claims.md").read_text().split("\n## The six theorems\n")[1].split("\n## ")[0]
+    parts = sections(text, "###")
+    wrong = [] if len(parts) == 6 else [f"  {len(parts)} theorems"]
+    for number, part in enumerate(parts, 1):
+        title, first = part.split("\n\n")[:2]
+        named = re.findall(r"^- `[\w:]+` of `(?:tw|timeweave)_\w+`", part, re.M)
+        wrong += [f"  {title}: no sentence stands first"] * (not re.fullmatch(r"\*[^*]+\.\*", first, re.S))
+        wrong += [f"  {title}: carried by no clause"] * (number < len(parts) and not named)
     return "\n".join(wrong) or None
 
 
 def code_names(program):
-    """The names with an underscore or a capital inside, between backticks in a document, that stand in no source."""
-    sources = [path for pattern in SOURCES for path in TOP.glob(pattern)]
+    """The names with an underscore or a capital inside, between backticks in a document, that stand in no source, and those of crates that aren't there."""
+    sources = [path for pattern in SOURCES for path in TOP.glob(pattern) if path.is_file()]
     known = set(crates()).union((path.stem for path in sources), *(re.findall(r"\w+", path.read_text()) for path in sources))
     wrong = [
         f"  {document.name}: {name}"
         for document in DOCUMENTS
         for name in re.findall(r"`(\w*[a-z](?:_|[A-Z])\w*)`", document.read_text())
-        if name not in known
+        if name not in known or name.startswith("tw_") and name not in crates()
     ]
     return "\n".join(wrong) or None
 
@@ -112,6 +111,6 @@ def paths(program):
 def cases():
     yield {"name": "cited: members", "check": of_owners}
     yield {"name": "cited: names of sections", "check": in_sections}
-    yield {"name": "cited: definitions of modules", "check": in_modules}
+    yield {"name": "cited: theorems", "check": theorems}
     yield {"name": "cited: code names", "check": code_names}
     yield {"name": "cited: paths", "check": paths}

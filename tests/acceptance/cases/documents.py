@@ -1,15 +1,22 @@
-"""The documents say what is so: each link leads to a file and a heading, the README's tutorial gives the output that it shows, pictures are those
-of their data, the claims those of the sources, the forms of commands those of tools/forms.txt, docs/architecture.md names each crate, and the
-version is that of VERSION. What they name in the sources is checked by cited.py."""
+"""The documents say what is so: each link leads to a file and a heading, the README's examples give the output that it shows, pictures are those
+of their data, the forms of commands those of tools/forms.txt, the version is that of VERSION, and all together have
+no more words than somebody may be asked to read. What they name in the sources is checked by cited.py."""
 
 import os
 import re
 import subprocess
 import sys
 
+import claims
+import declared
+import definitions
 from harness.places import LONGEST, TOP
 
 DOCUMENTS = [TOP / "README.md", TOP / "reference/README.md", TOP / "web/README.md", TOP / "vectors/README.md", *sorted((TOP / "docs").glob("*.md")), *sorted((TOP / "bench").glob("*.md"))]
+
+
+# The most words of all documents and manual pages together, those that tools write among them.
+MOST_WORDS = 55_000
 
 
 def anchors(document):
@@ -33,14 +40,15 @@ def links(program):
 
 
 def shown(text):
-    """The commands of the tutorial, each with the output below it."""
-    section = text.split("\n## Tutorial\n")[1].split("\n## ")[0]
+    """The commands of the README's examples, each with the output below it; an example is a block of code that begins with a command."""
     steps = []
-    for line in section.splitlines():
-        if line.startswith("    $ "):
-            steps.append((line[6:], []))
-        elif line.startswith("    "):
-            steps[-1][1].append(line[4:])
+    for block in re.findall(r"(?:^    .*\n)+", text, re.M):
+        lines = [line[4:] for line in block.splitlines()]
+        for line in lines if lines[0].startswith("$ ") else ():
+            if line.startswith("$ "):
+                steps.append((line[2:], []))
+            else:
+                steps[-1][1].append(line)
     return [(command, "".join(line + "\n" for line in output)) for command, output in steps]
 
 
@@ -52,7 +60,7 @@ def is_shown(output, got):
 
 
 def tutorial(program):
-    """Runs the README's tutorial, and tells where it gives something else than it shows."""
+    """Runs the README's examples, and tells where they give something else than it shows."""
     steps = shown((TOP / "README.md").read_text())
     script = "".join(f"{command}\nlast=$?; echo '=== end of step'; (exit $last)\n" for command, _ in steps)
     script = script.replace("$PWD/bin", os.path.dirname(program))
@@ -63,21 +71,30 @@ def tutorial(program):
 
 
 def made(program):
-    """The documents whose pictures aren't those of their data, and the claims that aren't those of the sources."""
+    """The documents whose pictures aren't those of their data, or whose forms aren't those of tools/forms.txt."""
     wrong = []
-    for script in ("tools/pictures.py", "bench/picture.py", "tools/claims.py", "tools/forms.py"):
+    for script in ("tools/pictures.py", "bench/picture.py", "tools/forms.py"):
         ran = subprocess.run([sys.executable, TOP / script, "--check"], capture_output=True, text=True, timeout=300)
         wrong += [f"  python3 {script} --check\n{ran.stdout}{ran.stderr}"] * bool(ran.returncode)
     return "\n".join(wrong) or None
 
 
-def tables(program):
-    """The crates that the table or the picture of docs/architecture.md leaves out, or has beyond crates.txt."""
-    known = set(re.findall(r"^(\w+)[\w ]*:", (TOP / "crates.txt").read_text(), re.M))
-    picture, table = (TOP / "docs/architecture.md").read_text().split("\n## The crates\n")[1].split("\n## ")[0].split("\n| crate |")
-    found = {"the table": set(re.findall(r"^\| `(\w+)` \|", table, re.M)), "the picture": set(re.findall(r"\btw_\w+|\btimeweave(?:_c)?\b|\btree_pages\b", picture))}
-    wrong = [f"  {place} differs in {', '.join(sorted(names ^ known))}" for place, names in found.items() if names != known]
+def of_sources(program):
+    """The crates of whose clauses or definitions the pages that are made of the sources' comments tell nothing."""
+    wrong = []
+    for page, of in ((claims.page([]), lambda crate: any(claim.words for claim in crate.clauses)), (definitions.page([]), lambda crate: any(crate.modules.values()))):
+        told = dict(re.findall(r"^## (\w+)\n(.*?)(?=^## |\Z)", page, re.M | re.S))
+        empty = [name for name, crate in declared.crates().items() if of(crate) and not re.search(r"^ *[-|].*\w", told.get(name, ""), re.M)]
+        wrong += [f"  {page.splitlines()[0][2:]}: nothing of {name}" for name in empty]
     return "\n".join(wrong) or None
+
+
+def times(program):
+    """The crates that the table of docs/times.md leaves out, or has beyond crates.txt, where there is a table."""
+    table = (TOP / "docs/times.md").read_text().partition("<!-- times, by")[2]
+    found = set(re.findall(r"^\| `(\w+)`", table, re.M))
+    wrong = sorted(found ^ set(declared.crates())) if found else []
+    return f"  the table of docs/times.md differs in {', '.join(wrong)}: `python3 tools/times.py check --write`" if wrong else None
 
 
 def version(program):
@@ -89,18 +106,52 @@ def version(program):
 
 
 def length(program):
-    """The README's words where they are more than 2,050."""
+    """The README's words where they are more than 1,800."""
     words = len((TOP / "README.md").read_text().split())
-    return f"  README.md has {words} words" if words > 2050 else None
+    return f"  README.md has {words} words" if words > 1800 else None
+
+
+def prose(page):
+    """The lines of a page that are prose: no code, no link's target."""
+    text = re.sub(r"```.*?```|`[^`]*`|\]\([^)]*\)", lambda found: "\n" * found[0].count("\n"), page.read_text(), flags=re.S)
+    return [line if not line.startswith("    ") else "" for line in text.splitlines()]
+
+
+def glossary(program):
+    """The words that stand for another one of docs/glossary.md, and those that say that something is still to come."""
+    rows = re.findall(r"\(\*not\*\s([^)]*)\)", (TOP / "docs/glossary.md").read_text())
+    refused = [word for row in rows for word in re.split(r",\s", row)] + ["(?:as|are|is|crates) to come", "not yet"]
+    pattern = re.compile(rf"\b(?:{'|'.join(refused)})(?:s|es)?\b", re.I)
+    wrong = []
+    for page in pages():
+        for number, line in enumerate(prose(page), 1):
+            if page.name != "glossary.md":
+                wrong += [f"  {page.relative_to(TOP)}:{number}: {found}" for found in pattern.findall(line)]
+    return "\n".join(wrong) or None
+
+
+def pages():
+    """All documents and manual pages."""
+    return [*DOCUMENTS, *sorted((TOP / "docs").glob("*.1")), *sorted((TOP / "weft").glob("*.1"))]
+
+
+def words(program):
+    """How many words all documents have, where they are more than may be."""
+    counts = {page.relative_to(TOP): len(page.read_text().split()) for page in pages()}
+    told = ", ".join(f"{page} {count}" for page, count in counts.items())
+    return f"  {sum(counts.values())} words, at most {MOST_WORDS} are allowed: {told}" if sum(counts.values()) > MOST_WORDS else None
 
 
 def without_program():
     """The cases that need no built program."""
     yield {"name": "documents: links", "check": links}
-    yield {"name": "documents: pictures and claims", "check": made}
-    yield {"name": "documents: tables of crates", "check": tables}
+    yield {"name": "documents: pictures and forms", "check": made}
+    yield {"name": "documents: pages of clauses and definitions", "check": of_sources}
+    yield {"name": "documents: times", "check": times}
     yield {"name": "documents: version", "check": version}
     yield {"name": "documents: length of the README", "check": length}
+    yield {"name": "documents: words", "check": words}
+    yield {"name": "documents: one word for one thing", "check": glossary}
 
 
 def cases():

@@ -1,6 +1,8 @@
 """What `make install` copies works: the program, its manual page, the completion of its words in bash, and weft, its companion. What `make package` writes has the same bytes
 whoever makes it, and no more than it should. Program and library run on the oldest x86-64 processors."""
 
+import contextlib
+import io
 import os
 import re
 import shutil
@@ -63,8 +65,7 @@ def completion(program):
 def manual(program):
     """The statuses and texts that the manual page lacks; its forms are held against tools/forms.txt with all that names them (documents.py)."""
     text = (TOP / "docs/timeweave.1").read_text()
-    statuses = set(re.findall(r"^\.TP\n\.B (\d)$", text.split("\n.SH EXIT STATUS\n")[1].split("\n.SH ")[0], re.M))
-    wrong = [f"  status {status} isn't told" for status in sorted(set("0123456789") - statuses)]
+    wrong = [f"  status {status} isn't told" for status in sorted(set(range(11)) - {status for status, _ in seen.statuses()})]
     told = " ".join(re.sub(r"^\.[BIR]+ |\"", "", text, flags=re.M).split())
     wrong += [f"  the text `{line}` isn't told" for _, line in seen.named() if line.removeprefix("rejected ") not in told]
     return "\n".join(wrong) or None
@@ -215,6 +216,57 @@ def stamps(room):
         raise Wrong(f"  {found}, {sums}")
 
 
+def source_sums(room):
+    """a changed byte of a source, in a crate or below it, changes the sum by which a built file is known; one of a crate above, or of a wrong body, doesn't"""
+    needs("rt", "the kit")
+    needs("git", "git")
+    tree = room.folder / "tree"
+    for name in ("crates.txt", "HANDLES", "tools", "crates/tw_base", "crates/tw_events", "crates/tw_history"):
+        into = tree / name
+        into.parent.mkdir(parents=True, exist_ok=True)
+        (shutil.copytree if (TOP / name).is_dir() else shutil.copyfile)(TOP / name, into)
+    subprocess.run(["git", "init", "-q"], cwd=tree, check=True)
+
+    def total():
+        words = [sys.executable, "-B", "-c", "import built; print(built.sum_of(['tw_events']))"]
+        settings = os.environ | {"PYTHONPATH": str(TOP / "reference")}
+        return subprocess.run(words, cwd=tree / "tools", check=True, capture_output=True, text=True, timeout=LONGEST, env=settings).stdout
+
+    first = total()
+    for pattern, is_of in (
+        ("tw_events/src/*.rt", True), ("tw_base/src/**/*.rt", True), ("tw_base/specs/**/*.antt", True), ("tw_base/proofs/**/*.antt", True),
+        ("tw_history/src/*.rt", False), ("tw_base/must-fail/*.edit", False),
+    ):
+        path = sorted((tree / "crates").glob(pattern))[0]
+        data = path.read_bytes()
+        path.write_bytes(data[:-1] + bytes([data[-1] ^ 1]))
+        if (total() != first) != is_of:
+            raise Wrong(f"  a changed byte of {path.relative_to(tree)} {'leaves' if is_of else 'changes'} the sum")
+        path.write_bytes(data)
+    if total() != first:
+        raise Wrong("  the sum isn't the same for the same sources")
+
+
+def compared(room):
+    """two releases are the same where each file but the signature is; the one that isn't is told"""
+    needs("rt", "the kit")
+    import twice
+
+    for folder in ("one", "other"):
+        (room.folder / folder).mkdir()
+        for name in ("BUILD", "SHA256SUMS", "timeweave.html"):
+            room.put(f"{folder}/{name}", name.encode())
+    room.put("one/SHA256SUMS.sig", b"signed")
+    for change, wanted in ((None, (True, 3, 0)), ("BUILD", (False, 2, 1)), ("more", (False, 2, 2))):
+        if change:
+            room.put(f"other/{change}", b"changed")
+        with contextlib.redirect_stdout(io.StringIO()) as out:
+            are_same = twice.compare(room.folder / "one", room.folder / "other")
+        heads = [line.split()[0] for line in out.getvalue().splitlines()]
+        if (are_same, heads.count("same"), heads.count("DIFFERENT")) != wanted:
+            raise Wrong(f"  {are_same} with {out.getvalue()}")
+
+
 # ---- old processors
 
 
@@ -239,5 +291,5 @@ def old_processors(room):
 def cases():
     yield {"name": "installed: completion", "check": completion}
     yield {"name": "installed: manual page", "check": manual}
-    for work in (install, install_elsewhere, same_packages, good_packages, stamps, old_processors):
+    for work in (install, install_elsewhere, same_packages, good_packages, stamps, source_sums, compared, old_processors):
         yield case(work, "installed")

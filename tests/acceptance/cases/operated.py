@@ -295,20 +295,20 @@ def woven_by_cron(room: Room) -> None:
 
 
 def stamped(room: Room) -> None:
-    """a line's time stamp is asked for and verified by the document's commands, and not that of another line"""
+    """a list's time stamp is asked for and verified by the document's commands, and not that of another list"""
     openssl = needs("openssl", "openssl")
     settings = "[tsa]\nserial=serial\ndefault_policy=1.2.3.4\ndigests=sha256,sha512\nsigner_digest=sha512\ness_cert_id_alg=sha256\n"
     room.put("settings", settings.encode())
     room.put("serial", b"01\n")
-    room.put("log.line", b"shop 1 aa\n")
+    room.put("digests", b"aa  history\n")
     make = [openssl, "req", "-x509", "-newkey", "rsa:2048", "-nodes", "-keyout", "key", "-out", "authority.pem", "-days", "9", "-subj", "/CN=TSA"]
     reply = [openssl, "ts", "-reply", "-queryfile", "query", "-inkey", "key", "-signer", "authority.pem", "-config", "settings", "-section", "tsa", "-out", "stamp"]
     subprocess.run([*make, "-addext", "extendedKeyUsage=critical,timeStamping"], cwd=room.folder, check=True, capture_output=True, timeout=LONGEST)
-    shell(room, "openssl ts -query -data log.line -sha512 -cert -out query")
+    shell(room, "openssl ts -query -data digests -sha512 -cert -out query")
     subprocess.run(reply, cwd=room.folder, check=True, capture_output=True, timeout=LONGEST)
-    for line, status in ((b"shop 1 aa\n", "0"), (b"shop 1 ab\n", "1")):
-        room.put("log.line", line)
-        found = shell(room, "openssl ts -verify -data log.line -in stamp -CAfile authority.pem")
+    for line, status in ((b"aa  history\n", "0"), (b"ab  history\n", "1")):
+        room.put("digests", line)
+        found = shell(room, "openssl ts -verify -data digests -in stamp -CAfile authority.pem")
         if ("Verification: OK" in found, found.partition("\n")[2][:1]) != (status == "0", status):
             raise Wrong(f"  {line!r}\n  got    {found!r}")
 

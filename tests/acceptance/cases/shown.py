@@ -24,23 +24,79 @@ from timeweave_reference.timelines import Timeline
 from timeweave_reference.worlds import played
 
 
+def plain(text):
+    """Lines of a manual page as they are typed."""
+    return text.replace("\\-", "-").replace("\\e", "\\")
+
+
 def manual_examples(room):
     """the commands of the manual page give what it shows"""
     for name, package in (("perl", "perl-base"), ("xxd", "xxd"), ("flock", "util-linux"), ("bash", "bash")):
         needs(name, package)
     linked(room)
-    room.put("p", proof_bytes(Timeline("a", [[b""]]), 1, 0, 1))
-    section = (TOP / "docs/timeweave.1").read_text().split("\n.SH EXAMPLES\n")[1].split("\n.SH ")[0]
-    text = "".join(re.findall(r"^\.nf\n(.*?)^\.fi$", section, re.M | re.S)).replace("\\-", "-").replace("\\e", "\\")
-    steps = re.split(r"^\$ |^(?=top=)", text, flags=re.M)[1:]
-    # (of the block without prompts all lines are one command, which shows nothing)
-    steps = [(step, "") if step.startswith("top=") else step.partition("\n")[::2] for step in steps]
+    section = (TOP / "docs/timeweave.1").read_text().split("\n.SH COMMANDS\n")[1].split("\n.SH ")[0]
+    blocks = re.findall(r"^\.nf\n(\$ .*?)^\.fi$", section, re.M | re.S)
+    steps = [step.partition("\n")[::2] for step in re.split(r"^\$ ", plain("".join(blocks)), flags=re.M)[1:]]
     run = "".join(f"{command}\necho '=== end of step'\n" for command, _ in steps)
     done = subprocess.run(["bash", "-c", run], cwd=room.folder, env=with_program(room.program), capture_output=True, text=True, timeout=LONGEST)
     found = done.stdout.split("=== end of step\n")
     wrong = [f"  $ {command}\n  shown {output!r}\n  got   {got!r}" for (command, output), got in zip(steps, found) if output.strip() != got.strip()]
     if wrong or done.stderr or len(found) != len(steps) + 1:
         raise Wrong("\n".join([*wrong, done.stderr]))
+
+
+def exemplified(program):
+    """The commands of the manual page that have no example of their own."""
+    section = (TOP / "docs/timeweave.1").read_text().split("\n.SH COMMANDS\n")[1].split("\n.SH ")[0]
+    wrong = []
+    for headings, text in re.findall(r"((?:^\.SS .*\n)+)((?:(?!\.SS ).*\n?)*)", section, re.M):
+        examples = plain("".join(re.findall(r"^\.nf\n(\$ .*?)^\.fi$", text, re.M | re.S)))
+        for form in re.findall(r"^\.SS (.*)$", headings, re.M):
+            command, _, word = (part for part in (form.split() + ["", ""])[:3])
+            used = rf"timeweave {command} \S+ {word}\b" if word.islower() else rf"timeweave {command} "
+            wrong += [f"  {form}"] * (not re.search(used, examples))
+    return "\n".join(wrong) or None
+
+
+# What stands before the examples of a word of weft, in the order in which they are run: what they take for granted. The service of /srv/log is `data`.
+BEFORE = {
+    "log": "mkdir -p /srv/data /srv/sent && echo 7 > /srv/data/paid.csv && echo 8 > /srv/sent/sent && cp /srv/data/paid.csv .",
+    "line": "mkdir ~/.ssh && ssh-keygen -q -t ed25519 -N '' -f ~/.ssh/id_ed25519",
+    "prove": "weft keep line --by own",
+    "keep": "for name in shop notary bank; do weft log /srv/sent /srv/$name $name && ssh-keygen -q -t ed25519 -N '' -f $name.key; done; "
+    "weft line /srv/shop --sign shop.key --out shop.line; mv shop.key.pub shop_key.pub; mv bank.key.pub bank_key.pub; cp /srv/notary.anchor letter.txt",
+    "tell": "timeweave thread /srv/shop 0 > message && timeweave receive /srv/notary message > receipt && cp paid.proof proof",
+    "exchange": "mkdir /srv/box /srv/box-bank && echo key = ~/.ssh/id_ed25519 > /srv/box/box.conf && echo key = $PWD/bank.key > /srv/box-bank/box.conf; "
+    "weft accept /srv/box-bank data --key ~/.ssh/id_ed25519.pub",
+    "accept": "weft exchange /srv/bank /srv/box-bank; mkdir -p /srv/box/bank/in && cp -r /srv/box-bank/data/out/. /srv/box/bank/in && cp /srv/bank.anchor bank.line",
+    "chain": "weft exchange /srv/log /srv/box; timeweave thread /srv/log 0 > message && timeweave receive /srv/bank message > receipt; "
+    "echo 9 > /srv/sent/more && weft log /srv/sent /srv/bank; weft keep /srv/bank.anchor --by own; weft prove /srv/bank more --out sent.proof; "
+    "weft keep /srv/log.anchor --by own; weft line /srv/log > last; weft keep last --by own",
+    "judge": "timeweave map /srv/log low 2 bank > low; timeweave map /srv/bank high 2 data > high; mkdir proofs && cp proof proofs",
+    "check": "cp /srv/log.lines ~/lines",
+}
+
+
+def examples_of_weft(room):
+    """the examples of weft's manual page can be typed as they stand there"""
+    needs("ssh-keygen", "openssh-client")
+    linked(room)
+    words = re.findall(r"^\.SS weft (\w+).*?^\.nf\n(.*?)^\.fi$", (TOP / "weft/weft.1").read_text(), re.M | re.S)
+    examples = {word: re.findall(r"^\$ (weft .*)$", plain(text), re.M) for word, text in words}
+    environment = {**with_program(room.program), "HOME": str(room.folder), "XDG_DATA_HOME": "", "XDG_CONFIG_HOME": ""}
+
+    def typed(command):
+        command = command.replace("/srv", f"{room.folder}/srv")
+        return subprocess.run(["bash", "-c", command], cwd=room.folder, env=environment, capture_output=True, text=True, timeout=LONGEST)
+
+    wrong = [f"  {word} has no example that is run" for word in examples if word not in BEFORE or not examples[word]]
+    for word, before in BEFORE.items():
+        prepared = typed(before)
+        for command in examples[word]:
+            done = typed(command)
+            wrong += [f"  {command}: status {done.returncode}\n{done.stdout}{done.stderr}{prepared.stderr}"] * (done.returncode not in (0, 10))
+    if wrong:
+        raise Wrong("\n".join(wrong))
 
 
 VERDICTS = ("accepted ", "rejected ", "stands", "unheld ", "unreadable ")
@@ -199,6 +255,6 @@ def ten_years(room):
 def cases():
     shown = (
         archived_threads, two_peers, chain_of_three, event_chain, fork_evidence, between_steps, audited_chain, taken_over, reached_steps,
-        played_world, old_copy, ten_years, manual_examples,
+        played_world, old_copy, ten_years, manual_examples, examples_of_weft,
     )
-    return [case(work, "shown") for work in shown]
+    return [*(case(work, "shown") for work in shown), {"name": "shown: each command of the manual page has an example", "check": exemplified}]

@@ -6,7 +6,7 @@ import shutil
 import subprocess
 from pathlib import Path
 
-from pictures import crates, crates_to_come, height
+from pictures import crates, height
 
 from harness.places import TOP
 
@@ -148,8 +148,8 @@ def header(program):
 
 
 def heights(program):
-    """The crates at the end of a chain that is too long, with the crates that are to come."""
-    known = crates_to_come()
+    """The crates at the end of a chain that is too long."""
+    known = crates()
     wrong = {name: height(name, known) for name in known if height(name, known) > MOST_HEIGHT}
     return "\n".join(f"  {name} stands at {at}, at most {MOST_HEIGHT} is allowed" for name, at in wrong.items()) or None
 

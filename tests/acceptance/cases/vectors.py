@@ -64,9 +64,9 @@ def told(program):
     named = set(re.findall(r"`(\w+)\.json`", (FOLDER / "README.md").read_text()))
     wrong = [f"  vectors/README.md and the folder differ in {name}" for name in sorted(named ^ set(files()))]
     texts = [vector.get("text", "") for _, vector in vectors()]
-    for head, *_ in seen.section("REASONS"):
-        if not any(re.match(seen.pattern(f"rejected {head}") + "\n", text) for text in texts):
-            wrong.append(f"  no vector is told {head}")
+    for reason in seen.reasons():
+        if not any(re.match(seen.pattern(f"rejected {reason}") + "\n", text) for text in texts):
+            wrong.append(f"  no vector is told {reason}")
     wrong += [f"  no vector breaks rule {rule}" for rule in RULES if not any(text.startswith("unsound ") and text.endswith(f" rule {rule}\n") for text in texts)]
     size = sum(path.stat().st_size for path in FOLDER.iterdir())
     wrong += [f"  {len(texts)} vectors of {size} bytes"] * (len(texts) < 300 or size > 3_000_000)

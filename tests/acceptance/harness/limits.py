@@ -42,3 +42,8 @@ def closed():
 
 def in_memory(size):
     return lambda: resource.setrlimit(resource.RLIMIT_AS, (size, size))
+
+
+def with_stack(size):
+    """The program has at most so many bytes of stack."""
+    return lambda: resource.setrlimit(resource.RLIMIT_STACK, (size, size))

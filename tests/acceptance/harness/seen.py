@@ -22,25 +22,30 @@ def pattern(text):
 
 
 def section(name):
-    """The entries of a section of the manual page: the words of the head, and those in bold below it, as they stand in one line."""
-    text = MANUAL.read_text().split(f"\n.SH {name}\n")[1].split("\n.SH ")[0]
-    for entry in re.split(r"^\.TP$", text, flags=re.M)[1:]:
-        bold = [shlex.split(line)[1:] for line in entry.splitlines() if re.match(r"\.B[RI]? ", line)]
-        yield ["".join(words) if any(" " in word for word in words) else " ".join(words) for words in bold]
+    """A section of the manual page."""
+    return MANUAL.read_text().split(f"\n.SH {name}\n")[1].split("\n.SH ")[0]
+
+
+def statuses():
+    """The rows of the manual page's table of statuses: status and text, which may be none."""
+    rows = section("EXIT STATUS").split("\n.TS\n")[1].split("\n.TE\n")[0].splitlines()
+    for row in rows:
+        if re.match(r"\d", row):
+            status, text, _ = row.split("|")
+            yield int(status), text
+
+
+def reasons():
+    """The reasons of the manual page, each with the words in capitals for its fields."""
+    for entry in re.split(r"^\.TP$", section("REASONS"), flags=re.M)[1:]:
+        words = shlex.split(next(line for line in entry.splitlines() if re.match(r"\.B[RI]? ", line)))[1:]
+        yield "".join(words) if any(" " in word for word in words) else " ".join(words)
 
 
 def named():
     """The statuses of the manual page, each with the texts that it names, and the reasons."""
-    for status, *texts in section("EXIT STATUS"):
-        if int(status) not in NEVER:
-            yield int(status), ""
-        yield from ((int(status), text.rstrip(" ,.")) for text in texts if is_answer(text))
-    yield from ((1, f"rejected {head}") for head, *_ in section("REASONS"))
-
-
-def is_answer(text):
-    """Whether the text is one that the program writes, and no command."""
-    return text.split()[0] in ("accepted", "rejected", "stands", "unheld", "usage", "fault", "no", "refused", "store", "unreadable", "unsound")
+    yield from ((status, text) for status, text in statuses() if status not in NEVER)
+    yield from ((1, f"rejected {reason}") for reason in reasons())
 
 
 def missing():
