@@ -7,9 +7,8 @@ ghost use Rattle.tw_adopt.specs.Stops.{AnswersFor, HasStops, stopped_at};
 
 use crate::receiving::Receiving;
 use std::alloc::Global;
-use tw_base::{Digest, Hasher, NoMemory};
+use tw_base::{Digest, Hasher, NoMemory, Transcript, Unwritten};
 use tw_history::{Digests, History, auth_passed, begin_pass, count_of_steps, pass_steps};
-use tw_transcript::{Transcript, Unwritten};
 
 /// A step of a history, and its authenticator there.
 #[derive(Clone, Copy, Drop)]

@@ -4,9 +4,7 @@ ghost use Rattle.std.specs.Prelude.{◌≡◌, ◌≢◌, ℕ, ◌+◌, ◌-◌,
 ghost use Rattle.arrayvec.specs.ArrayVec.{array_vec_len};
 ghost use Rattle.tw_base.specs.declared.kinds.limits.TheConstants.{LAST_STEP};
 ghost use Rattle.tw_base.specs.format.Codecs.{optional};
-ghost use Rattle.tw_base.specs.format.Fields.{number_bytes};
 ghost use Rattle.tw_base.specs.history.HistoryCodec.{time_codec};
-ghost use Rattle.tw_base.specs.history.Limits.{IsTimeWithinLimits};
 ghost use Rattle.tw_base.specs.kinds.Names.{IsName};
 ghost use Rattle.tw_base.specs.format.Taking.{Takes};
 ghost use Rattle.tw_answers.specs.declared.root.RootRecord.{RootRecord};
@@ -14,8 +12,9 @@ ghost use Rattle.tw_answers.specs.Roots.{FitsStore, HasLastPage, IsAllowed, root
 
 use crate::limits::{MOST_PAGES_OF_A_STEP, TIMED_ROOT_BYTES};
 use arrayvec::ArrayVec;
-use tw_base::limits::{LAST_STEP, LAST_TIME};
-use tw_base::{Digest, Name, ReadFault, Root, put, take_digest, take_name, take_number, whole_to};
+use tw_base::fixed::{put_digest, put_number};
+use tw_base::limits::LAST_STEP;
+use tw_base::{Name, ReadFault, Root, put, take_digest, take_name, take_number, take_time, whole_to};
 use tw_disk::limits::FIRST_PAGE;
 use tw_skiplist::Head;
 
@@ -28,24 +27,6 @@ pub struct RootRecord {
     pub archive: Root,
     pub threads: u64,
     pub time: Option<u64>,
-}
-
-/// Puts a number of eight bytes at the record's end.
-fn put_number(text: &mut ArrayVec<u8, 512>, number: u64)
-    requires { array_vec_len text.old ≤ 504 }
-    ensures bytes { text.new.items ≡ text.old.items ++ number_bytes 8 number }
-    ensures size { array_vec_len text.new ≡ array_vec_len text.old + 8 }
-{
-    put(text, &number.to_be_bytes());
-}
-
-/// Puts a digest at the record's end.
-fn put_digest(text: &mut ArrayVec<u8, 512>, digest: &Digest)
-    requires { array_vec_len text.old ≤ 480 }
-    ensures bytes { text.new.items ≡ text.old.items ++ digest.now }
-    ensures size { array_vec_len text.new ≡ array_vec_len text.old + 32 }
-{
-    put(text, &digest.0);
 }
 
 /// Puts a time at the record's end, where there is one.
@@ -77,21 +58,6 @@ pub fn root_record(root: &RootRecord) -> ArrayVec<u8, 512>
     put_number(&mut text, root.threads);
     put_time(&mut text, root.time);
     text
-}
-
-/// Takes a time, where there is to be one.
-#[tactic(auto, unfolding(tw_base::specs::format::Codecs::nothing, tw_base::specs::format::Codecs::present))]
-fn take_time(bytes: &[u8], at: &mut u64, is_timed: bool) -> Result<Option<u64>, ReadFault>
-    requires { at.old ≤ length bytes.now }
-    ensures takes { Takes (optional is_timed time_codec) (λ time. time) bytes.now at.old at.new result }
-    ensures within { IfOk result IsTimeWithinLimits }
-    ensures memory { IfErr result (λ fault. fault ≢ ReadFault.NoMemory) }
-{
-    if !is_timed {
-        return Ok(None);
-    }
-    let time = take_number(bytes, at, 8, 0, LAST_TIME)?;
-    Ok(Some(time))
 }
 
 /// Takes a root record, with a time or without.

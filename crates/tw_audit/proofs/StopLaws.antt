@@ -12,7 +12,7 @@ use Rattle.tw_base.specs.history.History.{History}
 use Rattle.tw_base.specs.history.HistoryTexts.{history_texts, texts_to}
 use Rattle.tw_base.specs.kinds.Lists.{Each, In}
 use Rattle.tw_history.specs.PassSteps.{HandsOn}
-use Rattle.tw_transcript.specs.Handing.{Hands}
+use Rattle.tw_base.specs.kinds.Handing.{Hands}
 use Rattle.tw_base.proofs.lemmas.kinds.ListLemmas.{Each-append, Each-in, Each-map, In-left, In-right}
 use Rattle.tw_audit.specs.declared.passing.Passed.{Passed}
 use Rattle.tw_audit.specs.declared.passing.Stop.{Stop}

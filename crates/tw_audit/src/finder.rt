@@ -11,8 +11,7 @@ use crate::keys::Repeated;
 use crate::table::{Table, TextPair};
 use std::alloc::Global;
 use std::marker::PhantomData;
-use tw_base::{Digest, Hasher, NoMemory};
-use tw_transcript::Transcript;
+use tw_base::{Digest, Hasher, NoMemory, Transcript};
 
 /// A transcript that keeps each text whose key stands twice, once, by its digest.
 #[derive(Drop)]

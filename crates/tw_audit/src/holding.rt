@@ -19,7 +19,7 @@ ghost use Rattle.tw_audit.specs.Shapes.{IsShaped};
 ghost use Rattle.tw_audit.specs.Stops.{missing_in};
 ghost use Rattle.tw_audit.specs.Tables.{Took};
 ghost use Rattle.tw_audit.specs.declared.table.TextPair.{TextPair as TextPairMeant};
-ghost use Rattle.tw_transcript.specs.Handing.{Hands};
+ghost use Rattle.tw_base.specs.kinds.Handing.{Hands};
 
 use crate::finder::Finder;
 use crate::finding::{AuditFault, Finding};
@@ -30,10 +30,9 @@ use crate::passing::{Missing, first_missing, pass_histories};
 use crate::proofs::hash_proof;
 use crate::table::TextPair;
 use std::alloc::Global;
-use tw_base::{Hasher, NoMemory, Report, Thread};
+use tw_base::{Hasher, NoMemory, Report, Thread, Transcript};
 use tw_chain::{Proof, Verdict, read_proof};
 use tw_history::{History, table_of};
-use tw_transcript::Transcript;
 use tw_verifier::verify;
 
 /// The first of the threads held of the proof that the histories don't have, whose texts are handed on.

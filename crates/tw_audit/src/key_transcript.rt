@@ -6,8 +6,7 @@ ghost use Rattle.tw_audit.specs.KeyLists.{TookKeys};
 use crate::keys::Keys;
 use std::alloc::Global;
 use std::marker::PhantomData;
-use tw_base::{Digest, Hasher};
-use tw_transcript::Transcript;
+use tw_base::{Digest, Hasher, Transcript};
 
 /// A transcript that keeps the key of each text that it doesn't know.
 #[derive(Drop)]

@@ -2,7 +2,6 @@
 //! why it can't be held against them.
 #![tactic(auto)]
 
-mod event_parts;
 mod finder;
 mod finding;
 mod held;
@@ -10,12 +9,9 @@ mod holding;
 mod key_transcript;
 mod keys;
 mod laws;
-mod openings;
 mod passing;
-mod paths;
 mod proofs;
 mod table;
-mod tree_proofs;
 
 pub use finding::{AuditFault, Finding};
 pub use holding::{audit, audit_judged};

@@ -8,12 +8,11 @@ ghost use Rattle.tw_base.specs.kinds.Lists.{Each};
 ghost use Rattle.tw_history.specs.PassSteps.{HandsOn, HasPassed};
 ghost use Rattle.tw_audit.specs.Auditing.{is_found};
 ghost use Rattle.tw_audit.specs.Stops.{AnswersAll, AnswersFor, HasStops, found_of, missing_in, stopped_at};
-ghost use Rattle.tw_transcript.specs.Handing.{Hands};
+ghost use Rattle.tw_base.specs.kinds.Handing.{Hands};
 
 use std::alloc::Global;
-use tw_base::{Digest, Name, NoMemory, Thread};
+use tw_base::{Digest, Name, NoMemory, Thread, Transcript};
 use tw_history::{Digests, History, auth_passed, begin_pass, count_of_steps, pass_steps};
-use tw_transcript::Transcript;
 
 /// A step of a history, and its authenticator there.
 #[derive(Clone, Copy, Drop)]

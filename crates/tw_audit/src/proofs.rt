@@ -1,23 +1,46 @@
 // What checking a proof hashes, in the order of its bytes.
 
-ghost use Rattle.std.specs.Prelude.{◌≡◌, ◌<◌, length, IfSome};
+ghost use Rattle.std.specs.Prelude.{◌≡◌, ℕ, ◌<◌, ◌≤◌, List, length, IfSome};
 ghost use Rattle.std.specs.List.{flat_map};
+ghost use Rattle.tw_base.specs.declared.kinds.limits.TheConstants.{LAST_STEP};
 ghost use Rattle.tw_base.specs.kinds.Lists.{Each};
+ghost use Rattle.tw_skipproof.specs.Acceptance.{part_texts};
+ghost use Rattle.tw_skipproof.specs.Paths.{HasShape, path_texts};
 ghost use Rattle.tw_chain.specs.declared.proof.Proof.TheVariants.{Absent, Archived, Exists, Precedes};
 ghost use Rattle.tw_chain.specs.Accepting.{proof_texts};
 ghost use Rattle.tw_chain.specs.Checks.{checks, end_of};
 ghost use Rattle.tw_audit.specs.PieceTexts.{bind_texts, hop_texts, opened_texts, seen_texts};
 ghost use Rattle.tw_audit.specs.Shapes.{IsEventShaped, IsHopShaped, IsPartShaped, IsShaped};
-ghost use Rattle.tw_transcript.specs.Handing.{Hands};
+ghost use Rattle.tw_base.specs.kinds.Handing.{Hands};
 
-use crate::event_parts::hash_event;
-use crate::openings::hash_opening;
-use crate::paths::{hash_part, hash_path};
-use crate::tree_proofs::hash_answer;
-use tw_base::{Ask, EventPart};
+use tw_base::{Ask, Digest, EventPart, Transcript};
 use tw_chain::{AbsenceProof, HopPart, PrecedenceProof, Proof, ThreadProof};
-use tw_skipproof::{ExistenceProof, Opening, Part};
-use tw_transcript::Transcript;
+use tw_events::root_over_told;
+use tw_skipproof::{ExistenceProof, Opening, Part, Path, climb_told, opening_auth_told};
+use tw_treeproof::tree_label_told;
+
+/// Hands on the texts of a path from one step down to another, over the authenticator of the lower one.
+fn hash_path<T: Transcript>(path: &Path, from: u64, to: u64, bottom: &Digest, texts: &mut T)
+    requires shape { HasShape path.now.links from to }
+    requires step { from ≤ LAST_STEP }
+    ensures { Hands T.took texts.old texts.new (path_texts T.dig path.now.links from to bottom.now) }
+{
+    let Some(_) = climb_told(path, from, to, bottom, texts) else {
+        unreachable!();
+    };
+}
+
+/// Hands on the texts of a step under a top: those of its opening, and then those of the path.
+fn hash_part<T: Transcript>(step: u64, top: u64, path: &Path, opening: &Opening, texts: &mut T)
+    requires labels { length opening.now.others < 40 }
+    requires shape { HasShape path.now.links top step }
+    requires top { top ≤ LAST_STEP }
+    ensures { (service : List ℕ) → Hands T.took texts.old texts.new
+        (part_texts T.dig (record { service = service; step = step; top = top; path = path.now; opening = opening.now })) }
+{
+    let bottom = opening_auth_told(opening, step, texts);
+    hash_path(path, top, step, &bottom, texts);
+}
 
 /// Hands on the texts of a step under its top, and then those of one of its events.
 fn hash_seen<T: Transcript>(at: &Part, event: &EventPart, texts: &mut T)
@@ -26,7 +49,7 @@ fn hash_seen<T: Transcript>(at: &Part, event: &EventPart, texts: &mut T)
     ensures { Hands T.took texts.old texts.new (seen_texts T.dig at.now event.now) }
 {
     hash_part(at.step, at.top, &at.path, &at.opening, texts);
-    hash_event(at.opening.count, event, texts);
+    root_over_told(event, at.opening.count, texts);
 }
 
 /// Hands on the texts of a proof of an event.
@@ -44,7 +67,7 @@ fn hash_archived<T: Transcript>(proof: &ThreadProof, texts: &mut T)
 {
     let at = &proof.at;
     hash_part(at.step, at.top, &at.path, &at.opening, texts);
-    hash_answer(&Ask::Present(proof.entry), &proof.shown, texts);
+    tree_label_told(&Ask::Present(proof.entry), &proof.shown, texts);
 }
 
 /// Hands on the texts of a proof that no thread of a key was received.
@@ -54,7 +77,7 @@ fn hash_absence<T: Transcript>(proof: &AbsenceProof, texts: &mut T)
 {
     let at = &proof.at;
     hash_part(at.step, at.top, &at.path, &at.opening, texts);
-    hash_answer(&Ask::Absent(proof.key), &proof.shown, texts);
+    tree_label_told(&Ask::Absent(proof.key), &proof.shown, texts);
 }
 
 /// Hands on the texts of the opening of a step, where there is one.
@@ -65,7 +88,7 @@ fn hash_opened<T: Transcript>(step: u64, opening: &Option<Opening>, texts: &mut 
     match opening {
         None => {}
         Some(opening) => {
-            hash_opening(step, opening, texts);
+            opening_auth_told(opening, step, texts);
         }
     }
 }
@@ -87,7 +110,7 @@ fn hash_hop<T: Transcript>(hop: &HopPart, texts: &mut T)
     requires { IsHopShaped hop.now }
     ensures { Hands T.took texts.old texts.new (hop_texts T.dig hop.now) }
 {
-    hash_answer(&Ask::Present(hop.entry), &hop.shown, texts);
+    tree_label_told(&Ask::Present(hop.entry), &hop.shown, texts);
     hash_bind(hop, texts);
     hash_opened(hop.entry.thread.step, &hop.opening, texts);
 }
@@ -123,7 +146,7 @@ fn hash_precedence<T: Transcript>(proof: &PrecedenceProof, texts: &mut T)
     hash_hops(proof.hops.as_slice(), texts);
     let tail = &proof.tail;
     hash_part(tail.step, end_step(proof), &tail.path, &tail.opening, texts);
-    hash_event(tail.opening.count, &tail.event, texts);
+    root_over_told(&tail.event, tail.opening.count, texts);
 }
 
 /// Hands on what checking the proof hashes, in the order of its bytes.

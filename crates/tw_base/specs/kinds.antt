@@ -7,6 +7,7 @@ pub mod Texts
 pub mod Clash
 pub mod Weak
 pub mod HasherSteps
+pub mod Handing
 pub mod Levels
 pub mod Faults
 pub mod PlannedFailures

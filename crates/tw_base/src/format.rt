@@ -3,6 +3,7 @@
 pub(crate) mod ending;
 pub(crate) mod event_taking;
 pub(crate) mod fields;
+pub mod fixed;
 pub(crate) mod flag;
 pub(crate) mod page_bytes;
 pub(crate) mod taking;

@@ -12,4 +12,6 @@ pub(crate) mod report;
 pub(crate) mod root;
 pub(crate) mod step_events;
 pub(crate) mod thread;
+pub(crate) mod thread_writing;
+pub(crate) mod told_labels;
 pub(crate) mod tree_proof;

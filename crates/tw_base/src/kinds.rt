@@ -11,3 +11,4 @@ pub mod limits;
 pub(crate) mod link_level;
 pub(crate) mod name;
 pub(crate) mod sequence;
+pub(crate) mod transcript;

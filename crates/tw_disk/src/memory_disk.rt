@@ -18,7 +18,8 @@ use tw_base::{Failed, FailingCalls, NoMemory, Page};
 /// A disk in memory, which tells its content and keeps all its writes and barriers since it was made or crashed.
 ///
 /// Of each write it keeps the bytes that the write replaced, so what every read since then gave, and what each crash since then might have
-/// left, follows from what it keeps; each page that was written is held once for what reads give and once for each write that replaced it, without the zeros at its end.
+/// left, follows from what it keeps; each page that was written is held once for what reads give and once for each write that replaced it,
+/// without the zeros at its end.
 /// A write or barrier that finds no memory counts a fault and answers `Failed`, and changes nothing; so does one that would be
 /// number 2^64 of those that were kept ever, crashes or not. Their number is the moment.
 #[derive(Drop)]

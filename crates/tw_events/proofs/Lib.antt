@@ -1,2 +1,4 @@
 pub mod Steps
 pub mod Binding
+pub mod EventTexts
+pub mod NodeTexts

@@ -1,39 +1,46 @@
 // Checking one event against a root.
 
-ghost use Rattle.std.specs.Prelude.{◌≡◌, ℕ, ◌≤◌, ◌↔◌, List, ◌++◌, length, reverse, IsTrue, Some, slice_get};
-ghost use Rattle.tw_base.specs.events.AuditPath.{ChecksEvent, audit_texts, node_text_beside, root_above};
+ghost use Rattle.std.specs.Prelude.{◌≡◌, ℕ, ◌≤◌, ◌↔◌, List, [], ◌∷◌, ◌++◌, length, reverse, IsTrue, Some, slice_get};
+ghost use Rattle.tw_base.specs.events.AuditPath.{ChecksEvent, audit_texts, node_text_beside, node_texts_above, root_above};
 ghost use Rattle.tw_base.specs.kinds.Bytes.{AreBytes};
 ghost use Rattle.tw_base.specs.kinds.Clash.{OrClash};
+ghost use Rattle.tw_base.specs.kinds.Handing.{Hands};
 ghost use Rattle.tw_base.specs.kinds.Lists.{Each};
 ghost use Rattle.tw_base.specs.events.EventTree.{event_root, event_texts};
 ghost use Rattle.tw_base.specs.declared.kinds.limits.TheConstants.{MOST_EVENTS, MOST_EVENT_BYTES};
 
 use arrayvec::ArrayVec;
 use tw_base::{
-    Digest, Hasher, Labels, Side, event_leaf, event_node, is_same_digest, see_bytes, sides_of,
+    Digest, Hasher, Labels, Side, Transcript, Unwritten, event_leaf, event_node_told,
+    is_same_digest, see_bytes, sides_of,
 };
 
 /// The label of the event node over a label of the path, which stands on that side, and the label
-/// reached so far.
-fn node_above<H: Hasher>(side: Side, label: &Digest, reached: &Digest) -> Digest
-    ensures { result ≡ H.dig (node_text_beside side label.now reached.now) }
+/// reached so far; its text is handed on.
+fn node_above<T: Transcript>(side: Side, label: &Digest, reached: &Digest, texts: &mut T) -> Digest
+    ensures label { result ≡ T.dig (node_text_beside side label.now reached.now) }
+    ensures took { Hands T.took texts.old texts.new (node_text_beside side label.now reached.now ∷ []) }
 {
     match side {
-        Side::Left => event_node::<H>(label, reached),
-        Side::Right => event_node::<H>(reached, label),
+        Side::Left => event_node_told(label, reached, texts),
+        Side::Right => event_node_told(reached, label, texts),
     }
 }
 
 /// The root that a leaf's label and the labels of its audit path lead to (RFC 6962, section 2.1.1).
-/// The sides are those on which the path's labels stand, from the root down.
-pub fn root_above_leaf<H: Hasher>(
+/// The sides are those on which the path's labels stand, from the root down. The texts of the nodes are
+/// handed on, upwards.
+pub fn root_above_leaf<T: Transcript>(
     sides: ArrayVec<Side, 10>,
     path: &[Digest],
     leaf: Digest,
+    texts: &mut T,
 ) -> Digest
     requires { length path.now ≤ length sides.items }
     // The root above a leaf is that to which its label and the labels of the path lead.
-    ensures { result ≡ root_above H.dig (reverse sides.items) path.now leaf }
+    ensures root { result ≡ root_above T.dig (reverse sides.items) path.now leaf }
+    // The texts of the nodes above the leaf are handed on.
+    ensures took { Hands T.took texts.old texts.new (node_texts_above T.dig (reverse sides.items) path.now leaf) }
 {
     let mut sides = sides;
     let mut reached = leaf;
@@ -41,7 +48,7 @@ pub fn root_above_leaf<H: Hasher>(
         let Some(side) = sides.pop() else {
             unreachable!();
         };
-        let above = node_above::<H>(side, label, &reached);
+        let above = node_above(side, label, &reached, texts);
         reached = above;
     }
     reached
@@ -61,7 +68,7 @@ fn is_shown<H: Hasher>(root: &Digest, count: u32, index: u32, event: &[u8], path
         return false;
     }
     let leaf = event_leaf::<H>(event);
-    let reached = root_above_leaf::<H>(sides, path, leaf);
+    let reached = root_above_leaf(sides, path, leaf, &mut Unwritten::<H>::new());
     is_same_digest(&reached, root)
 }
 

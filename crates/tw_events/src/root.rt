@@ -8,7 +8,8 @@ ghost use Rattle.tw_base.specs.declared.kinds.limits.TheConstants.{MOST_EVENTS, 
 use tw_base::{Bytes, Digest, Hasher, event_leaf, event_node, left_count, no_events};
 
 /// The root of at most 1,024 events, each of at most 1,024 bytes: the Merkle tree hash of RFC 6962,
-/// section 2.1. Takes no memory, hashes each text once, and goes at most ten halvings deep.
+/// section 2.1. Takes no memory, hashes each text once, and goes at most ten halvings deep. It goes depth first;
+/// `event_root_told` hands the leaves on before the nodes and keeps their labels, which this one needn't.
 #[tactic(auto, using(crate::proofs::Steps::few_events))]
 pub fn event_root<H: Hasher>(events: &[Bytes]) -> Digest
     requires few { length events.now ≤ MOST_EVENTS }

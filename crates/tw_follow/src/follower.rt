@@ -1,7 +1,6 @@
 // Followers.
 ghost use Rattle.std.specs.Prelude.{◌≡◌, ◌⊎◌, ◌≤◌, ◌<◌, ◌+◌, [], true, false};
 ghost use Rattle.tw_base.specs.declared.kinds.limits.TheConstants.{LAST_STEP};
-ghost use Rattle.tw_base.specs.kinds.Names.{IsName};
 ghost use Rattle.tw_disk.specs.declared.limits.TheConstants.{FIRST_PAGE};
 ghost use Rattle.tw_pages.specs.Same.{count_of};
 ghost use Rattle.tw_pages.specs.StoreValue.{generation_of, staged_of, is_broken as store_is_broken};
@@ -13,18 +12,11 @@ use crate::refusal::{FollowRefusal, is_disk_fault};
 use crate::root::RootRecord;
 use std::alloc::Global;
 use std::marker::PhantomData;
-use tw_base::{Hasher, Name, ReadFault, Thread, Threads, genesis};
+use tw_base::{Hasher, Name, ReadFault, Thread, Threads, genesis, see_name};
 use tw_disk::{Disk, Pages};
 use tw_kept::Recorded;
 use tw_msg::{Message, message_laws, read_message};
 use tw_pages::{Store, StoreFault};
-
-/// A name has letters, and zeros behind them.
-fn name_law(name: &Name)
-    ensures { IsName name.now }
-{
-    name.as_bytes();
-}
 
 /// A follower: the heads of one service, oldest first, on a disk, where its pages keep such a list.
 #[derive(Drop)]
@@ -112,7 +104,7 @@ impl<D: Disk, H: Hasher> Follower<D, H> {
         ensures told { IfErr result (λ e. (c : Image) → (D.view disk).content ≡ Some c
             → Reads (D.view e.0) (λ i. (D.view disk).may_leave i ⊎ IsBlankOrNew H.dig name i)) }
     {
-        name_law(&name);
+        see_name(&name);
         let auth = genesis::<H>(&name);
         let root = RootRecord {
             head: Thread {

@@ -12,7 +12,7 @@ use crate::refusal::FollowRefusal;
 use crate::root::RootRecord;
 use std::alloc::Global;
 use tw_base::limits::PAGE_SIZE;
-use tw_base::{Thread, Threads};
+use tw_base::{Thread, Threads, see_name};
 use tw_disk::{Pages, WalkFault, read_page};
 
 /// Reads the page of a head.
@@ -87,7 +87,7 @@ fn read_below<P: Pages>(
         above = found.step;
     }
     heads.reverse();
-    let _ = head.from.as_bytes();
+    see_name(&head.from);
     Ok(heads)
 }
 
@@ -102,7 +102,7 @@ pub(crate) fn read_heads<P: Pages>(
     ensures rises { IfOk result (RiseTo root.now.head) }
 {
     if root.head.step == 0 {
-        let _ = root.head.from.as_bytes();
+        see_name(&root.head.from);
         return Ok(Threads::new(alloc));
     }
     let last = read_last(pages, root)?;

@@ -1,9 +1,7 @@
 // Root records.
 
 ghost use Rattle.std.specs.Prelude.{◌≡◌, ◌≢◌, ℕ, ◌+◌, ◌≤◌, ◌++◌, length, IfErr, IfOk, IfSome, IsTrue, ◌↔◌, MatchOption};
-ghost use Rattle.arrayvec.specs.ArrayVec.{array_vec_len};
 ghost use Rattle.tw_base.specs.declared.kinds.limits.TheConstants.{LAST_STEP};
-ghost use Rattle.tw_base.specs.format.Fields.{number_bytes};
 ghost use Rattle.tw_base.specs.format.Taking.{Takes};
 ghost use Rattle.tw_base.specs.kinds.Names.{IsName};
 ghost use Rattle.tw_follow.specs.declared.limits.TheConstants.{ROOT_BYTES};
@@ -11,10 +9,9 @@ ghost use Rattle.tw_follow.specs.declared.root.RootRecord.{RootRecord};
 ghost use Rattle.tw_follow.specs.Roots.{FitsStore, HasPage, IsAllowed, IsBegun, root_bytes, root_codec};
 
 use arrayvec::ArrayVec;
+use tw_base::fixed::{put_number, put_thread};
 use tw_base::limits::LAST_STEP;
-use tw_base::{
-    Digest, Hasher, ReadFault, Thread, genesis, put, take_digest, take_name, take_number, whole_to,
-};
+use tw_base::{Hasher, ReadFault, Thread, genesis, take_digest, take_name, take_number, whole_to};
 use tw_disk::limits::FIRST_PAGE;
 
 /// What the root record of a follower says: its head, which before the first one is step 0 with the
@@ -25,35 +22,15 @@ pub(crate) struct RootRecord {
     pub page: u64,
 }
 
-/// Puts a number of eight bytes at the record's end.
-fn put_number(text: &mut ArrayVec<u8, 512>, number: u64)
-    requires { array_vec_len text.old ≤ 504 }
-    ensures bytes { text.new.items ≡ text.old.items ++ number_bytes 8 number }
-    ensures size { array_vec_len text.new ≡ array_vec_len text.old + 8 }
-{
-    put(text, &number.to_be_bytes());
-}
-
-/// Puts a digest at the record's end.
-fn put_digest(text: &mut ArrayVec<u8, 512>, digest: &Digest)
-    requires { array_vec_len text.old ≤ 480 }
-    ensures bytes { text.new.items ≡ text.old.items ++ digest.now }
-    ensures size { array_vec_len text.new ≡ array_vec_len text.old + 32 }
-{
-    put(text, &digest.0);
-}
-
 /// The bytes of a root record.
-#[tactic(auto, unfolding(crate::specs::Roots::root_codec, tw_base::specs::format::Seen::codecs))]
+#[tactic(auto, unfolding(crate::specs::Roots::root_codec, tw_base::specs::format::Seen::codecs, tw_base::specs::history::HistoryCodec::thread_codec))]
 pub(crate) fn root_record(root: &RootRecord) -> ArrayVec<u8, 512>
     ensures bytes { result.items ≡ root_bytes root.now }
     ensures size { length result.items ≤ ROOT_BYTES }
     ensures name { IsName root.now.head.from }
 {
     let mut text: ArrayVec<u8, 512> = ArrayVec::new();
-    put(&mut text, root.head.from.as_bytes());
-    put_number(&mut text, root.head.step);
-    put_digest(&mut text, &root.head.auth);
+    put_thread(&mut text, &root.head);
     put_number(&mut text, root.page);
     text
 }

@@ -15,3 +15,4 @@ pub mod Greatest
 pub mod EventSizes
 pub mod RulesJudged
 pub mod SoundFiles
+pub mod LinkLabels

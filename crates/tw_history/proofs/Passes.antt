@@ -25,10 +25,10 @@ use Rattle.tw_history.specs.declared.step.Step.{Step}
 use Rattle.tw_history.specs.declared.pass.Digests.{Digests}
 use Rattle.tw_history.specs.declared.step_digests.StepDigests.{StepDigests}
 use Rattle.tw_history.specs.Tables.{node_of, step_of}
-use Rattle.tw_transcript.specs.Handing.{Hands}
-use Rattle.tw_transcript.specs.Links.{AreReached}
-use Rattle.tw_transcript.proofs.HandedTexts.{hands-none, hands-text}
-use Rattle.tw_transcript.proofs.LinkLabels.{length-labels_below}
+use Rattle.tw_base.specs.kinds.Handing.{Hands}
+use Rattle.tw_history.specs.Links.{AreReached}
+use Rattle.tw_base.proofs.lemmas.kinds.HandedTexts.{hands-none, hands-text}
+use Rattle.tw_history.proofs.LinkLabels.{length-labels_below}
 use Rattle.tw_history.specs.PassSteps.{HandsOn, HasPassed, IsOfStep, IsTold, events_in, texts_of_rest}
 use Rattle.tw_history.proofs.LastSteps.{last-kept, last-own, last-reached}
 use Rattle.tw_history.proofs.TableSteps.{events_of-content}

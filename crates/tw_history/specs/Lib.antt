@@ -6,3 +6,4 @@ pub mod Refusals
 pub mod WritingSteps
 pub mod PassSteps
 pub mod JudgingSteps
+pub mod Links

@@ -9,7 +9,7 @@ use Rattle.tw_base.specs.history.Tree.{Tree, forest, new_trees, tree}
 use Rattle.tw_skipproof.specs.HistoryProofs.{labels_at}
 use Rattle.tw_base.specs.declared.history.content.Content.{Content}
 use Rattle.tw_base.specs.declared.history.content.Content.TheVariants.{Events, Received}
-use Rattle.tw_transcript.specs.Handing.{Hands}
+use Rattle.tw_base.specs.kinds.Handing.{Hands}
 use Rattle.tw_history.specs.declared.pass.Digests.{Digests}
 use Rattle.tw_history.specs.declared.step_digests.StepDigests.{StepDigests}
 

@@ -7,8 +7,7 @@ use crate::history::History;
 use crate::lookup::count_of_steps;
 use crate::pass::{auth_passed, begin_pass, pass_steps};
 use std::alloc::Global;
-use tw_base::{Digest, Hasher, NoMemory};
-use tw_transcript::Unwritten;
+use tw_base::{Digest, Hasher, NoMemory, Unwritten};
 
 /// The authenticator of a step of the history, 0 for its beginning; None exactly where the step is
 /// above the last. Each text that it stands on is hashed once; the memory is linear in the history.

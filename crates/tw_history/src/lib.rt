@@ -5,6 +5,7 @@ mod authenticators;
 mod fault;
 mod history;
 mod laws;
+mod links;
 mod lookup;
 mod pass;
 mod path_links;

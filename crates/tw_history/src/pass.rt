@@ -9,16 +9,17 @@ ghost use Rattle.tw_base.specs.history.Tree.{Tree, branch, planted};
 ghost use Rattle.tw_base.specs.history.Tree.Tree.{Empty};
 ghost use Rattle.tw_history.specs.Tables.{node_of};
 ghost use Rattle.tw_history.specs.PassSteps.{HandsOn, HasPassed, IsOfStep, IsTold, texts_of_rest};
-ghost use Rattle.tw_transcript.specs.Handing.{Hands};
+ghost use Rattle.tw_base.specs.kinds.Handing.{Hands};
 
 use crate::history::History;
+use crate::links::{at_level, keep_auth};
 use crate::lookup::{content_behind, entry_up_to, step_behind};
 use crate::step::Node;
 use crate::step_digests::{StepDigests, count_of_events, digests_of_step, root_of_events};
 use std::alloc::Global;
-use tw_base::{Digest, Labels, NoMemory};
-use tw_transcript::{
-    Transcript, at_level, authenticator, empty_tree, genesis, keep_auth, tree_node,
+use tw_base::{
+    Digest, Labels, NoMemory, Transcript, authenticator_told, empty_tree_told, genesis_told,
+    tree_node_told,
 };
 
 /// What a pass over a history's steps keeps of those behind it: the labels of the trees of their nodes, by
@@ -44,8 +45,8 @@ pub fn begin_pass<T: Transcript>(
 {
     let nodes = history.nodes.len().saturating_add(1);
     let mut tree_labels = Labels::with_capacity(alloc, nodes)?;
-    let latest = [genesis(&history.name, texts); 40];
-    tree_labels.push(empty_tree(texts))?;
+    let latest = [genesis_told(&history.name, texts); 40];
+    tree_labels.push(empty_tree_told(texts))?;
     Ok(Digests {
         tree_labels,
         latest,
@@ -80,7 +81,7 @@ fn label_of_node<T: Transcript>(
     let right = label_of_tree(tree_labels, node.right);
     match entry_up_to(history, step, node.entry) {
         None => *label_of_tree(tree_labels, 0),
-        Some(entry) => tree_node(left, &entry, right, texts),
+        Some(entry) => tree_node_told(left, &entry, right, texts),
     }
 }
 
@@ -132,7 +133,7 @@ pub(crate) fn pass_step<T: Transcript>(
         &digests.latest,
         texts,
     );
-    let auth = authenticator(index + 1, passed.labels.as_slice(), texts);
+    let auth = authenticator_told(index + 1, passed.labels.as_slice(), texts);
     keep_auth(&mut digests.latest, index + 1, auth);
     Ok(passed)
 }

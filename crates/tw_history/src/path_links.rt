@@ -10,9 +10,8 @@ use crate::lookup::content_behind;
 use crate::pass::{Digests, pass_step, pass_steps};
 use crate::step_digests::{link_at, root_of_events};
 use std::alloc::Global;
-use tw_base::{Hasher, NoMemory, power_of_two};
+use tw_base::{Hasher, NoMemory, Unwritten, power_of_two};
 use tw_skipproof::{Link, LinkList, next_hop};
-use tw_transcript::Unwritten;
 
 /// The links of the path down from a step, in the order in which a pass comes by: from the lower
 /// step, which it has passed, upwards. A path has at most 80 links, and so many calls are open.

@@ -23,10 +23,9 @@ use crate::pass::{Digests, auth_passed, begin_pass, pass_step, pass_steps};
 use crate::path_links::path_links;
 use crate::step_digests::{count_of_events, opening_with};
 use std::alloc::Global;
-use tw_base::{Bytes, Content, Digest, Hasher, NoMemory};
+use tw_base::{Bytes, Content, Digest, Hasher, NoMemory, Unwritten};
 use tw_events::{event_part, root_over};
 use tw_skipproof::{ExistenceProof, Opening, Part, Path, write_existence};
-use tw_transcript::Unwritten;
 
 /// The events of the content, where one has this index; else how many there are.
 fn events_having(content: &Content, index: u32) -> Result<&[Bytes], u32>

@@ -25,7 +25,7 @@ use std::alloc::Global;
 use summary::Summary;
 use threads::{count, events_fit, is_later, is_of_another, limits_law, received_thread};
 use times::{doesnt_fall, greatest_with};
-use tw_base::NoMemory;
+use tw_base::{NoMemory, see_name};
 
 /// What is kept of the steps that were judged.
 #[derive(Drop)]
@@ -61,7 +61,7 @@ pub fn is_sound(alloc: Global, history: &History) -> Result<(), HistoryFault>
 {
     let judged = Judged::of_none(alloc)?;
     // The 16 bytes of a name are letters and then zeros, as the limits of a sound history ask.
-    let _ = history.name.as_bytes();
+    see_name(&history.name);
     judge_steps(
         history,
         history.steps.as_slice(),

@@ -8,14 +8,15 @@ ghost use Rattle.tw_base.specs.kinds.Texts.{step_datum_text};
 ghost use Rattle.tw_history.specs.Tables.{IsInRange};
 ghost use Rattle.tw_history.specs.PassSteps.{events_in};
 ghost use Rattle.tw_base.specs.declared.kinds.limits.TheConstants.{LAST_STEP};
-ghost use Rattle.tw_transcript.specs.Handing.{Hands};
-ghost use Rattle.tw_transcript.specs.Links.{AreReached};
+ghost use Rattle.tw_base.specs.kinds.Handing.{Hands};
+ghost use Rattle.tw_history.specs.Links.{AreReached};
 
+use crate::links::link_labels;
 use arrayvec::ArrayVec;
 use std::alloc::Global;
-use tw_base::{Content, Digest, Labels, NoMemory};
+use tw_base::{Content, Digest, Labels, NoMemory, Transcript, no_events_told, step_datum_told};
+use tw_events::event_root_told;
 use tw_skipproof::{Link, Opening};
-use tw_transcript::{Transcript, event_root, link_labels, no_events, step_datum};
 
 /// The digests that the authenticator of a step is made of: the root of its events, the label of
 /// its archive, its datum, and the labels of its links from level 0 on.
@@ -34,8 +35,8 @@ pub(crate) fn root_of_events<T: Transcript>(content: &Content, texts: &mut T) ->
     ensures took { Hands T.took texts.old texts.new (event_texts T.dig (events_in content.now)) }
 {
     match content {
-        Content::Events(events) => event_root(events.as_slice(), texts),
-        Content::Received(_) => no_events(texts),
+        Content::Events(events) => event_root_told(events.as_slice(), texts),
+        Content::Received(_) => no_events_told(texts),
     }
 }
 
@@ -71,7 +72,7 @@ pub(crate) fn digests_of_step<T: Transcript>(
     ensures took { (earlier : List (List ℕ)) → AreReached step earlier latest.now → Hands T.took texts.old texts.new
         (step_datum_text result.event_root result.archive_root count time ∷ link_texts T.dig result.datum earlier step (suc (top_level_of step))) }
 {
-    let datum = step_datum(&event_root, &archive_root, count, time, texts);
+    let datum = step_datum_told(&event_root, &archive_root, count, time, texts);
     let labels = link_labels(step, &datum, latest, texts);
     StepDigests {
         event_root,

@@ -1,10 +1,10 @@
 // Writing history files.
 
 ghost use Rattle.std.specs.Prelude.{◌≡◌, ◌<◌, ◌≤◌, ◌^◌, length, map, sum_by, IfOk, IfErr};
-ghost use Rattle.tw_base.specs.declared.kinds.limits.TheConstants.{LAST_STEP, MOST_EVENT_BYTES};
+ghost use Rattle.tw_base.specs.declared.kinds.limits.TheConstants.{MOST_EVENT_BYTES};
 ghost use Rattle.tw_base.specs.format.Codecs.{many};
 ghost use Rattle.tw_base.specs.format.Formats.{Spells};
-ghost use Rattle.tw_base.specs.history.HistoryCodec.{content_codec, event_codec, history_bytes, history_codec, history_layout, node_codec, recorded_codec, step_codec, thread_codec};
+ghost use Rattle.tw_base.specs.history.HistoryCodec.{content_codec, event_codec, history_bytes, history_codec, history_layout, node_codec, recorded_codec, step_codec};
 ghost use Rattle.tw_base.specs.history.HistoryCodec.{kind_of as kind_of_recorded};
 ghost use Rattle.tw_base.specs.history.Limits.{IsTimeWithinLimits};
 ghost use Rattle.tw_base.specs.kinds.Lists.{Each};
@@ -20,8 +20,7 @@ use crate::step::{Node, Step};
 use std::alloc::Global;
 use tw_base::limits::MOST_HISTORY_BYTES;
 use tw_base::{
-    Bytes, Content, NoMemory, Thread, put_digest, put_name, put_number, put_sized, put_text,
-    put_time,
+    Bytes, Content, NoMemory, put_name, put_number, put_sized, put_text, put_thread, put_time,
 };
 
 /// The four bytes at the head of a history file.
@@ -146,18 +145,6 @@ fn put_content(into: &mut Bytes, content: &Content) -> Result<(), NoMemory>
             Ok(())
         }
     }
-}
-
-/// Appends the thread.
-#[tactic(auto, unfolding(tw_base::specs::history::Seen::threads))]
-fn put_thread(into: &mut Bytes, thread: &Thread) -> Result<(), NoMemory>
-    requires { (0 < thread.now.step) × (thread.now.step ≤ LAST_STEP) }
-    ensures { Puts thread_codec thread.now into.old into.new result }
-{
-    put_name(into, &thread.from)?;
-    put_number(into, thread.step, 8)?;
-    put_digest(into, &thread.auth)?;
-    Ok(())
 }
 
 /// Appends the events, each behind its length.

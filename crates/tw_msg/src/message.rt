@@ -6,7 +6,6 @@ ghost use Rattle.tw_base.specs.format.Formats.{ReadsAs, Spells};
 ghost use Rattle.tw_base.specs.format.Taking.{Takes};
 ghost use Rattle.tw_base.specs.history.Auth.{auth};
 ghost use Rattle.tw_base.specs.history.History.{History};
-ghost use Rattle.tw_base.specs.history.HistoryCodec.{thread_codec};
 ghost use Rattle.tw_base.specs.history.HistoryTexts.{history_texts};
 ghost use Rattle.tw_base.specs.history.Limits.{IsStep, IsThread};
 ghost use Rattle.tw_base.specs.history.Sound.{IsSound};
@@ -19,8 +18,8 @@ ghost use Rattle.tw_msg.specs.Messages.{IsLinked, Leads, message_bytes, message_
 
 use std::alloc::Global;
 use tw_base::{
-    Bytes, Hasher, NoMemory, ReadFault, Thread, put_digest, put_name, put_number, put_text,
-    take_number, take_text, take_thread, whole_to,
+    Bytes, Hasher, NoMemory, ReadFault, Thread, put_number, put_text, put_thread, take_number,
+    take_text, take_thread, whole_to,
 };
 use tw_skipproof::{Path, put_path, take_path};
 
@@ -69,18 +68,6 @@ pub fn read_message(alloc: Global, bytes: &[u8]) -> Result<Message, ReadFault>
     let mut at = 0;
     let read = take_message(alloc, bytes, &mut at);
     whole_to(bytes, at, read)
-}
-
-/// Appends the thread.
-#[tactic(auto, unfolding(tw_base::specs::history::Seen::threads))]
-fn put_thread(into: &mut Bytes, thread: &Thread) -> Result<(), NoMemory>
-    ensures ok { OnOk result (into.new ≡ into.old ++ thread_codec.write thread.now) }
-    ensures fits { OnOk result (IsStep thread.now.step → thread_codec.Fits thread.now) }
-{
-    put_name(into, &thread.from)?;
-    put_number(into, thread.step, 8)?;
-    put_digest(into, &thread.auth)?;
-    Ok(())
 }
 
 /// Appends the message.

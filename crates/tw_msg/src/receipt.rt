@@ -1,13 +1,11 @@
 // Receipts, by which a service tells that it archived a thread.
 
 ghost use Rattle.std.specs.Prelude.{◌≡◌, ◌≢◌, ℕ, ◌+◌, ◌≤◌, List, ◌++◌, length, IfErr, IfOk, Some};
-ghost use Rattle.arrayvec.specs.ArrayVec.{array_vec_len};
 ghost use Rattle.tw_base.specs.declared.history.thread.Thread.{Thread as ThreadOf};
 ghost use Rattle.tw_base.specs.format.Codecs.{IsUnambiguous};
 ghost use Rattle.tw_base.specs.format.Formats.{IsPlace, Spells, SpellsNothing};
 ghost use Rattle.tw_base.specs.format.Taking.{Takes};
 ghost use Rattle.tw_base.specs.history.History.{History, step_at, thread_of as thread_of_step};
-ghost use Rattle.tw_base.specs.history.HistoryCodec.{thread_codec};
 ghost use Rattle.tw_base.specs.history.Limits.{IsStep, IsThread};
 ghost use Rattle.tw_base.specs.history.Sound.{IsSound};
 ghost use Rattle.tw_msg.specs.declared.receipt.Receipt.{Receipt};
@@ -15,7 +13,8 @@ ghost use Rattle.tw_msg.specs.HistoryMessages.{IsReceiptOf};
 ghost use Rattle.tw_msg.specs.Receipts.{receipt_bytes, receipt_codec, receipt_layout};
 
 use arrayvec::ArrayVec;
-use tw_base::{Hasher, ReadFault, Thread, put, see_digest, take_text, take_thread, whole_to};
+use tw_base::fixed::put_thread;
+use tw_base::{Hasher, ReadFault, Thread, put, take_text, take_thread, whole_to};
 
 /// How a receipt begins: the four bytes `TWR1`.
 const MAGIC: [u8; 4] = [0x54, 0x57, 0x52, 0x31];
@@ -71,20 +70,6 @@ pub fn read_receipt(bytes: &[u8]) -> Result<Receipt, Malformed>
         Err(ReadFault::Malformed { place }) => Err(Malformed { place }),
         Err(ReadFault::NoMemory) => unreachable!(),
     }
-}
-
-/// Puts the thread, 56 bytes, at the end of the bytes of a receipt.
-#[tactic(auto, unfolding(tw_base::specs::format::Fields::number_bytes, tw_base::specs::history::Seen::threads))]
-fn put_thread(into: &mut ArrayVec<u8, RECEIPT_SIZE>, thread: &Thread)
-    requires { array_vec_len into.old + 56 ≤ RECEIPT_SIZE }
-    ensures items { into.new.items ≡ into.old.items ++ thread_codec.write thread.now }
-    ensures len { array_vec_len into.new ≡ array_vec_len into.old + 56 }
-    ensures fits { IsStep thread.now.step → thread_codec.Fits thread.now }
-{
-    see_digest(&thread.auth);
-    put(into, thread.from.as_bytes());
-    put(into, &thread.step.to_be_bytes());
-    put(into, &thread.auth.0);
 }
 
 /// The bytes of the receipt.

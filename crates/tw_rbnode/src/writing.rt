@@ -2,8 +2,6 @@
 #![tactic(auto, unfolding(crate::specs::Seen::nodes_written))]
 
 ghost use Rattle.std.specs.Prelude.{◌≡◌, ◌+◌, ◌*◌, ◌≤◌, ◌<◌, ◌++◌, ◌∷◌, [], length, drop, flat_map, take};
-ghost use Rattle.tw_base.specs.kinds.Bytes.{AreBytes};
-ghost use Rattle.tw_base.specs.format.Codecs.{HasBytes};
 ghost use Rattle.tw_base.specs.kinds.Lists.{Each};
 ghost use Rattle.tw_base.specs.format.PageBytes.{IsPageOf};
 ghost use Rattle.tw_base.specs.history.EntryCodec.{entry_codec};
@@ -16,27 +14,7 @@ use crate::links::{Link, link_at};
 use crate::node::RbNode;
 use crate::slot::Slot;
 use arrayvec::ArrayVec;
-use tw_base::{Digest, Entry, Page, PageFront};
-
-/// Tells that bytes are bytes.
-#[tactic(auto)]
-fn are_bytes(bytes: &[u8])
-    ensures { AreBytes bytes.now }
-{
-    let _count = bytes.len();
-}
-
-/// Puts a digest, and tells that it has 32 bytes.
-#[tactic(auto)]
-fn put_digest(page: &mut PageFront, digest: &Digest)
-    requires { length page.old + 32 ≤ 4096 }
-    ensures bytes { page.new ≡ page.old ++ digest.now }
-    ensures size { length page.new ≡ length page.old + 32 }
-    ensures fits { HasBytes 32 digest.now }
-{
-    are_bytes(&digest.0);
-    page.put_digest(digest);
-}
+use tw_base::{Entry, Page, PageFront};
 
 /// Puts an entry, 64 bytes.
 fn put_entry(page: &mut PageFront, entry: &Entry)
@@ -48,7 +26,7 @@ fn put_entry(page: &mut PageFront, entry: &Entry)
 {
     page.put(entry.thread.from.as_bytes());
     page.put_number(entry.thread.step, 8);
-    put_digest(page, &entry.thread.auth);
+    page.put_digest(&entry.thread.auth);
     page.put_number(entry.archived, 8);
 }
 
@@ -89,7 +67,7 @@ fn put_one(page: &mut PageFront, child: &Child)
     ensures size { length page.new ≡ length page.old + 40 }
 {
     page.put_number(child.page, 8);
-    put_digest(page, &child.label);
+    page.put_digest(&child.label);
 }
 
 /// Puts the children.

@@ -13,7 +13,7 @@ use crate::fault::TreeFault;
 use crate::new_node::{NewNode, NewNodes, Side};
 use crate::reading::{read_child, read_root, see_node};
 use std::alloc::Global;
-use tw_base::{Entry, Hasher, NoMemory, Root};
+use tw_base::{Entry, Hasher, Root};
 use tw_disk::Pages;
 use tw_disk::limits::FIRST_PAGE;
 use tw_rbnode::{RbNode, below, entry_at, keys, level, top};
@@ -92,17 +92,8 @@ fn is_old(page: u64, since: u64) -> bool
     FIRST_PAGE <= page && page < since
 }
 
-/// The page, on the heap. It stays a call, so that no call that reads holds what it has on the stack.
-#[inline(never)]
-fn on_heap(alloc: Global, node: RbNode) -> Result<Box<RbNode>, NoMemory>
-    ensures { IfOk result (λ n. n.value ≡ node) }
-{
-    let node = Box::new(alloc, node)?;
-    Ok(node)
-}
-
-/// Reads the tree page of this number, of this level and between these two entries, to the heap: no call of [`list_part`] has a page
-/// on the stack. So this stays a call too.
+/// Reads the tree page of this number, of this level and between these two entries, to the heap. It stays a call, so that no call of
+/// [`list_part`] has a page on the stack.
 #[inline(never)]
 fn child_on_heap<P: Pages, H: Hasher>(
     alloc: Global,
@@ -118,8 +109,10 @@ fn child_on_heap<P: Pages, H: Hasher>(
 {
     let child = read_child::<P, H>(pages, page, wanted, low, high)?;
     see_node(&child);
-    let child = on_heap(alloc, child)?;
-    Ok(child)
+    match Box::new(alloc, child) {
+        Ok(child) => Ok(child),
+        Err(_none) => Err(TreeFault::NoMemory),
+    }
 }
 
 /// Lists the nodes of this part of a page, which lies between these two entries, and of the pages below it from number `since` on,

@@ -63,7 +63,7 @@ Archives t time h next = (s : Step) × (next ≡ plus h s) × (s.content ≡ Rec
 abbrev pub append_table : History → List (List ℕ) → (time : Option ℕ) → Option Refusal
 append_table h events time = append_refusal false (length h.steps) (greatest_time h) events time
 
--- so many nodes above a place in a tree of so many entries, whose pages have some number of levels: at most 9 for each level, so at most 99;
+-- so many nodes above a place in a tree of so many entries, whose pages have some number of levels: at most 9 for each level, and at most 99;
 -- and each level more takes 13 times the entries, so that of no entries there is no node
 abbrev pub IsFewNodes : (entries nodes : ℕ) → Type 0
 IsFewNodes entries nodes = (levels : ℕ) × (nodes ≤ 9 * levels) × (nodes ≤ 99) × (0 < levels → 2 * 13 ^ (levels - 1) ≤ entries + 1)

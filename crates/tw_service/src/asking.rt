@@ -10,14 +10,14 @@ ghost use Rattle.tw_service.specs.Questions.{AreInOrder, Besides, found_bytes, m
 
 use crate::exporting::make_file;
 use crate::mapping::{make_high, make_low};
-use crate::service::{Service, name_law};
+use crate::service::Service;
 use std::alloc::Global;
 use tw_answers::{
     Refusal, is_disk_fault, link_refusal, make_absence, make_link, make_proof, make_thread,
     order_refusal, path_down, thread_refusal, top_refusal,
 };
 use tw_base::limits::LAST_STEP;
-use tw_base::{Bytes, Hasher, Key, Name, Question, Thread};
+use tw_base::{Bytes, Hasher, Key, Name, Question, Thread, see_name};
 use tw_disk::{Disk, Pages};
 use tw_msg::{Message, write_message};
 use tw_pages::Store;
@@ -70,8 +70,8 @@ fn see_names(question: &Question)
     ensures { HasNames question.now }
 {
     match question {
-        Question::Thread { key, .. } | Question::Absent { key, .. } => name_law(&key.from),
-        Question::Low { peer, .. } | Question::High { peer, .. } => name_law(peer),
+        Question::Thread { key, .. } | Question::Absent { key, .. } => see_name(&key.from),
+        Question::Low { peer, .. } | Question::High { peer, .. } => see_name(peer),
         Question::Event { .. }
         | Question::Link { .. }
         | Question::ThreadOut { .. }

@@ -1,13 +1,12 @@
 // Services.
 ghost use Rattle.std.specs.Prelude.{◌≡◌, ◌⊎◌, ◌≤◌, ◌*◌, ◌<◌, ◌^◌, ◌+◌, true, false};
-ghost use Rattle.tw_base.specs.kinds.Names.{IsName};
 ghost use Rattle.tw_pages.specs.StoreValue.{is_broken as store_is_broken};
 
 use crate::recorded::Unstaged;
 use std::alloc::Global;
 use std::marker::PhantomData;
 use tw_answers::{Refusal, RootRecord, append_refusal, is_disk_fault, own_refusal};
-use tw_base::{EventList, Hasher, Name, ReadFault, Root, Thread, empty_tree, genesis};
+use tw_base::{EventList, Hasher, Name, ReadFault, Root, Thread, empty_tree, genesis, see_name};
 use tw_disk::Disk;
 use tw_kept::Recorded;
 use tw_msg::{Message as MessageRead, Receipt, message_laws, read_message};
@@ -22,13 +21,6 @@ pub struct Service<D: Disk, H: Hasher> {
     pub(crate) is_broken: bool,
     hasher: PhantomData<H>,
     ghost tells_faults: { is_broken ≡ false → store_is_broken recorded.kept.store ≡ false },
-}
-
-/// A name has letters, and zeros behind them.
-pub(crate) fn name_law(name: &Name)
-    ensures { IsName name.now }
-{
-    name.as_bytes();
 }
 
 impl<D: Disk, H: Hasher> Service<D, H> {
@@ -108,7 +100,7 @@ impl<D: Disk, H: Hasher> Service<D, H> {
         ensures told { IfErr result (λ e. (c : Image) → (D.view disk).content ≡ Some c
             → Reads (D.view e.0) (λ i. (D.view disk).may_leave i ⊎ IsBlankOrNew H.dig name i)) }
     {
-        name_law(&name);
+        see_name(&name);
         let auth = genesis::<H>(&name);
         let root = RootRecord {
             name,

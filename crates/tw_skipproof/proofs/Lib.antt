@@ -1,4 +1,5 @@
 pub mod Hops
+pub mod PathTexts
 pub mod OpeningBinding
 pub mod PathBinding
 pub mod Greedy

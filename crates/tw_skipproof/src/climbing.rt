@@ -1,46 +1,65 @@
 // Climbing a path.
 
-ghost use Rattle.std.specs.Prelude.{◌≡◌, ℕ, ◌+◌, ◌-◌, ◌^◌, ◌<◌, ◌≤◌, List, ◌++◌, length, MatchOption, IfSome};
+ghost use Rattle.std.specs.Prelude.{◌≡◌, ℕ, ◌+◌, ◌-◌, ◌^◌, ◌<◌, ◌≤◌, List, [], ◌∷◌, ◌++◌, length, MatchOption, IfSome};
 ghost use Rattle.tw_base.specs.declared.kinds.limits.TheConstants.{LAST_STEP};
 ghost use Rattle.tw_base.specs.history.Auth.{auth};
 ghost use Rattle.tw_base.specs.kinds.Bytes.{HasBytes};
 ghost use Rattle.tw_base.specs.kinds.Clash.{OrClash};
 ghost use Rattle.tw_base.specs.kinds.Digests.{AllDigests};
+ghost use Rattle.tw_base.specs.kinds.Handing.{Hands};
 ghost use Rattle.tw_base.specs.history.History.{History};
 ghost use Rattle.tw_base.specs.history.HistoryTexts.{history_texts};
 ghost use Rattle.tw_base.specs.history.Sound.{IsSound};
-ghost use Rattle.tw_skipproof.specs.Paths.{HasLinkSizes, HasShape, climb_auth_text, climbed, path_texts};
+ghost use Rattle.tw_skipproof.specs.Paths.{HasLinkSizes, HasShape, climb_auth_text, climb_link_text, climbed, path_texts};
 
 use crate::hop::level_of_hop;
 use crate::path::{Link, Path};
 use arrayvec::ArrayVec;
 use tw_base::{
-    Digest, Hasher, authenticator, link_label, power_of_two, put, see_digest, top_level,
+    Digest, Hasher, Transcript, Unwritten, authenticator_told, link_label_told, power_of_two, put,
+    see_digest, top_level,
 };
 
-/// The authenticator of the step that the link leaves.
-fn link_authenticator<H: Hasher>(link: &Link, step: u64, level: u8, below: &Digest) -> Digest
+/// The authenticator of the step that the link leaves at this level; the label and the authenticator are
+/// handed on.
+fn link_authenticator<T: Transcript>(
+    link: &Link,
+    step: u64,
+    level: u8,
+    below: &Digest,
+    texts: &mut T,
+) -> Digest
     requires count { length link.now.others < 40 }
     requires level { level ≤ length link.now.others }
-    ensures value { result ≡ H.dig (climb_auth_text H.dig link.now step level below.now) }
+    ensures value { result ≡ T.dig (climb_auth_text T.dig link.now step level below.now) }
+    ensures took { Hands T.took texts.old texts.new
+        (climb_link_text T.dig link.now step level below.now ∷ climb_auth_text T.dig link.now step level below.now ∷ []) }
     ensures datum_size { HasBytes 32 link.now.datum }
     ensures sizes { AllDigests link.now.others }
 {
     see_digest(&link.datum);
-    let label = link_label::<H>(step, level, &link.datum, below);
+    let label = link_label_told(step, level, &link.datum, below, texts);
     let (lower, upper) = link.others.as_slice().split_at(level as usize);
     let mut labels: ArrayVec<Digest, 40> = ArrayVec::new();
     put(&mut labels, lower);
     labels.push(label);
     put(&mut labels, upper);
-    authenticator::<H>(step, labels.as_slice())
+    authenticator_told(step, labels.as_slice(), texts)
 }
 
-/// The authenticator of the upper step, computed upwards over the links.
-fn climb_links<H: Hasher>(links: &[Link], from: u64, to: u64, bottom: &Digest) -> Option<Digest>
+/// The authenticator of the upper step, computed upwards over the links; the texts are handed on from the
+/// bottom upwards.
+fn climb_links<T: Transcript>(
+    links: &[Link],
+    from: u64,
+    to: u64,
+    bottom: &Digest,
+    texts: &mut T,
+) -> Option<Digest>
     requires { from ≤ LAST_STEP }
     ensures answer { MatchOption result (HasShape links.now from to → ⊥)
-        (λ d. HasShape links.now from to × (d ≡ climbed H.dig links.now from to bottom.now)) }
+        (λ d. HasShape links.now from to × (d ≡ climbed T.dig links.now from to bottom.now)) }
+    ensures took { IfSome result (λ _. Hands T.took texts.old texts.new (path_texts T.dig links.now from to bottom.now)) }
     ensures sizes { IfSome result (λ _. HasLinkSizes links.now) }
 {
     match links.split_first() {
@@ -50,12 +69,31 @@ fn climb_links<H: Hasher>(links: &[Link], from: u64, to: u64, bottom: &Digest) -
                 return None;
             }
             let level = level_of_hop(from, to);
-            match climb_links::<H>(rest, from - power_of_two(level), to, bottom) {
+            match climb_links(rest, from - power_of_two(level), to, bottom, texts) {
                 None => None,
-                Some(below) => Some(link_authenticator::<H>(link, from, level, &below)),
+                Some(below) => Some(link_authenticator(link, from, level, &below, texts)),
             }
         }
     }
+}
+
+/// The authenticator that `climb` computes, by the same links; each text is handed on, from the bottom upwards.
+pub fn climb_told<T: Transcript>(
+    path: &Path,
+    from: u64,
+    to: u64,
+    bottom: &Digest,
+    texts: &mut T,
+) -> Option<Digest>
+    requires from { from ≤ LAST_STEP }
+    // A climb answers exactly where the path has the links of the greedy path, each with its number of labels, and
+    // computes the authenticator upwards.
+    ensures answer { MatchOption result (HasShape path.now.links from to → ⊥)
+        (λ d. HasShape path.now.links from to × (d ≡ climbed T.dig path.now.links from to bottom.now)) }
+    // Where it answers, the texts of the path are handed on.
+    ensures took { IfSome result (λ _. Hands T.took texts.old texts.new (path_texts T.dig path.now.links from to bottom.now)) }
+{
+    climb_links(path.links.as_slice(), from, to, bottom, texts)
 }
 
 /// The authenticator of the step `from` (at most 2^40 - 1), computed upwards over the path's links
@@ -77,5 +115,6 @@ pub fn climb<H: Hasher>(path: &Path, from: u64, to: u64, bottom: &Digest) -> Opt
         OrClash H.dig (history_texts H.dig h ++ path_texts H.dig path.now.links from to bottom.now) (bottom.now ≡ auth H.dig h to)) }
 {
     see_digest(bottom);
-    climb_links::<H>(path.links.as_slice(), from, to, bottom)
+    let mut texts = Unwritten::<H>::new();
+    climb_links(path.links.as_slice(), from, to, bottom, &mut texts)
 }

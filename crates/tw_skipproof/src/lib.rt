@@ -12,7 +12,7 @@ mod path;
 mod reading;
 mod writing;
 
-pub use climbing::climb;
+pub use climbing::{climb, climb_told};
 pub use existence::{ExistenceProof, Part};
 pub use existence_reading::{
     PROOF_MAGIC, read_existence, take_event, take_existence_body, take_part,
@@ -20,7 +20,7 @@ pub use existence_reading::{
 pub use hop::next_hop;
 pub use laws::{making_laws, spelling_laws};
 pub use least::{LEAST_AUTHENTICATOR, LEAST_EXISTENCE};
-pub use opening::{Opening, check_opening};
+pub use opening::{Opening, check_opening, opening_auth_told};
 pub use path::{Link, LinkList, Path};
 pub use reading::{
     next_step, read_opening, read_path, take_count, take_link, take_opening, take_path,

@@ -4,6 +4,7 @@ ghost use Rattle.std.specs.Prelude.{◌≡◌, ℕ, ◌+◌, ◌^◌, ◌<◌, �
 ghost use Rattle.tw_base.specs.declared.kinds.limits.TheConstants.{LAST_STEP};
 ghost use Rattle.tw_base.specs.history.Auth.{auth};
 ghost use Rattle.tw_base.specs.kinds.Clash.{OrClash};
+ghost use Rattle.tw_base.specs.kinds.Handing.{Hands};
 ghost use Rattle.tw_base.specs.history.History.{History};
 ghost use Rattle.tw_base.specs.history.HistoryTexts.{history_texts};
 ghost use Rattle.tw_base.specs.history.Sound.{IsSound};
@@ -11,7 +12,8 @@ ghost use Rattle.tw_skipproof.specs.Openings.{Binds, HasSizes, IsOpeningAt, open
 
 use arrayvec::ArrayVec;
 use tw_base::{
-    Digest, Hasher, Labels, authenticator, link_label, put, see_digest, step_datum, top_level,
+    Digest, Hasher, Labels, Transcript, Unwritten, authenticator_told, link_label_told, put,
+    see_digest, step_datum_told, top_level,
 };
 
 /// The fields behind the authenticator of a step from 1 on: the root of its events, the label of
@@ -28,8 +30,35 @@ pub struct Opening {
     pub others: Labels,
 }
 
-/// The authenticator that the opening computes, and the sizes of what it was computed from.
+/// The authenticator that the opening computes at the step; its texts are handed on: the datum, the label of
+/// level 0, and the authenticator.
 #[tactic(auto, unfolding(crate::specs::Openings::opening_auth))]
+pub fn opening_auth_told<T: Transcript>(opening: &Opening, step: u64, texts: &mut T) -> Digest
+    requires { length opening.now.others < 40 }
+    // The authenticator is the one that the opening stands for.
+    ensures auth { result ≡ opening_auth T.dig step opening.now }
+    // The texts of the opening are handed on.
+    ensures took { Hands T.took texts.old texts.new (opening_texts T.dig step opening.now) }
+    ensures sizes { HasSizes opening.now }
+{
+    see_digest(&opening.event_root);
+    see_digest(&opening.archive_root);
+    see_digest(&opening.prev);
+    let datum = step_datum_told(
+        &opening.event_root,
+        &opening.archive_root,
+        opening.count,
+        opening.time,
+        texts,
+    );
+    let first = link_label_told(step, 0, &datum, &opening.prev, texts);
+    let mut labels: ArrayVec<Digest, 40> = ArrayVec::new();
+    labels.push(first);
+    put(&mut labels, opening.others.as_slice());
+    authenticator_told(step, labels.as_slice(), texts)
+}
+
+/// The authenticator that the opening computes, and the sizes of what it was computed from.
 fn computed<H: Hasher>(opening: &Opening, step: u64) -> Option<Digest>
     requires { step ≤ LAST_STEP }
     ensures answer { MatchOption result (IsOpeningAt step opening.now → ⊥)
@@ -39,20 +68,7 @@ fn computed<H: Hasher>(opening: &Opening, step: u64) -> Option<Digest>
     if step == 0 || opening.others.len() != top_level(step) as usize {
         return None;
     }
-    see_digest(&opening.event_root);
-    see_digest(&opening.archive_root);
-    see_digest(&opening.prev);
-    let datum = step_datum::<H>(
-        &opening.event_root,
-        &opening.archive_root,
-        opening.count,
-        opening.time,
-    );
-    let first = link_label::<H>(step, 0, &datum, &opening.prev);
-    let mut labels: ArrayVec<Digest, 40> = ArrayVec::new();
-    labels.push(first);
-    put(&mut labels, opening.others.as_slice());
-    Some(authenticator::<H>(step, labels.as_slice()))
+    Some(opening_auth_told(opening, step, &mut Unwritten::<H>::new()))
 }
 
 /// The authenticator that the opening computes at the step (at most 2^40 - 1), each text hashed

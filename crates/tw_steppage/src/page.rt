@@ -1,7 +1,7 @@
 // The bytes of step pages and event pages.
 
 ghost use Rattle.std.specs.Prelude.{◌≡◌, ◌≢◌, ◌<◌, ◌≤◌, ◌^◌, ◌+◌, ◌*◌, ◌++◌, ◌↔◌, ◌&&◌, ℕ, suc, length, take, drop, flat_map, IfErr, IfOk, IfSome, IsTrue, MatchOption};
-ghost use Rattle.tw_base.specs.history.HistoryCodec.{is_of_events as is_kind_of_events, is_timed as is_timed_kind, time_codec};
+ghost use Rattle.tw_base.specs.history.HistoryCodec.{time_codec};
 ghost use Rattle.tw_base.specs.kinds.Bytes.{AreBytes};
 ghost use Rattle.tw_base.specs.format.Codecs.{HasBytes, many, optional};
 ghost use Rattle.tw_base.specs.kinds.Levels.{top_level as top_level_of};
@@ -14,10 +14,10 @@ use crate::fields::{StepFields, StreamRef};
 use crate::limits::{MOST_LINKS, MOST_PIECE_BYTES, MOST_STREAM_BYTES};
 use crate::link::StepRef;
 use arrayvec::ArrayVec;
-use tw_base::limits::{LAST_STEP, LAST_TIME, MOST_EVENTS};
+use tw_base::limits::{LAST_STEP, MOST_EVENTS};
 use tw_base::{
-    Page, PageFront, ReadFault, Root, Thread, power_of_two, take_digest, take_name, take_number,
-    take_text, top_level,
+    Page, PageFront, ReadFault, Root, Thread, is_of_events, is_timed, power_of_two, take_digest,
+    take_name, take_number, take_text, take_time, top_level,
 };
 
 // ---- links
@@ -44,21 +44,7 @@ fn put_links(page: &mut PageFront, links: &[StepRef])
     }
 }
 
-// ---- the kinds
-
-// Whether a step of this kind has events, and not a thread.
-fn is_of_events(kind: u64) -> bool
-    ensures { result ≡ is_kind_of_events kind }
-{
-    kind == 1 || kind == 3
-}
-
-// Whether a step of this kind has a time.
-fn is_timed(kind: u64) -> bool
-    ensures { result ≡ is_timed_kind kind }
-{
-    kind >= 3
-}
+// ---- the kind
 
 // The kind of a step with these fields.
 fn kind_of(fields: &StepFields) -> u64
@@ -273,20 +259,6 @@ fn take_received(bytes: &[u8], at: &mut u64, is_events: bool) -> Result<Option<T
     }
     let thread = take_thread(bytes, at)?;
     Ok(Some(thread))
-}
-
-// Takes the time of a step that is to have one.
-#[tactic(auto, unfolding(tw_base::specs::format::Codecs::nothing, tw_base::specs::format::Codecs::present))]
-fn take_time(bytes: &[u8], at: &mut u64, is_timed: bool) -> Result<Option<u64>, ReadFault>
-    requires { at.old ≤ length bytes.now }
-    ensures takes { Takes (optional is_timed time_codec) (λ time. time) bytes.now at.old at.new result }
-    ensures memory { IfErr result (λ fault. fault ≢ ReadFault.NoMemory) }
-{
-    if !is_timed {
-        return Ok(None);
-    }
-    let time = take_number(bytes, at, 8, 0, LAST_TIME)?;
-    Ok(Some(time))
 }
 
 // Takes what a step of this kind has behind the kind.

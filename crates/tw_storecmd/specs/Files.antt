@@ -28,7 +28,8 @@ abbrev pub OfFile : {T : Type 0} → (Has : T → Type 0) → (P : T → Type 0)
 OfFile {T} Has P = (x : T) × Has x × P x
 
 module _ (a : Asked) (file : List ℕ) (IsBadByte : (bytes : List ℕ) (place : ℕ) → Type 0) where
-  -- why the command stops before the disk is touched: the file isn't what it reads, the inputs failed, or there was no memory
+  -- why the command stops before the disk is touched: the file isn't what it reads, the inputs failed, or there was no memory, want of
+  -- which may come later too
   abbrev pub StopsAt : CommandFault → Type 0
   StopsAt (Unreadable (BadByte named place)) = (named ≡ file) × IsThere a.told file × ((bytes : List ℕ) → Tells a.told file bytes → IsBadByte bytes place)
   StopsAt InputFault = Rose a.before a.after

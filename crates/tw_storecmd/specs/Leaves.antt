@@ -59,9 +59,9 @@ module _ {R S D : Type 0} (kind : RecordKind R) (IsOf : S → Image → Type 0) 
     abbrev pub WriteSafe : Type 0
     WriteSafe = SparesOther × AddsSafe IsOf view Has Next old new × AddsSafe (IsWritten kind) view Has NextRecord old new
 
-    -- The next state and record are there as the answer says, or a disk fault came and they may be, of such a store alone; where it was refused,
-    -- nothing was written and the disk became stable; where the file wasn't read or is none, no device call was made; at every other
-    -- result nothing was written.
+    -- Where the content was told, the next state and record are there as the answer says, or a disk fault came and they may be, of such a
+    -- store alone; where the command was refused, nothing was written and the disk became stable; where the file wasn't read or is none,
+    -- no device call was made; at every other result nothing was written.
     abbrev pub WriteLeaves : {X : Type 0} → (Is : T → Option Image → Result X CommandFault → Type 0) (Answers : T → X → (s next : S) → Type 0)
         (AnswersRecord : T → X → (w next : Written R) → Type 0) → Result X CommandFault → Type 0
     WriteLeaves Is Answers AnswersRecord (Ok x) =

@@ -1,4 +1,5 @@
 mod Climbs
+mod ClimbTexts
 pub mod LawfulCodecs
 pub mod Places
 pub mod Ways

@@ -1,62 +1,131 @@
 // Checking a proof against a tree's label.
 
-ghost use Rattle.std.specs.Prelude.{◌≡◌, ◌≢◌, ℕ, List, ◌++◌, length, MatchOption, IfSome, IsTrue, ◌↔◌};
+ghost use Rattle.std.specs.Prelude.{◌≡◌, ◌≢◌, [], ◌∷◌, ◌++◌, IsTrue, ◌↔◌};
 ghost use Rattle.tw_base.specs.history.Auth.{tree_label};
 ghost use Rattle.tw_base.specs.kinds.Bytes.{HasBytes};
 ghost use Rattle.tw_base.specs.kinds.Clash.{OrClash};
+ghost use Rattle.tw_base.specs.kinds.Handing.{Hands};
 ghost use Rattle.tw_base.specs.history.Entries.{IsFit};
 ghost use Rattle.tw_base.specs.history.HistoryTexts.{tree_texts};
 ghost use Rattle.tw_base.specs.kinds.Lists.{Each};
 ghost use Rattle.tw_base.specs.history.Tree.{IsRisingTree, Tree, entries};
-ghost use Rattle.tw_treeproof.specs.Answers.{IsAnswer, Shows, ancestors_of, answer_of, asks_entry, is_of_entry, place_text, proof_texts};
-ghost use Rattle.tw_treeproof.specs.Ways.{IsNotAsked, climbed, is_left, nearest_left as left_of_way, nearest_right as right_of_way, over_text};
+ghost use Rattle.tw_treeproof.specs.Answers.{Checks, IsAnswer, Shows, ancestors_of, answer_of, asks_entry, is_of_entry, place_text, proof_texts};
+ghost use Rattle.tw_treeproof.specs.Ways.{IsNotAsked, climb_texts, climbed, is_left, nearest_left as left_of_way, nearest_right as right_of_way, over_text};
 ghost use Rattle.tw_treeproof.specs.Sizes.{HasPlaceSizes, HasProofSizes, HasSizes};
 ghost use Rattle.tw_treeproof.specs.declared.shown.Shown.TheVariants.{Wrong};
 
 use crate::shown::Shown;
 use crate::way::{goes_left, meets};
-use tw_base::{Ancestor, Ask, Digest, Entry, Hasher, TreeProof, empty_tree, tree_node};
+use tw_base::{Ancestor, Ask, Digest, Entry, Hasher, Transcript, TreeProof, Unwritten, empty_tree_told, tree_node_told};
 
-/// The label of the ancestor's node, over that of the side that the way takes.
-fn label_over<H: Hasher>(ask: &Ask, ancestor: &Ancestor, below: &Digest) -> Digest
-    ensures label { result ≡ H.dig (over_text (is_left ask.now) ancestor.now below.now) }
+/// The label of the asked place, whose text is handed on.
+fn place_label<T: Transcript>(ask: &Ask, proof: &TreeProof, texts: &mut T) -> Digest
+    ensures label { result ≡ T.dig (place_text ask.now proof.now) }
+    ensures took { Hands T.took texts.old texts.new (place_text ask.now proof.now ∷ []) }
+    ensures sizes { HasPlaceSizes ask.now proof.now }
+{
+    match (ask, proof) {
+        (Ask::Present(entry), TreeProof::Present { left, right, .. }) => {
+            tree_node_told(left, entry, right, texts)
+        }
+        _ => empty_tree_told(texts),
+    }
+}
+
+/// The label of the ancestor's node, over that of the side that the way takes; its text is handed on.
+fn label_over<T: Transcript>(
+    ask: &Ask,
+    ancestor: &Ancestor,
+    below: &Digest,
+    texts: &mut T,
+) -> Digest
+    ensures label { result ≡ T.dig (over_text (is_left ask.now) ancestor.now below.now) }
+    ensures took { Hands T.took texts.old texts.new (over_text (is_left ask.now) ancestor.now below.now ∷ []) }
     ensures other { HasBytes 32 ancestor.now.other }
     ensures fits { IsFit ancestor.now.entry }
 {
     if goes_left(ask, &ancestor.entry) {
-        tree_node::<H>(below, &ancestor.entry, &ancestor.other)
+        tree_node_told(below, &ancestor.entry, &ancestor.other, texts)
     } else {
-        tree_node::<H>(&ancestor.other, &ancestor.entry, below)
+        tree_node_told(&ancestor.other, &ancestor.entry, below, texts)
     }
 }
 
-/// The label of the whole tree, computed upwards from that of the asked place; none where an
-/// ancestor has the asked key.
-fn climb_tree<H: Hasher>(ask: &Ask, ancestors: &[Ancestor], place: &Digest) -> Option<Digest>
-    ensures answer { MatchOption result (Each (IsNotAsked ask.now) ancestors.now → ⊥)
-        (λ d. Each (IsNotAsked ask.now) ancestors.now × (d ≡ climbed H.dig (is_left ask.now) ancestors.now place.now)) }
-    ensures sizes { IfSome result (λ _. HasSizes ancestors.now) }
+/// The label of the whole tree, computed upwards from that of the asked place; the texts of the ancestors
+/// are handed on.
+fn climb_tree<T: Transcript>(
+    ask: &Ask,
+    ancestors: &[Ancestor],
+    place: Digest,
+    texts: &mut T,
+) -> Digest
+    ensures label { result ≡ climbed T.dig (is_left ask.now) ancestors.now place }
+    ensures took { Hands T.took texts.old texts.new (climb_texts T.dig (is_left ask.now) ancestors.now place) }
+    ensures sizes { HasSizes ancestors.now }
 {
-    let mut label = *place;
+    let mut label = place;
     for ancestor in ancestors {
-        if meets(ask, &ancestor.entry) {
-            return None;
-        }
-        let above = label_over::<H>(ask, ancestor, &label);
+        let above = label_over(ask, ancestor, &label, texts);
         label = above;
     }
-    Some(label)
+    label
 }
 
-/// Whether the labels lead from the asked place up to the root, past no entry of the asked key.
-fn leads<H: Hasher>(root: &Digest, ask: &Ask, ancestors: &[Ancestor], place: &Digest) -> bool
-    ensures exact { IsTrue result ↔ (Each (IsNotAsked ask.now) ancestors.now × (climbed H.dig (is_left ask.now) ancestors.now place.now ≡ root.now)) }
-    ensures sizes { IsTrue result → HasSizes ancestors.now }
+/// The nodes above the asked place.
+fn ancestors_of_proof(proof: &TreeProof) -> &[Ancestor]
+    ensures { result.now ≡ ancestors_of proof.now }
 {
-    match climb_tree::<H>(ask, ancestors, place) {
-        None => false,
-        Some(label) => label == *root,
+    match proof {
+        TreeProof::Present { ancestors, .. } | TreeProof::Gap { ancestors } => ancestors.as_slice(),
     }
+}
+
+/// The label of the whole tree to which a tree proof leads. Its texts are handed on: that at the asked place,
+/// and those of the nodes above it, upwards.
+#[tactic(auto, unfolding(crate::specs::Answers::proof_texts))]
+pub fn tree_label_told<T: Transcript>(ask: &Ask, proof: &TreeProof, texts: &mut T) -> Digest
+    // The label is computed upwards from that of the asked place.
+    ensures label { result ≡ climbed T.dig (is_left ask.now) (ancestors_of proof.now) (T.dig (place_text ask.now proof.now)) }
+    // The texts of the tree proof are handed on.
+    ensures took { Hands T.took texts.old texts.new (proof_texts T.dig ask.now proof.now) }
+    ensures sizes { HasProofSizes ask.now proof.now }
+{
+    let place = place_label(ask, proof, texts);
+    climb_tree(ask, ancestors_of_proof(proof), place, texts)
+}
+
+/// Whether the proof is of the kind that the question asks for.
+fn is_of_kind(ask: &Ask, proof: &TreeProof) -> bool
+    ensures { IsTrue result ↔ (is_of_entry proof.now ≡ asks_entry ask.now) }
+{
+    match (ask, proof) {
+        (Ask::Present(_), TreeProof::Present { .. }) => true,
+        (Ask::Absent(_) | Ask::Below(_) | Ask::Above(_), TreeProof::Gap { .. }) => true,
+        _ => false,
+    }
+}
+
+/// Whether no ancestor has the asked key.
+fn is_free(ask: &Ask, ancestors: &[Ancestor]) -> bool
+    ensures { IsTrue result ↔ Each (IsNotAsked ask.now) ancestors.now }
+{
+    for ancestor in ancestors {
+        if meets(ask, &ancestor.entry) {
+            return false;
+        }
+    }
+    true
+}
+
+/// Whether the proof is of the asked kind and leads up to the root, past no entry of the asked key.
+fn leads<H: Hasher>(root: &Digest, ask: &Ask, proof: &TreeProof) -> bool
+    ensures exact { IsTrue result ↔ Checks H.dig root.now ask.now proof.now }
+    ensures sizes { IsTrue result → HasProofSizes ask.now proof.now }
+{
+    if !is_of_kind(ask, proof) || !is_free(ask, ancestors_of_proof(proof)) {
+        return false;
+    }
+    tree_label_told(ask, proof, &mut Unwritten::<H>::new()) == *root
 }
 
 /// The entry of the nearest ancestor at which the way goes right.
@@ -95,39 +164,15 @@ fn answer(ask: &Ask, ancestors: &[Ancestor]) -> Shown
     }
 }
 
-/// The label of the asked place and the nodes above it; none where the proof isn't of the kind that
-/// the question asks for.
-fn place_under<'a, H: Hasher>(ask: &Ask, proof: &'a TreeProof) -> Option<(Digest, &'a [Ancestor])>
-    ensures answer { MatchOption result (is_of_entry proof.now ≡ asks_entry ask.now → ⊥)
-        (λ p. (is_of_entry proof.now ≡ asks_entry ask.now) × (p.0 ≡ H.dig (place_text ask.now proof.now)) × (p.1.now ≡ ancestors_of proof.now)) }
-    ensures sizes { IfSome result (λ _. HasPlaceSizes ask.now proof.now) }
-{
-    match (ask, proof) {
-        (
-            Ask::Present(entry),
-            TreeProof::Present {
-                left,
-                right,
-                ancestors,
-            },
-        ) => Some((tree_node::<H>(left, entry, right), ancestors.as_slice())),
-        (Ask::Absent(_) | Ask::Below(_) | Ask::Above(_), TreeProof::Gap { ancestors }) => {
-            Some((empty_tree::<H>(), ancestors.as_slice()))
-        }
-        _ => None,
-    }
-}
-
 /// What the proof shows, and the sizes of what it was computed from.
 fn checked<H: Hasher>(root: &Digest, ask: &Ask, proof: &TreeProof) -> Shown
     ensures shows { Shows H.dig root.now ask.now proof.now result }
     ensures sizes { result ≢ Wrong → HasProofSizes ask.now proof.now }
 {
-    match place_under::<H>(ask, proof) {
-        Some((place, ancestors)) if leads::<H>(root, ask, ancestors, &place) => {
-            answer(ask, ancestors)
-        }
-        _ => Shown::Wrong,
+    if leads::<H>(root, ask, proof) {
+        answer(ask, ancestors_of_proof(proof))
+    } else {
+        Shown::Wrong
     }
 }
 

@@ -10,7 +10,7 @@ mod shown;
 mod way;
 mod writing;
 
-pub use checking::check;
+pub use checking::{check, tree_label_told};
 pub use laws::{tree_proof_laws, tree_proof_spelling_laws};
 pub use limits::{MOST_ABOVE_ENTRY, MOST_ABOVE_PLACE};
 pub use reading::{take_ancestor, take_gap, take_present};

@@ -1,5 +1,5 @@
 """The sources keep the project's own rules: long functions say why they are, attributes fit on a line, files of lemmas say what they are
-of, tests stand in crates of their own, crates are small, and no chain of crates is long."""
+of, tests stand in crates of their own, crates are small, no chain of crates is long, and a definition's name stands for one thing."""
 
 import re
 import shutil
@@ -26,6 +26,19 @@ LARGE = {
     "tw_rbnode": (1522, 100),
     "tw_skiplist": (1568, 100),
     "tw_verifier": (1943, 100),
+}
+
+# The names that stand for a definition in two modules of `specs`: one notion over two subjects, which a reader always sees with their module.
+# Each line tells why. There are at most so many, and a name that stands for one definition alone goes from the list.
+MOST_TWICE = 40
+TWICE = {
+    "a form in the two tables of forms, of a script's lines and of the command line": """Form ReadsWords TakesWords any_number append choose_form
+        end form_named join maybe maybe_number name_form next no_words number_form proofs prove then_form verify""",
+    "a part of the two values over a store, the service and the follower": "HasSameDisk IsOver disk_of has_failed head_of pages_of record_of",
+    "a part of the two root records, the service's and the follower's": "FitsStore IsAllowed root_bytes root_codec root_kind",
+    "what an image stands for: of a service, of a follower, and of a store of any kind": """IsBlankOrNew IsNotOpenedFor IsServed OpensWith Served
+        StandsFor StandsForOneOf""",
+    "one thing done after another, of a format and of pages": "◌>>=◌",
 }
 
 
@@ -147,6 +160,40 @@ def header(program):
     return "\n".join(wrong) or None
 
 
+# A definition that other modules may use; the head of a block whose lines are fields or constructors.
+DEFINITION = re.compile(r" *(?:(?:abbrev|unfoldable) )*pub (?:(?:abbrev|unfoldable|record|data) )*(?!(?:mod|use) )([^\s:({]+)(?=[\s:({])")
+BLOCK = re.compile(r" *(?:(?:abbrev|unfoldable|pub) )*(?:record|data) ")
+
+
+def definitions(text):
+    """The names of the definitions of a module, without their fields and constructors."""
+    block = None
+    for line in text.splitlines():
+        indent = len(line) - len(line.lstrip())
+        if not line.strip() or line.lstrip().startswith("--") or block is not None and indent > block:
+            continue
+        block = indent if BLOCK.match(line) else None
+        definition = DEFINITION.match(line)
+        if definition:
+            yield definition[1]
+
+
+def names_twice(program):
+    """The names of definitions in two modules that aren't listed, and those that are listed and don't stand twice."""
+    known = {}
+    for path in files("*.antt"):
+        parts = path.relative_to(TOP).parts
+        if parts[0] == "crates" and parts[2] == "specs" and "contracts" not in parts:
+            for name in definitions(path.read_text()):
+                known.setdefault(name, set()).add(f"{parts[1]}/{path.stem}")
+    listed = " ".join(TWICE.values()).split()
+    twice = {name for name, modules in known.items() if len(modules) > 1}
+    wrong = [f"  {name} is defined in {', '.join(sorted(known[name]))}" for name in sorted(twice.difference(listed))]
+    wrong += [f"  {name} stands for one definition, and needs no reason" for name in sorted(set(listed).difference(twice))]
+    wrong += [f"  {len(listed)} names stand for two definitions, at most {MOST_TWICE} may"] * (len(listed) > MOST_TWICE)
+    return "\n".join(wrong) or None
+
+
 def heights(program):
     """The crates at the end of a chain that is too long."""
     known = crates()
@@ -163,3 +210,4 @@ def cases():
     yield {"name": "sources: what is handed out", "check": handed_out}
     yield {"name": "sources: the header for C", "check": header}
     yield {"name": "sources: heights", "check": heights}
+    yield {"name": "sources: names of definitions", "check": names_twice}

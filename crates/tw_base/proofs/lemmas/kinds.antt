@@ -9,3 +9,4 @@ pub mod Levels
 pub mod TextFields
 pub mod Clashes
 pub mod ClashPairs
+pub mod HandedTexts

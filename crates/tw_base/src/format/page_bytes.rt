@@ -3,9 +3,10 @@
 ghost use Rattle.std.specs.Prelude.{◌≡◌, ◌↔◌, ◌+◌, ◌-◌, ◌^◌, ◌<◌, ◌++◌, ◌≤◌, [], length, replicate, IfOk, IsTrue};
 ghost use Rattle.tw_base.specs.format.Fields.{number_bytes};
 ghost use Rattle.tw_base.specs.format.PageBytes.{IsPageTo, padded};
+ghost use Rattle.tw_base.specs.kinds.Bytes.{HasBytes};
 ghost use Rattle.tw_base.specs.declared.kinds.limits.TheConstants.{PAGE_SIZE};
 
-use crate::kinds::digest::Digest;
+use crate::kinds::digest::{Digest, see_digest};
 use crate::kinds::failure::ReadFault;
 use crate::kinds::limits::PAGE_SIZE;
 use std::marker::Model;
@@ -72,8 +73,9 @@ impl PageFront {
         // The bytes of a digest stand behind those that were put in before.
         ensures bytes { self.new ≡ self.old ++ digest.now }
         ensures size { length self.new ≡ length self.old + 32 }
-        ensures digest { length digest.now ≡ 32 }
+        ensures fits { HasBytes 32 digest.now }
     {
+        see_digest(digest);
         self.put(&digest.0);
     }
 

@@ -1,7 +1,7 @@
 // Reading and writing the times that steps have or not.
 
-ghost use Rattle.std.specs.Prelude.{◌≡◌, ◌-◌, ◌^◌, ◌≤◌, length, is_some};
-ghost use Rattle.tw_base.specs.format.Codecs.{number_codec, optional, present};
+ghost use Rattle.std.specs.Prelude.{◌≡◌, ◌≢◌, ◌-◌, ◌^◌, ◌≤◌, length, is_some, IfErr};
+ghost use Rattle.tw_base.specs.format.Codecs.{number_codec, optional};
 ghost use Rattle.tw_base.specs.history.HistoryCodec.{time_codec};
 ghost use Rattle.tw_base.specs.format.Taking.{Puts, Takes};
 
@@ -11,29 +11,21 @@ use crate::kinds::failure::{NoMemory, ReadFault};
 use crate::kinds::limits::LAST_TIME;
 use crate::kinds::sequence::Bytes;
 
-/// Takes a time in eight bytes, at most 2^40 - 1.
-#[tactic(auto, unfolding(crate::specs::format::Codecs::present))]
-fn take_some_time(bytes: &[u8], at: &mut u64) -> Result<Option<u64>, ReadFault>
-    requires { at.old ≤ length bytes.now }
-    ensures { Takes (present time_codec) (λ time. time) bytes.now at.old at.new result }
-{
-    let time = take_number(bytes, at, 8, 0, LAST_TIME)?;
-    Ok(Some(time))
-}
-
-/// Takes a time where there is to be one.
-#[tactic(auto, unfolding(crate::specs::format::Codecs::nothing))]
-pub fn take_time(bytes: &[u8], at: &mut u64, timed: bool) -> Result<Option<u64>, ReadFault>
+/// Takes a time in eight bytes, at most 2^40 - 1, where there is to be one.
+#[tactic(auto, unfolding(crate::specs::format::Codecs::nothing, crate::specs::format::Codecs::present))]
+pub fn take_time(bytes: &[u8], at: &mut u64, is_timed: bool) -> Result<Option<u64>, ReadFault>
     requires { at.old ≤ length bytes.now }
     // A time is taken at a place, where there is to be one, exactly as its codec reads it; else the place of the first
     // bad byte is told.
-    ensures { Takes (optional timed time_codec) (λ time. time) bytes.now at.old at.new result }
+    ensures takes { Takes (optional is_timed time_codec) (λ time. time) bytes.now at.old at.new result }
+    // `NoMemory` is never answered.
+    ensures memory { IfErr result (λ fault. fault ≢ ReadFault.NoMemory) }
 {
-    if timed {
-        take_some_time(bytes, at)
-    } else {
-        Ok(None)
+    if !is_timed {
+        return Ok(None);
     }
+    let time = take_number(bytes, at, 8, 0, LAST_TIME)?;
+    Ok(Some(time))
 }
 
 /// Appends the time in eight bytes, where there is one.

@@ -7,9 +7,10 @@ ghost use Rattle.tw_base.specs.history.Limits.{IsEntryInRange};
 ghost use Rattle.tw_base.specs.format.Taking.{Takes};
 
 use crate::format::taking::take_number;
-use crate::format::writers::{put_digest, put_name, put_number};
+use crate::format::writers::put_number;
 use crate::history::content_taking::take_thread;
 use crate::history::thread::Entry;
+use crate::history::thread_writing::put_thread;
 use crate::kinds::failure::{NoMemory, ReadFault};
 use crate::kinds::limits::LAST_STEP;
 use crate::kinds::sequence::Bytes;
@@ -35,8 +36,6 @@ pub fn put_entry(into: &mut Bytes, entry: &Entry) -> Result<(), NoMemory>
     // An entry whose two steps are within their limits has that spelling.
     ensures fits { OnOk result (IsEntryInRange entry.now → entry_codec.Fits entry.now) }
 {
-    put_name(into, &entry.thread.from)?;
-    put_number(into, entry.thread.step, 8)?;
-    put_digest(into, &entry.thread.auth)?;
+    put_thread(into, &entry.thread)?;
     put_number(into, entry.archived, 8)
 }

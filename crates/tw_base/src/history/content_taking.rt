@@ -52,7 +52,7 @@ fn take_content(
 
 /// Whether a step of this kind has a time.
 #[tactic(auto)]
-fn is_timed(kind: u64) -> bool
+pub fn is_timed(kind: u64) -> bool
     ensures { result ≡ is_timed_kind kind }
 {
     kind >= 3
@@ -60,7 +60,7 @@ fn is_timed(kind: u64) -> bool
 
 /// Whether a step of this kind has events, and not a thread.
 #[tactic(auto)]
-fn is_of_events(kind: u64) -> bool
+pub fn is_of_events(kind: u64) -> bool
     ensures { result ≡ is_kind_of_events kind }
 {
     kind == 1 || kind == 3

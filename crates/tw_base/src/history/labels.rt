@@ -1,8 +1,6 @@
-// The labels: each is the digest of one text of `specs/kinds/Texts.antt`. None of them takes memory.
+// The labels for those who only want them: each is that of `told_labels.rt`, told to a transcript that keeps nothing.
 
-ghost use Rattle.std.specs.Prelude.{◌≡◌, ℕ, ◌+◌, ◌*◌, ◌^◌, ◌<◌, ◌≤◌, List, ◌++◌, length, IfSome};
-ghost use Rattle.std.specs.Int.{to_be_bytes, w32};
-ghost use Rattle.arrayvec.specs.ArrayVec.{array_vec_len};
+ghost use Rattle.std.specs.Prelude.{◌≡◌, ◌^◌, ◌<◌, ◌≤◌, length, IfSome};
 ghost use Rattle.tw_base.specs.declared.kinds.limits.TheConstants.{MOST_EVENT_BYTES};
 ghost use Rattle.tw_base.specs.kinds.Texts.{authenticator_text, datum_text, empty_tree_text, event_leaf_text, event_node_text, genesis_text, link_text, no_events_text, step_datum_text, timed_datum_text};
 ghost use Rattle.tw_base.specs.history.Entries.{IsFit, entry_text};
@@ -10,90 +8,46 @@ ghost use Rattle.tw_base.specs.kinds.Bytes.{HasBytes};
 ghost use Rattle.tw_base.specs.kinds.Digests.{AllDigests};
 
 use crate::history::thread::Entry;
-use crate::kinds::digest::{Digest, see_digest};
-use crate::kinds::fixed_list::put;
+use crate::history::told_labels::{
+    authenticator_told, datum_told, empty_tree_told, event_leaf_told, event_node_told, genesis_told, link_label_told, no_events_told, step_datum_told,
+    timed_datum_told, tree_node_told,
+};
+use crate::kinds::digest::Digest;
 use crate::kinds::hasher::Hasher;
 use crate::kinds::name::Name;
-use arrayvec::ArrayVec;
-
-/// Puts a digest at the text's end.
-fn put_digest<const N: usize>(text: &mut ArrayVec<u8, N>, digest: &Digest)
-    requires { array_vec_len text.old + 32 ≤ N }
-    ensures size { length digest.now ≡ 32 }
-    ensures bytes { HasBytes 32 digest.now }
-    ensures items { text.new.items ≡ text.old.items ++ digest.now }
-    ensures len { array_vec_len text.new ≡ array_vec_len text.old + 32 }
-{
-    see_digest(digest);
-    put(text, &digest.0);
-}
+use crate::kinds::transcript::Unwritten;
 
 /// The authenticator of step 0 of the service.
-#[tactic(auto, unfolding(crate::specs::kinds::Texts::genesis_text))]
 pub fn genesis<H: Hasher>(name: &Name) -> Digest
     // The label is the digest of the text of the name.
     ensures { result ≡ H.dig (genesis_text name.now) }
 {
-    let mut text: ArrayVec<u8, 17> = ArrayVec::new();
-    text.push(0x10);
-    put(&mut text, name.as_bytes());
-    H::digest(text.as_slice())
+    genesis_told(name, &mut Unwritten::<H>::new())
 }
 
 /// The label of the link of a step at a level (0 to 39); `below` is the authenticator of the step
 /// that it leads to, `step - 2^level`.
-#[tactic(auto, unfolding(crate::specs::kinds::Texts::link_text))]
 pub fn link_label<H: Hasher>(step: u64, level: u8, datum: &Digest, below: &Digest) -> Digest
     // The label is the digest of the text of the link.
     ensures label { result ≡ H.dig (link_text step level datum.now below.now) }
     ensures datum_size { length datum.now ≡ 32 }
     ensures below_size { length below.now ≡ 32 }
 {
-    let mut text: ArrayVec<u8, 74> = ArrayVec::new();
-    text.push(0x11);
-    put(&mut text, &step.to_be_bytes());
-    text.push(level);
-    put(&mut text, &datum.0);
-    put(&mut text, &below.0);
-    H::digest(text.as_slice())
-}
-
-/// Puts what the datum of each step holds at the text's end: its event root, its archive's label and
-/// its count of events.
-fn put_held<const N: usize>(
-    text: &mut ArrayVec<u8, N>,
-    event_root: &Digest,
-    archive_root: &Digest,
-    count: u32,
-)
-    requires { array_vec_len text.old + 68 ≤ N }
-    ensures event_root_size { length event_root.now ≡ 32 }
-    ensures archive_root_size { length archive_root.now ≡ 32 }
-    ensures items { text.new.items ≡ text.old.items ++ (event_root.now ++ (archive_root.now ++ to_be_bytes w32 count)) }
-    ensures len { array_vec_len text.new ≡ array_vec_len text.old + 68 }
-{
-    put(text, &event_root.0);
-    put(text, &archive_root.0);
-    put(text, &count.to_be_bytes());
+    link_label_told(step, level, datum, below, &mut Unwritten::<H>::new())
 }
 
 /// The datum of a step without a time: over its event root, its archive's label and its count of
 /// events.
-#[tactic(auto, unfolding(crate::specs::kinds::Texts::datum_text))]
 pub fn datum<H: Hasher>(event_root: &Digest, archive_root: &Digest, count: u32) -> Digest
     // The label is the digest of the text of the datum.
     ensures label { result ≡ H.dig (datum_text event_root.now archive_root.now count) }
     ensures event_root_size { length event_root.now ≡ 32 }
     ensures archive_root_size { length archive_root.now ≡ 32 }
 {
-    let mut text: ArrayVec<u8, 69> = ArrayVec::new();
-    text.push(0x13);
-    put_held(&mut text, event_root, archive_root, count);
-    H::digest(text.as_slice())
+    datum_told(event_root, archive_root, count, &mut Unwritten::<H>::new())
 }
 
 /// The datum of a step with a time: over the same and the time in seconds that its maker claims.
-#[tactic(auto, unfolding(crate::specs::kinds::Texts::timed_datum_text))]
 pub fn timed_datum<H: Hasher>(
     event_root: &Digest,
     archive_root: &Digest,
@@ -105,11 +59,7 @@ pub fn timed_datum<H: Hasher>(
     ensures event_root_size { length event_root.now ≡ 32 }
     ensures archive_root_size { length archive_root.now ≡ 32 }
 {
-    let mut text: ArrayVec<u8, 77> = ArrayVec::new();
-    text.push(0x16);
-    put_held(&mut text, event_root, archive_root, count);
-    put(&mut text, &time.to_be_bytes());
-    H::digest(text.as_slice())
+    timed_datum_told(event_root, archive_root, count, time, &mut Unwritten::<H>::new())
 }
 
 /// The datum of a step, which has a time or none.
@@ -125,41 +75,28 @@ pub fn step_datum<H: Hasher>(
     ensures archive_root_size { length archive_root.now ≡ 32 }
     ensures time_size { IfSome time (λ t. t < 2 ^ 64) }
 {
-    match time {
-        None => datum::<H>(event_root, archive_root, count),
-        Some(time) => timed_datum::<H>(event_root, archive_root, count, time),
-    }
+    step_datum_told(event_root, archive_root, count, time, &mut Unwritten::<H>::new())
 }
 
 /// The authenticator of a step from 1 on, over the labels of its links from level 0 on, at most 40.
-#[tactic(auto, using(crate::proofs::lemmas::kinds::Joined::more), unfolding(crate::specs::kinds::Texts::authenticator_text))]
 pub fn authenticator<H: Hasher>(step: u64, labels: &[Digest]) -> Digest
     requires { length labels.now ≤ 40 }
     // The label is the digest of the text of the step and the labels of its links.
     ensures label { result ≡ H.dig (authenticator_text step labels.now) }
     ensures sizes { AllDigests labels.now }
 {
-    let mut text: ArrayVec<u8, 1290> = ArrayVec::new();
-    text.push(0x12);
-    put(&mut text, &step.to_be_bytes());
-    text.push(labels.len() as u8);
-    for label in labels {
-        put_digest(&mut text, label);
-    }
-    H::digest(text.as_slice())
+    authenticator_told(step, labels, &mut Unwritten::<H>::new())
 }
 
 /// The label of the empty tree, the archive of a service that has received no thread.
-#[tactic(auto, unfolding(crate::specs::kinds::Texts::empty_tree_text))]
 pub fn empty_tree<H: Hasher>() -> Digest
     // The label is the digest of the text of the empty archive.
     ensures { result ≡ H.dig empty_tree_text }
 {
-    H::digest(&[0x14])
+    empty_tree_told(&mut Unwritten::<H>::new())
 }
 
 /// The label of a tree that isn't empty, over the labels of its sides and the entry at its root.
-#[tactic(auto, unfolding(crate::specs::kinds::Texts::tree_node_text))]
 pub fn tree_node<H: Hasher>(left: &Digest, entry: &Entry, right: &Digest) -> Digest
     // The label is the digest of the text of the node.
     ensures label { result ≡ H.dig (entry_text left.now entry.now right.now) }
@@ -167,53 +104,32 @@ pub fn tree_node<H: Hasher>(left: &Digest, entry: &Entry, right: &Digest) -> Dig
     ensures right_size { HasBytes 32 right.now }
     ensures fits { IsFit entry.now }
 {
-    see_digest(left);
-    see_digest(right);
-    see_digest(&entry.thread.auth);
-    let mut text: ArrayVec<u8, 129> = ArrayVec::new();
-    text.push(0x15);
-    put(&mut text, &left.0);
-    put(&mut text, entry.thread.from.as_bytes());
-    put(&mut text, &entry.thread.step.to_be_bytes());
-    put(&mut text, &entry.thread.auth.0);
-    put(&mut text, &entry.archived.to_be_bytes());
-    put(&mut text, &right.0);
-    H::digest(text.as_slice())
+    tree_node_told(left, entry, right, &mut Unwritten::<H>::new())
 }
 
 /// The label of one event of at most 1,024 bytes: the leaf hash of RFC 6962, section 2.1.
-#[tactic(auto, unfolding(crate::specs::kinds::Texts::event_leaf_text))]
 pub fn event_leaf<H: Hasher>(event: &[u8]) -> Digest
     requires { length event.now ≤ MOST_EVENT_BYTES }
     // The label is the digest of the text of the event.
     ensures { result ≡ H.dig (event_leaf_text event.now) }
 {
-    let mut text: ArrayVec<u8, 1025> = ArrayVec::new();
-    text.push(0);
-    put(&mut text, event);
-    H::digest(text.as_slice())
+    event_leaf_told(event, &mut Unwritten::<H>::new())
 }
 
 /// The label of two parts of a list of events: the node hash of RFC 6962, section 2.1.
-#[tactic(auto, unfolding(crate::specs::kinds::Texts::event_node_text))]
 pub fn event_node<H: Hasher>(left: &Digest, right: &Digest) -> Digest
     // The label is the digest of the text of the two sides.
     ensures label { result ≡ H.dig (event_node_text left.now right.now) }
     ensures left_size { length left.now ≡ 32 }
     ensures right_size { length right.now ≡ 32 }
 {
-    let mut text: ArrayVec<u8, 65> = ArrayVec::new();
-    text.push(1);
-    put(&mut text, &left.0);
-    put(&mut text, &right.0);
-    H::digest(text.as_slice())
+    event_node_told(left, right, &mut Unwritten::<H>::new())
 }
 
 /// The event root of a step with no events: the hash of an empty list of RFC 6962, section 2.1.
-#[tactic(auto, unfolding(crate::specs::kinds::Texts::no_events_text))]
 pub fn no_events<H: Hasher>() -> Digest
     // The label is the digest of the empty text.
     ensures { result ≡ H.dig no_events_text }
 {
-    H::digest(&[])
+    no_events_told(&mut Unwritten::<H>::new())
 }

@@ -73,6 +73,13 @@ impl Name {
     }
 }
 
+/// Tells a proof that a name has letters, and zeros behind them.
+pub fn see_name(name: &Name)
+    ensures { IsName name.now }
+{
+    name.as_bytes();
+}
+
 /// Whether a name may have this byte: `a-z`, `0-9` or `-`.
 pub fn is_name_byte(b: u8) -> bool
     ensures { result ≡ is_name_byte_of b }

@@ -14,7 +14,7 @@ ghost use Rattle.tw_base.specs.declared.kinds.limits.TheConstants.{MOST_EVENTS, 
 use super::greatest::GreatestSteps;
 use crate::step::Step;
 use tw_base::limits::MOST_STEP_BYTES;
-use tw_base::{Bytes, Content, Digest, Name, Thread};
+use tw_base::{Bytes, Content, Name, Thread, see_bytes, see_digest, see_name};
 
 /// The thread that the step received; None where it has events.
 pub(super) fn received_thread(step: &Step) -> Option<Thread>
@@ -94,8 +94,8 @@ pub(super) fn limits_law(content: &Content)
         Content::Events(events) => events_law(events.as_slice()),
         Content::Received(thread) => {
             let thread = thread.get();
-            let _ = thread.from.as_bytes();
-            digest_law(&thread.auth);
+            see_name(&thread.from);
+            see_digest(&thread.auth);
         }
     }
 }
@@ -105,21 +105,7 @@ fn events_law(events: &[Bytes])
     ensures { Each AreBytes events.now }
 {
     for event in events {
-        bytes_law(event.as_slice());
+        see_bytes(event.as_slice());
     }
 }
 
-/// A digest has 32 bytes.
-fn digest_law(digest: &Digest)
-    ensures size { length digest.now ≡ 32 }
-    ensures bytes { AreBytes digest.now }
-{
-    bytes_law(&digest.0);
-}
-
-/// Each item of a slice of bytes is below 256.
-fn bytes_law(bytes: &[u8])
-    ensures { AreBytes bytes.now }
-{
-    let _bytes = bytes;
-}

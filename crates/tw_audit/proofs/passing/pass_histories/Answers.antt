@@ -3,7 +3,7 @@ use Rattle.std.proofs.lemmas.List.{take_all}
 use Rattle.tw_base.specs.history.Family.{family_texts}
 use Rattle.tw_base.specs.history.History.{History}
 use Rattle.tw_base.specs.history.HistoryTexts.{history_texts}
-use Rattle.tw_transcript.proofs.HandedTexts.{hands-same, hands-then}
+use Rattle.tw_base.proofs.lemmas.kinds.HandedTexts.{hands-same, hands-then}
 use Rattle.tw_audit.specs.Stops.{AnswerInTurn, AnswersFor}
 use Rattle.tw_audit.proofs.LoopLaws.{family-more, turn-more}
 use Rattle.tw_audit.proofs.StopLaws.{turn-answers}

@@ -1,6 +1,6 @@
 use Rattle.std.proofs.Common.{take}
 use Rattle.tw_base.specs.history.Family.{family_texts}
-use Rattle.tw_transcript.specs.Handing.{Hands}
+use Rattle.tw_base.specs.kinds.Handing.{Hands}
 use Rattle.tw_audit.specs.Stops.{AnswerInTurn}
 use Rattle.tw_audit.proofs.passing.pass_histories.Given as goal
 

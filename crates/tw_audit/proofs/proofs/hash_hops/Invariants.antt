@@ -1,6 +1,6 @@
 use Rattle.std.proofs.Common.{take}
 use Rattle.std.specs.List.{flat_map}
-use Rattle.tw_transcript.specs.Handing.{Hands}
+use Rattle.tw_base.specs.kinds.Handing.{Hands}
 use Rattle.tw_audit.specs.PieceTexts.{hop_texts}
 use Rattle.tw_audit.proofs.proofs.hash_hops.Given as goal
 

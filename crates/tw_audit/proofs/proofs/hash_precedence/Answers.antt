@@ -6,7 +6,7 @@ use Rattle.tw_base.specs.kinds.Lists.{Each}
 use Rattle.tw_skipproof.specs.Acceptance.{part_texts}
 use Rattle.tw_skipproof.specs.Paths.{HasShape}
 use Rattle.tw_chain.specs.Checks.{end_of}
-use Rattle.tw_transcript.proofs.HandedTexts.{hands-same, hands-then}
+use Rattle.tw_base.proofs.lemmas.kinds.HandedTexts.{hands-same, hands-then}
 use Rattle.tw_audit.specs.PieceTexts.{hop_texts, opened_texts}
 use Rattle.tw_audit.specs.Shapes.{IsHopShaped}
 use Rattle.tw_audit.proofs.CheckTexts.{texts-precedes}
@@ -27,17 +27,17 @@ hash_part-requires-clause-shape g c =
 pub hash_part-requires-clause-top : goal.hash_part-requires-clause-top
 hash_part-requires-clause-top g c = subst (λ n. n ≤ LAST_STEP) (sym c.end_step.ensures) (chain-shapes c.args.proof.now c.requires).tail.links.from_within
 
-pub hash_event-requires-clause-inside : goal.hash_event-requires-clause-inside
-hash_event-requires-clause-inside g c = (chain-shapes c.args.proof.now c.requires).first.inside
+pub root_over_told-requires-clause-inside : goal.root_over_told-requires-clause-inside
+root_over_told-requires-clause-inside g c = (chain-shapes c.args.proof.now c.requires).first.inside
 
-pub hash_event-requires-clause-few : goal.hash_event-requires-clause-few
-hash_event-requires-clause-few g c = (chain-shapes c.args.proof.now c.requires).first.few
+pub root_over_told-requires-clause-few : goal.root_over_told-requires-clause-few
+root_over_told-requires-clause-few g c = (chain-shapes c.args.proof.now c.requires).first.few
 
-pub hash_event-requires-clause-small : goal.hash_event-requires-clause-small
-hash_event-requires-clause-small g c = (chain-shapes c.args.proof.now c.requires).first.small
+pub root_over_told-requires-clause-small : goal.root_over_told-requires-clause-small
+root_over_told-requires-clause-small g c = (chain-shapes c.args.proof.now c.requires).first.small
 
-pub hash_event-requires-clause-path : goal.hash_event-requires-clause-path
-hash_event-requires-clause-path g c = (chain-shapes c.args.proof.now c.requires).first.path
+pub root_over_told-requires-clause-path : goal.root_over_told-requires-clause-path
+root_over_told-requires-clause-path g c = (chain-shapes c.args.proof.now c.requires).first.path
 
 pub returns : goal.returns
 returns g c =
@@ -54,4 +54,4 @@ returns g c =
     (hands-same g.T.Transcript.took _ _ _ _
     (ap (λ n. part_texts dig (record { service = (end_of p).from; step = p.tail.step; top = n; path = p.tail.path; opening = p.tail.opening })
     ++ audit_texts dig p.tail.opening.count p.tail.event.index p.tail.event.event p.tail.event.path) end)
-    (hands-then g.T.Transcript.took _ _ _ _ _ (c.hash_part.ensures (end_of p).from) c.hash_event.ensures)))
+    (hands-then g.T.Transcript.took _ _ _ _ _ (c.hash_part.ensures (end_of p).from) c.root_over_told.ensures.took)))

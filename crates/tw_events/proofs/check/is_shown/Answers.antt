@@ -7,7 +7,7 @@ returns-then-path-len g c = (λ no. let h = no in cc, λ checks. absurd (c.if-pa
 
 pub returns : goal.returns
 returns g c =
-    let reached = c.root_above_leaf-reached.ensures ∙ ap (λ s. root_above g.H.Hasher.dig s c.args.path.now c.event_leaf-leaf.result) c.sides_of-sides.ensures.sides
+    let reached = c.root_above_leaf-reached.ensures.root ∙ ap (λ s. root_above g.H.Hasher.dig s c.args.path.now c.event_leaf-leaf.result) c.sides_of-sides.ensures.sides
     ∙ ap (root_above g.H.Hasher.dig (path_sides c.args.count c.args.index) c.args.path.now) c.event_leaf-leaf.ensures in (
       λ yes. record {
         inside = c.if-index-count.false;

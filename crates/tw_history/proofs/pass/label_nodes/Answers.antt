@@ -3,7 +3,7 @@ use Rattle.std.specs.Prelude.{map}
 use Rattle.std.proofs.lemmas.List.{length_push}
 use Rattle.tw_base.specs.history.History.{entry_to}
 use Rattle.tw_base.specs.history.Tree.{Tree, planted}
-use Rattle.tw_transcript.proofs.HandedTexts.{hands-none, hands-same, hands-then}
+use Rattle.tw_base.proofs.lemmas.kinds.HandedTexts.{hands-none, hands-same, hands-then}
 use Rattle.tw_history.specs.declared.step.Node.{Node}
 use Rattle.tw_history.specs.Tables.{node_of}
 use Rattle.tw_history.proofs.Passes.{first-stays, labels_to-all, labels_to-more, labels_to-none, nodes_to-all, nodes_to-more, nodes_to-none}

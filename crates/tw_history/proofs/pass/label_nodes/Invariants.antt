@@ -3,7 +3,7 @@ use Rattle.std.specs.Prelude.{map}
 use Rattle.tw_base.specs.history.Auth.{tree_label}
 use Rattle.tw_base.specs.history.Tree.{Tree}
 use Rattle.tw_base.specs.history.Tree.Tree.{Empty}
-use Rattle.tw_transcript.specs.Handing.{Hands}
+use Rattle.tw_base.specs.kinds.Handing.{Hands}
 use Rattle.tw_history.proofs.Passes.{labels_to, nodes_to}
 use Rattle.tw_history.proofs.pass.label_nodes.Given as goal
 

@@ -13,8 +13,8 @@ returns-in-None g c = λ trees labels first.
 
 pub returns-in-Some : goal.returns-in-Some
 returns-in-Some g c = λ trees labels first.
-    told-some g.T.Transcript.dig g.T.Transcript.took c.args.texts.now c.tree_node.new.texts (entry_to c.args.history.now c.args.step c.args.node.now.entry) c.in-Some.entry
+    told-some g.T.Transcript.dig g.T.Transcript.took c.args.texts.now c.tree_node_told.new.texts (entry_to c.args.history.now c.args.step c.args.node.now.entry) c.in-Some.entry
     (get_or trees c.args.node.now.left Empty) (get_or trees c.args.node.now.right Empty)
-    c.label_of_tree-left.result.now c.label_of_tree-right.result.now c.tree_node.result c.in-Some.ensures
+    c.label_of_tree-left.result.now c.label_of_tree-right.result.now c.tree_node_told.result c.in-Some.ensures
     (c.label_of_tree-left.ensures g.T.Transcript.dig trees labels first) (c.label_of_tree-right.ensures g.T.Transcript.dig trees labels first)
-    c.tree_node.ensures.label c.tree_node.ensures.took
+    c.tree_node_told.ensures.label c.tree_node_told.ensures.took

@@ -6,7 +6,7 @@ use Rattle.tw_base.specs.kinds.Levels.{top_level}
 use Rattle.tw_base.specs.kinds.Texts.{authenticator_text, step_datum_text}
 use Rattle.tw_base.specs.history.Tree.{forest, planted}
 use Rattle.tw_base.proofs.lemmas.history.Plus.{forest-first}
-use Rattle.tw_transcript.proofs.HandedTexts.{hands-same, hands-text, hands-then}
+use Rattle.tw_base.proofs.lemmas.kinds.HandedTexts.{hands-same, hands-text, hands-then}
 use Rattle.tw_history.specs.Tables.{node_of}
 use Rattle.tw_history.proofs.Passes.{PassesStep, PassesStep-passes, PassesStep-texts, length-labels, reached-next, some_labels, some_trees}
 use Rattle.tw_history.proofs.pass.pass_step.Goals as goal
@@ -37,7 +37,7 @@ returns g c =
     let h = c.args.history.now in
     let fresh = c.step_behind.result.1.now in
     let step : PassesStep g.T.Transcript.dig h (c.args.index + 1) c.args.index c.step_behind.result.0.now fresh
-    c.args.digests.now (record { tree_labels = c.label_nodes.new.tree_labels; latest = c.keep_auth.new.latest }) c.digests_of_step-passed.result c.authenticator-auth.result =
+    c.args.digests.now (record { tree_labels = c.label_nodes.new.tree_labels; latest = c.keep_auth.new.latest }) c.digests_of_step-passed.result c.authenticator_told-auth.result =
     record {
       passed = c.requires.passed;
       there = c.step_behind.ensures.step;
@@ -49,19 +49,19 @@ returns g c =
           ∙ ap (λ n. g.T.Transcript.dig (step_datum_text c.digests_of_step-passed.result.event_root c.digests_of_step-passed.result.archive_root n c.step_behind.result.0.now.time)) c.count_of_events.ensures.value;
       labels = c.digests_of_step-passed.ensures.labels;
       few = omega (arith, c.step_behind.ensures.few, c.requires.inside);
-      auth = c.authenticator-auth.ensures.label ∙ ap (λ ls. g.T.Transcript.dig (authenticator_text (c.args.index + 1) ls)) c.as_slice-2.ensures.value;
+      auth = c.authenticator_told-auth.ensures.label ∙ ap (λ ls. g.T.Transcript.dig (authenticator_text (c.args.index + 1) ls)) c.as_slice-2.ensures.value;
       latest = c.keep_auth.ensures;
     }
     in
     let both = PassesStep-passes g.T.Transcript.dig h c.args.index c.step_behind.result.0.now fresh
-    c.args.digests.now (record { tree_labels = c.label_nodes.new.tree_labels; latest = c.keep_auth.new.latest }) c.digests_of_step-passed.result c.authenticator-auth.result step in
+    c.args.digests.now (record { tree_labels = c.label_nodes.new.tree_labels; latest = c.keep_auth.new.latest }) c.digests_of_step-passed.result c.authenticator_told-auth.result step in
     record {
       passed = both.0;
       step = both.1;
       took =
           hands-same g.T.Transcript.took _ _ _ _
           (PassesStep-texts g.T.Transcript.dig h c.args.index c.step_behind.result.0.now fresh
-          c.args.digests.now (record { tree_labels = c.label_nodes.new.tree_labels; latest = c.keep_auth.new.latest }) c.digests_of_step-passed.result c.authenticator-auth.result step)
+          c.args.digests.now (record { tree_labels = c.label_nodes.new.tree_labels; latest = c.keep_auth.new.latest }) c.digests_of_step-passed.result c.authenticator_told-auth.result step)
           (hands-then g.T.Transcript.took _ _ _ _ _
           (hands-then g.T.Transcript.took _ _ _ _ _
           (c.in_ok-label_nodes.ensures.took (forest h c.args.index) c.requires.passed.tree_labels (forest-first h c.args.index))
@@ -70,5 +70,5 @@ returns g c =
           ∷ link_texts g.T.Transcript.dig c.digests_of_step-passed.result.datum (auths g.T.Transcript.dig h c.args.index) (c.args.index + 1) (suc (top_level (c.args.index + 1)))) c.count_of_events.ensures.value)
           (c.digests_of_step-passed.ensures.took (auths g.T.Transcript.dig h c.args.index)
           (reached-next g.T.Transcript.dig h c.args.index c.args.digests.now c.requires.passed (omega (arith, c.step_behind.ensures.few, c.requires.inside))))))
-          (hands-text g.T.Transcript.took _ _ _ _ (ap (authenticator_text (c.args.index + 1)) c.as_slice-2.ensures.value) c.authenticator-auth.ensures.took));
+          (hands-text g.T.Transcript.took _ _ _ _ (ap (authenticator_text (c.args.index + 1)) c.as_slice-2.ensures.value) c.authenticator_told-auth.ensures.took));
     }

@@ -1,6 +1,6 @@
 use Rattle.std.proofs.Common.{ap, sym, ◌∙◌}
 use Rattle.tw_base.specs.events.EventTree.{event_root, event_texts}
-use Rattle.tw_transcript.proofs.HandedTexts.{hands-same, hands-then}
+use Rattle.tw_base.proofs.lemmas.kinds.HandedTexts.{hands-same, hands-then}
 use Rattle.tw_history.proofs.Passes.{events-then, handed-none, handed-step}
 use Rattle.tw_history.proofs.pass.pass_steps.Goals as goal
 

@@ -1,3 +1,0 @@
-pub mod HandedTexts
-pub mod EventTexts
-pub mod LinkLabels

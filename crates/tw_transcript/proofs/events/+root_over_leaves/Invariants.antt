@@ -1,5 +1,0 @@
-use Rattle.std.proofs.Common.{length}
-use Rattle.tw_transcript.proofs.events.+root_over_leaves.Given as goal
-
-abbrev pub decreases-root_over_leaves : goal.decreases-root_over_leaves
-decreases-root_over_leaves g l = length l.leaves.now
