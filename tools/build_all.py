@@ -44,7 +44,7 @@ def main():
         sys.exit(__doc__)
     with tempfile.TemporaryDirectory(prefix="timeweave_build_") as folder:
         copy = Path(folder) / "tree"
-        copy_crates([*PROGRAMS, build_library.NAME], copy, without=("must-fail", "wrong-bodies"))
+        copy_crates([*PROGRAMS, build_library.NAME], copy, without=("must-fail", "wrong-bodies.txt"))
         status = prove(copy, *words)
         if status:
             return status

@@ -54,7 +54,7 @@ def main():
         sys.exit(__doc__)
     with tempfile.TemporaryDirectory(prefix="timeweave_build_") as folder:
         copy = Path(folder) / "tree"
-        copy_crates([NAME], copy, without=("must-fail", "wrong-bodies"))
+        copy_crates([NAME], copy, without=("must-fail", "wrong-bodies.txt"))
         status = prove(copy)
         if status:
             return status

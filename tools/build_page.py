@@ -221,7 +221,7 @@ def build(words):
         copy = TOP
         if not words:
             copy = Path(folder) / "tree"
-            copy_crates([NAME], copy, without=("must-fail", "wrong-bodies"))
+            copy_crates([NAME], copy, without=("must-fail", "wrong-bodies.txt"))
             status = prove(copy)
             if status:
                 return status

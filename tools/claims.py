@@ -14,7 +14,6 @@ above the clause, or its term begins with a definition that has the record. They
 its first row names all that do.
 """
 
-import argparse
 import re
 from functools import lru_cache
 from itertools import groupby
@@ -182,13 +181,5 @@ def page(names: List[str]) -> str:
     return "\n".join([HEAD, *reached, *([REST, "", *rest] if rest else [])])
 
 
-def main() -> None:
-    words = argparse.ArgumentParser(description=__doc__, formatter_class=argparse.RawDescriptionHelpFormatter)
-    words.add_argument("crates", nargs="*", metavar="CRATE", help="a crate; all of them if none is named")
-    words.add_argument("--to", type=Path, metavar="FILE", help="where it is written, if it isn't printed")
-    chosen = words.parse_args()
-    declared.write_or_print(page(declared.known_crates(chosen.crates, words.error)), chosen.to)
-
-
 if __name__ == "__main__":
-    main()
+    declared.print_page(page, __doc__)

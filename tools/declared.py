@@ -2,6 +2,7 @@
 `specs`. A claim is the plain comment right above a clause of a public function, and says in words what the clause says; the record of which
 a clause may be has its comments where it is defined."""
 
+import argparse
 import re
 from functools import lru_cache
 from pathlib import Path
@@ -122,3 +123,12 @@ def write_or_print(text: str, path: Optional[Path]) -> None:
         path.write_text(f"{text}\n")
     else:
         print(text)
+
+
+def print_page(page: Callable[[List[str]], str], about: Optional[str]) -> None:
+    """Writes or prints the page of the crates that the command line names."""
+    words = argparse.ArgumentParser(description=about, formatter_class=argparse.RawDescriptionHelpFormatter)
+    words.add_argument("crates", nargs="*", metavar="CRATE", help="a crate; all of them if none is named")
+    words.add_argument("--to", type=Path, metavar="FILE", help="where it is written, if it isn't printed")
+    chosen = words.parse_args()
+    write_or_print(page(known_crates(chosen.crates, words.error)), chosen.to)

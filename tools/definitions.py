@@ -8,7 +8,6 @@ What a definition means is written once, as the comment above it; docs/definitio
 equation of a definition, or above a field of a record, stands below the definition's own. Definitions that need no words stand at the end of their module.
 """
 
-import argparse
 import re
 from pathlib import Path
 from typing import Iterator, List, NamedTuple
@@ -97,13 +96,5 @@ def page(names: List[str]) -> str:
     return "\n".join(lines + [line for name in order for line in crate(name)])
 
 
-def main() -> None:
-    words = argparse.ArgumentParser(description=__doc__, formatter_class=argparse.RawDescriptionHelpFormatter)
-    words.add_argument("crates", nargs="*", metavar="CRATE", help="a crate; all of them if none is named")
-    words.add_argument("--to", type=Path, metavar="FILE", help="where it is written, if it isn't printed")
-    chosen = words.parse_args()
-    declared.write_or_print(page(declared.known_crates(chosen.crates, words.error)), chosen.to)
-
-
 if __name__ == "__main__":
-    main()
+    declared.print_page(page, __doc__)

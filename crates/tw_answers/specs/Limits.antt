@@ -2,11 +2,7 @@
 use Rattle.std.specs.Prelude.{ℕ, List, length, Bool, true, false, ◌&&◌, nat_le, nat_lt, if◌then◌else◌, find, sum_by, Option, Some, None}
 use Rattle.std.specs.Str.{bytes_eq}
 use Rattle.tw_base.specs.declared.history.thread.Entry.{Entry}
-use Rattle.tw_base.specs.declared.history.thread.Key.{Key}
 use Rattle.tw_base.specs.declared.kinds.limits.TheConstants.{LAST_STEP, MOST_EVENTS, MOST_EVENT_BYTES, MOST_STEP_BYTES}
-use Rattle.tw_base.specs.history.Asking.{entry_with}
-use Rattle.tw_base.specs.history.History.{History, events_at}
-use Rattle.tw_base.specs.history.Tree.{entries, tree}
 use Rattle.tw_answers.specs.declared.refusal.Refusal.{Refusal}
 use Rattle.tw_answers.specs.declared.refusal.Refusal.TheVariants.{Own, NoStep, NoEvent, NoThread, HasThread, TooMany, TooLong, Full, ClockBack, Reopen}
 
@@ -107,17 +103,3 @@ order_refusal is_broken last step top = or_else (broken_refusal is_broken) (if i
 -- the index isn't below the count of events
 unfoldable pub event_refusal : (count index : ℕ) → Option Refusal
 event_refusal count index = if nat_lt index count then None else Some (NoEvent count)
-
--- the whole table
-abbrev pub proof_refusal : (is_broken : Bool) → History → (step index top : ℕ) → Option Refusal
-proof_refusal is_broken h step index top =
-    or_else (order_refusal is_broken (length h.steps) step top) (event_refusal (length (events_at h step)) index)
-
--- the whole tables of threads: by the entry of the key in the step's archive
-abbrev pub thread_proof_refusal : (is_broken : Bool) → History → (step : ℕ) → Key → (top : ℕ) → Option Refusal
-thread_proof_refusal is_broken h step key top =
-    or_else (order_refusal is_broken (length h.steps) step top) (no_thread (entry_with (entries (tree h step)) key))
-
-abbrev pub absence_refusal : (is_broken : Bool) → History → (step : ℕ) → Key → (top : ℕ) → Option Refusal
-absence_refusal is_broken h step key top =
-    or_else (order_refusal is_broken (length h.steps) step top) (has_thread (entry_with (entries (tree h step)) key))

@@ -4,7 +4,7 @@ use Rattle.tw_base.specs.declared.kinds.limits.TheConstants.{LAST_STEP}
 use Rattle.tw_base.specs.format.Codecs.{Codec, digest_codec, name_codec, number_codec, optional, pair, seen}
 use Rattle.tw_base.specs.history.HistoryCodec.{time_codec}
 use Rattle.tw_disk.specs.declared.limits.TheConstants.{FIRST_PAGE}
-use Rattle.tw_record.specs.Kinds.{RecordKind}
+use Rattle.tw_disk.specs.Kinds.{RecordKind}
 use Rattle.tw_steppage.specs.StepBytes.{page_codec}
 use Rattle.tw_answers.specs.declared.limits.TheConstants.{MOST_PAGES_OF_A_STEP}
 use Rattle.tw_answers.specs.declared.root.RootRecord.{RootRecord}

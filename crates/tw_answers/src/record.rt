@@ -5,7 +5,7 @@ ghost use Rattle.tw_answers.specs.Roots.{root_kind};
 use crate::root::{RootRecord, read_root, root_record};
 use arrayvec::ArrayVec;
 use tw_base::Hasher;
-use tw_record::Record;
+use tw_disk::Record;
 
 impl Record for RootRecord {
     ghost kind = { λ _. root_kind };

@@ -14,7 +14,9 @@ use crate::limits::{MOST_PAGES_OF_A_STEP, TIMED_ROOT_BYTES};
 use arrayvec::ArrayVec;
 use tw_base::fixed::{put_digest, put_number};
 use tw_base::limits::LAST_STEP;
-use tw_base::{Name, ReadFault, Root, put, take_digest, take_name, take_number, take_time, whole_to};
+use tw_base::{
+    Name, ReadFault, Root, put, take_digest, take_name, take_number, take_time, whole_to,
+};
 use tw_disk::limits::FIRST_PAGE;
 use tw_skiplist::Head;
 

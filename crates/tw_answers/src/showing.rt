@@ -10,9 +10,8 @@ use crate::refusal::{Refusal, refusal_of_tree};
 use std::alloc::Global;
 use tw_base::limits::LAST_STEP;
 use tw_base::{Ask, Bytes, Entry, Hasher, Key, Name, NoMemory, Root, TreeProof};
-use tw_cache::{Shelf, Shelved};
 use tw_chain::{AbsenceProof, Proof, ThreadProof, write_proof};
-use tw_disk::Pages;
+use tw_disk::{Pages, Shelf, Shelved};
 use tw_rbtree::{get, path};
 use tw_skiplist::{Head, StepProof, prove};
 

@@ -23,18 +23,18 @@ use Rattle.tw_filecmd.specs.Joining.{JoinComes}
 use Rattle.tw_filecmd.specs.Showing.{ShowComes}
 use Rattle.tw_filecmd.specs.Verifying.{HasAnchors, IsJudged, VerifyFileComes, VerifyOneComes}
 use Rattle.tw_diskcmd.specs.Asking.{AskComes}
-use Rattle.tw_kept.proofs.AtRest.{untouched_left}
-use Rattle.tw_storecmd.specs.Leaves.{WritesNothing}
+use Rattle.tw_pages.proofs.AtRest.{untouched_left}
+use Rattle.tw_diskcmd.specs.Leaves.{WritesNothing}
 use Rattle.tw_diskcmd.proofs.AtRest.{left_keeps}
-use Rattle.tw_storecmd.proofs.CommandLaws.{HasCauses, IsSafe}
+use Rattle.tw_diskcmd.proofs.StoreCommandLaws.{HasCauses, IsSafe}
 use Rattle.tw_diskcmd.specs.Disks.{IsLeft, IsOf, Keeps, ReadLeaves, ReadsAs}
 use Rattle.tw_diskcmd.specs.Receiving.{ReceiveComes, ReceiveLeaves, ReceiveSafe}
 use Rattle.tw_diskcmd.proofs.CommandLaws.{append_causes, append_is_safe, ask_causes, asking_is_safe, init_causes, init_is_safe, receive_causes, receive_is_safe}
-use Rattle.tw_followcmd.specs.Disks.{IsOf as IsOfList, ReadsAs as ReadsAsList}
-use Rattle.tw_followcmd.specs.Listing.{HeadsComes, HeadsLeaves, HeadsSafe}
-use Rattle.tw_followcmd.specs.Offering.{OfferComes, OfferLeaves, OfferSafe}
-use Rattle.tw_followcmd.specs.Watching.{WatchComes, WatchLeaves, WatchSafe}
-use Rattle.tw_followcmd.proofs.CommandLaws.{heads_causes, heads_is_safe, offer_causes, offer_is_safe, watch_causes, watch_is_safe}
+use Rattle.tw_diskcmd.specs.FollowerDisks.{IsOf as IsOfList, ReadsAs as ReadsAsList}
+use Rattle.tw_diskcmd.specs.Listing.{HeadsComes, HeadsLeaves, HeadsSafe}
+use Rattle.tw_diskcmd.specs.Offering.{OfferComes, OfferLeaves, OfferSafe}
+use Rattle.tw_diskcmd.specs.Watching.{WatchComes, WatchLeaves, WatchSafe}
+use Rattle.tw_diskcmd.proofs.FollowerCommandLaws.{heads_causes, heads_is_safe, offer_causes, offer_is_safe, watch_causes, watch_is_safe}
 use Rattle.tw_follow.specs.HeadLists.{Kept}
 use Rattle.tw_app.specs.declared.outcome.Outcome.{Outcome}
 use Rattle.tw_app.specs.declared.outcome.Outcome.TheVariants.{Judged, Written, Joined, Made, Received, Answered, BadWords, Undone}

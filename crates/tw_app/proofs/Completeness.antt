@@ -26,10 +26,10 @@ use Rattle.tw_filecmd.specs.Showing.{ShowComes}
 use Rattle.tw_filecmd.specs.Verifying.{VerifyFileComes}
 use Rattle.tw_diskcmd.specs.Appending.{AppendComes, IsBadEventsByte}
 use Rattle.tw_diskcmd.specs.Asking.{AskComes}
-use Rattle.tw_storecmd.specs.Comes.{FoundDisk}
+use Rattle.tw_diskcmd.specs.Comes.{FoundDisk}
 use Rattle.tw_diskcmd.specs.Receiving.{ReceiveComes}
 use Rattle.tw_diskcmd.proofs.CommandLaws.{ask_causes}
-use Rattle.tw_followcmd.specs.Offering.{OfferComes}
+use Rattle.tw_diskcmd.specs.Offering.{OfferComes}
 use Rattle.tw_reachcmd.specs.Accusing.{AccuseComes}
 use Rattle.tw_reachcmd.specs.Adopting.{AdoptComes}
 use Rattle.tw_reachcmd.specs.Auditing.{AuditComes}

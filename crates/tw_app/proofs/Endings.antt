@@ -32,7 +32,7 @@ use Rattle.tw_filecmd.specs.declared.joining.Joined.{Joined as JoinedProofs}
 use Rattle.tw_filecmd.specs.declared.joining.Joined.TheVariants.{Whole, Unfit}
 use Rattle.tw_diskcmd.specs.Disks.{IsLeft, ReadsAs}
 use Rattle.tw_follow.specs.HeadLists.{Kept}
-use Rattle.tw_followcmd.specs.Disks.{ReadsAs as ReadsAsList}
+use Rattle.tw_diskcmd.specs.FollowerDisks.{ReadsAs as ReadsAsList}
 use Rattle.tw_app.specs.declared.outcome.Outcome.{Outcome}
 use Rattle.tw_app.specs.declared.outcome.Outcome.TheVariants.{Judged, Written, Joined, Made, Received, Answered, BadWords, Undone}
 use Rattle.tw_evidence.specs.declared.fork.ForkVerdict.TheVariants as fork

@@ -3,7 +3,7 @@ use Rattle.std.specs.Prelude.{ℕ, List, Option}
 use Rattle.tw_disk.specs.Disk.{DiskView}
 use Rattle.tw_outside.specs.Asked.{Asked}
 use Rattle.tw_outside.specs.TakenBytes.{Appends}
-use Rattle.tw_storecmd.specs.Comes.{FoundDisk, found_disk}
+use Rattle.tw_diskcmd.specs.Comes.{FoundDisk, found_disk}
 
 -- a value before the run, and after it
 pub record Span (A : Type 0) : Type 0 where

@@ -26,7 +26,7 @@ use Rattle.tw_script.specs.declared.script.NumberedLine.{NumberedLine}
 use Rattle.tw_filecmd.specs.Showing.{IsFileOf}
 use Rattle.tw_diskcmd.specs.declared.limits.TheConstants.{EVENTS_LIMIT}
 use Rattle.tw_diskcmd.specs.Disks.{ReadsAs}
-use Rattle.tw_followcmd.specs.Disks.{ReadsAs as ReadsAsList}
+use Rattle.tw_diskcmd.specs.FollowerDisks.{ReadsAs as ReadsAsList}
 use Rattle.tw_reachcmd.specs.Held.{TellAll}
 use Rattle.tw_reachcmd.specs.Histories.{AreHistories}
 use Rattle.tw_reachcmd.specs.Planning.{AreHops}

@@ -20,15 +20,13 @@ use crate::replaying::play_file;
 use std::alloc::Global;
 use tw_base::{Bytes, Key, Name, Question, Thread};
 use tw_disk::Disk;
-use tw_diskcmd::{append, ask, make, receive};
+use tw_diskcmd::{Worked, append, ask, list_heads, make, offer, receive, watch};
 use tw_filecmd::{join_files, show, verify_file, verify_one};
-use tw_followcmd::{list_heads, offer, watch};
 use tw_msg::Receipt;
 use tw_outside::Inputs;
 use tw_reachcmd::{
     accuse_linked, accuse_pair, adopt_files, audit_files, check_fork, check_maps, plan_files,
 };
-use tw_storecmd::Worked;
 use tw_text::CommandFault;
 use tw_words::{Command, WordFault, read_words};
 

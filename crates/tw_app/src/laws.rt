@@ -10,7 +10,7 @@ ghost use Rattle.tw_text.specs.declared.refusal.BadInput.{BadInput};
 ghost use Rattle.tw_text.specs.declared.refusal.Refusal.{Refusal};
 ghost use Rattle.tw_text.specs.declared.refusal.StoreCause.{StoreCause};
 ghost use Rattle.tw_follow.specs.HeadLists.{Kept};
-ghost use Rattle.tw_followcmd.specs.Disks.{ReadsAs as ReadsAsList};
+ghost use Rattle.tw_diskcmd.specs.FollowerDisks.{ReadsAs as ReadsAsList};
 ghost use Rattle.tw_app.specs.Around.{Around, Writes};
 ghost use Rattle.tw_app.specs.Commands.{IsOfFollower};
 ghost use Rattle.tw_app.specs.Running.{Ends};

@@ -27,9 +27,6 @@ same-best at one other p q same =
     let leg : one.leg ≡ other.leg = omega (arith, early, late) in
     λ i. record { service = same i; step = step i; leg = leg i }
 
-NameBelow : List ℕ → List ℕ → Type 0
-NameBelow a b = slice_cmp nat_cmp a b ≡ Less
-
 never-itself : (a : List ℕ) → slice_cmp nat_cmp a a ≡ Less → ⊥
 never-itself a below = let turned = nat_list_cmp_total.antisymm a a in cc
 

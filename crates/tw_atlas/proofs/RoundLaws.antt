@@ -88,9 +88,6 @@ map-append f (x ∷ xs) ys = ap (λ zs. f x ∷ zs) (map-append f xs ys)
 
 -- ---- one round
 
-leg_with : Hop → ℕ → Leg
-leg_with hop after = record { after = after; hop = hop }
-
 module _ (at : List Key) where
   in-round : (left : List Hop) (leg : Leg) → In leg (round at left) → In leg.hop left × (after_of at leg.hop ≡ Some leg.after)
   in-round [] leg p = absurd p

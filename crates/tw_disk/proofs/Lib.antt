@@ -9,3 +9,4 @@ pub mod ReadingLaws
 pub mod FoundLaws
 pub mod SpelledLaws
 pub mod AnswerLaws
+mod KeepingLaws

@@ -13,3 +13,6 @@ pub mod Answers
 pub mod WalkFaults
 pub mod MemPages
 pub mod MemPagesSteps
+pub mod Keeping
+pub mod Shelves
+pub mod Kinds

@@ -11,8 +11,8 @@ use Rattle.tw_outside.specs.Files.{Tells}
 use Rattle.tw_text.specs.declared.refusal.BadInput.TheVariants.{BadByte}
 use Rattle.tw_text.specs.declared.fault.CommandFault.{CommandFault}
 use Rattle.tw_text.specs.declared.fault.CommandFault.TheVariants as fault
-use Rattle.tw_storecmd.specs.Comes.{FoundDisk, TellsContent, found_disk}
-use Rattle.tw_storecmd.specs.Files.{OfFile}
+use Rattle.tw_diskcmd.specs.Comes.{FoundDisk, TellsContent, found_disk}
+use Rattle.tw_diskcmd.specs.Files.{OfFile}
 use Rattle.tw_diskcmd.specs.Appending.{AppendComes, AreEventsOf, IsBadEventsByte, MachineAdds, StepComes, TableAdds, TellsOfFile, added}
 use Rattle.tw_diskcmd.proofs.Results.{one_answer}
 

@@ -6,8 +6,8 @@ use Rattle.tw_base.specs.history.History.{History}
 use Rattle.tw_disk.specs.Disk.{DiskView, IsAtRest, LeavesOnly}
 use Rattle.tw_disk.specs.Image.{Image}
 use Rattle.tw_disk.proofs.Moments.{leaves_weaker}
-use Rattle.tw_kept.specs.Disks.{OneOf}
-use Rattle.tw_kept.proofs.AtRest.{own_rest as own_rest_as}
+use Rattle.tw_pages.specs.Disks.{OneOf}
+use Rattle.tw_pages.proofs.AtRest.{own_rest as own_rest_as}
 use Rattle.tw_answers.specs.Roots.{root_kind}
 use Rattle.tw_answers.specs.declared.refusal.Refusal.{Refusal}
 use Rattle.tw_answers.specs.declared.refusal.Refusal.TheVariants as service
@@ -18,10 +18,10 @@ use Rattle.tw_service.specs.Serves.{Serves, disk_of, name_of, record_of}
 use Rattle.tw_service.specs.Stands.{StandsFor, StandsForOneOf}
 use Rattle.tw_service.specs.declared.service.Service.{Service}
 use Rattle.tw_service.proofs.Serving.{rest_for_good}
-use Rattle.tw_storecmd.specs.Steps.{AddsFrom}
-use Rattle.tw_storecmd.proofs.AtRest.{opens_taken}
-use Rattle.tw_storecmd.proofs.AtRest.{left_keeps as keeps_both}
-use Rattle.tw_storecmd.proofs.Steps.{refused_adds}
+use Rattle.tw_diskcmd.specs.Steps.{AddsFrom}
+use Rattle.tw_diskcmd.proofs.StoreAtRest.{opens_taken}
+use Rattle.tw_diskcmd.proofs.StoreAtRest.{left_keeps as keeps_both}
+use Rattle.tw_diskcmd.proofs.StoreSteps.{refused_adds}
 use Rattle.tw_text.specs.declared.fault.CommandFault.{CommandFault}
 use Rattle.tw_diskcmd.specs.Disks.{IsLeft, IsOf, Keeps, NextBy, Rests, StepsBy}
 use Rattle.tw_diskcmd.specs.Faults.{fault_of_service}

@@ -13,10 +13,10 @@ use Rattle.tw_service.specs.Machine.Call.{Append, Receive}
 use Rattle.tw_service.specs.Machine.Reply.{OfReceipt, OfThread}
 use Rattle.tw_service.specs.Stands.{no_history}
 use Rattle.tw_service.specs.Writing.{AppendsTo, ArchivesTo, IsReceiptOf, IsThreadOfNext}
-use Rattle.tw_storecmd.specs.Comes.{FoundDisk}
-use Rattle.tw_storecmd.specs.Files.{IsBadMessageByte, IsMessageIn}
-use Rattle.tw_storecmd.specs.Leaves.{StaysOr}
-use Rattle.tw_storecmd.proofs.CommandLaws.{HasCauses, IsSafe, file_causes, make_causes, making_is_safe, reading_is_safe, writing_is_safe}
+use Rattle.tw_diskcmd.specs.Comes.{FoundDisk}
+use Rattle.tw_diskcmd.specs.Files.{IsBadMessageByte, IsMessageIn}
+use Rattle.tw_diskcmd.specs.Leaves.{StaysOr}
+use Rattle.tw_diskcmd.proofs.StoreCommandLaws.{HasCauses, IsSafe, file_causes, make_causes, making_is_safe, reading_is_safe, writing_is_safe}
 use Rattle.tw_diskcmd.specs.Appending.{AppendComes, AppendLeaves, AppendSafe, AreEventsOf, IsBadEventsByte, IsStepResult}
 use Rattle.tw_diskcmd.specs.Asking.{AskComes}
 use Rattle.tw_diskcmd.specs.Disks.{IsLeft, IsOf, Keeps, NextBy, ReadLeaves, StepsBy}

@@ -1,7 +1,7 @@
 -- From an events file that was read to its events, or to the byte at which it is none.
 use Rattle.std.proofs.Common.{◌≡◌, ℕ, ◌<◌, ◌≤◌, List, length, take, refl, subst, sym, ap, ◌∙◌, arith, inl, inr}
 use Rattle.tw_outside.specs.Asked.{Asked}
-use Rattle.tw_storecmd.specs.Files.{StopsAt}
+use Rattle.tw_diskcmd.specs.Files.{StopsAt}
 use Rattle.std.proofs.lemmas.Bool.{cases_lt}
 use Rattle.std.proofs.lemmas.List.{length-take, length-take-le, take_all}
 use Rattle.tw_base.specs.format.Formats.{IsPlace, Spells, SpellsNothing}

@@ -1,3 +1,7 @@
+pub mod StoreAtRest
+pub mod StoreSteps
+pub mod Landings
+pub mod StoreCommandLaws
 pub mod EventFiles
 pub mod AtRest
 pub mod Results
@@ -9,3 +13,10 @@ pub mod Tables
 pub mod MessageFiles
 pub mod Received
 pub mod QuestionAnswers
+pub mod FollowerAtRest
+pub mod OfferedFiles
+pub mod Offered
+pub mod Listed
+pub mod FollowerCommandLaws
+pub mod OneResult
+pub mod Writing

@@ -12,7 +12,7 @@ use Rattle.tw_outside.specs.Files.{IsReadTo, IsThere}
 use Rattle.tw_text.specs.declared.fault.CommandFault.{CommandFault}
 use Rattle.tw_text.specs.declared.fault.CommandFault.TheVariants.{Unreadable}
 use Rattle.tw_text.specs.declared.refusal.BadInput.TheVariants.{BadByte}
-use Rattle.tw_storecmd.specs.Files.{IsBadMessageByte, IsMessageIn, StopsAt}
+use Rattle.tw_diskcmd.specs.Files.{IsBadMessageByte, IsMessageIn, StopsAt}
 
 short : (word : List ℕ) (m : Message) → Spells message_layout word m → length word < file_limit
 short word m spelled = let size = word-size message_codec message-lawful 53828 message-most word m spelled in omega (arith, size)

@@ -25,9 +25,9 @@ use Rattle.tw_text.specs.declared.fault.CommandFault.{CommandFault}
 use Rattle.tw_text.specs.declared.fault.CommandFault.TheVariants as fault
 use Rattle.tw_diskcmd.specs.Answers.{ComesOver, ComesTo, IsOpened, IsResult, IsResultOver, IsTheAnswer, MachineRefuses, TableAnswersOr, TableRefuses, answer_over, result_of}
 use Rattle.tw_diskcmd.specs.Disks.{FoundDisk, ReadsAs, found_disk}
-use Rattle.tw_storecmd.specs.Comes.{TellsContent}
-use Rattle.tw_storecmd.specs.Faults.{fault_of_store}
-use Rattle.tw_storecmd.proofs.Landings.{told_result}
+use Rattle.tw_diskcmd.specs.Comes.{TellsContent}
+use Rattle.tw_diskcmd.specs.StoreFaults.{fault_of_store}
+use Rattle.tw_diskcmd.proofs.Landings.{told_result}
 use Rattle.tw_diskcmd.specs.Faults.{fault_of_service}
 
 -- ---- refusals

@@ -14,8 +14,8 @@ use Rattle.tw_answers.specs.declared.root.RootRecord.{RootRecord}
 use Rattle.tw_text.specs.declared.refusal.StoreCause.TheVariants.{BadPage}
 use Rattle.tw_text.specs.declared.fault.CommandFault.{CommandFault}
 use Rattle.tw_text.specs.declared.fault.CommandFault.TheVariants as fault
-use Rattle.tw_storecmd.specs.Comes.{DiskComes, FoundDisk}
-use Rattle.tw_storecmd.specs.Faults.{fault_of_store}
+use Rattle.tw_diskcmd.specs.Comes.{DiskComes, FoundDisk}
+use Rattle.tw_diskcmd.specs.StoreFaults.{fault_of_store}
 use Rattle.tw_diskcmd.specs.Disks.{ReadsAs}
 use Rattle.tw_diskcmd.specs.Faults.{fault_of_service}
 

@@ -23,9 +23,9 @@ use Rattle.tw_text.specs.declared.fault.CommandFault.{CommandFault}
 use Rattle.tw_text.specs.declared.fault.CommandFault.TheVariants as fault
 use Rattle.tw_answers.specs.Roots.{root_kind}
 use Rattle.tw_service.specs.Writing.{AppendsTo, IsThreadOfNext}
-use Rattle.tw_storecmd.specs.Comes.{FoundDisk, TellsContent}
-use Rattle.tw_storecmd.specs.Files.{FileComes}
-use Rattle.tw_storecmd.specs.Leaves.{StaysOr, WriteLeaves, WriteSafe}
+use Rattle.tw_diskcmd.specs.Comes.{FoundDisk, TellsContent}
+use Rattle.tw_diskcmd.specs.Files.{FileComes}
+use Rattle.tw_diskcmd.specs.Leaves.{StaysOr, WriteLeaves, WriteSafe}
 use Rattle.tw_diskcmd.specs.Answers.{ComesTo, IsResult, MachineRefuses, TableRefuses}
 use Rattle.tw_diskcmd.specs.Disks.{IsOf, NextBy, StepsBy}
 

@@ -19,7 +19,7 @@ use Rattle.tw_service.specs.Machine.Reply.{OfBytes}
 use Rattle.tw_service.specs.Questions.{Besides, found_answer, question_refusal}
 use Rattle.tw_text.specs.declared.fault.CommandFault.{CommandFault}
 use Rattle.tw_diskcmd.specs.Answers.{ComesTo, MachineAnswers, TableAnswersOr}
-use Rattle.tw_storecmd.specs.Comes.{FoundDisk}
+use Rattle.tw_diskcmd.specs.Comes.{FoundDisk}
 use Rattle.tw_diskcmd.specs.Faults.{fault_of_service}
 
 -- a service's answer, as the command's result

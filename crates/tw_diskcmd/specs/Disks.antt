@@ -4,16 +4,16 @@ use Rattle.sha2.specs.Sha256.{sha256}
 use Rattle.tw_base.specs.history.History.{History}
 use Rattle.tw_disk.specs.Disk.{DiskView}
 use Rattle.tw_disk.specs.Image.{Image}
-use Rattle.tw_kept.specs.Disks.{ReadsAs as ReadsAsThis, Rests as RestsAs, Stands as StandsAs}
-pub use Rattle.tw_kept.specs.Disks.{IsLeft}
-use Rattle.tw_kept.specs.Records.{IsWritten, Written}
+use Rattle.tw_pages.specs.Disks.{ReadsAs as ReadsAsThis, Rests as RestsAs, Stands as StandsAs}
+pub use Rattle.tw_pages.specs.Disks.{IsLeft}
+use Rattle.tw_pages.specs.Records.{IsWritten, Written}
 use Rattle.tw_answers.specs.declared.root.RootRecord.{RootRecord}
 use Rattle.tw_answers.specs.Roots.{root_kind}
 use Rattle.tw_service.specs.Machine.{Call, IsStepOf, NextOf, Reply}
 use Rattle.tw_service.specs.Stands.{StandsFor}
-use Rattle.tw_storecmd.specs.Leaves.{Keeps as KeepsBoth, ReadLeaves as ReadLeavesOf, SparesOther as SparesOthers}
+use Rattle.tw_diskcmd.specs.Leaves.{Keeps as KeepsBoth, ReadLeaves as ReadLeavesOf, SparesOther as SparesOthers}
 use Rattle.tw_text.specs.declared.fault.CommandFault.{CommandFault}
-pub use Rattle.tw_storecmd.specs.Comes.{FoundDisk, found_disk}
+pub use Rattle.tw_diskcmd.specs.Comes.{FoundDisk, found_disk}
 
 -- the image stands for the history, under its name
 abbrev pub IsOf : History → Image → Type 0

@@ -1,3 +1,8 @@
+pub mod StoreFaults
+pub mod Comes
+pub mod Files
+pub mod Leaves
+pub mod Steps
 pub mod Faults
 pub mod Disks
 pub mod Answers
@@ -5,3 +10,8 @@ pub mod Making
 pub mod Receiving
 pub mod Appending
 pub mod Asking
+pub mod FollowerFaults
+pub mod FollowerDisks
+pub mod Watching
+pub mod Offering
+pub mod Listing

@@ -6,8 +6,8 @@ use Rattle.tw_disk.specs.Disk.{DiskView}
 use Rattle.tw_answers.specs.Roots.{root_kind}
 use Rattle.tw_service.specs.Machine.{last_thread}
 use Rattle.tw_service.specs.Stands.{no_history}
-use Rattle.tw_storecmd.specs.Comes.{MakeComes}
-use Rattle.tw_storecmd.specs.Leaves.{MakeLeaves, MakeSafe}
+use Rattle.tw_diskcmd.specs.Comes.{MakeComes}
+use Rattle.tw_diskcmd.specs.Leaves.{MakeLeaves, MakeSafe}
 use Rattle.tw_text.specs.declared.fault.CommandFault.{CommandFault}
 use Rattle.tw_diskcmd.specs.Disks.{FoundDisk, IsOf}
 

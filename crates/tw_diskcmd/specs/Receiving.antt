@@ -26,10 +26,10 @@ use Rattle.tw_text.specs.declared.fault.CommandFault.{CommandFault}
 use Rattle.tw_text.specs.declared.fault.CommandFault.TheVariants as fault
 use Rattle.tw_answers.specs.Roots.{root_kind}
 use Rattle.tw_service.specs.Writing.{ArchivesTo, IsReceiptOf}
-use Rattle.tw_storecmd.specs.Comes.{FoundDisk}
-use Rattle.tw_storecmd.specs.Faults.{fault_of_store}
-use Rattle.tw_storecmd.specs.Files.{FileComes, IsBadMessageByte, IsMessageIn}
-use Rattle.tw_storecmd.specs.Leaves.{StaysOr, WriteLeaves, WriteSafe}
+use Rattle.tw_diskcmd.specs.Comes.{FoundDisk}
+use Rattle.tw_diskcmd.specs.StoreFaults.{fault_of_store}
+use Rattle.tw_diskcmd.specs.Files.{FileComes, IsBadMessageByte, IsMessageIn}
+use Rattle.tw_diskcmd.specs.Leaves.{StaysOr, WriteLeaves, WriteSafe}
 use Rattle.tw_diskcmd.specs.Answers.{ComesOver, IsRefusal, IsResultOver, MachineRefuses}
 use Rattle.tw_diskcmd.specs.Disks.{IsOf, NextBy, StepsBy}
 use Rattle.tw_diskcmd.specs.Faults.{fault_of_service}

@@ -12,21 +12,22 @@ ghost use Rattle.tw_service.specs.Machine.Reply.{OfThread};
 ghost use Rattle.tw_diskcmd.specs.Appending.{AppendComes, AppendLeaves, AreEventsOf, IsBadEventsByte, StepComes};
 ghost use Rattle.tw_diskcmd.specs.Answers.{IsOpened};
 ghost use Rattle.tw_diskcmd.specs.Disks.{IsLeft, IsOf, IsService, NextBy, ReadsAs, SparesOther, StepsBy, found_disk};
-ghost use Rattle.tw_kept.specs.Records.{written};
-ghost use Rattle.tw_storecmd.specs.Files.{StopsAt};
-ghost use Rattle.tw_storecmd.specs.Leaves.{StaysOr, WritesNothing};
-ghost use Rattle.tw_storecmd.specs.Steps.{AddsFrom, AddsTo};
+ghost use Rattle.tw_pages.specs.Records.{written};
+ghost use Rattle.tw_diskcmd.specs.Files.{StopsAt};
+ghost use Rattle.tw_diskcmd.specs.Leaves.{StaysOr, WritesNothing};
+ghost use Rattle.tw_diskcmd.specs.Steps.{AddsFrom, AddsTo};
 ghost use Rattle.tw_service.specs.Writing.{AppendsTo, IsThreadOfNext};
 
 use crate::faults::fault_of_service;
 use crate::limits::{EVENTS_LIMIT, EVENTS_READ};
+use crate::store_faults::{bad_byte, fault_of_store};
+use crate::worked::Worked;
 use std::alloc::Global;
 use tw_base::{EventList, ReadFault, Sha, Thread};
 use tw_disk::Disk;
 use tw_msg::read_events;
 use tw_outside::{Inputs, read_all};
 use tw_service::{Refusal as ServiceRefusal, Service};
-use tw_storecmd::{Worked, bad_byte, fault_of_store};
 use tw_text::{ClaimedTime, CommandFault};
 
 /// Adds a step of the events of the named file to the service on the disk, at this time or at none, and

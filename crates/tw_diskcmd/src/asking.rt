@@ -8,16 +8,17 @@ ghost use Rattle.tw_base.specs.history.Questions.{MayAsk};
 ghost use Rattle.tw_service.specs.Serves.{IsOver, Serves, disk_of, has_failed, pages_of, record_of};
 ghost use Rattle.tw_diskcmd.specs.Answers.{IsOpened};
 ghost use Rattle.tw_diskcmd.specs.Asking.{AskComes, came_of};
-ghost use Rattle.tw_kept.specs.Disks.{Rests as RestsAs};
-ghost use Rattle.tw_kept.specs.Records.{written};
+ghost use Rattle.tw_pages.specs.Disks.{Rests as RestsAs};
+ghost use Rattle.tw_pages.specs.Records.{written};
 ghost use Rattle.tw_diskcmd.specs.Disks.{IsLeft, IsService, ReadLeaves, ReadsAs, Rests, found_disk};
 
 use crate::faults::fault_of_service;
+use crate::store_faults::fault_of_store;
+use crate::worked::Worked;
 use std::alloc::Global;
 use tw_base::{Bytes, Question, Sha};
 use tw_disk::Disk;
 use tw_service::{Refusal as ServiceRefusal, Service};
-use tw_storecmd::{Worked, fault_of_store};
 use tw_text::CommandFault;
 
 /// Asks the service on the disk this question.

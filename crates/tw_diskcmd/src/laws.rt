@@ -7,7 +7,7 @@ ghost use Rattle.tw_outside.specs.Asked.{Asked};
 ghost use Rattle.tw_outside.specs.Files.{Tells};
 ghost use Rattle.tw_base.specs.declared.history.question.Question.{Question};
 ghost use Rattle.tw_text.specs.declared.fault.CommandFault.{CommandFault};
-ghost use Rattle.tw_storecmd.specs.Comes.{TellsContent};
+ghost use Rattle.tw_diskcmd.specs.Comes.{TellsContent};
 ghost use Rattle.tw_diskcmd.specs.Appending.{AppendComes, StepComes, TellsOfFile};
 ghost use Rattle.tw_diskcmd.specs.Asking.{AskComes};
 ghost use Rattle.tw_diskcmd.specs.Disks.{IsLeft, Keeps, found_disk};

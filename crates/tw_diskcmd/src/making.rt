@@ -7,11 +7,12 @@ ghost use Rattle.tw_service.specs.Stands.{no_history};
 ghost use Rattle.tw_diskcmd.specs.Disks.{found_disk};
 ghost use Rattle.tw_diskcmd.specs.Making.{InitComes, InitLeaves};
 
+use crate::store_faults::fault_of_store;
+use crate::worked::Worked;
 use std::alloc::Global;
 use tw_base::{Name, Sha, Thread, genesis};
 use tw_disk::Disk;
 use tw_service::Service;
-use tw_storecmd::{Worked, fault_of_store};
 
 /// Makes a service of this name on the disk, and answers the thread of its step 0.
 pub fn make<D: Disk>(alloc: Global, disk: D, name: Name) -> Worked<D, Thread>

@@ -13,13 +13,15 @@ ghost use Rattle.tw_service.specs.Machine.Reply.{OfReceipt};
 ghost use Rattle.tw_diskcmd.specs.Answers.{IsOpened};
 ghost use Rattle.tw_diskcmd.specs.Disks.{IsLeft, IsOf, IsService, NextBy, ReadsAs, SparesOther, StepsBy, found_disk};
 ghost use Rattle.tw_diskcmd.specs.Receiving.{MessageComes, ReceiveComes, ReceiveLeaves};
-ghost use Rattle.tw_kept.specs.Records.{written};
-ghost use Rattle.tw_storecmd.specs.Files.{IsBadMessageByte, IsMessageIn, StopsAt};
-ghost use Rattle.tw_storecmd.specs.Leaves.{StaysOr, WritesNothing};
-ghost use Rattle.tw_storecmd.specs.Steps.{AddsFrom, AddsTo};
+ghost use Rattle.tw_pages.specs.Records.{written};
+ghost use Rattle.tw_diskcmd.specs.Files.{IsBadMessageByte, IsMessageIn, StopsAt};
+ghost use Rattle.tw_diskcmd.specs.Leaves.{StaysOr, WritesNothing};
+ghost use Rattle.tw_diskcmd.specs.Steps.{AddsFrom, AddsTo};
 ghost use Rattle.tw_service.specs.Writing.{ArchivesTo, IsReceiptOf};
 
 use crate::faults::fault_of_service;
+use crate::store_faults::{bad_byte, fault_of_store};
+use crate::worked::Worked;
 use std::alloc::Global;
 use tw_base::{ReadFault, Sha};
 use tw_disk::Disk;
@@ -27,7 +29,6 @@ use tw_filecmd::limits::FILE_READ;
 use tw_msg::{Message, Receipt, message_laws, read_message};
 use tw_outside::{Inputs, read_all};
 use tw_service::Service;
-use tw_storecmd::{Worked, bad_byte, fault_of_store};
 use tw_text::{ClaimedTime, CommandFault};
 
 /// Archives the thread of the message in the named file in a step of the service on the disk, at this time

@@ -27,11 +27,11 @@ use Rattle.tw_follow.specs.Offers.{AnswersOffer, Judges, answer_to, judged}
 use Rattle.tw_follow.specs.Refusals.{IsFault, refusals}
 use Rattle.tw_follow.specs.Runs.{MovesBy}
 use Rattle.tw_follow.specs.Stands.{KeepsList, StandsFor, StandsForOneOf, root_kind}
-use Rattle.tw_kept.specs.Records.{IsOneOf, IsWritten, Written, written}
-use Rattle.tw_kept.specs.Rests.{RestsWith}
-use Rattle.tw_kept.specs.States.{Serves}
-use Rattle.tw_kept.proofs.Staged.{leaves_before, reads_before}
-use Rattle.tw_kept.proofs.Written.{still_rests, told_list}
+use Rattle.tw_pages.specs.Records.{IsOneOf, IsWritten, Written, written}
+use Rattle.tw_pages.specs.Rests.{RestsWith}
+use Rattle.tw_pages.specs.States.{Serves}
+use Rattle.tw_pages.proofs.Staged.{leaves_before, reads_before}
+use Rattle.tw_pages.proofs.Written.{still_rests, told_list}
 use Rattle.tw_follow.proofs.Following.{read_leaves, rest_head, same_leaves, still_keeps}
 use Rattle.tw_follow.proofs.Moved.{none_leaves, none_reads}
 use Rattle.tw_follow.proofs.Offering.{IsJudged, IsMoved, judges-once, judges-table, moved-is, one-message, own-judged, sort_of}

@@ -6,11 +6,11 @@ use Rattle.tw_base.specs.kinds.Lists.{In}
 use Rattle.tw_disk.specs.Disk.{DiskView, IsAtRest, IsSameDisk, LeavesOnly, Reads}
 use Rattle.tw_disk.specs.Image.{Image}
 use Rattle.tw_disk.proofs.Moments.{leaves_weaker}
-use Rattle.tw_kept.specs.Disks.{OneOf}
-use Rattle.tw_kept.specs.Runs.{Acted, GoesOnFrom, Happening, HoldsOnly, IsRunFrom, Laws, disk_at, end_of}
-use Rattle.tw_kept.specs.Runs.State.{Closed}
-use Rattle.tw_kept.proofs.Wavering.{ends, holds, wavers_at}
-use Rattle.tw_kept.proofs.States.{serves_for_good}
+use Rattle.tw_pages.specs.Disks.{OneOf}
+use Rattle.tw_pages.specs.Runs.{Acted, GoesOnFrom, Happening, HoldsOnly, IsRunFrom, Laws, disk_at, end_of}
+use Rattle.tw_pages.specs.Runs.State.{Closed}
+use Rattle.tw_pages.proofs.Wavering.{ends, holds, wavers_at}
+use Rattle.tw_pages.proofs.States.{serves_for_good}
 use Rattle.tw_msg.specs.declared.message.Message.{Message}
 use Rattle.tw_follow.specs.declared.follower.Follower.{Follower}
 use Rattle.tw_follow.specs.declared.refusal.FollowRefusal.{FollowRefusal}

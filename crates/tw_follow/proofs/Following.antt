@@ -6,11 +6,11 @@ use Rattle.tw_disk.specs.Disk.{DiskView, IsAtRest, LeavesOnly, Reads}
 use Rattle.tw_pages.specs.StoreValue.{disk_of}
 use Rattle.tw_pages.specs.Same.{IsSameStore}
 use Rattle.tw_pages.specs.declared.store.Store.{Store}
-use Rattle.tw_kept.specs.Records.{IsOneOf, IsWritten, written}
-use Rattle.tw_kept.specs.Rests.{RestsWith}
-use Rattle.tw_kept.specs.States.{Serves}
-use Rattle.tw_kept.proofs.States.{stands_by}
-use Rattle.tw_kept.proofs.Written.{only_same, still_rests}
+use Rattle.tw_pages.specs.Records.{IsOneOf, IsWritten, written}
+use Rattle.tw_pages.specs.Rests.{RestsWith}
+use Rattle.tw_pages.specs.States.{Serves}
+use Rattle.tw_pages.proofs.States.{stands_by}
+use Rattle.tw_pages.proofs.Written.{only_same, still_rests}
 use Rattle.tw_follow.specs.declared.root.RootRecord.{RootRecord}
 use Rattle.tw_follow.specs.HeadLists.{Kept, head_of}
 use Rattle.tw_follow.specs.Stands.{KeepsList, StandsFor, StandsForOneOf, root_kind}

@@ -7,12 +7,12 @@ use Rattle.tw_disk.specs.Image.{Image}
 use Rattle.tw_pages.specs.StoreValue.{disk_of}
 use Rattle.tw_pages.specs.Same.{IsSameStore, count_of, list_of}
 use Rattle.tw_pages.specs.declared.store.Store.{Store}
-use Rattle.tw_kept.specs.Records.{IsOneOf, written}
-use Rattle.tw_kept.specs.Rests.{RestsWith}
-use Rattle.tw_kept.specs.States.{Serves}
-use Rattle.tw_kept.proofs.Staged.{leaves_since, of_these}
-use Rattle.tw_kept.proofs.States.{leaves_states, reads_states, stands_by}
-use Rattle.tw_kept.proofs.Written.{content_written, only_same, still_rests}
+use Rattle.tw_pages.specs.Records.{IsOneOf, written}
+use Rattle.tw_pages.specs.Rests.{RestsWith}
+use Rattle.tw_pages.specs.States.{Serves}
+use Rattle.tw_pages.proofs.Staged.{leaves_since, of_these}
+use Rattle.tw_pages.proofs.States.{leaves_states, reads_states, stands_by}
+use Rattle.tw_pages.proofs.Written.{content_written, only_same, still_rests}
 use Rattle.tw_follow.specs.declared.root.RootRecord.{RootRecord}
 use Rattle.tw_follow.specs.HeadLists.{Kept, with_head}
 use Rattle.tw_follow.specs.Roots.{IsAllowed}

@@ -9,10 +9,10 @@ use Rattle.tw_disk.specs.Image.{Image}
 use Rattle.tw_pages.specs.StoreValue.{staged_of}
 use Rattle.tw_pages.specs.Same.{IsSameStore, count_of, list_of}
 use Rattle.tw_pages.specs.declared.store.Store.{Store}
-use Rattle.tw_kept.specs.Records.{written}
-use Rattle.tw_kept.specs.Rests.{RestsWith}
-use Rattle.tw_kept.proofs.Staged.{IsStaged}
-use Rattle.tw_kept.proofs.Written.{told_list}
+use Rattle.tw_pages.specs.Records.{written}
+use Rattle.tw_pages.specs.Rests.{RestsWith}
+use Rattle.tw_pages.proofs.Staged.{IsStaged}
+use Rattle.tw_pages.proofs.Written.{told_list}
 use Rattle.tw_follow.specs.declared.root.RootRecord.{RootRecord}
 use Rattle.tw_follow.specs.HeadLists.{Kept, with_head}
 use Rattle.tw_follow.specs.HeadPages.{head_page_bytes}

@@ -2,11 +2,11 @@
 use Rattle.std.proofs.Common.{◌≡◌, ℕ, ◌+◌, ◌^◌, ◌≤◌, List, length, ap, subst}
 use Rattle.tw_disk.specs.Image.{Image}
 use Rattle.tw_pages.specs.declared.open.StoreFault.{StoreFault}
-use Rattle.tw_kept.specs.Records.{IsOnce, Written, written}
-use Rattle.tw_kept.specs.Records.Served.{Opened as OpenedWith, Unopened as NotOpened}
-use Rattle.tw_kept.specs.Records.{Served as ServedAs}
-use Rattle.tw_kept.proofs.Standing.{served_once as served_as_once, never_refused, written_once}
-use Rattle.tw_kept.proofs.Standing.{has_numbers as numbers}
+use Rattle.tw_pages.specs.Records.{IsOnce, Written, written}
+use Rattle.tw_pages.specs.Records.Served.{Opened as OpenedWith, Unopened as NotOpened}
+use Rattle.tw_pages.specs.Records.{Served as ServedAs}
+use Rattle.tw_pages.proofs.Standing.{served_once as served_as_once, never_refused, written_once}
+use Rattle.tw_pages.proofs.Standing.{has_numbers as numbers}
 use Rattle.tw_follow.specs.declared.root.RootRecord.{RootRecord}
 use Rattle.tw_follow.specs.HeadLists.{IsRising, Kept}
 use Rattle.tw_follow.specs.Stands.{IsNotOpenedFor, IsServed, KeepsList, Served, StandsFor, root_kind}

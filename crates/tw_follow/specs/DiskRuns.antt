@@ -4,8 +4,8 @@ use Rattle.tw_base.specs.declared.history.thread.Thread.{Thread}
 use Rattle.tw_base.specs.kinds.Lists.{In}
 use Rattle.tw_disk.specs.Disk.{DiskView, LeavesOnly}
 use Rattle.tw_disk.specs.Image.{Image}
-use Rattle.tw_kept.specs.Runs.{Happening, IsPublished, Values}
-use Rattle.tw_kept.specs.Runs.State.{Closed}
+use Rattle.tw_pages.specs.Runs.{Happening, IsPublished, Values}
+use Rattle.tw_pages.specs.Runs.State.{Closed}
 use Rattle.tw_msg.specs.declared.message.Message.{Message}
 use Rattle.tw_follow.specs.declared.follower.Follower.{Follower}
 use Rattle.tw_follow.specs.declared.refusal.FollowRefusal.{FollowRefusal}

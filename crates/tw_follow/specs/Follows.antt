@@ -5,9 +5,9 @@ use Rattle.tw_disk.specs.Disk.{DiskView}
 use Rattle.tw_disk.specs.Image.{Image}
 use Rattle.tw_pages.specs.StoreValue.{disk_of as disk_below}
 use Rattle.tw_pages.specs.Same.{IsSameStore, list_of}
-use Rattle.tw_kept.specs.Records.{written}
-use Rattle.tw_kept.specs.Rests.{RestsWith}
-use Rattle.tw_kept.specs.States.{Serves}
+use Rattle.tw_pages.specs.Records.{written}
+use Rattle.tw_pages.specs.Rests.{RestsWith}
+use Rattle.tw_pages.specs.States.{Serves}
 use Rattle.tw_follow.specs.declared.follower.Follower.{Follower}
 use Rattle.tw_follow.specs.declared.root.RootRecord.{RootRecord}
 use Rattle.tw_follow.specs.HeadLists.{Kept}

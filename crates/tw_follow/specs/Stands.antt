@@ -3,10 +3,10 @@ use Rattle.std.specs.Prelude.{◌≡◌, ◌⊎◌, ℕ, List}
 use Rattle.tw_disk.specs.Found.Found.{Is}
 use Rattle.tw_disk.specs.Image.{Image}
 use Rattle.tw_pages.specs.declared.open.StoreFault.{StoreFault}
-use Rattle.tw_kept.specs.Records.{IsWritten, RecordKind, written}
-use Rattle.tw_kept.specs.Records.{IsNotOpenedFor as IsNotOpenedAs}
-use Rattle.tw_kept.specs.States.{IsBlankOrFirst}
-use Rattle.tw_kept.specs.States.{StandsFor as StandsForState}
+use Rattle.tw_pages.specs.Records.{IsWritten, RecordKind, written}
+use Rattle.tw_pages.specs.Records.{IsNotOpenedFor as IsNotOpenedAs}
+use Rattle.tw_pages.specs.States.{IsBlankOrFirst}
+use Rattle.tw_pages.specs.States.{StandsFor as StandsForState}
 use Rattle.tw_follow.specs.declared.root.RootRecord.{RootRecord}
 use Rattle.tw_follow.specs.HeadLists.{Kept, no_heads}
 use Rattle.tw_follow.specs.HeadPages.{found_heads}

@@ -2,7 +2,7 @@
 use Rattle.std.specs.Prelude.{◌≡◌, ◌+◌, ℕ, List, [], ◌∷◌, ◌++◌, length, Result, Ok}
 use Rattle.tw_base.specs.declared.history.thread.Thread.{Thread}
 use Rattle.tw_disk.specs.declared.limits.TheConstants.{FIRST_PAGE}
-use Rattle.tw_kept.specs.Records.{Written, written}
+use Rattle.tw_pages.specs.Records.{Written, written}
 use Rattle.tw_follow.specs.declared.judging.Offered.{Offered}
 use Rattle.tw_follow.specs.declared.judging.Offered.TheVariants.{Moves}
 use Rattle.tw_follow.specs.declared.refusal.FollowRefusal.{FollowRefusal}

@@ -1,7 +1,7 @@
 // The law of runs of followers on one disk.
 
-ghost use Rattle.tw_kept.specs.Runs.{HoldsOnly, IsRunFrom, disk_at, end_of};
-ghost use Rattle.tw_kept.specs.Runs.State.{Closed};
+ghost use Rattle.tw_pages.specs.Runs.{HoldsOnly, IsRunFrom, disk_at, end_of};
+ghost use Rattle.tw_pages.specs.Runs.State.{Closed};
 ghost use Rattle.tw_follow.specs.DiskRuns.{IsRunOf, IsTold, KeepsAll, followers};
 ghost use Rattle.tw_follow.specs.HeadLists.{Kept};
 ghost use Rattle.tw_follow.specs.Stands.{StandsFor};

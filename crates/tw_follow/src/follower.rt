@@ -14,9 +14,8 @@ use std::alloc::Global;
 use std::marker::PhantomData;
 use tw_base::{Hasher, Name, ReadFault, Thread, Threads, genesis, see_name};
 use tw_disk::{Disk, Pages};
-use tw_kept::Recorded;
 use tw_msg::{Message, message_laws, read_message};
-use tw_pages::{Store, StoreFault};
+use tw_pages::{Recorded, Store, StoreFault};
 
 /// A follower: the heads of one service, oldest first, on a disk, where its pages keep such a list.
 #[derive(Drop)]
@@ -51,8 +50,8 @@ impl<D: Disk, H: Hasher> Follower<D, H> {
     ghost use Rattle.tw_follow.specs.HeadLists.{HasHead, Kept, first_thread, head_of as last_head, no_heads, with_head};
     ghost use Rattle.tw_follow.specs.Stands.{IsBlankOrNew, IsNotOpenedFor, OpensWith, StandsFor, StandsForOneOf, root_kind};
     ghost use Rattle.tw_follow.specs.Writing.{moved_to};
-    ghost use Rattle.tw_kept.specs.Records.{IsOneOf, IsWritten, written};
-    ghost use Rattle.tw_kept.specs.Rests.{RestsWith};
+    ghost use Rattle.tw_pages.specs.Records.{IsOneOf, IsWritten, written};
+    ghost use Rattle.tw_pages.specs.Rests.{RestsWith};
 
     /// Makes a follower of the service of this name, without a head, on a disk that has no store.
     ///

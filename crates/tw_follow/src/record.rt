@@ -5,7 +5,7 @@ ghost use Rattle.tw_follow.specs.Stands.{root_kind};
 use crate::root::{RootRecord, read_root, root_record};
 use arrayvec::ArrayVec;
 use tw_base::Hasher;
-use tw_kept::Record;
+use tw_pages::Record;
 
 impl Record for RootRecord {
     ghost kind = { root_kind };

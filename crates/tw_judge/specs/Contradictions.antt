@@ -9,12 +9,12 @@ use Rattle.tw_text.specs.Reports.{absent_line, thread_line}
 use Rattle.tw_text.specs.declared.fault.CommandFault.{CommandFault}
 use Rattle.tw_evidence.specs.declared.fork.ForkReason.TheVariants as fork
 use Rattle.tw_evidence.specs.Texts.{reason_text}
-use Rattle.tw_contradict.specs.declared.facts.Conflict.{Conflict}
-use Rattle.tw_contradict.specs.declared.verdict.ContradictReason.{ContradictReason}
-use Rattle.tw_contradict.specs.declared.verdict.ContradictReason.TheVariants.{Part, NoConflict, BadLink}
-use Rattle.tw_contradict.specs.declared.verdict.ContradictVerdict.{ContradictVerdict}
-use Rattle.tw_contradict.specs.declared.verdict.ContradictVerdict.TheVariants.{Yes, No}
-use Rattle.tw_contradict.specs.Verdicts.{IsVerdict}
+use Rattle.tw_evidence.specs.declared.facts.Conflict.{Conflict}
+use Rattle.tw_evidence.specs.declared.verdict.ContradictReason.{ContradictReason}
+use Rattle.tw_evidence.specs.declared.verdict.ContradictReason.TheVariants.{Part, NoConflict, BadLink}
+use Rattle.tw_evidence.specs.declared.verdict.ContradictVerdict.{ContradictVerdict}
+use Rattle.tw_evidence.specs.declared.verdict.ContradictVerdict.TheVariants.{Yes, No}
+use Rattle.tw_evidence.specs.Verdicts.{IsVerdict}
 use Rattle.tw_judge.specs.Told.{IsUnjudged}
 use Rattle.tw_judge.specs.Telling.{TellsOf, TellsWhy}
 

@@ -8,13 +8,14 @@ ghost use Rattle.tw_text.specs.Reports.{absent_line as absent_line_of, thread_li
 ghost use Rattle.tw_judge.specs.Contradictions.{AreFilesTold, broken_line as broken_line_of, conflict_lines as conflict_lines_of, contradict_status, contradict_text, refusal_text};
 ghost use Rattle.tw_judge.specs.Telling.{TellsOf};
 ghost use Rattle.sha2.specs.Sha256.{sha256};
-ghost use Rattle.tw_contradict.specs.Verdicts.{IsVerdict};
+ghost use Rattle.tw_evidence.specs.Verdicts.{IsVerdict};
 
 use crate::told::{Told, tell_line};
 use std::alloc::Global;
 use tw_base::{Bytes, NoMemory, Sha, Thread};
-use tw_contradict::{Conflict, ContradictReason, ContradictVerdict, contradict};
-use tw_evidence::{ForkReason, ForkVerdict, print_fork};
+use tw_evidence::{
+    Conflict, ContradictReason, ContradictVerdict, ForkReason, ForkVerdict, contradict, print_fork,
+};
 use tw_msg::{AnchorFault, read_anchors};
 use tw_text::{Field, FieldList, print_line};
 

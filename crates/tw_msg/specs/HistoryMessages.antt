@@ -8,7 +8,6 @@ use Rattle.tw_skipproof.specs.HistoryProofs.{IsPathOf}
 use Rattle.tw_msg.specs.declared.message.Message.{Message}
 use Rattle.tw_msg.specs.declared.receipt.Receipt.{Receipt}
 use Rattle.tw_msg.specs.Messages.{message_layout}
-use Rattle.tw_msg.specs.Receipts.{receipt_layout}
 
 module _ (dig : List ℕ → List ℕ) (h : History) where
   -- the history's step, as a thread
@@ -32,7 +31,3 @@ module _ (dig : List ℕ → List ℕ) (h : History) where
   pub record IsReceiptOf (step : ℕ) (r : Receipt) : Type 0 where
     pub by : r.by ≡ thread_at_step step
     pub received : thread_of (step_at h step) ≡ Some r.thread
-
-  -- the bytes spell that receipt
-  abbrev pub MakesReceipt : (step : ℕ) → List ℕ → Type 0
-  MakesReceipt step bytes = (r : Receipt) × Spells receipt_layout bytes r × IsReceiptOf step r

@@ -120,12 +120,6 @@ module _ (child : ListsAt) (es : List Entry) (page : ℕ) (low high : Option Ent
   listed-empty t none = ap (λ (x : Shape). listed_at child es page low high base x nodes) none
 
   module _ (red : Bool) (l r : Shape) (top : ℕ) (e : Entry) (at : top ≡ base + size l + 1) (there : slice_get es (top - 1) ≡ Some e) where
-    abbrev pub left_found : Found Listed
-    left_found = listed_at child es 0 low (Some e) base l nodes
-
-    abbrev pub right_found : Listed → Found Listed
-    right_found left = listed_at child es 0 (Some e) high top r left.nodes
-
     here : slice_get es (base + size l) ≡ Some e
     here = ap (slice_get es) (let s : base + size l ≡ top - 1 = omega (arith, at) in s) ∙ there
 

@@ -29,15 +29,6 @@ use Rattle.tw_rbtree.proofs.PageLaws.{seek-there, IsSpotOf}
 abbrev pub step_by : {X : Type 0} → (meets left : Bool) → (met one other : X) → X
 step_by meets left met one other = if meets then met else (if left then one else other)
 
-step-met : {X : Type 0} (meets left : Bool) (met one other : X) → meets ≡ true → step_by meets left met one other ≡ met
-step-met meets left met one other m = ap (λ (b : Bool). step_by b left met one other) m
-
-step-left : {X : Type 0} (meets left : Bool) (met one other : X) → meets ≡ false → left ≡ true → step_by meets left met one other ≡ one
-step-left meets left met one other m l = ap (λ (b : Bool). step_by b left met one other) m ∙ ap (λ (b : Bool). if b then one else other) l
-
-step-right : {X : Type 0} (meets left : Bool) (met one other : X) → meets ≡ false → left ≡ false → step_by meets left met one other ≡ other
-step-right meets left met one other m l = ap (λ (b : Bool). step_by b left met one other) m ∙ ap (λ (b : Bool). if b then one else other) l
-
 module _ {X : Type 0} where
   -- what stands at the place to which the question leads
   abbrev pub pick : Ask → List Entry → List X → X → X
@@ -137,9 +128,6 @@ EndsAt (Between place) ask s picked end = Tells ask picked s.low s.high end
 
 abbrev pub EndsPage : Ask → (s : Sought) → (picked : List Entry) → Sought → Type 0
 EndsPage ask s picked end = EndsAt s.at ask s picked end
-
-rises-first : (one : List Entry) (e : Entry) (rest : List Entry) → IsRising (one ++ e ∷ rest) → IsRising one
-rises-first one e rest rising = (cut one e rest rising).front_rises
 
 rises-rest : (one : List Entry) (e : Entry) (rest : List Entry) → IsRising (one ++ e ∷ rest) → IsRising rest
 rises-rest one e rest rising = (cut one e rest rising).back_rises

@@ -7,9 +7,9 @@ use Rattle.tw_disk.specs.Disk.{DiskView, LeavesOnly}
 use Rattle.tw_disk.specs.Found.{Found}
 use Rattle.tw_disk.specs.Found.Found.{Is}
 use Rattle.tw_disk.specs.Image.{Image}
-use Rattle.tw_kept.specs.Records.{IsWritten, written}
-use Rattle.tw_kept.specs.Rests.{RestsWith}
-use Rattle.tw_kept.proofs.Written.{only_same, still_rests}
+use Rattle.tw_pages.specs.Records.{IsWritten, written}
+use Rattle.tw_pages.specs.Rests.{RestsWith}
+use Rattle.tw_pages.proofs.Written.{only_same, still_rests}
 use Rattle.tw_pages.specs.Same.{IsSameStore}
 use Rattle.tw_pages.specs.SameSteps.{is_same_itself}
 use Rattle.tw_answers.specs.declared.refusal.Refusal.{Refusal}

@@ -14,11 +14,11 @@ use Rattle.tw_base.specs.history.Tree.{Tree, tree}
 use Rattle.tw_base.specs.history.Tree.Tree.{Empty}
 use Rattle.tw_base.proofs.lemmas.kinds.DigestBytes.{IsDigest}
 use Rattle.tw_base.proofs.lemmas.history.Plus.{tree-first}
-use Rattle.tw_kept.specs.Records.{written}
-use Rattle.tw_kept.specs.Records.{IsBlankOrNew as IsBlankOrNewWith}
-use Rattle.tw_kept.specs.Rests.{RestsWith}
-use Rattle.tw_kept.specs.States.{IsBlankOrFirst}
-use Rattle.tw_kept.proofs.States.{leaves_begun, reads_begun, serves_first}
+use Rattle.tw_pages.specs.Records.{written}
+use Rattle.tw_pages.specs.Records.{IsBlankOrNew as IsBlankOrNewWith}
+use Rattle.tw_pages.specs.Rests.{RestsWith}
+use Rattle.tw_pages.specs.States.{IsBlankOrFirst}
+use Rattle.tw_pages.proofs.States.{leaves_begun, reads_begun, serves_first}
 use Rattle.tw_pages.specs.declared.store.Store.{Store}
 use Rattle.tw_skiplist.proofs.Growing.{Keeps-first}
 use Rattle.tw_answers.specs.declared.root.RootRecord.{RootRecord}

@@ -23,9 +23,6 @@ use Rattle.tw_service.proofs.KeptExports.{file_kept}
 ok_ok : (x y : List ℕ) → ◌≡◌ {A = Result (List ℕ) Refusal} (Ok x) (Ok y) → x ≡ y
 ok_ok x y e = cc
 
-err_ok : (q : Refusal) (x : List ℕ) → ◌≡◌ {A = Result (List ℕ) Refusal} (Err q) (Ok x) → ⊥
-err_ok q x e = cc
-
 module _ (dig : List ℕ → List ℕ) (size : (text : List ℕ) → IsDigest (dig text)) (ps : Image) (h : History) (r : RootRecord) (keeps : KeepsWhole dig ps h r) (sound : IsSound h) where
   pub export_kept : history_file dig ps h.name r.head ≡ Is (file_or (file_told h))
   unfolding history_file

@@ -57,9 +57,6 @@ part-parts p fits = (fits.1.1.1.0, fits.1.1.1.1)
 
 module _ (dig : List ℕ → List ℕ) (size : (text : List ℕ) → IsDigest (dig text)) (ps : Image) (h : History) (head : Head) (keeps : Keeps dig ps h head)
     (trees : KeepsTrees dig ps h (step_pages keeps.places) (archive_at dig h keeps.places)) (sound : IsSound h) where
-  abbrev steps_are : head.step ≡ length h.steps
-  steps_are = keeps.step
-
   -- ---- the archive after a step
 
   stands : (i : ℕ) → 1 ≤ i → i ≤ length h.steps → StandsFor dig ps (archive_at dig h keeps.places i) (tree h i)

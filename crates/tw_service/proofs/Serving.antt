@@ -17,10 +17,10 @@ use Rattle.tw_archive.specs.Archives.{MayArchive}
 use Rattle.tw_rbtree.specs.Standing.{HasNamed, StandsWith}
 use Rattle.tw_disk.specs.Answers.{Next}
 use Rattle.tw_disk.proofs.FoundLaws.{same_found}
-use Rattle.tw_kept.specs.Records.{IsOneOf, IsWritten, Written, written}
-use Rattle.tw_kept.specs.Rests.{RestsWith}
-use Rattle.tw_kept.proofs.States.{stands_by}
-use Rattle.tw_kept.proofs.Written.{content_written, only_same, rest_for_good as rests_for_good, since_same, still_rests}
+use Rattle.tw_pages.specs.Records.{IsOneOf, IsWritten, Written, written}
+use Rattle.tw_pages.specs.Rests.{RestsWith}
+use Rattle.tw_pages.proofs.States.{stands_by}
+use Rattle.tw_pages.proofs.Written.{content_written, only_same, rest_for_good as rests_for_good, since_same, still_rests}
 use Rattle.tw_pages.specs.declared.store.Store.{Store}
 use Rattle.tw_pages.specs.Same.{IsSameStore}
 use Rattle.tw_pages.specs.StoreValue.{disk_of}

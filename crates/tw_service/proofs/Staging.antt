@@ -15,9 +15,9 @@ use Rattle.tw_disk.specs.Found.{Found, ◌>>=◌}
 use Rattle.tw_disk.specs.Found.Found.{Bad, Is}
 use Rattle.tw_disk.proofs.FoundLaws.{same_found}
 use Rattle.tw_disk.specs.Image.{Image}
-use Rattle.tw_kept.specs.Records.{IsOneOf, Written, written}
-use Rattle.tw_kept.specs.Rests.{RestsWith}
-use Rattle.tw_kept.proofs.Staged.{IsStaged, leaves_since, of_these}
+use Rattle.tw_pages.specs.Records.{IsOneOf, Written, written}
+use Rattle.tw_pages.specs.Rests.{RestsWith}
+use Rattle.tw_pages.proofs.Staged.{IsStaged, leaves_since, of_these}
 use Rattle.tw_pages.specs.declared.store.Store.{Store}
 use Rattle.tw_pages.specs.Same.{IsSameStore, count_of, list_of}
 use Rattle.tw_pages.specs.StoreValue.{disk_of}

@@ -3,11 +3,11 @@ use Rattle.std.proofs.Common.{◌≡◌, ℕ, ◌+◌, ◌^◌, ◌≤◌, List,
 use Rattle.tw_base.specs.history.History.{History}
 use Rattle.tw_base.proofs.lemmas.kinds.DigestBytes.{IsDigest}
 use Rattle.tw_disk.specs.Image.{Image}
-use Rattle.tw_kept.specs.Records.{IsOnce, Written, written}
-use Rattle.tw_kept.specs.Records.{Served as ServedAs}
-use Rattle.tw_kept.specs.Records.Served.{Opened as OpenedAs, Unopened as UnopenedAs}
-use Rattle.tw_kept.specs.Records.{IsServed as IsServedAs}
-use Rattle.tw_kept.proofs.Standing.{has_numbers as numbers_written, never_refused, served_once as once_served, written_once}
+use Rattle.tw_pages.specs.Records.{IsOnce, Written, written}
+use Rattle.tw_pages.specs.Records.{Served as ServedAs}
+use Rattle.tw_pages.specs.Records.Served.{Opened as OpenedAs, Unopened as UnopenedAs}
+use Rattle.tw_pages.specs.Records.{IsServed as IsServedAs}
+use Rattle.tw_pages.proofs.Standing.{has_numbers as numbers_written, never_refused, served_once as once_served, written_once}
 use Rattle.tw_pages.specs.declared.open.StoreFault.{StoreFault}
 use Rattle.tw_skiplist.proofs.Once.{keeps_alike}
 use Rattle.tw_answers.specs.declared.root.RootRecord.{RootRecord}

@@ -23,9 +23,9 @@ use Rattle.tw_msg.specs.declared.message.Message.{Message}
 use Rattle.tw_msg.specs.declared.receipt.Receipt.{Receipt}
 use Rattle.tw_msg.specs.Messages.{IsLinked}
 use Rattle.tw_pages.specs.declared.store.Store.{Store}
-use Rattle.tw_kept.specs.Records.{Written, written}
-use Rattle.tw_kept.specs.Rests.{RestsWith}
-use Rattle.tw_kept.proofs.Written.{still_rests, told_list}
+use Rattle.tw_pages.specs.Records.{Written, written}
+use Rattle.tw_pages.specs.Rests.{RestsWith}
+use Rattle.tw_pages.proofs.Written.{still_rests, told_list}
 use Rattle.tw_pages.specs.Same.{IsSameStore, list_of}
 use Rattle.tw_pages.specs.SameSteps.{is_same_on}
 use Rattle.tw_pages.specs.StoreValue.{disk_of, is_broken, staged_of}

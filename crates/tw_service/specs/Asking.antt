@@ -5,7 +5,7 @@ use Rattle.tw_base.specs.kinds.Faults.{Rose}
 use Rattle.tw_disk.specs.Disk.{DiskView, LeavesOnly}
 use Rattle.tw_disk.specs.Found.{Found}
 use Rattle.tw_disk.specs.Image.{Image}
-use Rattle.tw_kept.specs.Records.{IsWritten, written}
+use Rattle.tw_pages.specs.Records.{IsWritten, written}
 use Rattle.tw_answers.specs.declared.refusal.Refusal.{Refusal}
 use Rattle.tw_answers.specs.Roots.{root_kind}
 use Rattle.tw_answers.specs.declared.refusal.Refusal.TheVariants.{DiskFault}

@@ -5,8 +5,8 @@ use Rattle.tw_base.specs.declared.history.thread.Thread.{Thread}
 use Rattle.tw_base.specs.history.History.{History}
 use Rattle.tw_disk.specs.Image.{Image}
 use Rattle.tw_disk.specs.Disk.{DiskView}
-use Rattle.tw_kept.specs.Records.{written}
-use Rattle.tw_kept.specs.Rests.{RestsWith}
+use Rattle.tw_pages.specs.Records.{written}
+use Rattle.tw_pages.specs.Rests.{RestsWith}
 use Rattle.tw_pages.specs.StoreValue.{disk_of as disk_below}
 use Rattle.tw_pages.specs.Same.{IsSameStore, list_of}
 use Rattle.tw_skiplist.specs.declared.head.Head.{Head}

@@ -5,9 +5,9 @@ use Rattle.tw_base.specs.history.Sound.{IsSound}
 use Rattle.tw_disk.specs.Image.{Image}
 use Rattle.tw_pages.specs.Slots.{IsBlank}
 use Rattle.tw_pages.specs.declared.open.StoreFault.{StoreFault}
-use Rattle.tw_kept.specs.Records.{IsWritten, written}
-use Rattle.tw_kept.specs.Records.{IsNotOpenedFor as IsNotOpenedAs}
-use Rattle.tw_kept.specs.States.{StandsFor as StandsForState}
+use Rattle.tw_pages.specs.Records.{IsWritten, written}
+use Rattle.tw_pages.specs.Records.{IsNotOpenedFor as IsNotOpenedAs}
+use Rattle.tw_pages.specs.States.{StandsFor as StandsForState}
 use Rattle.tw_archive.specs.Archives.{KeepsTrees}
 use Rattle.tw_skiplist.specs.Keeping.{Keeps, Place, archive_at, place_of}
 use Rattle.tw_answers.specs.declared.root.RootRecord.{RootRecord}

@@ -4,8 +4,8 @@ use Rattle.tw_base.specs.history.History.{History}
 use Rattle.tw_base.specs.history.Limits.{IsStep}
 use Rattle.tw_base.specs.kinds.Faults.{Rose}
 use Rattle.tw_disk.specs.Disk.{DiskView, LeavesOnly, Reads}
-use Rattle.tw_kept.specs.Records.{written}
-use Rattle.tw_kept.specs.Rests.{RestsWith}
+use Rattle.tw_pages.specs.Records.{written}
+use Rattle.tw_pages.specs.Rests.{RestsWith}
 use Rattle.tw_disk.specs.Image.{Image}
 use Rattle.tw_msg.specs.declared.message.Message.{Message}
 use Rattle.tw_msg.specs.declared.receipt.Receipt.{Receipt}

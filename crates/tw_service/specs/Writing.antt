@@ -6,8 +6,8 @@ use Rattle.tw_disk.specs.declared.limits.TheConstants.{FIRST_PAGE}
 use Rattle.tw_disk.specs.Disk.{DiskView}
 use Rattle.tw_disk.specs.Found.Found.{Is}
 use Rattle.tw_disk.specs.Image.{Image}
-use Rattle.tw_kept.specs.Commits.{Commits as CommitsOf}
-use Rattle.tw_kept.specs.Records.{Written}
+use Rattle.tw_pages.specs.Commits.{Commits as CommitsOf}
+use Rattle.tw_pages.specs.Records.{Written}
 use Rattle.tw_msg.specs.declared.message.Message.{Message}
 use Rattle.tw_msg.specs.declared.receipt.Receipt.{Receipt}
 use Rattle.tw_pages.specs.declared.store.Store.{Store}

@@ -2,8 +2,8 @@
 
 ghost use Rattle.std.specs.Prelude.{◌≡◌, ◌<◌, ◌≤◌, ℕ, IfErr, IfOk, IsErr, None};
 ghost use Rattle.tw_base.specs.history.Limits.{IsStep};
-ghost use Rattle.tw_cache.specs.Keeping.{AreOf};
-ghost use Rattle.tw_cache.specs.Shelves.{kept_on};
+ghost use Rattle.tw_disk.specs.Keeping.{AreOf};
+ghost use Rattle.tw_disk.specs.Shelves.{kept_on};
 ghost use Rattle.tw_disk.specs.Answers.{ReadsOr, ReadsPages};
 ghost use Rattle.tw_disk.specs.Found.Found.{Bad};
 ghost use Rattle.tw_msg.specs.Messages.{IsLinked};
@@ -18,8 +18,7 @@ use tw_answers::{Refusal, RootRecord, archive_refusal};
 use tw_archive::{Judgement, judge_near};
 use tw_base::limits::LAST_STEP;
 use tw_base::{Digest, Hasher, Thread};
-use tw_cache::Shelf;
-use tw_disk::Pages;
+use tw_disk::{Pages, Shelf};
 use tw_msg::{Message, Receipt};
 use tw_skiplist::{ListFault, step};
 

@@ -16,11 +16,9 @@ use crate::receiving::{Reception, receipt_of_step, receive_by};
 use std::alloc::Global;
 use tw_answers::{Refusal, RootRecord};
 use tw_base::{EventList, Hasher, Root, see_digest};
-use tw_cache::Shelf;
-use tw_disk::Disk;
-use tw_kept::Recorded;
+use tw_disk::{Disk, Shelf};
 use tw_msg::{Message, Receipt};
-use tw_pages::Store;
+use tw_pages::{Recorded, Store};
 use tw_skiplist::{Head, append};
 
 /// A store in which nothing is staged, with its root record, which is that of a service.
@@ -75,8 +73,8 @@ impl<D: Disk> Unstaged<D> {
     ghost use Rattle.tw_base.specs.kinds.Faults.{Rose};
     ghost use Rattle.tw_base.specs.declared.history.content.Content.TheVariants.{Events};
     ghost use Rattle.tw_disk.specs.Image.{Image};
-    ghost use Rattle.tw_kept.specs.Records.{written};
-    ghost use Rattle.tw_kept.specs.Rests.{RestsWith};
+    ghost use Rattle.tw_pages.specs.Records.{written};
+    ghost use Rattle.tw_pages.specs.Rests.{RestsWith};
     ghost use Rattle.tw_pages.specs.StoreValue.{disk_of};
     ghost use Rattle.tw_pages.specs.Same.{IsSameStore, list_of};
     ghost use Rattle.tw_answers.specs.Refusals.{IsBadPage, IsFault};

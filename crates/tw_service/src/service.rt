@@ -8,9 +8,8 @@ use std::marker::PhantomData;
 use tw_answers::{Refusal, RootRecord, append_refusal, is_disk_fault, own_refusal};
 use tw_base::{EventList, Hasher, Name, ReadFault, Root, Thread, empty_tree, genesis, see_name};
 use tw_disk::Disk;
-use tw_kept::Recorded;
 use tw_msg::{Message as MessageRead, Receipt, message_laws, read_message};
-use tw_pages::StoreFault;
+use tw_pages::{Recorded, StoreFault};
 use tw_skiplist::Head;
 
 /// A service: one sound history on a disk, where its pages keep one.
@@ -42,7 +41,7 @@ impl<D: Disk, H: Hasher> Service<D, H> {
     ghost use Rattle.tw_service.specs.Machine.{Answers, IsStepOf, last_thread};
     ghost use Rattle.tw_service.specs.Machine.Call.{Append, CountSteps, TellHead, TellName};
     ghost use Rattle.tw_service.specs.Machine.Reply.{OfName, OfNumber, OfThread};
-    ghost use Rattle.tw_kept.specs.Records.{IsWritten, written};
+    ghost use Rattle.tw_pages.specs.Records.{IsWritten, written};
     ghost use Rattle.tw_answers.specs.Roots.{root_kind};
     ghost use Rattle.tw_service.specs.Writing.{AppendsTo, Commits, IsThreadOfNext};
     ghost use Rattle.tw_service.specs.Serves.{HasSameDisk, IsOver, Serves, archive_of, clock_of, disk_of, has_failed, head_of, name_of, pages_of, record_of, steps_of, thread_of, threads_of};

@@ -28,9 +28,6 @@ written count [] = refl
 written count (e ∷ es) =
     append_assoc _ e _ ∙ (λ j. number_bytes-four (length e) j ++ (e ++ written count es j))
 
-abbrev IsSized : List ℕ → Type 0
-IsSized event = ((0 ≤ length event) × (length event ≤ MOST_EVENT_BYTES)) × AreBytes event
-
 each_fits : (events : List (List ℕ)) → Each (λ event. length event ≤ MOST_EVENT_BYTES) events → Each AreBytes events → Each (sized_codec 4 0 1024).Fits events
 unfolding sized_codec by_kind number_codec bytes_codec
 each_fits [] sizes bytes = tt

@@ -1,5 +1,5 @@
 -- Why a command isn't done: the status of each fault, and its line.
-use Rattle.std.specs.Prelude.{◌≡◌, ◌⊎◌, ℕ, List}
+use Rattle.std.specs.Prelude.{ℕ, List}
 use Rattle.tw_base.specs.declared.kinds.failure.InputFault.{InputFault as ReadingFault}
 use Rattle.tw_base.specs.declared.kinds.failure.InputFault.TheVariants as reading
 use Rattle.tw_text.specs.Lines.{fault_disk_text, fault_input_text, no_memory_text}
@@ -27,7 +27,3 @@ fault_text (Unreadable bad) = bad_input_text bad
 abbrev pub fault_of_input : ReadingFault → CommandFault
 fault_of_input reading.Failed = InputFault
 fault_of_input reading.NoMemory = NoMemory
-
--- the wanted fault, or there was no memory for it
-abbrev pub IsWhereMemory : (wanted : CommandFault) → CommandFault → Type 0
-IsWhereMemory wanted fault = (fault ≡ wanted) ⊎ (fault ≡ NoMemory)

@@ -9,9 +9,6 @@ use Rattle.std.proofs.lemmas.Cmp.{nat_list_cmp_total}
 use Rattle.tw_base.specs.declared.history.thread.Key.{Key}
 use Rattle.tw_base.specs.history.Entries.{KeyBelow}
 
-name_cmp : List ℕ → List ℕ → Ordering
-name_cmp = slice_cmp nat_cmp
-
 same_name : (from : List ℕ) → slice_cmp nat_cmp from from ≡ Equal
 same_name from = by (slice_cmp nat_cmp from from) refl
   where

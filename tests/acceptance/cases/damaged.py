@@ -5,7 +5,7 @@ import os
 import random
 
 from harness.entangled import both
-from harness.faults import Run as FaultyRun, with_errors
+from harness.faults import Run as FaultyRun, killed as at_any_call, with_errors
 from harness.making import message_bytes
 from harness.power import BY_CHANCE_IN_THE_GATE, Device
 from harness.rooms import Wrong, case, changed_page, expect
@@ -131,12 +131,7 @@ def failing(command):
 
 def killed(command):
     def work(room):
-        run = Run(room, command)
-        for name, when, kind in list(run.calls()):
-            if kind == "store" and name in ("fsync", "pwrite64", "pread64", "write"):
-                run.again()
-                found = calls_of(room.program, run.words.split(), room.folder, inject=[f"{name}:signal=KILL:when={when}"])[:2]
-                run.histories.go_on(room, found[0] == 0)
+        at_any_call(Run(room, command))
 
     work.__doc__ = f"`{command}` over a store with a damaged page, killed at any of its calls on the store, keeps the old record or the next one"
     return work

@@ -3,7 +3,7 @@
 import os
 import random
 
-from harness.faults import Run as FaultyRun, failing
+from harness.faults import Run as FaultyRun, failing, killed as at_any_call
 from harness.limits import closed, growing_to, plain_rights
 from harness.making import message_bytes, pathless_message
 from harness.power import Device
@@ -368,12 +368,7 @@ def lost_power(command):
 
 def killed(command):
     def work(room):
-        run = Run(room, command)
-        for name, when, kind in list(run.calls()):
-            if kind == "store" and name in ("fsync", "pwrite64", "pread64", "write"):
-                run.again()
-                found = calls_of(room.program, run.words.split(), room.folder, inject=[f"{name}:signal=KILL:when={when}"])[:2]
-                run.histories.go_on(room, found[0] == 0)
+        at_any_call(Run(room, command))
 
     work.__doc__ = f"`{command}` that is killed at any of its calls on the store keeps each head that was told, and goes on"
     return work

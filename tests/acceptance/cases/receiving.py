@@ -8,7 +8,7 @@ from time import sleep
 
 from harness import seen
 from harness.entangled import Entangled, both, words
-from harness.faults import Run as FaultyRun, failing, short
+from harness.faults import Run as FaultyRun, failing, killed as at_any_call, short
 from harness.making import forged, message_bytes
 from harness.power import BY_CHANCE_IN_THE_GATE, Device
 from harness.rooms import Room, Wrong, case, changed_page, expect, some_steps
@@ -294,12 +294,7 @@ def lost_power(command):
 
 def killed_at(command):
     def work(room):
-        run = Run(room, command)
-        for name, when, kind in list(run.calls()):
-            if kind == "store" and name in ("fsync", "pwrite64", "pread64", "write"):
-                run.again()
-                found = calls_of(room.program, run.words.split(), room.folder, inject=[f"{name}:signal=KILL:when={when}"])[:2]
-                run.histories.go_on(room, found[0] == 0)
+        at_any_call(Run(room, command))
 
     work.__doc__ = f"`{command}` that is killed at any of its calls on the store keeps each thread whose receipt was written, and goes on"
     return work

@@ -1,11 +1,13 @@
 """The sources keep the project's own rules: long functions say why they are, attributes fit on a line, files of lemmas say what they are
-of, tests stand in crates of their own, crates are small, no chain of crates is long, and a definition's name stands for one thing."""
+of, tests stand in crates of their own, crates are small, no chain of crates is long, a definition's name stands for one thing, and little
+stands twice."""
 
 import re
 import shutil
 import subprocess
 from pathlib import Path
 
+import twins
 from pictures import crates, height
 
 from harness.places import TOP
@@ -18,6 +20,9 @@ WIDEST = 140
 # A crate's most lines of code and functions, and the longest chain of crates.
 MOST_LINES, MOST_FUNCTIONS, MOST_HEIGHT = 1500, 100, 8
 
+# The pairs of files that may share six lines in a row, as tools/twins.py counts them. The number only falls: who takes a pair away lowers it.
+MOST_TWINS = 140
+
 # The crates that have more, and how much at most: no crate comes in, no number rises but for a reason that docs/DECISIONS.md tells, and one
 # that has no more than the others goes.
 LARGE = {
@@ -26,6 +31,8 @@ LARGE = {
     "tw_rbnode": (1522, 100),
     "tw_skiplist": (1568, 100),
     "tw_verifier": (1943, 100),
+    "tw_parttests": (2801, 212),
+    "tw_runtests": (1504, 117),
 }
 
 # The names that stand for a definition in two modules of `specs`: one notion over two subjects, which a reader always sees with their module.
@@ -201,6 +208,12 @@ def heights(program):
     return "\n".join(f"  {name} stands at {at}, at most {MOST_HEIGHT} is allowed" for name, at in wrong.items()) or None
 
 
+def what_stands_twice(program):
+    """How many pairs of files share six lines in a row, where these are more than there may be."""
+    count = len(twins.pairs())
+    return f"  {count} pairs, at most {MOST_TWINS} are allowed: `python3 tools/twins.py`" if count > MOST_TWINS else None
+
+
 def cases():
     yield {"name": "sources: long functions", "check": long_functions}
     yield {"name": "sources: attributes", "check": wide_attributes}
@@ -211,3 +224,4 @@ def cases():
     yield {"name": "sources: the header for C", "check": header}
     yield {"name": "sources: heights", "check": heights}
     yield {"name": "sources: names of definitions", "check": names_twice}
+    yield {"name": "sources: what stands twice", "check": what_stands_twice}

@@ -95,6 +95,15 @@ def with_errors(run):
             yield from run.judge(found, allowed, f"whose {name} of its {kind} fails with {error}, the {when}th call of that name")
 
 
+def killed(run):
+    """Runs the command once for each of its calls on the store, killed at that call, and goes on from what is left."""
+    for name, when, kind in list(run.calls()):
+        if kind == "store" and name in ("fsync", "pwrite64", "pread64", "write"):
+            run.again()
+            found = calls_of(run.room.program, run.words.split(), run.room.folder, inject=[f"{name}:signal=KILL:when={when}"])[:2]
+            run.histories.go_on(run.room, found[0] == 0)
+
+
 def with_short_counts(run, shim):
     """Runs the command once for each of its calls that take or give bytes, of which that call does a half."""
     counts = {}

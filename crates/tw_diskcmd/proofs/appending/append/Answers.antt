@@ -4,8 +4,8 @@ use Rattle.tw_outside.specs.Asked.{asked}
 use Rattle.tw_service.specs.Machine.Call.{Append}
 use Rattle.tw_service.specs.Machine.Reply.{OfThread}
 use Rattle.tw_service.specs.Writing.{AppendsTo, IsThreadOfNext}
-use Rattle.tw_storecmd.specs.Leaves.{StaysOr}
-use Rattle.tw_storecmd.proofs.Landings.{comes_of_file, leaves_of_file, stop_leaves, stopped_comes}
+use Rattle.tw_diskcmd.specs.Leaves.{StaysOr}
+use Rattle.tw_diskcmd.proofs.Landings.{comes_of_file, leaves_of_file, stop_leaves, stopped_comes}
 use Rattle.tw_diskcmd.specs.Appending.{AreEventsOf, IsBadEventsByte, IsStepResult}
 use Rattle.tw_diskcmd.specs.Disks.{IsOf, NextBy, StepsBy, found_disk}
 use Rattle.tw_diskcmd.proofs.appending.append.Goals as goal

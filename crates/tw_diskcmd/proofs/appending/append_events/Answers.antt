@@ -1,9 +1,9 @@
 use Rattle.std.proofs.Common.{inl, refl, subst}
 use Rattle.sha2.specs.Sha256.{sha256}
 use Rattle.tw_base.specs.declared.history.thread.Thread.{Thread}
-use Rattle.tw_kept.specs.Records.{Written, written}
-use Rattle.tw_kept.proofs.AtRest.{left_on}
-use Rattle.tw_kept.proofs.Standing.{written_once}
+use Rattle.tw_pages.specs.Records.{Written, written}
+use Rattle.tw_pages.proofs.AtRest.{left_on}
+use Rattle.tw_pages.proofs.Standing.{written_once}
 use Rattle.tw_answers.specs.declared.root.RootRecord.{RootRecord}
 use Rattle.tw_answers.specs.Roots.{root_kind}
 use Rattle.tw_service.specs.EventSteps.{with_events}
@@ -12,9 +12,9 @@ use Rattle.tw_service.specs.Machine.Reply.{OfThread}
 use Rattle.tw_service.specs.Serves.{disk_of, record_of}
 use Rattle.tw_service.specs.Writing.{AppendsTo, IsThreadOfNext}
 use Rattle.tw_service.proofs.Standing.{once}
-use Rattle.tw_storecmd.specs.Leaves.{StaysOr}
-use Rattle.tw_storecmd.specs.Steps.{AddsFrom}
-use Rattle.tw_storecmd.proofs.Steps.{adds_on, unopened_adds}
+use Rattle.tw_diskcmd.specs.Leaves.{StaysOr}
+use Rattle.tw_diskcmd.specs.Steps.{AddsFrom}
+use Rattle.tw_diskcmd.proofs.StoreSteps.{adds_on, unopened_adds}
 use Rattle.tw_diskcmd.specs.Appending.{MachineAdds, TableAdds, added}
 use Rattle.tw_diskcmd.specs.Disks.{IsOf, IsService, NextBy, StepsBy}
 use Rattle.tw_diskcmd.proofs.Results.{unserved}

@@ -1,7 +1,7 @@
 use Rattle.std.proofs.Common.{ℕ, List, subst}
-use Rattle.tw_kept.specs.Disks.{Rests as RestsAs}
-use Rattle.tw_kept.specs.Records.{Written, written}
-use Rattle.tw_kept.proofs.Standing.{written_once}
+use Rattle.tw_pages.specs.Disks.{Rests as RestsAs}
+use Rattle.tw_pages.specs.Records.{Written, written}
+use Rattle.tw_pages.proofs.Standing.{written_once}
 use Rattle.tw_answers.specs.declared.root.RootRecord.{RootRecord}
 use Rattle.tw_answers.specs.Roots.{root_kind}
 use Rattle.tw_service.proofs.Standing.{once}
@@ -9,8 +9,8 @@ use Rattle.tw_service.specs.Questions.{Besides}
 use Rattle.tw_service.specs.Serves.{disk_of, record_of}
 use Rattle.tw_diskcmd.specs.Answers.{MachineAnswers, TableAnswersOr}
 use Rattle.tw_diskcmd.specs.Asking.{AnswersBy, AskComes, asked_bytes, asked_call, asked_table}
-use Rattle.tw_kept.proofs.AtRest.{left_on}
-use Rattle.tw_storecmd.proofs.Landings.{leaves_of_reading, unopened_reading_leaves}
+use Rattle.tw_pages.proofs.AtRest.{left_on}
+use Rattle.tw_diskcmd.proofs.Landings.{leaves_of_reading, unopened_reading_leaves}
 use Rattle.tw_diskcmd.specs.Disks.{IsOf, IsService}
 use Rattle.tw_diskcmd.proofs.Results.{unserved}
 use Rattle.tw_diskcmd.proofs.asking.ask.Goals as goal

@@ -2,13 +2,13 @@ use Rattle.std.proofs.Common.{sym, subst}
 use Rattle.sha2.specs.Sha256.{sha256}
 use Rattle.tw_base.specs.kinds.Faults.{Rose}
 use Rattle.tw_service.specs.Serves.{Serves, disk_of, has_failed, name_of, pages_of, record_of}
-use Rattle.tw_kept.specs.Disks.{Rests as RestsAs}
-use Rattle.tw_kept.specs.Records.{written}
-use Rattle.tw_kept.proofs.AtRest.{own_rest as own_rest_as}
-use Rattle.tw_kept.proofs.Written.{rest_for_good, still_rests}
+use Rattle.tw_pages.specs.Disks.{Rests as RestsAs}
+use Rattle.tw_pages.specs.Records.{written}
+use Rattle.tw_pages.proofs.AtRest.{own_rest as own_rest_as}
+use Rattle.tw_pages.proofs.Written.{rest_for_good, still_rests}
 use Rattle.tw_answers.specs.Roots.{root_kind}
 use Rattle.tw_diskcmd.specs.Disks.{IsLeft, IsService, found_disk}
-use Rattle.tw_storecmd.proofs.AtRest.{rose_since, same_left}
+use Rattle.tw_diskcmd.proofs.StoreAtRest.{rose_since, same_left}
 use Rattle.tw_diskcmd.proofs.AtRest.{own_rest}
 use Rattle.tw_diskcmd.proofs.QuestionAnswers.{asked_came}
 use Rattle.tw_diskcmd.proofs.asking.ask_by.Goals as goal

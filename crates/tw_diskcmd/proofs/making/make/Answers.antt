@@ -6,11 +6,11 @@ use Rattle.tw_disk.specs.Image.{Image}
 use Rattle.sha2.specs.Sha256.{sha256}
 use Rattle.tw_base.specs.declared.history.thread.Thread.{Thread}
 use Rattle.tw_answers.specs.Roots.{root_kind}
-use Rattle.tw_kept.specs.Disks.{IsOldOrBegun, MayBegin}
-use Rattle.tw_kept.proofs.AtRest.{rests_begun}
+use Rattle.tw_pages.specs.Disks.{IsOldOrBegun, MayBegin}
+use Rattle.tw_pages.proofs.AtRest.{rests_begun}
 use Rattle.tw_service.specs.Machine.{last_thread}
-use Rattle.tw_storecmd.proofs.AtRest.{free_keeps, held_keeps}
-use Rattle.tw_storecmd.proofs.Landings.{unmade, unmade_leaves}
+use Rattle.tw_diskcmd.proofs.StoreAtRest.{free_keeps, held_keeps}
+use Rattle.tw_diskcmd.proofs.Landings.{unmade, unmade_leaves}
 use Rattle.tw_diskcmd.specs.Disks.{IsOf, found_disk}
 use Rattle.tw_diskcmd.proofs.AtRest.{own_rest, stands_taken}
 use Rattle.tw_diskcmd.proofs.making.make.Goals as goal

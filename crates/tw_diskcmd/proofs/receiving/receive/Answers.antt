@@ -4,9 +4,9 @@ use Rattle.tw_outside.specs.Asked.{asked}
 use Rattle.tw_service.specs.Machine.Call.{Receive}
 use Rattle.tw_service.specs.Machine.Reply.{OfReceipt}
 use Rattle.tw_service.specs.Writing.{ArchivesTo, IsReceiptOf}
-use Rattle.tw_storecmd.specs.Files.{IsBadMessageByte, IsMessageIn}
-use Rattle.tw_storecmd.specs.Leaves.{StaysOr}
-use Rattle.tw_storecmd.proofs.Landings.{comes_of_file, leaves_of_file, stop_leaves, stopped_comes}
+use Rattle.tw_diskcmd.specs.Files.{IsBadMessageByte, IsMessageIn}
+use Rattle.tw_diskcmd.specs.Leaves.{StaysOr}
+use Rattle.tw_diskcmd.proofs.Landings.{comes_of_file, leaves_of_file, stop_leaves, stopped_comes}
 use Rattle.tw_diskcmd.specs.Disks.{IsOf, NextBy, StepsBy, found_disk}
 use Rattle.tw_diskcmd.specs.Receiving.{IsReceived}
 use Rattle.tw_diskcmd.proofs.receiving.receive.Goals as goal

@@ -11,11 +11,11 @@ use Rattle.tw_service.specs.Machine.Call.{Receive}
 use Rattle.tw_service.specs.Machine.Reply.{OfReceipt}
 use Rattle.tw_service.specs.Serves.{Serves, archive_of, disk_of, has_failed, head_of, pages_of, record_of, steps_of}
 use Rattle.tw_service.specs.Writing.{ArchivesTo, IsReceiptOf}
-use Rattle.tw_kept.specs.Records.{written}
-use Rattle.tw_storecmd.specs.Leaves.{StaysOr}
-use Rattle.tw_storecmd.specs.Steps.{AddsFrom}
-use Rattle.tw_storecmd.proofs.AtRest.{rose_since, same_left}
-use Rattle.tw_storecmd.proofs.Steps.{answered_commits, nothing_written, refused_commits}
+use Rattle.tw_pages.specs.Records.{written}
+use Rattle.tw_diskcmd.specs.Leaves.{StaysOr}
+use Rattle.tw_diskcmd.specs.Steps.{AddsFrom}
+use Rattle.tw_diskcmd.proofs.StoreAtRest.{rose_since, same_left}
+use Rattle.tw_diskcmd.proofs.StoreSteps.{answered_commits, nothing_written, refused_commits}
 use Rattle.tw_diskcmd.specs.Disks.{IsLeft, IsOf, IsService, NextBy, StepsBy, found_disk}
 use Rattle.tw_diskcmd.specs.Faults.{fault_of_service}
 use Rattle.tw_diskcmd.proofs.AtRest.{answered_steps, refused_steps}

@@ -1,7 +1,7 @@
 use Rattle.std.proofs.Common.{subst, sym}
 use Rattle.tw_disk.specs.Disk.{IsAtRest}
-use Rattle.tw_kept.specs.Records.{written}
-use Rattle.tw_kept.proofs.States.{serves_for_good}
+use Rattle.tw_pages.specs.Records.{written}
+use Rattle.tw_pages.proofs.States.{serves_for_good}
 use Rattle.tw_follow.specs.Stands.{KeepsList, StandsFor, root_kind}
 use Rattle.tw_follow.proofs.follower.Follower.close.Goals as goal
 

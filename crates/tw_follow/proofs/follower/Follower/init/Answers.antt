@@ -1,5 +1,5 @@
 use Rattle.std.proofs.Common.{◌≤◌, [], ap, arith, lit≤, refl, subst, sym}
-use Rattle.tw_kept.proofs.States.{leaves_begun, reads_begun, serves_first}
+use Rattle.tw_pages.proofs.States.{leaves_begun, reads_begun, serves_first}
 use Rattle.tw_follow.specs.declared.root.RootRecord.{RootRecord}
 use Rattle.tw_follow.specs.HeadLists.{no_heads}
 use Rattle.tw_follow.specs.Stands.{KeepsList, root_kind}

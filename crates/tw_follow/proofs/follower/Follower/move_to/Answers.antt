@@ -3,10 +3,10 @@ use Rattle.tw_disk.specs.Disk.{LeavesOnly, Reads}
 use Rattle.tw_disk.specs.Image.{Image}
 use Rattle.tw_pages.specs.SameSteps.{told_pages}
 use Rattle.tw_pages.specs.StoreValue.{disk_of}
-use Rattle.tw_kept.specs.Records.{IsOneOf, Written, written}
-use Rattle.tw_kept.specs.Rests.{RestsWith}
-use Rattle.tw_kept.specs.States.{Serves}
-use Rattle.tw_kept.proofs.Staged.{leaves_before, leaves_since, of_these, reads_before}
+use Rattle.tw_pages.specs.Records.{IsOneOf, Written, written}
+use Rattle.tw_pages.specs.Rests.{RestsWith}
+use Rattle.tw_pages.specs.States.{Serves}
+use Rattle.tw_pages.proofs.Staged.{leaves_before, leaves_since, of_these, reads_before}
 use Rattle.tw_follow.specs.declared.root.RootRecord.{RootRecord}
 use Rattle.tw_follow.specs.HeadLists.{with_head}
 use Rattle.tw_follow.specs.Stands.{KeepsList, root_kind}

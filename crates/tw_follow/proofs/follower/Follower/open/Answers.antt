@@ -1,4 +1,4 @@
-use Rattle.tw_kept.proofs.States.{serves_opened}
+use Rattle.tw_pages.proofs.States.{serves_opened}
 use Rattle.tw_follow.specs.Stands.{KeepsList, root_kind}
 use Rattle.tw_follow.proofs.Spelling.{root-once, root-short}
 use Rattle.tw_follow.proofs.follower.Follower.open.Goals as goal

@@ -3,8 +3,8 @@ use Rattle.std.specs.Prelude.{Err}
 use Rattle.tw_base.specs.declared.history.content.Content.TheVariants.{Events}
 use Rattle.tw_disk.specs.Found.Found.{Is}
 use Rattle.tw_disk.specs.Image.{Image}
-use Rattle.tw_kept.specs.Records.{written}
-use Rattle.tw_kept.proofs.Written.{told_list}
+use Rattle.tw_pages.specs.Records.{written}
+use Rattle.tw_pages.proofs.Written.{told_list}
 use Rattle.tw_pages.specs.Same.{count_of}
 use Rattle.tw_pages.specs.SameSteps.{is_same_on, told_pages}
 use Rattle.tw_skiplist.specs.Appended.{appended}

@@ -1,7 +1,7 @@
 use Rattle.std.proofs.Common.{◌≡◌, ◌++◌, ℕ, List, ◌∙◌, ap, refl, subst, sym}
 use Rattle.std.specs.Prelude.{Err, Ok}
-use Rattle.tw_kept.specs.Records.{written}
-use Rattle.tw_kept.proofs.Written.{told_list}
+use Rattle.tw_pages.specs.Records.{written}
+use Rattle.tw_pages.proofs.Written.{told_list}
 use Rattle.tw_msg.specs.declared.receipt.Receipt.{Receipt}
 use Rattle.tw_pages.specs.Same.{list_of}
 use Rattle.tw_pages.specs.SameSteps.{is_same_on, told_pages}

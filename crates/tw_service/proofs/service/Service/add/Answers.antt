@@ -9,7 +9,7 @@ use Rattle.tw_disk.specs.Found.{Found, ◌>>=◌}
 use Rattle.tw_disk.specs.Found.Found.{Is}
 use Rattle.tw_disk.specs.Image.{Image}
 use Rattle.tw_disk.proofs.FoundLaws.{is_on}
-use Rattle.tw_kept.specs.Records.{written}
+use Rattle.tw_pages.specs.Records.{written}
 use Rattle.tw_pages.specs.Same.{IsSameStore}
 use Rattle.tw_pages.specs.SameSteps.{is_same_itself}
 use Rattle.tw_skiplist.specs.Appended.{appended}

@@ -14,8 +14,8 @@ use Rattle.tw_service.specs.Machine.Reply.{OfBytes}
 use Rattle.tw_service.specs.Questions.{Besides, found_answer, found_bytes, history_refusal, pages_refusal, question_refusal}
 use Rattle.tw_service.proofs.Asked.{asked_err, asked_ok, asked_own, asked_refused}
 use Rattle.tw_service.proofs.Questions.{accepted_for, ask_made, ask_refused, besides_told, few_for, held, held_good, held_ok, held_own, question_no_fault, question_told}
-use Rattle.tw_kept.specs.Records.{written}
-use Rattle.tw_kept.proofs.Written.{told_list}
+use Rattle.tw_pages.specs.Records.{written}
+use Rattle.tw_pages.proofs.Written.{told_list}
 use Rattle.tw_answers.specs.Roots.{root_kind}
 use Rattle.tw_service.proofs.service.Service.ask.Goals as goal
 

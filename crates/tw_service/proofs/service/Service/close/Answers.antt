@@ -1,6 +1,6 @@
 use Rattle.std.proofs.Common.{subst, sym}
 use Rattle.tw_disk.specs.Disk.{IsAtRest}
-use Rattle.tw_kept.specs.Records.{written}
+use Rattle.tw_pages.specs.Records.{written}
 use Rattle.tw_service.specs.Stands.{StandsFor}
 use Rattle.tw_service.proofs.Serving.{rest_for_good}
 use Rattle.tw_service.proofs.service.Service.close.Goals as goal

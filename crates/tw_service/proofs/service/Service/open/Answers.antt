@@ -1,5 +1,5 @@
 use Rattle.std.specs.Prelude.{is_some}
-use Rattle.tw_kept.proofs.States.{serves_opened}
+use Rattle.tw_pages.proofs.States.{serves_opened}
 use Rattle.tw_answers.specs.Roots.{root_kind}
 use Rattle.tw_service.specs.Stands.{KeepsHistory}
 use Rattle.tw_answers.proofs.RootLaws.{root-short}

@@ -14,8 +14,8 @@ use Rattle.tw_service.specs.Machine.Reply.{OfBytes}
 use Rattle.tw_service.specs.Questions.{message_told, told_answer}
 use Rattle.tw_service.proofs.Asked.{asked_err, asked_ok, asked_refused}
 use Rattle.tw_service.proofs.Questions.{ask_made, ask_refused, message_makes, thread_whole, told_good, told_own}
-use Rattle.tw_kept.specs.Records.{written}
-use Rattle.tw_kept.proofs.Written.{told_list}
+use Rattle.tw_pages.specs.Records.{written}
+use Rattle.tw_pages.proofs.Written.{told_list}
 use Rattle.tw_answers.specs.Roots.{root_kind}
 use Rattle.tw_service.proofs.service.Service.thread_out.Goals as goal
 

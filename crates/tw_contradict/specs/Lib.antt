@@ -1,6 +1,0 @@
-pub mod ArchiveFiles
-pub mod Facts
-pub mod Fitting
-pub mod Verdicts
-pub mod Judged
-pub mod Linking

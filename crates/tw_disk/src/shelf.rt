@@ -1,0 +1,74 @@
+// Pages that are kept by their numbers.
+ghost use Rattle.std.specs.Prelude.{◌≡◌, ◌-◌, [], ℕ, IsTrue, Option, Some};
+ghost use Rattle.tw_disk.specs.Keeping.{AddsAtMost, AreOf};
+ghost use Rattle.tw_disk.specs.Image.{Image, page_at};
+ghost use Rattle.tw_disk.specs.declared.limits.TheConstants.{FIRST_PAGE};
+
+use crate::keep::keep;
+use lru::LruCache;
+use std::alloc::Global;
+use std::num::NonZeroUsize;
+use tw_base::Page;
+
+// How many pages are kept at most.
+const MOST_KEPT: usize = 64;
+
+/// A shelf of pages, which are kept in memory by their numbers: those read last, at most 64, or all of them. Where there was no memory for the
+/// shelf itself, it keeps none; each page that is kept then takes memory of its own, where there is some.
+#[derive(Drop)]
+pub struct Shelf {
+    pub(crate) kept: Option<LruCache<u64, Box<Page>>>,
+}
+
+impl Shelf {
+    ghost use Rattle.tw_disk.specs.Shelves.{Holds, kept_on};
+
+    /// A shelf with no page on it, whatever memory there is.
+    pub fn new(alloc: Global) -> Shelf
+        // No page is kept yet.
+        ensures { kept_on result ≡ [] }
+    {
+        match LruCache::new(alloc, NonZeroUsize::new(MOST_KEPT).unwrap()) {
+            Ok(kept) => Shelf { kept: Some(kept) },
+            Err(_) => Shelf { kept: None },
+        }
+    }
+
+    /// A shelf with no page on it, that keeps each page that is read, whatever their number, as long as there is memory for them.
+    pub fn unbounded(alloc: Global) -> Shelf
+        // No page is kept yet.
+        ensures { kept_on result ≡ [] }
+    {
+        match LruCache::unbounded(alloc) {
+            Ok(kept) => Shelf { kept: Some(kept) },
+            Err(_) => Shelf { kept: None },
+        }
+    }
+
+    /// Gives the page of this number, where it is kept, and tells whether it is.
+    pub(crate) fn find(&mut self, page: u64, into: &mut Page) -> bool
+        ensures page { IsTrue result → (list : Option Image) (pages : Image) → AreOf list (kept_on self.old) → list ≡ Some pages → into.new ≡ page_at pages (page - FIRST_PAGE) }
+        ensures right { (list : Option Image) → AreOf list (kept_on self.old) → AreOf list (kept_on self.new) }
+        ensures found { Holds self.old page → IsTrue result }
+    {
+        match &mut self.kept {
+            None => false,
+            Some(kept) => match kept.get(&page) {
+                None => false,
+                Some(found) => {
+                    *into = **found;
+                    true
+                }
+            },
+        }
+    }
+
+    /// Keeps the page under its number, where there is memory; the one that was used longest ago may go.
+    pub(crate) fn keep(&mut self, number: u64, page: &Page)
+        ensures { AddsAtMost (kept_on self.old) (kept_on self.new) number page.now }
+    {
+        if let Some(kept) = &mut self.kept {
+            keep(kept, number, page);
+        }
+    }
+}

@@ -1,0 +1,90 @@
+-- What an accepted file says of an archive, and when two files contradict each other.
+use Rattle.std.specs.Prelude.{ℕ, ◌-◌, List, Bool, Option, Some, None, ◌==◌, ◌&&◌, nat_le, nat_lt, if◌then◌else◌}
+use Rattle.std.specs.Option.{option_map_or}
+use Rattle.std.specs.Str.{bytes_eq}
+use Rattle.tw_base.specs.declared.history.thread.Entry.{Entry}
+use Rattle.tw_base.specs.declared.history.thread.Thread.{Thread}
+use Rattle.tw_base.specs.declared.history.tree_proof.Ask.{Ask}
+use Rattle.tw_base.specs.declared.history.tree_proof.Ask.TheVariants.{Present, Absent, Below, Above}
+use Rattle.tw_base.specs.declared.kinds.limits.TheConstants.{LAST_STEP}
+use Rattle.tw_treeproof.specs.Answers.{ancestors_of, answer_of}
+use Rattle.tw_tmap.specs.Checking.{nearest_in, step_if_of}
+use Rattle.tw_evidence.specs.declared.archive_proof.ArchiveProof.{ArchiveProof}
+use Rattle.tw_evidence.specs.declared.facts.Conflict.{Conflict}
+use Rattle.tw_evidence.specs.declared.facts.Facts.{Facts}
+use Rattle.tw_evidence.specs.declared.facts.Lack.{Lack}
+
+-- ---- what one file says
+
+-- the entry that the tree proof shows next to the asked key
+abbrev pub nearest_of : ArchiveProof → Option Entry
+nearest_of a = nearest_in (answer_of a.ask (ancestors_of a.shown))
+
+-- the entry, where it is of this service
+abbrev pub entry_if_of : (service : List ℕ) → Option Entry → Option Entry
+entry_if_of service None = None
+entry_if_of service (Some e) = if bytes_eq e.thread.from service then Some e else None
+
+-- the entry that the archive has: the one that is asked for, or the one next to the asked key, where it is of the key's service
+abbrev pub entry_of : Ask → (nearest : Option Entry) → Option Entry
+entry_of (Present e) nearest = Some e
+entry_of (Absent key) nearest = None
+entry_of (Below key) nearest = entry_if_of key.from nearest
+entry_of (Above key) nearest = entry_if_of key.from nearest
+
+-- the step before the one that received the entry next above a key; without one of the service the step itself
+abbrev pub before_received : (step : ℕ) → Option Entry → ℕ
+before_received step entry = option_map_or (λ (e : Entry). e.archived - 1) entry step
+
+-- the threads that were received up to a step by no step of the service: that of the key; those between the nearest one below the key
+-- and the key; and those above the key, up to the step before the one that received the next
+abbrev pub lack_of : (step : ℕ) → Ask → (nearest : Option Entry) → Option Lack
+lack_of step (Present e) nearest = None
+lack_of step (Absent key) nearest = Some (record { peer = key.from; above = key.step - 1; last = key.step; upto = step })
+lack_of step (Below key) nearest =
+    Some (record { peer = key.from; above = step_if_of key.from nearest; last = key.step - 1; upto = step })
+lack_of step (Above key) nearest =
+    Some (record { peer = key.from; above = key.step; last = LAST_STEP; upto = before_received step (entry_if_of key.from nearest) })
+
+-- what the file says under this line
+abbrev pub facts_of : Thread → ArchiveProof → Facts
+facts_of line a = record {
+  line = line;
+  service = a.at.service;
+  step = a.at.step;
+  entry = entry_of a.ask (nearest_of a);
+  lack = lack_of a.at.step a.ask (nearest_of a);
+}
+
+-- ---- what two say
+
+-- the lack is of the entry's service and step, up to the step that received it or a later one
+abbrev pub lacks_entry : Lack → Entry → Bool
+lacks_entry lack e =
+    bytes_eq e.thread.from lack.peer && (nat_lt lack.above e.thread.step && (nat_le e.thread.step lack.last && nat_le e.archived lack.upto))
+
+abbrev pub conflict_with : (one : Facts) → Entry → (other : Facts) → Lack → Option Conflict
+conflict_with one e other lack =
+    if bytes_eq one.service other.service && lacks_entry lack e
+    then Some (record { service = one.service; step = one.step; entry = e; upto = lack.upto }) else None
+
+-- the one says that the archive has an entry which the other says it lacks
+abbrev pub conflict_between : (one other : Facts) → Option Conflict
+conflict_between one other =
+    option_map_or (λ e. option_map_or (conflict_with one e other) other.lack None) one.entry None
+
+-- the first says what the second denies, or else the second what the first does
+abbrev pub conflict_of : (one other : Facts) → Option Conflict
+conflict_of one other = option_map_or (λ c. Some c) (conflict_between one other) (conflict_between other one)
+
+-- ---- lines of one history
+
+abbrev pub is_same_line : (one other : Thread) → Bool
+is_same_line one other = bytes_eq one.from other.from && (one.step == other.step && bytes_eq one.auth other.auth)
+
+-- the one of the lower step, and the other one; of two of one step the first is the earlier
+abbrev pub earlier : (one other : Thread) → Thread
+earlier one other = if nat_le one.step other.step then one else other
+
+abbrev pub later : (one other : Thread) → Thread
+later one other = if nat_le one.step other.step then other else one

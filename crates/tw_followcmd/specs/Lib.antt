@@ -1,5 +1,0 @@
-pub mod Faults
-pub mod Disks
-pub mod Watching
-pub mod Offering
-pub mod Listing

@@ -1,0 +1,11 @@
+mod AnsweredCalls
+pub mod Threads
+pub mod Wavering
+pub mod TreeSizes
+mod OtherStores
+mod CommandTurns
+mod TurnLaws
+mod FollowerTurnLaws
+mod ActBytes
+mod ThreeServices
+mod ActLines

@@ -1,0 +1,7 @@
+pub mod Published
+pub mod Runs
+pub mod TreeSizes
+pub mod Publishing
+pub mod Turns
+pub mod FollowerTurns
+pub mod ScheduledLines

@@ -1,0 +1,21 @@
+// The law of runs of the program on one disk that stands for a list of heads.
+
+ghost use Rattle.sha2.specs.Sha256.{sha256};
+ghost use Rattle.tw_follow.specs.DiskRuns.{KeepsAll};
+ghost use Rattle.tw_follow.specs.HeadLists.{Kept};
+ghost use Rattle.tw_follow.specs.Stands.{StandsFor};
+ghost use Rattle.tw_pages.specs.Runs.{HoldsOnly};
+ghost use Rattle.tw_laws.specs.FollowerTurns.{AreRunsFrom, IsTold, last_of};
+
+use tw_disk::Disk;
+
+/// No head that `offer` told is lost: over every list of runs of the program on one disk that stands for a list of heads for good,
+/// with crashes at any moment. Each run of `run` is such a run, as `run_once` says.
+pub fn followed_laws<D: Disk>()
+    // Over every list of runs of the program, of whatever commands, on one disk that stands for a list of heads for good, and of
+    // crashes at any moment: at the end the disk tells what it reads as; that, and each image that a crash may then leave, stands for a
+    // list to which some moves lead from the first one, whose steps rise, and which has the head of each line that `offer` wrote,
+    // be it written whole or in part.
+    ensures runs { (disk : D) (first : Kept) (runs : _) → HoldsOnly D.view (λ i. StandsFor sha256 i first) disk → AreRunsFrom D.view disk runs
+        → HoldsOnly D.view (KeepsAll sha256 first (IsTold runs)) (last_of disk runs) }
+{}

@@ -1,0 +1,49 @@
+// The calls of a service that tell its name, its steps and its head, as what comes in a run.
+
+ghost use Rattle.std.specs.Prelude.{Ok};
+ghost use Rattle.tw_msg.specs.Messages.{message_bytes};
+ghost use Rattle.tw_base.specs.declared.history.question.Question.TheVariants.{ThreadOut};
+ghost use Rattle.tw_service.specs.Machine.Call.{Ask, CountSteps, TellHead, TellName};
+ghost use Rattle.tw_service.specs.Machine.Reply.{OfBytes, OfName, OfNumber, OfThread};
+ghost use Rattle.tw_laws.specs.Runs.{IsAnswered, IsTold, replied};
+
+use tw_answers::Refusal;
+use tw_base::{Hasher, Name, Thread};
+use tw_disk::Disk;
+use tw_msg::Message;
+use tw_service::Service;
+
+/// Tells the number of steps, by `Service::steps`.
+pub fn steps<D: Disk, H: Hasher>(service: &Service<D, H>) -> u64
+    // Telling the number of steps is an event that changes nothing, after a disk fault too.
+    ensures { IsTold CountSteps (Ok (OfNumber result)) service.now }
+{
+    service.steps()
+}
+
+/// Tells the thread of the last step, by `Service::head`.
+pub fn head<D: Disk, H: Hasher>(service: &Service<D, H>) -> Thread
+    // Telling the thread of the last step is an event that changes nothing, after a disk fault too.
+    ensures { IsTold TellHead (Ok (OfThread result)) service.now }
+{
+    service.head()
+}
+
+/// Tells the name, by `Service::name`.
+pub fn name<D: Disk, H: Hasher>(service: &Service<D, H>) -> Name
+    // Telling the name is an event that changes nothing, after a disk fault too.
+    ensures { IsTold TellName (Ok (OfName result)) service.now }
+{
+    service.name()
+}
+
+/// Gives the message of the last step, by `Service::thread_out`, with its answers.
+pub fn thread_out<D: Disk, H: Hasher>(
+    service: &mut Service<D, H>,
+    since: u64,
+) -> Result<Message, Refusal>
+    // Asking for a message is a call of a run.
+    ensures { IsAnswered H.dig D.view (Ask (ThreadOut since)) (replied (λ m. OfBytes (message_bytes m)) result) service.old service.new }
+{
+    service.thread_out(since)
+}

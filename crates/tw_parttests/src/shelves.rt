@@ -1,0 +1,68 @@
+// What of a shelf no clause says: that a page on it is read once, and kept for as long as is said.
+
+use std::test::Fail;
+use tw_base::{Failed, NoMemory};
+use tw_disk::{MemPages, Pages, Shelf, Shelved};
+
+// Stages a page full of this byte.
+fn stage_byte<P: Pages>(pages: &mut P, byte: u8) -> Result<u64, NoMemory> {
+    if pages.used() >= (1 << 48) - 4 {
+        return Err(NoMemory);
+    }
+    pages.stage(&[byte; 4096])
+}
+
+// The last byte of a page.
+fn last_byte<P: Pages>(pages: &mut P, page: u64) -> Result<Option<u8>, Failed> {
+    if page < 4 || page >= pages.used() {
+        return Ok(None);
+    }
+    let mut into = [0; 4096];
+    pages.read(page, &mut into)?;
+    Ok(Some(into[4095]))
+}
+
+#[test]
+fn a_page_on_a_shelf_is_read_once_below(rt: HostRuntime) -> Result<(), Fail> {
+    let mut pages = MemPages::new(rt.alloc())?;
+    let mut shelf = Shelf::new(rt.alloc());
+    let mut near = Shelved::over(&mut pages, &mut shelf);
+    assert_eq!(rt; stage_byte(&mut near, 4)?, 4);
+    assert_eq!(rt; last_byte(&mut near, 4)?, Some(4));
+    assert_eq!(rt; last_byte(&mut near, 4)?, Some(4));
+    assert_eq!(rt; pages.reads(), 1);
+    Ok(())
+}
+
+#[test]
+fn the_page_used_longest_ago_makes_room_for_the_65th(rt: HostRuntime) -> Result<(), Fail> {
+    let mut pages = MemPages::new(rt.alloc())?;
+    let mut shelf = Shelf::new(rt.alloc());
+    let mut near = Shelved::over(&mut pages, &mut shelf);
+    for byte in 4..69 {
+        stage_byte(&mut near, byte)?;
+    }
+    for page in 4..68 {
+        assert_eq!(rt; last_byte(&mut near, page)?.map(u64::from), Some(page));
+    }
+    assert_eq!(rt; last_byte(&mut near, 4)?, Some(4));
+    assert_eq!(rt; last_byte(&mut near, 68)?, Some(68));
+    assert_eq!(rt; last_byte(&mut near, 4)?, Some(4));
+    assert_eq!(rt; last_byte(&mut near, 5)?, Some(5));
+    assert_eq!(rt; pages.reads(), 66);
+    Ok(())
+}
+
+#[test]
+fn a_failed_read_is_tried_again(rt: HostRuntime) -> Result<(), Fail> {
+    let mut pages = MemPages::new(rt.alloc())?;
+    stage_byte(&mut pages, 4)?;
+    pages.fail(1)?;
+    let mut shelf = Shelf::new(rt.alloc());
+    let mut near = Shelved::over(&mut pages, &mut shelf);
+    assert_eq!(rt; last_byte(&mut near, 4), Err(Failed));
+    assert_eq!(rt; last_byte(&mut near, 4)?, Some(4));
+    assert_eq!(rt; last_byte(&mut near, 4)?, Some(4));
+    assert_eq!(rt; pages.reads(), 2);
+    Ok(())
+}

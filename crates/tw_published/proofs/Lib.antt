@@ -1,4 +1,0 @@
-mod OtherStores
-mod CommandTurns
-mod TurnLaws
-mod FollowerTurnLaws

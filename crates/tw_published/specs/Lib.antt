@@ -1,3 +1,0 @@
-pub mod Publishing
-pub mod Turns
-pub mod FollowerTurns

@@ -1,3 +1,0 @@
-mod AnsweredCalls
-pub mod Threads
-pub mod Wavering

@@ -1,5 +1,0 @@
-use Rattle.tw_runs.proofs.Wavering.{one_authenticator}
-use Rattle.tw_runs.proofs.laws.run_laws.Goals as goal
-
-pub returns : goal.returns
-returns g c = record { runs = λ start name h run like is leads. one_authenticator g.H.Hasher.dig g.D.Disk.view name g.met.D.Disk.only_now start h run is leads }

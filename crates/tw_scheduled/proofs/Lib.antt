@@ -1,3 +1,0 @@
-mod ActBytes
-mod ThreeServices
-mod ActLines

@@ -1,4 +1,0 @@
-pub mod AtRest
-pub mod Steps
-pub mod Landings
-pub mod CommandLaws
