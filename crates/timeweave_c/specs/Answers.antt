@@ -24,24 +24,24 @@ both_anchors = record { first = codes "first_anchors"; second = codes "second_an
 
 -- a status and a text that are told; so much of the text as has room stands at the front of the buffer, and the size is that of the whole
 -- text
-pub record Answers (AreTold : (status : ℕ) (text : List ℕ) → Type 0) (before after : List ℕ) (size status : ℕ) : Type 0 where
+pub record AnswersByText (AreTold : (status : ℕ) (text : List ℕ) → Type 0) (before after : List ℕ) (size status : ℕ) : Type 0 where
   pub text : List ℕ
   pub told : AreTold status text
   pub size_is : size ≡ length text
   pub after_is : after ≡ put_in text before
 
 -- those told of a proof under the anchors, in the form that allows carried threads, or in the strict one
-abbrev pub IsAnswer : (strict : Bool) (proof anchors before after : List ℕ) (size status : ℕ) → Type 0
-IsAnswer strict proof anchors before after size status = Answers (IsTold anchors_name strict proof anchors) before after size status
+abbrev pub IsVerifierAnswer : (strict : Bool) (proof anchors before after : List ℕ) (size status : ℕ) → Type 0
+IsVerifierAnswer strict proof anchors before after size status = AnswersByText (IsTold anchors_name strict proof anchors) before after size status
 
 -- those of two map files under the anchors
 abbrev pub IsMapAnswer : ThreeFiles → (before after : List ℕ) (size status : ℕ) → Type 0
-IsMapAnswer bytes before after size status = Answers (AreMapsTold bytes map_names) before after size status
+IsMapAnswer bytes before after size status = AnswersByText (AreMapsTold bytes map_names) before after size status
 
 -- those of the evidence of a fork under the anchors
 abbrev pub IsForkAnswer : (evidence anchors before after : List ℕ) (size status : ℕ) → Type 0
-IsForkAnswer evidence anchors before after size status = Answers (IsForkTold anchors_name evidence anchors) before after size status
+IsForkAnswer evidence anchors before after size status = AnswersByText (IsForkTold anchors_name evidence anchors) before after size status
 
 -- those of two files, each under its own anchors, and of the link between their lines
 abbrev pub IsContradictAnswer : FiveFiles → (before after : List ℕ) (size status : ℕ) → Type 0
-IsContradictAnswer bytes before after size status = Answers (AreFilesTold bytes both_anchors) before after size status
+IsContradictAnswer bytes before after size status = AnswersByText (AreFilesTold bytes both_anchors) before after size status

@@ -3,7 +3,7 @@
 ghost use Rattle.std.specs.Prelude.{◌≡◌, length, true, false};
 ghost use Rattle.tw_text.specs.Faults.{fault_status as fault_status_of, fault_text};
 ghost use Rattle.tw_text.specs.declared.fault.CommandFault.TheVariants.{NoMemory as WantedMemory};
-ghost use Rattle.timeweave_c.specs.Answers.{IsAnswer, IsContradictAnswer, IsForkAnswer, IsMapAnswer, version_text};
+ghost use Rattle.timeweave_c.specs.Answers.{IsContradictAnswer, IsForkAnswer, IsMapAnswer, IsVerifierAnswer, version_text};
 ghost use Rattle.timeweave_c.specs.Buffers.{put_in};
 
 use crate::buffer::{put, tell};
@@ -30,7 +30,7 @@ pub extern "C" fn timeweave_verify(
     // The status and the text are those of the verdict on the proof's bytes under the anchors, with its theorem, or of the
     // first bad line, or of want of memory; as much of the text as has room stands at the buffer's front, all else of the buffer
     // is as it was, and the size told is that of the whole text.
-    ensures { IsAnswer false proof.now anchors.now out.old out.new text_size.new result }
+    ensures { IsVerifierAnswer false proof.now anchors.now out.old out.new text_size.new result }
 {
     answer(alloc, proof, anchors, false, out, text_size)
 }
@@ -45,7 +45,7 @@ pub extern "C" fn timeweave_strict(
     text_size: &mut usize,
 ) -> u32
     // The same of the strict form, in which a proof that carries threads is rejected.
-    ensures { IsAnswer true proof.now anchors.now out.old out.new text_size.new result }
+    ensures { IsVerifierAnswer true proof.now anchors.now out.old out.new text_size.new result }
 {
     answer(alloc, proof, anchors, true, out, text_size)
 }
@@ -151,7 +151,7 @@ fn answer(
     out: &mut [u8],
     text_size: &mut usize,
 ) -> u32
-    ensures { IsAnswer strict proof.now anchors.now out.old out.new text_size.new result }
+    ensures { IsVerifierAnswer strict proof.now anchors.now out.old out.new text_size.new result }
 {
     match judge(alloc, ANCHORS, proof, anchors, strict) {
         Ok(told) => tell(told.status, told.text.as_slice(), out, text_size),

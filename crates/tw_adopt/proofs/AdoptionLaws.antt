@@ -25,17 +25,17 @@ use Rattle.tw_chain.specs.Accepting.{Accepts, claim_of, hops_of, proof_texts}
 use Rattle.tw_chain.specs.Proofs.{proof_codec}
 use Rattle.tw_chain.proofs.Headline.{headline}
 use Rattle.tw_chain.proofs.ProofCodec.{proof-lawful}
-use Rattle.tw_adopt.specs.FirstSteps.{auth_within}
+use Rattle.tw_adopt.specs.FirstSteps.{auth_up_to}
 use Rattle.tw_adopt.proofs.Fronts.{same-first_steps, sound-first_steps}
 use Rattle.tw_adopt.proofs.SameHistories.{histories-same}
 use Rattle.tw_adopt.specs.declared.adopted.AdoptFault.{AdoptFault}
 use Rattle.tw_adopt.specs.declared.adopted.AdoptFault.TheVariants.{Part, Stranger, Differs, NoMemory}
 use Rattle.tw_adopt.specs.declared.adopted.Adopted.{Adopted}
 use Rattle.tw_adopt.specs.declared.receiving.Receiving.{Receiving}
-use Rattle.tw_adopt.specs.Adopting.{AreGood, IsAdoption, IsFault, IsFirstFault, IsGood, Shows, adopted_by, further, furthest, receiving_of}
-use Rattle.tw_adopt.specs.Binding.{AreSo, BindsAdoption, IsKept, IsOnly, IsShown, last_receiving}
+use Rattle.tw_adopt.specs.Adopting.{AreGood, IsAdoptFault, IsAdoption, IsFirstFault, IsGood, ShowsReceiving, adopted_by, further, furthest, receiving_of}
+use Rattle.tw_adopt.specs.Binding.{AreSo, BindsAdoption, IsAdoptedKept, IsAdoptionShown, IsOnly, last_receiving}
 use Rattle.tw_adopt.specs.Hearing.{IsWeighed}
-use Rattle.tw_adopt.specs.Stops.{IsTaken}
+use Rattle.tw_adopt.specs.Stops.{IsHistoryTaken}
 use Rattle.tw_adopt.proofs.WeighingLaws.{within-some}
 
 -- ---- what a claim that shows something says of histories
@@ -101,12 +101,12 @@ module _ (dig : List ℕ → List ℕ) (anchors : List Thread) (h : History) whe
     entry = record { thread = record { from = name i; step = r.entry.thread.step; auth = sym held i }; archived = r.entry.archived };
   }
 
-  shown-of : (proofs : List (List ℕ)) (r : Receiving) → IsGoodOne proofs r → IsShown dig h anchors proofs (adopted_by h r)
+  shown-of : (proofs : List (List ℕ)) (r : Receiving) → IsGoodOne proofs r → IsAdoptionShown dig h anchors proofs (adopted_by h r)
   shown-of proofs r one =
-      let shows : Shows dig anchors h one.0 r = one.2.0 in
+      let shows : ShowsReceiving dig anchors h one.0 r = one.2.0 in
       let known = within-some dig h r.entry.thread.step r.entry.thread.auth one.2.1 in
       let last = last-is r (shown-service h.name (claim_of shows.0.0) r shows.1) known.1 in
-      record { bytes = one.0; among = one.1; shows = subst (λ (q : Receiving). Shows dig anchors h one.0 q) last shows }
+      record { bytes = one.0; among = one.1; shows = subst (λ (q : Receiving). ShowsReceiving dig anchors h one.0 q) last shows }
 
   module _ (size : (text : List ℕ) → length (dig text) ≡ 32) (are : (text : List ℕ) → AreBytes (dig text)) where
     so-of : (proofs : List (List ℕ)) → AreSo dig h anchors proofs
@@ -117,7 +117,7 @@ module _ (dig : List ℕ → List ℕ) (anchors : List Thread) (h : History) whe
         (λ fact. inl (shown-received dig family (hops_of accepts.0) h.name (claim_of accepts.0) r shows.1 fact.0))
 
     module _ (sound : IsSound h) where
-      kept-of : (r : Receiving) → r.entry.thread.step ≤ length h.steps → IsKept dig h (adopted_by h r)
+      kept-of : (r : Receiving) → r.entry.thread.step ≤ length h.steps → IsAdoptedKept dig h (adopted_by h r)
       kept-of r within =
           let step : ℕ = r.entry.thread.step in
           let both = same-first_steps dig h step step (omega arith) within in
@@ -133,12 +133,12 @@ module _ (dig : List ℕ → List ℕ) (anchors : List Thread) (h : History) whe
           let r : Receiving = furthest is.0 is.1 in
           let one : IsGoodOne proofs r = good-one proofs is.0 is.1 is.2 in
           let within = (within-some dig h r.entry.thread.step r.entry.thread.auth one.2.1).0 in
-          subst (λ (b : Adopted). IsKept dig h b × IsOnly dig h b × IsShown dig h anchors proofs b × AreSo dig h anchors proofs) (sym is.3)
+          subst (λ (b : Adopted). IsAdoptedKept dig h b × IsOnly dig h b × IsAdoptionShown dig h anchors proofs b × AreSo dig h anchors proofs) (sym is.3)
           (kept-of r within, only-of r within, shown-of proofs r one, so-of proofs)
 
   -- ---- the answer, by what was found
 
-  pub taken-answer : (proofs : List (List ℕ)) (t : Receiving) (result : Result Adopted AdoptFault) → IsWeighed dig anchors h proofs (Ok t) → IsTaken h t result → IsAdoption dig anchors h proofs result
+  pub taken-answer : (proofs : List (List ℕ)) (t : Receiving) (result : Result Adopted AdoptFault) → IsWeighed dig anchors h proofs (Ok t) → IsHistoryTaken h t result → IsAdoption dig anchors h proofs result
   taken-answer proofs t (Ok a) weighed taken = (weighed.0, weighed.1, weighed.2, taken ∙ ap (adopted_by h) weighed.3)
   taken-answer proofs t (Err NoMemory) weighed taken = tt
   taken-answer proofs t (Err (Part number reason)) weighed taken = absurd taken
@@ -158,15 +158,15 @@ module _ (dig : List ℕ → List ℕ) (anchors : List Thread) (h : History) whe
   one_told bytes one other =
       ap (λ (p : Proof). receiving_of h.name (claim_of p)) ((unambiguous proof_codec proof-lawful).one_value bytes one.0 other.0 one.1 other.1)
 
-  one-apart : (number : ℕ) (bytes : List ℕ) (t : Receiving) (fault : AdoptFault) → IsGood dig anchors h bytes t → IsFault dig anchors h number bytes fault → ⊥
+  one-apart : (number : ℕ) (bytes : List ℕ) (t : Receiving) (fault : AdoptFault) → IsGood dig anchors h bytes t → IsAdoptFault dig anchors h number bytes fault → ⊥
   one-apart number bytes t (Part n reason) good bad = let never = bad.1.0 good.0.0 in false≢true never.0
   one-apart number bytes t (Stranger n) good bad = none-some t (sym bad.1.1 ∙ one_told bytes bad.1.0 good.0.0 ∙ good.0.1)
   one-apart number bytes t (Differs n step held found) good bad =
       let other = bad.1 in
       let same : t ≡ other.shown = same_Some t other.shown (sym good.0.1 ∙ one_told bytes good.0.0 other.shows.0 ∙ other.shows.1) in
-      let there : auth_within dig h other.shown.entry.thread.step ≡ Some other.shown.entry.thread.auth =
-      subst (λ (u : Receiving). auth_within dig h u.entry.thread.step ≡ Some u.entry.thread.auth) same good.1 in
-      other.differs (other.found_is ∙ ap (auth_within dig h) other.step_is ∙ there ∙ ap (λ (auth : List ℕ). Some auth) (sym other.held_is))
+      let there : auth_up_to dig h other.shown.entry.thread.step ≡ Some other.shown.entry.thread.auth =
+      subst (λ (u : Receiving). auth_up_to dig h u.entry.thread.step ≡ Some u.entry.thread.auth) same good.1 in
+      other.differs (other.found_is ∙ ap (auth_up_to dig h) other.step_is ∙ there ∙ ap (λ (auth : List ℕ). Some auth) (sym other.held_is))
   one-apart number bytes t NoMemory good bad = bad
 
   pub good-faultless : (number : ℕ) (proofs : List (List ℕ)) (told : List Receiving) (fault : AdoptFault) → AreGood dig anchors h proofs told → IsFirstFault dig anchors h number proofs fault → ⊥

@@ -13,7 +13,7 @@ use Rattle.tw_chain.specs.Reasons.{IsVerdict}
 use Rattle.tw_adopt.specs.declared.adopted.AdoptFault.{AdoptFault}
 use Rattle.tw_adopt.specs.declared.adopted.AdoptFault.TheVariants.{Stranger}
 use Rattle.tw_adopt.specs.declared.receiving.Receiving.{Receiving}
-use Rattle.tw_adopt.specs.Adopting.{IsFault, Shows, receiving_of}
+use Rattle.tw_adopt.specs.Adopting.{IsAdoptFault, ShowsReceiving, receiving_of}
 use Rattle.tw_adopt.specs.Hearing.{AreHeard, IsHeard, heard_of}
 
 module _ (dig : List ℕ → List ℕ) (anchors : List Thread) (h : History) where
@@ -31,7 +31,7 @@ module _ (dig : List ℕ → List ℕ) (anchors : List Thread) (h : History) whe
       by (Some t) some = (is.0, sym claims ∙ some)
 
   -- one more shows something
-  heard-push : (number : ℕ) (proofs : List (List ℕ)) (shown : List Receiving) (bytes : List ℕ) (t : Receiving) → AreHeard dig anchors h number proofs shown None → Shows dig anchors h bytes t
+  heard-push : (number : ℕ) (proofs : List (List ℕ)) (shown : List Receiving) (bytes : List ℕ) (t : Receiving) → AreHeard dig anchors h number proofs shown None → ShowsReceiving dig anchors h bytes t
       → AreHeard dig anchors h number (proofs ++ bytes ∷ []) (shown ++ t ∷ []) None
   heard-push number [] [] bytes t heard one = (one, tt)
   heard-push number [] (u ∷ shown) bytes t heard one = absurd heard
@@ -40,22 +40,22 @@ module _ (dig : List ℕ → List ℕ) (anchors : List Thread) (h : History) whe
 
   -- the next one has a fault
   heard-stop : (number at : ℕ) (proofs rest : List (List ℕ)) (shown : List Receiving) (bytes : List ℕ) (fault : AdoptFault) → AreHeard dig anchors h number proofs shown None
-      → at ≡ number + length proofs → IsFault dig anchors h at bytes fault → AreHeard dig anchors h number (proofs ++ bytes ∷ rest) shown (Some fault)
-  heard-stop number at [] rest [] bytes fault heard is bad = subst (λ n. IsFault dig anchors h n bytes fault) (let e : at ≡ number = omega (arith, is) in e) bad
+      → at ≡ number + length proofs → IsAdoptFault dig anchors h at bytes fault → AreHeard dig anchors h number (proofs ++ bytes ∷ rest) shown (Some fault)
+  heard-stop number at [] rest [] bytes fault heard is bad = subst (λ n. IsAdoptFault dig anchors h n bytes fault) (let e : at ≡ number = omega (arith, is) in e) bad
   heard-stop number at [] rest (u ∷ shown) bytes fault heard is bad = absurd heard
   heard-stop number at (p ∷ proofs) rest [] bytes fault heard is bad = absurd heard
   heard-stop number at (p ∷ proofs) rest (u ∷ shown) bytes fault heard is bad =
       (heard.0, heard-stop (number + 1) at proofs rest shown bytes fault heard.1 (omega (arith, is)) bad)
 
   pub heard-more : (proofs : List (List ℕ)) (i : ℕ) (bytes : List ℕ) (shown more : List Receiving) (t : Receiving) → i < length proofs → AreHeard dig anchors h 1 (take i proofs) shown None
-      → bytes ≡ get_or proofs i bytes → Shows dig anchors h bytes t → more ≡ shown ++ t ∷ [] → AreHeard dig anchors h 1 (take (i + 1) proofs) more None
+      → bytes ≡ get_or proofs i bytes → ShowsReceiving dig anchors h bytes t → more ≡ shown ++ t ∷ [] → AreHeard dig anchors h 1 (take (i + 1) proofs) more None
   heard-more proofs i bytes shown more t inside heard is one pushed =
       let next : take (i + 1) proofs ≡ take i proofs ++ bytes ∷ [] = take_more proofs i bytes inside ∙ ap (λ (b : List ℕ). take i proofs ++ b ∷ []) (sym is) in
       subst (λ (ps : List (List ℕ)). AreHeard dig anchors h 1 ps more None) (sym next)
       (subst (λ (ts : List Receiving). AreHeard dig anchors h 1 (take i proofs ++ bytes ∷ []) ts None) (sym pushed) (heard-push 1 (take i proofs) shown bytes t heard one))
 
   pub heard-fault : (proofs : List (List ℕ)) (i : ℕ) (bytes : List ℕ) (shown : List Receiving) (fault : AdoptFault) → i < length proofs → AreHeard dig anchors h 1 (take i proofs) shown None
-      → bytes ≡ get_or proofs i bytes → IsFault dig anchors h (i + 1) bytes fault → AreHeard dig anchors h 1 proofs shown (Some fault)
+      → bytes ≡ get_or proofs i bytes → IsAdoptFault dig anchors h (i + 1) bytes fault → AreHeard dig anchors h 1 proofs shown (Some fault)
   heard-fault proofs i bytes shown fault inside heard is bad =
       let behind : drop i proofs ≡ bytes ∷ drop (i + 1) proofs = drop_more proofs i bytes inside ∙ ap (λ (b : List ℕ). b ∷ drop (i + 1) proofs) (sym is) in
       let whole : take i proofs ++ bytes ∷ drop (i + 1) proofs ≡ proofs = ap (λ (ps : List (List ℕ)). take i proofs ++ ps) (sym behind) ∙ take-append-drop i proofs in

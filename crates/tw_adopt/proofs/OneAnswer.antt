@@ -22,9 +22,9 @@ use Rattle.tw_adopt.specs.declared.adopted.AdoptFault.{AdoptFault}
 use Rattle.tw_adopt.specs.declared.adopted.AdoptFault.TheVariants.{Part, Stranger, Differs, NoMemory}
 use Rattle.tw_adopt.specs.declared.adopted.Adopted.{Adopted}
 use Rattle.tw_adopt.specs.declared.receiving.Receiving.{Receiving}
-use Rattle.tw_adopt.specs.Adopting.{AreGood, IsAdoption, IsFault, IsFirstFault, IsGood, IsOther, Shows, ShowsNone, adopted_by, furthest, receiving_of}
-use Rattle.tw_adopt.specs.FirstSteps.{auth_within}
-use Rattle.tw_adopt.specs.Stops.{is_found}
+use Rattle.tw_adopt.specs.Adopting.{AreGood, IsAdoptFault, IsAdoption, IsFirstFault, IsGood, IsOther, ShowsNoReceiving, ShowsReceiving, adopted_by, furthest, receiving_of}
+use Rattle.tw_adopt.specs.FirstSteps.{auth_up_to}
+use Rattle.tw_adopt.specs.Stops.{is_auth_found}
 use Rattle.tw_adopt.proofs.AdoptionLaws.{good-faultless}
 use Rattle.tw_adopt.proofs.LowestReasons.{lowest_once}
 use Rattle.tw_adopt.proofs.WeighingLaws.{found-is, found-not}
@@ -60,10 +60,10 @@ module _ (dig : List ℕ → List ℕ) (anchors : List Thread) (h : History) whe
   claim_once : (bytes : List ℕ) (one other : Accepts dig anchors bytes) → receiving_of h.name (claim_of one.0) ≡ receiving_of h.name (claim_of other.0)
   claim_once bytes one other = ap (λ (p : Proof). receiving_of h.name (claim_of p)) (one_value proof_layout bytes one.0 other.0 one.1 other.1)
 
-  shown_once : (bytes : List ℕ) (r s : Receiving) → Shows dig anchors h bytes r → Shows dig anchors h bytes s → r ≡ s
+  shown_once : (bytes : List ℕ) (r s : Receiving) → ShowsReceiving dig anchors h bytes r → ShowsReceiving dig anchors h bytes s → r ≡ s
   shown_once bytes r s one other = same_Some r s (sym one.1 ∙ claim_once bytes one.0 other.0 ∙ other.1)
 
-  shown_not_none : (bytes : List ℕ) (r : Receiving) → Shows dig anchors h bytes r → ShowsNone dig anchors h bytes → ⊥
+  shown_not_none : (bytes : List ℕ) (r : Receiving) → ShowsReceiving dig anchors h bytes r → ShowsNoReceiving dig anchors h bytes → ⊥
   shown_not_none bytes r one none = none-some r (sym none.1 ∙ claim_once bytes none.0 one.0 ∙ one.1)
 
   not_rejected : (bytes : List ℕ) (reason : Reason) → Accepts dig anchors bytes → IsVerdict dig anchors false bytes (No reason) → ⊥
@@ -76,10 +76,10 @@ module _ (dig : List ℕ → List ℕ) (anchors : List Thread) (h : History) whe
       let steps : step ≡ step' = one.step_is ∙ ap (λ (r : Receiving). r.entry.thread.step) same ∙ sym other.step_is in (
         steps,
         one.held_is ∙ ap (λ (r : Receiving). r.entry.thread.auth) same ∙ sym other.held_is,
-        one.found_is ∙ ap (auth_within dig h) steps ∙ sym other.found_is,
+        one.found_is ∙ ap (auth_up_to dig h) steps ∙ sym other.found_is,
       )
 
-  fault_once : (number : ℕ) (bytes : List ℕ) (f g : AdoptFault) → IsFault dig anchors h number bytes f → IsFault dig anchors h number bytes g → f ≡ g
+  fault_once : (number : ℕ) (bytes : List ℕ) (f g : AdoptFault) → IsAdoptFault dig anchors h number bytes f → IsAdoptFault dig anchors h number bytes g → f ≡ g
   fault_once number bytes (Part n reason) (Part m other) one also = (
       let numbers = one.0 ∙ sym also.0 in
       let reasons = lowest_once dig anchors false bytes reason other one.1.1 also.1.1 in
@@ -103,7 +103,7 @@ module _ (dig : List ℕ → List ℕ) (anchors : List Thread) (h : History) whe
   fault_once number bytes (Stranger n) NoMemory one also = absurd also
   fault_once number bytes (Differs n step held found) NoMemory one also = absurd also
 
-  good_not_fault : (number : ℕ) (bytes : List ℕ) (r : Receiving) (fault : AdoptFault) → IsGood dig anchors h bytes r → IsFault dig anchors h number bytes fault → ⊥
+  good_not_fault : (number : ℕ) (bytes : List ℕ) (r : Receiving) (fault : AdoptFault) → IsGood dig anchors h bytes r → IsAdoptFault dig anchors h number bytes fault → ⊥
   good_not_fault number bytes r fault good bad = good-faultless dig anchors h number (bytes ∷ []) (r ∷ []) fault (good, tt) (inl bad)
 
   -- ---- all of them
@@ -128,30 +128,30 @@ module _ (dig : List ℕ → List ℕ) (anchors : List Thread) (h : History) whe
   first_fault_once number (bytes ∷ proofs) f g (inr one) (inr other) = first_fault_once (number + 1) proofs f g one.2 other.2
 
   -- one of both stands
-  good-or-fault : (number : ℕ) (bytes : List ℕ) → ((r : Receiving) × IsGood dig anchors h bytes r) ⊎ ((fault : AdoptFault) × IsFault dig anchors h number bytes fault)
+  good-or-fault : (number : ℕ) (bytes : List ℕ) → ((r : Receiving) × IsGood dig anchors h bytes r) ⊎ ((fault : AdoptFault) × IsAdoptFault dig anchors h number bytes fault)
   good-or-fault number bytes = elim (accepted-or-not dig anchors bytes) [
     | inl accepts ↦ by accepts (receiving_of h.name (claim_of accepts.0)) refl
     | inr rejected ↦ inr (Part number rejected.0, (refl, rejected.1))
   ]
     where
-      agrees : (r : Receiving) → Shows dig anchors h bytes r → (b : Bool) → is_found (auth_within dig h r.entry.thread.step) r.entry.thread.auth ≡ b
-          → ((r : Receiving) × IsGood dig anchors h bytes r) ⊎ ((fault : AdoptFault) × IsFault dig anchors h number bytes fault)
-      agrees r shows true test = inl (r, (shows, found-is (auth_within dig h r.entry.thread.step) r.entry.thread.auth test))
+      agrees : (r : Receiving) → ShowsReceiving dig anchors h bytes r → (b : Bool) → is_auth_found (auth_up_to dig h r.entry.thread.step) r.entry.thread.auth ≡ b
+          → ((r : Receiving) × IsGood dig anchors h bytes r) ⊎ ((fault : AdoptFault) × IsAdoptFault dig anchors h number bytes fault)
+      agrees r shows true test = inl (r, (shows, found-is (auth_up_to dig h r.entry.thread.step) r.entry.thread.auth test))
       agrees r shows false test =
-          let other : IsOther dig anchors h bytes r.entry.thread.step r.entry.thread.auth (auth_within dig h r.entry.thread.step) = record {
+          let other : IsOther dig anchors h bytes r.entry.thread.step r.entry.thread.auth (auth_up_to dig h r.entry.thread.step) = record {
             shown = r;
             shows = shows;
             step_is = refl;
             held_is = refl;
             found_is = refl;
-            differs = found-not (auth_within dig h r.entry.thread.step) r.entry.thread.auth test;
+            differs = found-not (auth_up_to dig h r.entry.thread.step) r.entry.thread.auth test;
           } in
-          inr (Differs number r.entry.thread.step r.entry.thread.auth (auth_within dig h r.entry.thread.step), (refl, other))
+          inr (Differs number r.entry.thread.step r.entry.thread.auth (auth_up_to dig h r.entry.thread.step), (refl, other))
 
       by : (accepts : Accepts dig anchors bytes) → (shown : Option Receiving) → receiving_of h.name (claim_of accepts.0) ≡ shown
-          → ((r : Receiving) × IsGood dig anchors h bytes r) ⊎ ((fault : AdoptFault) × IsFault dig anchors h number bytes fault)
+          → ((r : Receiving) × IsGood dig anchors h bytes r) ⊎ ((fault : AdoptFault) × IsAdoptFault dig anchors h number bytes fault)
       by accepts None none = inr (Stranger number, (refl, (accepts, none)))
-      by accepts (Some r) some = agrees r (accepts, some) (is_found (auth_within dig h r.entry.thread.step) r.entry.thread.auth) refl
+      by accepts (Some r) some = agrees r (accepts, some) (is_auth_found (auth_up_to dig h r.entry.thread.step) r.entry.thread.auth) refl
 
   pub all-or-fault : (number : ℕ) (proofs : List (List ℕ))
       → ((shown : List Receiving) × AreGood dig anchors h proofs shown) ⊎ ((fault : AdoptFault) × IsFirstFault dig anchors h number proofs fault)

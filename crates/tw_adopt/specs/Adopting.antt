@@ -8,7 +8,7 @@ use Rattle.tw_base.specs.history.History.{History}
 use Rattle.tw_chain.specs.declared.verdict.Verdict.TheVariants.{No}
 use Rattle.tw_chain.specs.Accepting.{Accepts, claim_of}
 use Rattle.tw_chain.specs.Reasons.{IsVerdict}
-use Rattle.tw_adopt.specs.FirstSteps.{auth_within, first_steps}
+use Rattle.tw_adopt.specs.FirstSteps.{auth_up_to, first_steps}
 use Rattle.tw_adopt.specs.declared.adopted.AdoptFault.{AdoptFault}
 use Rattle.tw_adopt.specs.declared.adopted.AdoptFault.TheVariants.{Part, Stranger, Differs, NoMemory}
 use Rattle.tw_adopt.specs.declared.adopted.Adopted.{Adopted}
@@ -40,33 +40,33 @@ adopted_by h r = record {
 
 module _ (dig : List ℕ → List ℕ) (anchors : List Thread) (h : History) where
   -- the bytes are those of an accepted proof, which claims that a thread of the history's service was received like this
-  abbrev pub Shows : List ℕ → Receiving → Type 0
-  Shows bytes r = (accepts : Accepts dig anchors bytes) × (receiving_of h.name (claim_of accepts.0) ≡ Some r)
+  abbrev pub ShowsReceiving : List ℕ → Receiving → Type 0
+  ShowsReceiving bytes r = (accepts : Accepts dig anchors bytes) × (receiving_of h.name (claim_of accepts.0) ≡ Some r)
 
   -- they are those of an accepted proof, which claims nothing like it
-  abbrev pub ShowsNone : List ℕ → Type 0
-  ShowsNone bytes = (accepts : Accepts dig anchors bytes) × (receiving_of h.name (claim_of accepts.0) ≡ None)
+  abbrev pub ShowsNoReceiving : List ℕ → Type 0
+  ShowsNoReceiving bytes = (accepts : Accepts dig anchors bytes) × (receiving_of h.name (claim_of accepts.0) ≡ None)
 
   -- the proof shows this, and the history has the thread's authenticator at the thread's step
   abbrev pub IsGood : List ℕ → Receiving → Type 0
-  IsGood bytes r = Shows bytes r × (auth_within dig h r.entry.thread.step ≡ Some r.entry.thread.auth)
+  IsGood bytes r = ShowsReceiving bytes r × (auth_up_to dig h r.entry.thread.step ≡ Some r.entry.thread.auth)
 
   -- the proof shows that the service had this authenticator at this step, where the history has another one, or no such step
   pub record IsOther (bytes : List ℕ) (step : ℕ) (held : List ℕ) (found : Option (List ℕ)) : Type 0 where
     pub shown : Receiving
-    pub shows : Shows bytes shown
+    pub shows : ShowsReceiving bytes shown
     pub step_is : step ≡ shown.entry.thread.step
     pub held_is : held ≡ shown.entry.thread.auth
-    pub found_is : found ≡ auth_within dig h step
+    pub found_is : found ≡ auth_up_to dig h step
     pub differs : found ≢ Some held
 
   -- the fault of the proof with this number: it isn't accepted, for the lowest reason that stands; it claims nothing of a thread of
   -- the history's service; or the history has another authenticator at the thread's step, or no such step
-  abbrev pub IsFault : (number : ℕ) → List ℕ → AdoptFault → Type 0
-  IsFault number bytes (Part n reason) = (n ≡ number) × IsVerdict dig anchors false bytes (No reason)
-  IsFault number bytes (Stranger n) = (n ≡ number) × ShowsNone bytes
-  IsFault number bytes (Differs n step held found) = (n ≡ number) × IsOther bytes step held found
-  IsFault number bytes NoMemory = ⊥
+  abbrev pub IsAdoptFault : (number : ℕ) → List ℕ → AdoptFault → Type 0
+  IsAdoptFault number bytes (Part n reason) = (n ≡ number) × IsVerdict dig anchors false bytes (No reason)
+  IsAdoptFault number bytes (Stranger n) = (n ≡ number) × ShowsNoReceiving bytes
+  IsAdoptFault number bytes (Differs n step held found) = (n ≡ number) × IsOther bytes step held found
+  IsAdoptFault number bytes NoMemory = ⊥
 
   -- each of the proofs is good, and they show these
   abbrev pub AreGood : List (List ℕ) → List Receiving → Type 0
@@ -78,7 +78,7 @@ module _ (dig : List ℕ → List ℕ) (anchors : List Thread) (h : History) whe
   abbrev pub IsFirstFault : (number : ℕ) → List (List ℕ) → AdoptFault → Type 0
   IsFirstFault number [] fault = ⊥
   IsFirstFault number (bytes ∷ proofs) fault =
-      IsFault number bytes fault ⊎ ((r : Receiving) × IsGood bytes r × IsFirstFault (number + 1) proofs fault)
+      IsAdoptFault number bytes fault ⊎ ((r : Receiving) × IsGood bytes r × IsFirstFault (number + 1) proofs fault)
 
   -- what is answered of the proofs: where each is good, how far the history is taken over by what they show; else the fault of the
   -- first that isn't. Want of memory is free

@@ -14,11 +14,11 @@ use Rattle.tw_adopt.specs.FirstSteps.{Same}
 use Rattle.tw_adopt.specs.declared.adopted.AdoptFault.{AdoptFault}
 use Rattle.tw_adopt.specs.declared.adopted.Adopted.{Adopted}
 use Rattle.tw_adopt.specs.declared.receiving.Receiving.{Receiving}
-use Rattle.tw_adopt.specs.Adopting.{Shows}
+use Rattle.tw_adopt.specs.Adopting.{ShowsReceiving}
 
 module _ (dig : List ℕ → List ℕ) (h : History) where
   -- what is taken over is sound, and the same as the history up to its own last step, where both have one authenticator
-  pub record IsKept (a : Adopted) : Type 0 where
+  pub record IsAdoptedKept (a : Adopted) : Type 0 where
     pub sound : IsSound a.history
     pub last : length a.history.steps ≡ a.upto
     pub same : Same h a.history a.upto
@@ -40,20 +40,20 @@ module _ (dig : List ℕ → List ℕ) (h : History) where
 
   module _ (anchors : List Thread) (proofs : List (List ℕ)) where
     -- one of the proofs shows that
-    pub record IsShown (a : Adopted) : Type 0 where
+    pub record IsAdoptionShown (a : Adopted) : Type 0 where
       pub bytes : List ℕ
       pub among : In bytes proofs
-      pub shows : Shows dig anchors h bytes (last_receiving a)
+      pub shows : ShowsReceiving dig anchors h bytes (last_receiving a)
 
     -- what any of the proofs shows is so: in every family of sound histories that has the threads held of the proof, the thread was
     -- received by that service and at that step; or two texts of the family and of the proof clash
     abbrev pub AreSo : Type 0
     AreSo =
-        (bytes : List ℕ) (r : Receiving) → In bytes proofs → (shows : Shows dig anchors h bytes r)
+        (bytes : List ℕ) (r : Receiving) → In bytes proofs → (shows : ShowsReceiving dig anchors h bytes r)
         → (family : List History) → AllSound family → HasThreads dig family (held anchors shows.0.0)
         → OrClash dig (family_texts dig family ++ proof_texts dig shows.0.0) (WasReceived family r.by r.entry.archived r.entry)
 
     -- where the history is taken over, all of that is so
     abbrev pub BindsAdoption : Result Adopted AdoptFault → Type 0
-    BindsAdoption (Ok a) = IsKept a × IsOnly a × IsShown a × AreSo
+    BindsAdoption (Ok a) = IsAdoptedKept a × IsOnly a × IsAdoptionShown a × AreSo
     BindsAdoption (Err fault) = Unit {0}

@@ -11,8 +11,8 @@ abbrev pub first_steps : History → (count : ℕ) → History
 first_steps h count = record { name = h.name; steps = take count h.steps }
 
 -- the history's authenticator of this step, 0 its beginning; none above its last step
-abbrev pub auth_within : (dig : List ℕ → List ℕ) → History → (step : ℕ) → Option (List ℕ)
-auth_within dig h step = if nat_le step (length h.steps) then Some (auth dig h step) else None
+abbrev pub auth_up_to : (dig : List ℕ → List ℕ) → History → (step : ℕ) → Option (List ℕ)
+auth_up_to dig h step = if nat_le step (length h.steps) then Some (auth dig h step) else None
 
 -- what step j records, its events or the thread that it received, where the history has it
 abbrev pub content_at : History → (j : ℕ) → Option Content

@@ -6,7 +6,7 @@ ghost use Rattle.tw_base.specs.history.Sound.{IsSound};
 ghost use Rattle.tw_adopt.specs.Adopting.{IsAdoption};
 ghost use Rattle.tw_adopt.specs.Binding.{BindsAdoption};
 ghost use Rattle.tw_adopt.specs.Hearing.{AreHeard};
-ghost use Rattle.tw_adopt.specs.Stops.{IsTaken};
+ghost use Rattle.tw_adopt.specs.Stops.{IsHistoryTaken};
 
 use crate::adopted::{AdoptFault, Adopted, ProofList};
 use crate::front::first_steps;
@@ -20,7 +20,7 @@ use tw_history::History;
 /// The history, taken over up to the thread that was received.
 fn taken_by(alloc: Global, history: &History, receiving: &Receiving) -> Result<Adopted, AdoptFault>
     requires { receiving.now.entry.thread.step ≤ length history.now.steps }
-    ensures { IsTaken history.now receiving.now result }
+    ensures { IsHistoryTaken history.now receiving.now result }
 {
     let upto = receiving.entry.thread.step;
     match first_steps(alloc, history, upto) {

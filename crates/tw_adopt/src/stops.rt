@@ -3,7 +3,7 @@
 ghost use Rattle.std.specs.Prelude.{◌≡◌, ◌<◌, ◌≤◌, length, IfOk, OnOk};
 ghost use Rattle.tw_base.specs.kinds.Lists.{Each};
 ghost use Rattle.tw_history.specs.PassSteps.{HasPassed};
-ghost use Rattle.tw_adopt.specs.Stops.{AnswersFor, HasStops, stopped_at};
+ghost use Rattle.tw_adopt.specs.Stops.{AnswersForShown, HasStopsShown, stop_shown_at};
 
 use crate::receiving::Receiving;
 use std::alloc::Global;
@@ -84,8 +84,8 @@ fn pass_to<T: Transcript>(
 ) -> Result<(), NoMemory>
     requires inside { last ≤ length history.now.steps }
     requires passed { HasPassed T.dig history.now 0 digests.old }
-    requires stops { HasStops T.dig history.now shown.now stops.old.items 0 }
-    ensures { OnOk result (HasStops T.dig history.now shown.now stops.new.items last) }
+    requires stops { HasStopsShown T.dig history.now shown.now stops.old.items 0 }
+    ensures { OnOk result (HasStopsShown T.dig history.now shown.now stops.new.items last) }
 {
     let mut at = 0;
     while at < last {
@@ -107,7 +107,7 @@ pub(crate) fn stops_of<H: Hasher>(
     history: &History,
     shown: &[Receiving],
 ) -> Result<Vec<Stop>, NoMemory>
-    ensures { IfOk result (λ stops. AnswersFor H.dig history.now shown.now stops.items) }
+    ensures { IfOk result (λ stops. AnswersForShown H.dig history.now shown.now stops.items) }
 {
     let mut texts = Unwritten::<H>::new();
     let mut digests = begin_pass(alloc, history, &mut texts)?;
@@ -123,7 +123,7 @@ pub(crate) fn stops_of<H: Hasher>(
 
 /// The authenticator that was kept at the step.
 pub(crate) fn stop_at(stops: &[Stop], step: u64) -> Option<Digest>
-    ensures { result ≡ stopped_at stops.now step }
+    ensures { result ≡ stop_shown_at stops.now step }
 {
     for stop in stops {
         if stop.step == step {

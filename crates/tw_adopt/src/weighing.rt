@@ -5,7 +5,7 @@ ghost use Rattle.tw_base.specs.declared.history.thread.Thread.{Thread};
 ghost use Rattle.tw_base.specs.history.History.{History as HistoryMeant};
 ghost use Rattle.tw_adopt.specs.Adopting.{further as further_of, furthest as furthest_of};
 ghost use Rattle.tw_adopt.specs.Hearing.{AreHeard, IsWeighed};
-ghost use Rattle.tw_adopt.specs.Stops.{AnswersFor, differing, is_found as is_found_of};
+ghost use Rattle.tw_adopt.specs.Stops.{AnswersForShown, differing, is_auth_found};
 ghost use Rattle.tw_adopt.specs.declared.adopted.AdoptFault.{AdoptFault as FaultMeant};
 ghost use Rattle.tw_adopt.specs.declared.receiving.Receiving.{Receiving as ReceivingMeant};
 
@@ -19,7 +19,7 @@ use tw_history::History;
 
 /// Whether this is the authenticator that was found.
 fn is_found(found: &Option<Digest>, held: &Digest) -> bool
-    ensures { result ≡ is_found_of found.now held.now }
+    ensures { result ≡ is_auth_found found.now held.now }
 {
     match found {
         None => false,
@@ -29,7 +29,7 @@ fn is_found(found: &Option<Digest>, held: &Digest) -> bool
 
 /// The fault of the first proof from which the history differs, by what was kept of it at each step shown.
 fn first_differing(shown: &[Receiving], stops: &[Stop]) -> Option<AdoptFault>
-    ensures { (dig : List ℕ → List ℕ) (h : HistoryMeant) → AnswersFor dig h shown.now stops.now → result ≡ differing dig h 1 shown.now }
+    ensures { (dig : List ℕ → List ℕ) (h : HistoryMeant) → AnswersForShown dig h shown.now stops.now → result ≡ differing dig h 1 shown.now }
 {
     for (index, one) in shown.iter().enumerate() {
         let thread = &one.entry.thread;
@@ -96,9 +96,9 @@ fn agreed(heard: &Heard) -> Result<Receiving, AdoptFault>
 fn decide(heard: &Heard, stops: &[Stop]) -> Result<Receiving, AdoptFault>
     requires { heard.now.fault ≡ None → 0 < length heard.now.shown.items }
     ensures weighed { (dig : List ℕ → List ℕ) (anchors : List Thread) (h : HistoryMeant) (proofs : List (List ℕ)) →
-        AreHeard dig anchors h 1 proofs heard.now.shown.items heard.now.fault → AnswersFor dig h heard.now.shown.items stops.now →
+        AreHeard dig anchors h 1 proofs heard.now.shown.items heard.now.fault → AnswersForShown dig h heard.now.shown.items stops.now →
         IsWeighed dig anchors h proofs result }
-    ensures inside { (dig : List ℕ → List ℕ) (h : HistoryMeant) → AnswersFor dig h heard.now.shown.items stops.now →
+    ensures inside { (dig : List ℕ → List ℕ) (h : HistoryMeant) → AnswersForShown dig h heard.now.shown.items stops.now →
         IfOk result (λ r. r.entry.thread.step ≤ length h.steps) }
 {
     match first_differing(heard.shown.as_slice(), stops) {

@@ -9,7 +9,7 @@ use Rattle.tw_base.specs.kinds.Lists.{Each}
 use Rattle.tw_base.proofs.lemmas.kinds.ListLemmas.{Each-get_or}
 use Rattle.tw_base.specs.declared.kinds.limits.TheConstants.{MOST_EVENT_BYTES}
 use Rattle.tw_base.specs.history.Limits.{MayRecord}
-use Rattle.tw_answers.specs.Limits.{bytes_of, first_long}
+use Rattle.tw_answers.specs.Limits.{events_size, first_long}
 
 -- where no event is longer than 1,024 bytes, each is at most so long
 pub none_long : (events : List (List ℕ)) → first_long events ≡ None → Each (λ event. length event ≤ MOST_EVENT_BYTES) events
@@ -20,7 +20,7 @@ none_long (event ∷ events) none =
     cases (nat_lt MOST_EVENT_BYTES (length event)) refl none
 
 -- and together they have at most so many bytes
-pub bytes-short : (events : List (List ℕ)) → Each (λ event. length event ≤ MOST_EVENT_BYTES) events → bytes_of events ≤ MOST_EVENT_BYTES * length events
+pub bytes-short : (events : List (List ℕ)) → Each (λ event. length event ≤ MOST_EVENT_BYTES) events → events_size events ≤ MOST_EVENT_BYTES * length events
 bytes-short [] short = lit≤ tt
 bytes-short (event ∷ events) short = omega (arith, short.0, bytes-short events short.1, sum_by-cons (λ (e : List ℕ). length e) event events)
 

@@ -7,31 +7,31 @@ use Rattle.tw_disk.specs.Answers.{IsShared, SaysOf, is_of_disk}
 use Rattle.tw_skiplist.specs.ListFaults.{list_faults}
 use Rattle.tw_disk.specs.Found.{Found, ◌>>=◌}
 use Rattle.tw_disk.specs.Found.Found.{Is, Bad}
-use Rattle.tw_answers.specs.Finds.{IsRefusalOf}
-use Rattle.tw_answers.specs.Refusals.{IsBadPage, IsFault, IsNoEvent, OfBadPage, refusal_of, refusals}
+use Rattle.tw_answers.specs.Finds.{IsRefusalFound}
+use Rattle.tw_answers.specs.Refusals.{IsBadPageRefusal, IsFault, IsNoEvent, OfBadPage, list_refusal, service_refusals}
 use Rattle.tw_answers.specs.declared.refusal.Refusal.{Refusal}
 use Rattle.tw_answers.specs.declared.refusal.Refusal.TheVariants.{NoEvent, BadPage, DiskFault, NoMemory}
 
 -- ---- faults of the list
 
 -- what a fault of the list says, it says as a refusal
-pub same_sort : (fault : ListFault) → refusals (refusal_of fault) ≡ list_faults fault
+pub same_sort : (fault : ListFault) → service_refusals (list_refusal fault) ≡ list_faults fault
 same_sort (list.NoStep n) = refl
 same_sort (list.BadPage page) = refl
 same_sort list.DiskFault = refl
 same_sort list.NoMemory = refl
 
 -- one that isn't of the arguments is a fault of the service
-pub fault_own : {T : Type 0} (result : Result T Refusal) (fault : ListFault) → IsErrAnd result (λ r. r ≡ refusal_of fault) → IsShared (list_faults fault) → IfErr result (λ r. IsFault r ⊎ IsNoEvent r)
+pub fault_own : {T : Type 0} (result : Result T Refusal) (fault : ListFault) → IsErrAnd result (λ r. r ≡ list_refusal fault) → IsShared (list_faults fault) → IfErr result (λ r. IsFault r ⊎ IsNoEvent r)
 fault_own (Ok x) fault is shared = absurd is
 fault_own (Err r) fault is shared = inl (subst IsFault (sym is) (of fault shared))
   where
-    of : (f : ListFault) → IsShared (list_faults f) → IsFault (refusal_of f)
+    of : (f : ListFault) → IsShared (list_faults f) → IsFault (list_refusal f)
     of (list.NoStep n) shared = absurd shared
     of _ shared = tt
 
 -- a refusal that tells of the disk is a fault
-pub of_disk : (r : Refusal) → is_of_disk (refusals r) ≡ true → IsFault r
+pub of_disk : (r : Refusal) → is_of_disk (service_refusals r) ≡ true → IsFault r
 of_disk (BadPage page) is = tt
 of_disk DiskFault is = tt
 of_disk NoMemory is = tt
@@ -45,36 +45,36 @@ module _ {X Y : Type 0} where
 
 module _ {X : Type 0} where
   -- the page of a fault
-  pub page_found : (fault : ListFault) (refusal : Refusal) (found : Found X) → refusal ≡ refusal_of fault → SaysOf list_faults (list_faults fault) found → OfBadPage refusal (λ page. found ≡ Bad page)
+  pub page_found : (fault : ListFault) (refusal : Refusal) (found : Found X) → refusal ≡ list_refusal fault → SaysOf list_faults (list_faults fault) found → OfBadPage refusal (λ page. found ≡ Bad page)
   page_found fault refusal found is there = subst (λ (r : Refusal). OfBadPage r (λ page. found ≡ Bad page)) (sym is) (of fault there)
     where
-      of : (f : ListFault) → SaysOf list_faults (list_faults f) found → OfBadPage (refusal_of f) (λ page. found ≡ Bad page)
+      of : (f : ListFault) → SaysOf list_faults (list_faults f) found → OfBadPage (list_refusal f) (λ page. found ≡ Bad page)
       of (list.BadPage page) there = there
       of _ there = tt
 
   -- a bad page where a value is found
-  pub no_bad_page : (refusal : Refusal) (found : Found X) (x : X) → found ≡ Is x → OfBadPage refusal (λ page. found ≡ Bad page) → IsBadPage refusal → ⊥
+  pub no_bad_page : (refusal : Refusal) (found : Found X) (x : X) → found ≡ Is x → OfBadPage refusal (λ page. found ≡ Bad page) → IsBadPageRefusal refusal → ⊥
   no_bad_page (BadPage page) found x is bad fault = let both : Is x ≡ Bad page = sym is ∙ bad in cc
   no_bad_page _ found x is bad fault = fault
 
   -- ---- refusals
 
   -- a refusal of a table
-  pub table_found : (refusal : Refusal) (found : Found (Result X Refusal)) → (IsFault refusal → ⊥) → found ≡ Is (Err refusal) → IsRefusalOf refusal found
+  pub table_found : (refusal : Refusal) (found : Found (Result X Refusal)) → (IsFault refusal → ⊥) → found ≡ Is (Err refusal) → IsRefusalFound refusal found
   table_found (BadPage page) found told is = absurd (told tt)
   table_found DiskFault found told is = tt
   table_found NoMemory found told is = tt
   table_found _ found told is = is
 
   -- a fault's page, after more was found
-  pub fault_page : (refusal : Refusal) (found : Found (Result X Refusal)) → IsFault refusal → OfBadPage refusal (λ page. found ≡ Bad page) → IsRefusalOf refusal found
+  pub fault_page : (refusal : Refusal) (found : Found (Result X Refusal)) → IsFault refusal → OfBadPage refusal (λ page. found ≡ Bad page) → IsRefusalFound refusal found
   fault_page (BadPage page) found fault bad = bad
   fault_page DiskFault found fault bad = tt
   fault_page NoMemory found fault bad = tt
   fault_page _ found fault bad = absurd fault
 
   -- where a value is found, no refusal is, but for what is excepted
-  pub value_found : (refusal : Refusal) (found : Found (Result X Refusal)) (x : X) → found ≡ Is (Ok x) → IsRefusalOf refusal found → (IsFault refusal ⊎ IsNoEvent refusal) → (IsBadPage refusal → ⊥) × (IsNoEvent refusal → ⊥)
+  pub value_found : (refusal : Refusal) (found : Found (Result X Refusal)) (x : X) → found ≡ Is (Ok x) → IsRefusalFound refusal found → (IsFault refusal ⊎ IsNoEvent refusal) → (IsBadPageRefusal refusal → ⊥) × (IsNoEvent refusal → ⊥)
   value_found (BadPage page) found x is there of = (let both : ◌≡◌ {A = Found (Result X Refusal)} (Is (Ok x)) (Bad page) = sym is ∙ there in absurd cc)
   value_found (NoEvent count) found x is there of = (let both : ◌≡◌ {A = Found (Result X Refusal)} (Is (Ok x)) (Is (Err (NoEvent count))) = sym is ∙ there in absurd cc)
   value_found DiskFault found x is there of = ((λ bad. bad), (λ none. none))
@@ -83,8 +83,8 @@ module _ {X : Type 0} where
   value_found _ found x is there (inr none) = absurd none
 
   -- where a refusal of no event is found, no page is bad, and no other such refusal is told
-  pub no_event_found : (refusal : Refusal) (found : Found (Result X Refusal)) (n : ℕ) → found ≡ Is (Err (NoEvent n)) → IsRefusalOf refusal found → (IsFault refusal ⊎ IsNoEvent refusal)
-      → (IsBadPage refusal → ⊥) × (IsNoEvent refusal → refusal ≡ NoEvent n)
+  pub no_event_found : (refusal : Refusal) (found : Found (Result X Refusal)) (n : ℕ) → found ≡ Is (Err (NoEvent n)) → IsRefusalFound refusal found → (IsFault refusal ⊎ IsNoEvent refusal)
+      → (IsBadPageRefusal refusal → ⊥) × (IsNoEvent refusal → refusal ≡ NoEvent n)
   no_event_found (BadPage page) found n is there of = (let both : ◌≡◌ {A = Found (Result X Refusal)} (Is (Err (NoEvent n))) (Bad page) = sym is ∙ there in absurd cc)
   no_event_found (NoEvent count) found n is there of =
       let both : ◌≡◌ {A = Found (Result X Refusal)} (Is (Err (NoEvent n))) (Is (Err (NoEvent count))) = sym is ∙ there in
@@ -95,10 +95,10 @@ module _ {X : Type 0} where
   no_event_found _ found n is there (inr none) = absurd none
 
 -- a disk fault tells of the disk
-pub of_disk_fault : (r : Refusal) → r ≡ DiskFault → is_of_disk (refusals r) ≡ true
-of_disk_fault r is = ap (λ (q : Refusal). is_of_disk (refusals q)) is
+pub of_disk_fault : (r : Refusal) → r ≡ DiskFault → is_of_disk (service_refusals r) ≡ true
+of_disk_fault r is = ap (λ (q : Refusal). is_of_disk (service_refusals q)) is
 
 -- no page is bad where a value is found
-pub no_bad_found : {X : Type 0} (refusal : Refusal) (found : Found (Result X Refusal)) (x : X) → found ≡ Is (Ok x) → IsRefusalOf refusal found → IsBadPage refusal → ⊥
+pub no_bad_found : {X : Type 0} (refusal : Refusal) (found : Found (Result X Refusal)) (x : X) → found ≡ Is (Ok x) → IsRefusalFound refusal found → IsBadPageRefusal refusal → ⊥
 no_bad_found {X} (BadPage page) found x is there bad = (let both : ◌≡◌ {A = Found (Result X Refusal)} (Is (Ok x)) (Bad page) = sym is ∙ there in absurd cc)
 no_bad_found _ found x is there bad = bad

@@ -3,8 +3,8 @@ use Rattle.std.proofs.Common.{◌≡◌, ℕ, ◌<◌, List, length, ap, sym, su
 use Rattle.std.specs.Prelude.{Option, Some, None, if◌then◌else◌, nat_le, nat_lt, ◌&&◌}
 use Rattle.std.proofs.lemmas.Bool.{lt-ltb}
 use Rattle.tw_base.specs.declared.kinds.limits.TheConstants.{LAST_STEP, MOST_EVENTS, MOST_STEP_BYTES}
-use Rattle.tw_answers.specs.Refusals.{IsBadPage, IsFault, IsNoEvent}
-use Rattle.tw_answers.specs.Limits.{append_refusal, bytes_of, clock_refusal, event_refusal, first_long, full_refusal, is_in_order, length_refusal, limits_refusal, link_refusal, or_else, order_refusal, thread_refusal, top_refusal}
+use Rattle.tw_answers.specs.Refusals.{IsBadPageRefusal, IsFault, IsNoEvent}
+use Rattle.tw_answers.specs.Limits.{append_refusal, clock_refusal, event_refusal, events_size, first_long, full_refusal, is_in_order, length_refusal, limits_refusal, link_refusal, or_else, order_refusal, thread_refusal, top_refusal}
 use Rattle.tw_answers.specs.declared.refusal.Refusal.{Refusal}
 use Rattle.tw_answers.specs.declared.refusal.Refusal.TheVariants.{NoStep, NoEvent, TooMany, TooLong, Full, ClockBack, BadPage, Reopen}
 
@@ -54,7 +54,7 @@ unfolding append_refusal limits_refusal
 append_told steps clock events time =
     of_or IsTold (full_refusal steps) _ (of_if IsTold (nat_le LAST_STEP steps) (Some Full) None ((λ is. is), (λ is. cc)) tt)
     (of_or IsTold (limits_refusal events) _
-    (of_if IsTold (nat_lt MOST_EVENTS (length events)) (Some (TooMany (length events))) (length_refusal (first_long events) (bytes_of events)) (is_told_count (length events)) (lengths_told (first_long events) (bytes_of events)))
+    (of_if IsTold (nat_lt MOST_EVENTS (length events)) (Some (TooMany (length events))) (length_refusal (first_long events) (events_size events)) (is_told_count (length events)) (lengths_told (first_long events) (events_size events)))
     (clock_told clock time))
 
 of_weaker : (P Q : Refusal → Type 0) → ((r : Refusal) → P r → Q r) → (o : Option Refusal) → Of P o → Of Q o
@@ -106,7 +106,7 @@ top_no_fault false last top = of_weaker IsTold NoFault (λ r is. is.0) _ (top_to
 
 -- ---- a bad page and a disk fault are faults
 
-pub is_bad_fault : (r : Refusal) → IsBadPage r → IsFault r
+pub is_bad_fault : (r : Refusal) → IsBadPageRefusal r → IsFault r
 is_bad_fault (BadPage page) is = tt
 is_bad_fault _ is = absurd is
 

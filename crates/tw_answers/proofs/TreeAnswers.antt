@@ -18,14 +18,14 @@ use Rattle.tw_rbtree.specs.declared.fault.TreeFault.{TreeFault}
 use Rattle.tw_rbtree.specs.declared.fault.TreeFault.TheVariants.{Present, Untrue, BadPage, DiskFault, NoMemory}
 use Rattle.tw_rbtree.specs.Answers.{AnswersPath, IsSoAt, NeverPresent}
 use Rattle.tw_rbtree.specs.FaultWords.{tree_faults}
-use Rattle.tw_rbtree.specs.Paths.{found_path, proof_of_way, shown_of}
-use Rattle.tw_rbtree.specs.Standing.{StandsFor}
-use Rattle.tw_rbtree.specs.Ways.{end_of, nowhere, way}
+use Rattle.tw_rbtree.specs.Paths.{found_tree_path, proof_of_way, shown_of}
+use Rattle.tw_rbtree.specs.Standing.{StandsForTree}
+use Rattle.tw_rbtree.specs.Ways.{end_of_way, nowhere, way}
 use Rattle.tw_rbtree.proofs.RootWays.{root-way, so-found}
 use Rattle.tw_base.specs.history.Tree.{Tree, entries}
 use Rattle.tw_treeproof.specs.Making.{IsSo, proof_of}
 use Rattle.tw_answers.specs.Finds.{is_so_at, same_entry, tree_shown}
-use Rattle.tw_answers.specs.Refusals.{IsFault, refusal_of_tree, refusals}
+use Rattle.tw_answers.specs.Refusals.{IsFault, refusal_of_tree, service_refusals}
 
 -- ---- whether what is asked is so
 
@@ -62,30 +62,30 @@ not_so-at (ask.Above key) met differs = absurd (differs tt)
 -- ---- what is shown
 
 module _ (dig : List ℕ → List ℕ) (ps : Image) (root : Root) (asked : Ask) where
-  pub shown-told : (tree : TreeProof) → AnswersPath asked (Ok tree) (found_path dig ps asked root) → tree_shown dig ps root asked ≡ Is tree
+  pub shown-told : (tree : TreeProof) → AnswersPath asked (Ok tree) (found_tree_path dig ps asked root) → tree_shown dig ps root asked ≡ Is tree
   unfolding tree_shown
   shown-told tree is =
-      is_on (found_path dig ps asked root) (λ shown. when (is_so_at asked shown.met) root.page shown.proof) (record { met = is.0; proof = tree }) is.1
+      is_on (found_tree_path dig ps asked root) (λ shown. when (is_so_at asked shown.met) root.page shown.proof) (record { met = is.0; proof = tree }) is.1
       ∙ ap (λ (b : Bool). when b root.page tree) (so-at asked is.0 is.2)
 
   -- a refused call says of the pages what it found in them
-  pub shown-says : (fault : TreeFault) → NeverPresent {T = TreeProof} (Err fault) → AnswersPath asked (Err fault) (found_path dig ps asked root)
-      → SaysOf refusals (refusals (refusal_of_tree root fault)) (tree_shown dig ps root asked)
+  pub shown-says : (fault : TreeFault) → NeverPresent {T = TreeProof} (Err fault) → AnswersPath asked (Err fault) (found_tree_path dig ps asked root)
+      → SaysOf service_refusals (service_refusals (refusal_of_tree root fault)) (tree_shown dig ps root asked)
   unfolding tree_shown
   shown-says Present never is = absurd never
   shown-says Untrue never is =
-      is_on (found_path dig ps asked root) (λ shown. when (is_so_at asked shown.met) root.page shown.proof) is.0 is.1 ∙ ap (λ (b : Bool). when b root.page is.0.proof) (not_so-at asked is.0.met is.2)
-  shown-says (BadPage page) never is = bad_ends (found_path dig ps asked root) (λ shown. when (is_so_at asked shown.met) root.page shown.proof) page is
+      is_on (found_tree_path dig ps asked root) (λ shown. when (is_so_at asked shown.met) root.page shown.proof) is.0 is.1 ∙ ap (λ (b : Bool). when b root.page is.0.proof) (not_so-at asked is.0.met is.2)
+  shown-says (BadPage page) never is = bad_ends (found_tree_path dig ps asked root) (λ shown. when (is_so_at asked shown.met) root.page shown.proof) page is
   shown-says DiskFault never is = tt
   shown-says NoMemory never is = tt
 
   -- pages that stand for a tree show the tree's own proof of what is so
-  pub shown-stands : (t : Tree) → StandsFor dig ps root t → IsSo (entries t) asked → tree_shown dig ps root asked ≡ Is (proof_of dig t asked)
-  unfolding tree_shown found_path
+  pub shown-stands : (t : Tree) → StandsForTree dig ps root t → IsSo (entries t) asked → tree_shown dig ps root asked ≡ Is (proof_of dig t asked)
+  unfolding tree_shown found_tree_path
   shown-stands t stands so =
       let w = root-way dig ps asked root t stands in
-      let end = end_of nowhere w.stops in
-      is_on (found_path dig ps asked root) (λ shown. when (is_so_at asked shown.met) root.page shown.proof) (shown_of dig w.stops) (is_on (way dig ps asked root) (λ stops. Is (shown_of dig stops)) w.stops w.found)
+      let end = end_of_way nowhere w.stops in
+      is_on (found_tree_path dig ps asked root) (λ shown. when (is_so_at asked shown.met) root.page shown.proof) (shown_of dig w.stops) (is_on (way dig ps asked root) (λ stops. Is (shown_of dig stops)) w.stops w.found)
       ∙ ap (λ (b : Bool). when b root.page (proof_of_way dig w.stops)) (so-at asked end.met ((so-found dig ps root t asked end w.tells).0 so))
       ∙ ap (λ (p : TreeProof). Is p) w.proof
 
@@ -101,7 +101,7 @@ module _ (root : Root) where
   tree-fault NoMemory = tt
 
   -- it tells of a failed device call where the insert does
-  pub tree-failed : (fault : TreeFault) → is_of_disk (refusals (refusal_of_tree root fault)) ≡ is_of_disk (tree_faults fault)
+  pub tree-failed : (fault : TreeFault) → is_of_disk (service_refusals (refusal_of_tree root fault)) ≡ is_of_disk (tree_faults fault)
   tree-failed Present = refl
   tree-failed Untrue = refl
   tree-failed (BadPage page) = refl

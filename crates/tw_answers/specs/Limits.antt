@@ -26,8 +26,8 @@ abbrev pub first_long : List (List ℕ) → Option (List ℕ)
 first_long events = find (λ event. nat_lt MOST_EVENT_BYTES (length event)) events
 
 -- the bytes of all events
-abbrev pub bytes_of : List (List ℕ) → ℕ
-bytes_of events = sum_by (λ event. length event) events
+abbrev pub events_size : List (List ℕ) → ℕ
+events_size events = sum_by (λ event. length event) events
 
 abbrev pub length_refusal : (long : Option (List ℕ)) → (bytes : ℕ) → Option Refusal
 length_refusal (Some event) bytes = Some (TooLong (length event))
@@ -36,7 +36,7 @@ length_refusal None bytes = if nat_lt MOST_STEP_BYTES bytes then Some (TooLong b
 -- events beyond the limits of a step: more than 1,024; one longer than 1,024 bytes, the first such one; more than 65,536 bytes in all
 unfoldable pub limits_refusal : List (List ℕ) → Option Refusal
 limits_refusal events =
-    if nat_lt MOST_EVENTS (length events) then Some (TooMany (length events)) else length_refusal (first_long events) (bytes_of events)
+    if nat_lt MOST_EVENTS (length events) then Some (TooMany (length events)) else length_refusal (first_long events) (events_size events)
 
 -- the given time is below the greatest one so far
 abbrev pub clock_refusal : (clock time : Option ℕ) → Option Refusal

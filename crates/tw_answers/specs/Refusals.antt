@@ -14,18 +14,18 @@ use Rattle.tw_rbtree.specs.declared.fault.TreeFault.TheVariants as tree
 use Rattle.tw_answers.specs.declared.refusal.Refusal.TheVariants.{NoStep, NoEvent, NoThread, HasThread, BadPage, DiskFault, NoMemory, TooLong}
 
 -- what each refusal says: of a page, of the disk, of memory, and all others of a table
-abbrev pub refusals : Refusal → FaultSort
-refusals (BadPage page) = OfPage page
-refusals DiskFault = OfDisk
-refusals NoMemory = OfMemory
-refusals _ = OfCall
+abbrev pub service_refusals : Refusal → FaultSort
+service_refusals (BadPage page) = OfPage page
+service_refusals DiskFault = OfDisk
+service_refusals NoMemory = OfMemory
+service_refusals _ = OfCall
 
 -- what a list's fault is to the service
-abbrev pub refusal_of : ListFault → Refusal
-refusal_of (list.NoStep last) = NoStep last
-refusal_of (list.BadPage page) = BadPage page
-refusal_of list.DiskFault = DiskFault
-refusal_of list.NoMemory = NoMemory
+abbrev pub list_refusal : ListFault → Refusal
+list_refusal (list.NoStep last) = NoStep last
+list_refusal (list.BadPage page) = BadPage page
+list_refusal list.DiskFault = DiskFault
+list_refusal list.NoMemory = NoMemory
 
 -- of a page, the disk or memory, and of no table
 abbrev pub IsFault : Refusal → Type 0
@@ -68,9 +68,9 @@ IsNoEvent (NoEvent _) = Unit {0}
 IsNoEvent _ = ⊥
 
 -- that a page isn't of its kind, or that the page read last doesn't fit the others
-abbrev pub IsBadPage : Refusal → Type 0
-IsBadPage (BadPage _) = Unit {0}
-IsBadPage _ = ⊥
+abbrev pub IsBadPageRefusal : Refusal → Type 0
+IsBadPageRefusal (BadPage _) = Unit {0}
+IsBadPageRefusal _ = ⊥
 
 -- what holds of the page of a bad page
 abbrev pub OfBadPage : Refusal → (ℕ → Type 0) → Type 0

@@ -5,7 +5,7 @@ ghost use Rattle.std.specs.Option.{option_map};
 ghost use Rattle.tw_base.specs.declared.kinds.limits.TheConstants.{LAST_TIME};
 ghost use Rattle.tw_base.specs.kinds.Bytes.{AreBytes};
 ghost use Rattle.tw_base.specs.kinds.Lists.{Each};
-ghost use Rattle.tw_answers.specs.Limits.{bytes_of, clock_refusal as clock_refusal_of, first_long, append_refusal as append_refusal_of, archive_refusal as archive_refusal_of, event_refusal as event_refusal_of, limits_refusal as limits_refusal_of, link_refusal as link_refusal_of, order_refusal as order_refusal_of, own_refusal as own_refusal_of, thread_refusal as thread_refusal_of, top_refusal as top_refusal_of};
+ghost use Rattle.tw_answers.specs.Limits.{events_size, clock_refusal as clock_refusal_of, first_long, append_refusal as append_refusal_of, archive_refusal as archive_refusal_of, event_refusal as event_refusal_of, limits_refusal as limits_refusal_of, link_refusal as link_refusal_of, order_refusal as order_refusal_of, own_refusal as own_refusal_of, thread_refusal as thread_refusal_of, top_refusal as top_refusal_of};
 ghost use Rattle.tw_base.specs.history.Limits.{MayRecord};
 
 use crate::refusal::Refusal;
@@ -65,8 +65,8 @@ fn first_long_length(events: &[Bytes]) -> Option<u64>
 
 /// The bytes of all events.
 fn total_bytes(events: &[Bytes]) -> u64
-    requires { bytes_of events.now < 2 ^ 64 }
-    ensures { result ≡ bytes_of events.now }
+    requires { events_size events.now < 2 ^ 64 }
+    ensures { result ≡ events_size events.now }
 {
     let mut bytes = 0;
     for event in events {

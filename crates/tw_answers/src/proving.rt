@@ -5,8 +5,8 @@ ghost use Rattle.tw_base.specs.history.Limits.{MayRecord};
 ghost use Rattle.tw_chain.specs.declared.proof.Proof.TheVariants.{Linked};
 ghost use Rattle.tw_chain.specs.Proofs.{proof_bytes as bytes_of_proof};
 ghost use Rattle.tw_disk.specs.Answers.{ReadsOr};
-ghost use Rattle.tw_answers.specs.Refusals.{IsFault, IsNoEvent, refusals};
-ghost use Rattle.tw_answers.specs.Finds.{event_proof, link_of, link_proof as link_proof_of, part_of, path_down as path_down_of, proof_bytes};
+ghost use Rattle.tw_answers.specs.Refusals.{IsFault, IsNoEvent, service_refusals};
+ghost use Rattle.tw_answers.specs.Finds.{event_proof, event_proof_bytes, link_proof as link_proof_of, link_to_step, part_to_step, path_down as path_down_of};
 
 use crate::limits::event_refusal;
 use crate::refusal::Refusal;
@@ -21,7 +21,7 @@ use tw_skipproof::{ExistenceProof, Part, Path, write_existence};
 
 /// The part of the step under the top.
 pub fn part_under(name: &Name, top: u64, proof: StepProof) -> Part
-    ensures { result ≡ part_of name.now top proof }
+    ensures { result ≡ part_to_step name.now top proof }
 {
     let StepProof { path, info } = proof;
     Part {
@@ -46,7 +46,7 @@ fn write_event<H: Hasher>(
     requires index { index < proof.info.count }
     requires count { length events.now ≡ proof.info.count }
     requires limits { MayRecord events.now }
-    ensures bytes { IfOk result (λ bytes. bytes ≡ proof_bytes H.dig name.now top index proof events.now) }
+    ensures bytes { IfOk result (λ bytes. bytes ≡ event_proof_bytes H.dig name.now top index proof events.now) }
 {
     let index = index_below(index, proof.info.count);
     let event = event_part::<H>(alloc, events.as_slice(), index)?;
@@ -77,7 +77,7 @@ pub fn make_proof<P: Pages, H: Hasher>(
     requires from { 1 ≤ step }
     requires order { step ≤ top }
     requires last { top ≤ head.now.step }
-    ensures reads { ReadsOr refusals P.view P.same pages.old pages.new (λ bytes. bytes) result (IfErr result (λ refusal. IsFault refusal ⊎ IsNoEvent refusal))
+    ensures reads { ReadsOr service_refusals P.view P.same pages.old pages.new (λ bytes. bytes) result (IfErr result (λ refusal. IsFault refusal ⊎ IsNoEvent refusal))
         (λ ps. event_proof H.dig ps name.now head.now step index top) }
 {
     let proof = prove::<P, H>(alloc, pages, head, top, step)?;
@@ -90,7 +90,7 @@ pub fn make_proof<P: Pages, H: Hasher>(
 
 /// The proof of the step's authenticator under the top.
 fn link_proof(name: &Name, step: u64, top: u64, link: StepLink) -> LinkProof
-    ensures { result ≡ link_of name.now step top link }
+    ensures { result ≡ link_to_step name.now step top link }
 {
     let StepLink { path, auth } = link;
     LinkProof {
@@ -110,7 +110,7 @@ fn write_link(
     top: u64,
     link: StepLink,
 ) -> Result<Bytes, NoMemory>
-    ensures { IfOk result (λ bytes. bytes ≡ bytes_of_proof (Linked (link_of name.now step top link))) }
+    ensures { IfOk result (λ bytes. bytes ≡ bytes_of_proof (Linked (link_to_step name.now step top link))) }
 {
     let proof = Proof::Linked(link_proof(name, step, top, link));
     let bytes = write_proof(alloc, &proof);
@@ -131,7 +131,7 @@ pub fn make_link<P: Pages, H: Hasher>(
     requires short { head.now.step ≤ LAST_STEP }
     requires order { step ≤ top }
     requires last { top ≤ head.now.step }
-    ensures reads { ReadsOr refusals P.view P.same pages.old pages.new (λ bytes. bytes) result (IfErr result IsFault)
+    ensures reads { ReadsOr service_refusals P.view P.same pages.old pages.new (λ bytes. bytes) result (IfErr result IsFault)
         (λ ps. link_proof_of H.dig ps name.now head.now step top) }
 {
     let found = link::<P, H>(alloc, pages, head, top, step)?;
@@ -148,7 +148,7 @@ pub fn path_down<P: Pages, H: Hasher>(
 ) -> Result<Path, Refusal>
     requires short { head.now.step ≤ LAST_STEP }
     requires order { since ≤ head.now.step }
-    ensures reads { ReadsOr refusals P.view P.same pages.old pages.new (λ path. path) result (IfErr result IsFault)
+    ensures reads { ReadsOr service_refusals P.view P.same pages.old pages.new (λ path. path) result (IfErr result IsFault)
         (λ ps. path_down_of H.dig ps head.now since) }
     ensures bound { IfOk result (λ path. (digits : ℕ) → head.now.step < 2 ^ digits → length path.links ≤ 2 * digits) }
 {

@@ -1,7 +1,7 @@
 // Why a service refuses a call.
 
 ghost use Rattle.std.specs.Prelude.{◌≡◌, ◌↔◌, IsTrue};
-ghost use Rattle.tw_answers.specs.Refusals.{refusal_of, refusal_of_tree as refusal_of_tree_fault};
+ghost use Rattle.tw_answers.specs.Refusals.{list_refusal, refusal_of_tree as refusal_of_tree_fault};
 
 use tw_base::{Digest, NoMemory, Root};
 use tw_disk::WalkFault;
@@ -80,7 +80,7 @@ pub enum Refusal {
 }
 
 impl From<ListFault> for Refusal {
-    ghost from_gives = { λ fault refusal. refusal ≡ refusal_of fault };
+    ghost from_gives = { λ fault refusal. refusal ≡ list_refusal fault };
 
     fn from(fault: ListFault) -> Self {
         match fault {

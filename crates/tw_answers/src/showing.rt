@@ -2,8 +2,8 @@
 
 ghost use Rattle.std.specs.Prelude.{◌≡◌, ◌⊎◌, ◌≤◌, IfErr, IfOk, Some};
 ghost use Rattle.tw_disk.specs.Answers.{ReadsOr, ReadsWhere};
-ghost use Rattle.tw_answers.specs.Finds.{absence_bytes, absence_proof, found_absence_of, found_thread_of, thread_bytes, thread_in, thread_proof, tree_shown};
-ghost use Rattle.tw_answers.specs.Refusals.{IsFault, IsHasThread, IsNoThread, refusals};
+ghost use Rattle.tw_answers.specs.Finds.{absence_bytes, absence_proof, entry_thread, found_absence_of, found_thread_of, thread_bytes, thread_proof, tree_shown};
+ghost use Rattle.tw_answers.specs.Refusals.{IsFault, IsHasThread, IsNoThread, service_refusals};
 
 use crate::proving::part_under;
 use crate::refusal::{Refusal, refusal_of_tree};
@@ -30,7 +30,7 @@ pub fn show<P: Pages, H: Hasher>(
     root: &Root,
     ask: &Ask,
 ) -> Result<TreeProof, Refusal>
-    ensures reads { ReadsWhere refusals P.view P.same pages.old pages.new (λ tree. tree) result (IfErr result IsFault)
+    ensures reads { ReadsWhere service_refusals P.view P.same pages.old pages.new (λ tree. tree) result (IfErr result IsFault)
         (λ ps. tree_shown H.dig ps root.now ask.now) }
 {
     match path::<P, H>(alloc, pages, root, ask) {
@@ -56,8 +56,8 @@ fn show_entry<P: Pages, H: Hasher>(
     root: &Root,
     entry: &Entry,
 ) -> Result<EntryShown, Refusal>
-    ensures reads { ReadsOr refusals P.view P.same pages.old pages.new (λ x. x) result (IfErr result (λ refusal. IsFault refusal ⊎ IsNoThread refusal))
-        (λ ps. thread_in H.dig ps root.now (Some entry.now)) }
+    ensures reads { ReadsOr service_refusals P.view P.same pages.old pages.new (λ x. x) result (IfErr result (λ refusal. IsFault refusal ⊎ IsNoThread refusal))
+        (λ ps. entry_thread H.dig ps root.now (Some entry.now)) }
 {
     let tree = show::<P, H>(alloc, pages, root, &Ask::Present(*entry))?;
     Ok(shown_as(entry, tree))
@@ -71,7 +71,7 @@ fn find_thread<P: Pages, H: Hasher>(
     root: &Root,
     key: &Key,
 ) -> Result<EntryShown, Refusal>
-    ensures reads { ReadsOr refusals P.view P.same pages.old pages.new (λ x. x) result (IfErr result (λ refusal. IsFault refusal ⊎ IsNoThread refusal))
+    ensures reads { ReadsOr service_refusals P.view P.same pages.old pages.new (λ x. x) result (IfErr result (λ refusal. IsFault refusal ⊎ IsNoThread refusal))
         (λ ps. found_thread_of H.dig ps root.now key.now) }
 {
     match get::<P, H>(pages, root, key)? {
@@ -87,7 +87,7 @@ fn show_thread<P: Pages, H: Hasher>(
     root: &Root,
     key: &Key,
 ) -> Result<EntryShown, Refusal>
-    ensures reads { ReadsOr refusals P.view P.same pages.old pages.new (λ x. x) result (IfErr result (λ refusal. IsFault refusal ⊎ IsNoThread refusal))
+    ensures reads { ReadsOr service_refusals P.view P.same pages.old pages.new (λ x. x) result (IfErr result (λ refusal. IsFault refusal ⊎ IsNoThread refusal))
         (λ ps. found_thread_of H.dig ps root.now key.now) }
 {
     let mut shelf = Shelf::new(alloc);
@@ -103,7 +103,7 @@ fn find_absence<P: Pages, H: Hasher>(
     root: &Root,
     key: &Key,
 ) -> Result<TreeProof, Refusal>
-    ensures reads { ReadsOr refusals P.view P.same pages.old pages.new (λ x. x) result (IfErr result (λ refusal. IsFault refusal ⊎ IsHasThread refusal))
+    ensures reads { ReadsOr service_refusals P.view P.same pages.old pages.new (λ x. x) result (IfErr result (λ refusal. IsFault refusal ⊎ IsHasThread refusal))
         (λ ps. found_absence_of H.dig ps root.now key.now) }
 {
     match get::<P, H>(pages, root, key)? {
@@ -121,7 +121,7 @@ fn show_absence<P: Pages, H: Hasher>(
     root: &Root,
     key: &Key,
 ) -> Result<TreeProof, Refusal>
-    ensures reads { ReadsOr refusals P.view P.same pages.old pages.new (λ x. x) result (IfErr result (λ refusal. IsFault refusal ⊎ IsHasThread refusal))
+    ensures reads { ReadsOr service_refusals P.view P.same pages.old pages.new (λ x. x) result (IfErr result (λ refusal. IsFault refusal ⊎ IsHasThread refusal))
         (λ ps. found_absence_of H.dig ps root.now key.now) }
 {
     let mut shelf = Shelf::new(alloc);
@@ -188,7 +188,7 @@ pub fn make_thread<P: Pages, H: Hasher>(
     requires from { 1 ≤ step }
     requires order { step ≤ top }
     requires last { top ≤ head.now.step }
-    ensures reads { ReadsOr refusals P.view P.same pages.old pages.new (λ bytes. bytes) result (IfErr result (λ refusal. IsFault refusal ⊎ IsNoThread refusal))
+    ensures reads { ReadsOr service_refusals P.view P.same pages.old pages.new (λ bytes. bytes) result (IfErr result (λ refusal. IsFault refusal ⊎ IsNoThread refusal))
         (λ ps. thread_proof H.dig ps name.now head.now step key.now top) }
 {
     let proof = prove::<P, H>(alloc, pages, head, top, step)?;
@@ -211,7 +211,7 @@ pub fn make_absence<P: Pages, H: Hasher>(
     requires from { 1 ≤ step }
     requires order { step ≤ top }
     requires last { top ≤ head.now.step }
-    ensures reads { ReadsOr refusals P.view P.same pages.old pages.new (λ bytes. bytes) result (IfErr result (λ refusal. IsFault refusal ⊎ IsHasThread refusal))
+    ensures reads { ReadsOr service_refusals P.view P.same pages.old pages.new (λ bytes. bytes) result (IfErr result (λ refusal. IsFault refusal ⊎ IsHasThread refusal))
         (λ ps. absence_proof H.dig ps name.now head.now step key.now top) }
 {
     let proof = prove::<P, H>(alloc, pages, head, top, step)?;

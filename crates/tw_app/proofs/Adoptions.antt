@@ -19,14 +19,14 @@ use Rattle.tw_adopt.specs.declared.adopted.Adopted.{Adopted}
 use Rattle.tw_adopt.specs.Adopting.{IsAdoption}
 use Rattle.tw_reachcmd.specs.declared.adopting.Taken.{Taken}
 use Rattle.tw_reachcmd.specs.declared.adopting.Taken.TheVariants.{File, Fault}
-use Rattle.tw_reachcmd.specs.Adopting.{AdoptComes, IsTaken}
+use Rattle.tw_reachcmd.specs.Adopting.{AdoptComes, IsAdoptionTaken}
 use Rattle.tw_reachcmd.specs.AdoptTexts.{taken_status, taken_text}
 use Rattle.tw_app.specs.declared.outcome.Outcome.{Outcome}
 use Rattle.tw_app.specs.Adoptions.{AsksAdoption, IsAdoptedRun, IsAdoptingRun, IsAdoptionOf, TakesOver}
 use Rattle.tw_app.specs.Around.{Around, Outside, Writes}
 use Rattle.tw_app.specs.Outcomes.{of_taken, outcome_by, status_of, text_of}
-use Rattle.tw_app.specs.Running.{Ends, EndsWith, HaveNoForm, IsOutcomeOf, IsUntouched, work}
-use Rattle.tw_app.specs.Statuses.{AreOf}
+use Rattle.tw_app.specs.Running.{EndsAllowed, EndsWith, HaveNoForm, IsDiskUntouched, IsOutcomeOf, work}
+use Rattle.tw_app.specs.Statuses.{AreWordsOf}
 use Rattle.tw_app.proofs.Commands.{fault_not_zero}
 use Rattle.tw_app.proofs.OneAdoption.{file_not_bad, file_not_broken}
 use Rattle.tw_app.proofs.ToldFiles.{good_not_bad, has_anchors_of}
@@ -57,7 +57,7 @@ adopts_by view o (Adopt history anchors proof more) outcome is came = record {
 }
 adopts_by view o _ outcome is came = absurd is
 
-module _ {D : Type 0} (view : D → DiskView) (a : Around D) (status : ℕ) (run : Ends view a status) (zeroth : status ≡ 0) where
+module _ {D : Type 0} (view : D → DiskView) (a : Around D) (status : ℕ) (run : EndsAllowed view a status) (zeroth : status ≡ 0) where
   abbrev ended_as : Outcome
   ended_as = run.0
 
@@ -88,10 +88,10 @@ module _ {D : Type 0} (view : D → DiskView) (a : Around D) (status : ℕ) (run
   of_result c is ad (Ok (Fault fault)) comes came = absurd (omega (arith, sym (ap status_of came) ∙ whole.0))
   of_result c is ad (Err f) comes came = absurd (fault_not_zero f (sym (ap status_of came) ∙ whole.0))
 
-  pub adopted : AreOf AsksAdoption a.words → IsAdoptedRun a.outside.inputs.told a.words a.taken.before a.taken.after
+  pub adopted : AreWordsOf AsksAdoption a.words → IsAdoptedRun a.outside.inputs.told a.words a.taken.before a.taken.after
   adopted asks = by (command_of a.words) refl run.1.has asks
     where
-      by : (option : Option Command) → command_of a.words ≡ option → MatchOption option (HaveNoForm a.words ended_as × IsUntouched view a.outside) (λ c. (work view a.outside c).does ended_as)
+      by : (option : Option Command) → command_of a.words ≡ option → MatchOption option (HaveNoForm a.words ended_as × IsDiskUntouched view a.outside) (λ c. (work view a.outside c).does ended_as)
           → MatchOption option ⊥ AsksAdoption → IsAdoptedRun a.outside.inputs.told a.words a.taken.before a.taken.after
       by None is has asks = absurd asks
       by (Some c) is has asks = let ad = adopts_by view a.outside c ended_as asks has in of_result c is ad ad.result ad.comes ad.is_outcome
@@ -118,7 +118,7 @@ module _ {D : Type 0} (view : D → DiskView) (a : Around D) (status : ℕ) (h :
   abbrev Ending : Type 0
   Ending = IsAdoptingRun a status h anchors proofs
 
-  by_taken : (taken : Taken) → IsTaken told anchors files taken h → Told a status h anchors proofs taken → Ending
+  by_taken : (taken : Taken) → IsAdoptionTaken told anchors files taken h → Told a status h anchors proofs taken → Ending
   by_taken (File bytes) over ended = inr (inl (by_file a status h anchors proofs bytes over.adopted over.file (over.answers proofs is.proofs_told) ended))
   by_taken (Fault fault) first ended = inr (inr (fault, first proofs is.proofs_told, ended))
 
@@ -129,8 +129,8 @@ module _ {D : Type 0} (view : D → DiskView) (a : Around D) (status : ℕ) (h :
       let held : comes.0 ≡ anchors = comes.1.same is.anchor_bytes is.anchors_told ∙ sym is.are_anchors.are in
       let of = comes.3.holds is.file_bytes is.history_told in
       let one : of.0 ≡ h = one_value history_layout is.file_bytes of.0 h of.1.spelled is.is_file.spelled in
-      let over : IsTaken told anchors files taken h =
-      subst (λ (g : History). IsTaken told anchors files taken g) one (subst (λ (t : List Thread). IsTaken told t files taken of.0) held of.2) in
+      let over : IsAdoptionTaken told anchors files taken h =
+      subst (λ (g : History). IsAdoptionTaken told anchors files taken g) one (subst (λ (t : List Thread). IsAdoptionTaken told t files taken of.0) held of.2) in
       by_taken taken over (ends.0 ∙ ap status_of came, subst (λ (o : Outcome). Writes a (text_of o)) came ends.1)
   by_result (Err command.InputFault) comes outcome came (inl ends) = inl (inl (ends.0 ∙ ap status_of came, comes))
   by_result (Err command.NoMemory) comes outcome came (inl ends) = inl (inr (inr (ends.0 ∙ ap status_of came)))
@@ -146,14 +146,14 @@ module _ {D : Type 0} (view : D → DiskView) (a : Around D) (status : ℕ) (h :
       absurd (file_not_broken is.file_bytes h step rule is.is_file (comes.2 is.file_bytes is.history_told))
 
   abbrev HasAt : Outcome → Option Command → Type 0
-  HasAt outcome option = MatchOption option (HaveNoForm a.words outcome × IsUntouched view a.outside) (λ c. (work view a.outside c).does outcome)
+  HasAt outcome option = MatchOption option (HaveNoForm a.words outcome × IsDiskUntouched view a.outside) (λ c. (work view a.outside c).does outcome)
 
   abbrev Came : Outcome → Type 0
   Came outcome =
-      IsOutcomeOf of_taken (λ (r : Result Taken CommandFault). AdoptComes a.outside.inputs is.history_file is.anchors_file files r × IsUntouched view a.outside) outcome
+      IsOutcomeOf of_taken (λ (r : Result Taken CommandFault). AdoptComes a.outside.inputs is.history_file is.anchors_file files r × IsDiskUntouched view a.outside) outcome
 
   by_outcome : (outcome : Outcome) → Came outcome → EndsWith a.taken a.sink_faults status outcome → Ending
   by_outcome outcome came ends = by_result came.0 came.1.0 outcome came.2 ends
 
-  pub adopts : Ends view a status → Ending
+  pub adopts : EndsAllowed view a status → Ending
   adopts run = by_outcome run.0 (subst (HasAt run.0) is.is_command run.1.has) run.1.ends

@@ -25,9 +25,9 @@ use Rattle.tw_app.specs.declared.outcome.Outcome.{Outcome}
 use Rattle.tw_app.specs.declared.outcome.Outcome.TheVariants.{Undone}
 use Rattle.tw_app.specs.Around.{Around, Outside}
 use Rattle.tw_app.specs.Outcomes.{of_accused, of_audited, of_fork, of_mapped, of_taken, outcome_by, status_of, text_of}
-use Rattle.tw_app.specs.Running.{Ends, EndsWith, HaveNoForm, IsUntouched, work}
+use Rattle.tw_app.specs.Running.{EndsAllowed, EndsWith, HaveNoForm, IsDiskUntouched, work}
 use Rattle.tw_app.specs.Audits.{AsksAudit, IsClashRun, IsStandingRun}
-use Rattle.tw_app.specs.Statuses.{AreOf, IsAnsweredRun}
+use Rattle.tw_app.specs.Statuses.{AreWordsOf, IsAnsweredRun}
 use Rattle.tw_app.proofs.Commands.{fault_not_zero}
 use Rattle.tw_app.proofs.Endings.{low_fault, not_joined, not_verdict}
 
@@ -76,14 +76,14 @@ asks_audit view o (CheckFork file anchors) text has = absurd (low_fork has.0 has
 asks_audit view o (CheckMap low high anchors) text has = absurd (low_map has.0 has.2)
 asks_audit view o _ text has = absurd (let is = has.2 in omega (arith, is))
 
-module _ {D : Type 0} (view : D → DiskView) (a : Around D) (status : ℕ) (run : Ends view a status) where
+module _ {D : Type 0} (view : D → DiskView) (a : Around D) (status : ℕ) (run : EndsAllowed view a status) where
   abbrev outcome : Outcome
   outcome = run.0
 
-  by_audit : {Q : Type 0} → AreOf AsksAudit a.words → ((c : Command) → command_of a.words ≡ Some c → Audits a.outside c outcome → Q) → Q
+  by_audit : {Q : Type 0} → AreWordsOf AsksAudit a.words → ((c : Command) → command_of a.words ≡ Some c → Audits a.outside c outcome → Q) → Q
   by_audit {Q} asks then = by (command_of a.words) refl run.1.has asks
     where
-      by : (option : Option Command) → command_of a.words ≡ option → MatchOption option (HaveNoForm a.words outcome × IsUntouched view a.outside) (λ c. (work view a.outside c).does outcome)
+      by : (option : Option Command) → command_of a.words ≡ option → MatchOption option (HaveNoForm a.words outcome × IsDiskUntouched view a.outside) (λ c. (work view a.outside c).does outcome)
           → MatchOption option ⊥ AsksAudit → Q
       by None is has asks = absurd asks
       by (Some c) is has asks = then c is (audits view a.outside c outcome asks has)
@@ -103,7 +103,7 @@ module _ {D : Type 0} (view : D → DiskView) (a : Around D) (status : ℕ) (run
       by (inl ends) = none (sym (ends.0 ∙ ap status_of is))
       by (inr cut) = other cut.0
 
-  pub stands : status ≡ 0 → AreOf AsksAudit a.words → IsStandingRun a.outside.inputs.told a.words a.taken.before a.taken.after
+  pub stands : status ≡ 0 → AreWordsOf AsksAudit a.words → IsStandingRun a.outside.inputs.told a.words a.taken.before a.taken.after
   stands zeroth asks = by_audit asks (λ c is au. of c is au au.result au.comes au.is_outcome)
     where
       other : status ≡ 4 → ⊥

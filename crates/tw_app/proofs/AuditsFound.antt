@@ -11,7 +11,7 @@ use Rattle.tw_base.specs.history.History.{History}
 use Rattle.tw_base.specs.kinds.Clash.{Clash as Clashing}
 use Rattle.tw_base.proofs.lemmas.kinds.ListLemmas.{Each-parts}
 use Rattle.tw_disk.specs.Disk.{DiskView}
-use Rattle.tw_outside.specs.Files.{Files, Tells}
+use Rattle.tw_outside.specs.Files.{Files, TellsBytes}
 use Rattle.tw_words.specs.declared.command.Command.{Command}
 use Rattle.tw_text.specs.Reports.{rejected_text, stands_text}
 use Rattle.tw_text.specs.declared.fault.CommandFault.{CommandFault}
@@ -32,7 +32,7 @@ use Rattle.tw_app.specs.declared.outcome.Outcome.{Outcome}
 use Rattle.tw_app.specs.Around.{Around, Writes}
 use Rattle.tw_app.specs.Audits.{EndsIn, FindsOf, IsAuditOf, IsFoundRun}
 use Rattle.tw_app.specs.Outcomes.{of_audited, outcome_by, status_of, text_of}
-use Rattle.tw_app.specs.Running.{Ends, EndsWith, HaveNoForm, IsOutcomeOf, IsUntouched, work}
+use Rattle.tw_app.specs.Running.{EndsAllowed, EndsWith, HaveNoForm, IsDiskUntouched, IsOutcomeOf, work}
 use Rattle.tw_app.proofs.OneFamily.{histories_not_bad, histories_once}
 use Rattle.tw_app.proofs.ToldFiles.{good_not_bad, has_anchors_of}
 
@@ -82,7 +82,7 @@ module _ {D : Type 0} (a : Around D) (status : ℕ) (bytes : List ℕ) (anchors 
       stands_of (Found (Clash one other digest)) means told apart = absurd (apart means.pair.clash.0)
       stands_of (Unheld t found) means told apart = absurd (missing-none family anchors p t found has means)
 
-  finds_of : (told : Option Files) (proof : List ℕ) (x : Audited) → Tells told proof bytes → IsAudited told proof anchors family x
+  finds_of : (told : Option Files) (proof : List ℕ) (x : Audited) → TellsBytes told proof bytes → IsAudited told proof anchors family x
       → Told x → FindsOf a status bytes anchors family
   finds_of told proof x tells audited ended = record {
     rejected = rejected_of x (audited.answers bytes tells) ended;
@@ -125,15 +125,15 @@ module _ {D : Type 0} (view : D → DiskView) (a : Around D) (status : ℕ) (byt
       absurd (histories_not_bad MOST_HISTORY_BYTES [] is.history_files is.history_bytes family (Unsound named step rule) is.are_histories (comes.2.1.is_bad is.history_bytes is.histories_told))
 
   abbrev HasAt : Outcome → Option Command → Type 0
-  HasAt outcome option = MatchOption option (HaveNoForm a.words outcome × IsUntouched view a.outside) (λ c. (work view a.outside c).does outcome)
+  HasAt outcome option = MatchOption option (HaveNoForm a.words outcome × IsDiskUntouched view a.outside) (λ c. (work view a.outside c).does outcome)
 
   abbrev Came : Outcome → Type 0
   Came outcome =
       IsOutcomeOf of_audited
-      (λ (r : Result Audited CommandFault). AuditComes a.outside.inputs is.proof_file is.anchors_file is.history_files r × IsUntouched view a.outside) outcome
+      (λ (r : Result Audited CommandFault). AuditComes a.outside.inputs is.proof_file is.anchors_file is.history_files r × IsDiskUntouched view a.outside) outcome
 
   by_outcome : (outcome : Outcome) → Came outcome → EndsWith a.taken a.sink_faults status outcome → Ending
   by_outcome outcome came ends = by_result came.0 came.1.0 outcome came.2 ends
 
-  pub finds : Ends view a status → Ending
+  pub finds : EndsAllowed view a status → Ending
   finds run = by_outcome run.0 (subst (HasAt run.0) is.is_command run.1.has) run.1.ends

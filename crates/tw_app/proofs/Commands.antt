@@ -21,13 +21,13 @@ use Rattle.tw_filecmd.specs.declared.joining.Joined.{Joined as JoinedProofs}
 use Rattle.tw_filecmd.specs.declared.joining.Joined.TheVariants.{Unfit}
 use Rattle.tw_filecmd.specs.Joining.{JoinComes}
 use Rattle.tw_filecmd.specs.Showing.{ShowComes}
-use Rattle.tw_filecmd.specs.Verifying.{HasAnchors, IsJudged, VerifyFileComes, VerifyOneComes}
+use Rattle.tw_filecmd.specs.Verifying.{HasAnchors, IsFileJudged, VerifyFileComes, VerifyOneComes}
 use Rattle.tw_diskcmd.specs.Asking.{AskComes}
 use Rattle.tw_pages.proofs.AtRest.{untouched_left}
 use Rattle.tw_diskcmd.specs.Leaves.{WritesNothing}
 use Rattle.tw_diskcmd.proofs.AtRest.{left_keeps}
 use Rattle.tw_diskcmd.proofs.StoreCommandLaws.{HasCauses, IsSafe}
-use Rattle.tw_diskcmd.specs.Disks.{IsLeft, IsOf, Keeps, ReadLeaves, ReadsAs}
+use Rattle.tw_diskcmd.specs.Disks.{IsImageOfHeads, IsLeft, KeepsFollowerDisk, ReadLeavesHistory, ReadsAsHeads}
 use Rattle.tw_diskcmd.specs.Receiving.{ReceiveComes, ReceiveLeaves, ReceiveSafe}
 use Rattle.tw_diskcmd.proofs.CommandLaws.{append_causes, append_is_safe, ask_causes, asking_is_safe, init_causes, init_is_safe, receive_causes, receive_is_safe}
 use Rattle.tw_diskcmd.specs.FollowerDisks.{IsOf as IsOfList, ReadsAs as ReadsAsList}
@@ -48,18 +48,18 @@ use Rattle.tw_reachcmd.specs.Maps.{CheckMapComes}
 use Rattle.tw_reachcmd.specs.Planning.{AtlasComes}
 use Rattle.tw_app.specs.declared.store.StoreAccess.{StoreAccess}
 use Rattle.tw_app.specs.declared.store.StoreAccess.TheVariants.{Read, Write}
-use Rattle.tw_app.specs.Around.{Outside, found_of}
+use Rattle.tw_app.specs.Around.{Outside, found_around}
 use Rattle.tw_app.specs.Commands.{IsOfFollower, IsSomeFile, NamesFile, question_of}
 use Rattle.tw_app.specs.Outcomes.{TakesMemory, outcome_by, status_of, text_of}
 use Rattle.tw_app.specs.Generating.{GenerateComes}
 use Rattle.tw_app.specs.Replaying.{ReplayComes}
-use Rattle.tw_app.specs.Running.{IsAnswerBy, IsDoneBy, IsOutcomeOf, IsUntouched, UsesDisk, Work, asking, by_results, over_files, work, writing}
-use Rattle.tw_app.specs.Statuses.{AreOf, GivesAnchors, IsVerify, is_strict, proof_file}
+use Rattle.tw_app.specs.Running.{IsAnswerBy, IsDiskUntouched, IsDoneBy, IsOutcomeOf, UsesDisk, Work, asking, by_results, over_files, work, writing_disk}
+use Rattle.tw_app.specs.Statuses.{AreWordsOf, GivesAnchors, IsVerify, is_strict, proof_file}
 
-pub of_option : (P : Command → Type 0) (words : List (List ℕ)) (c : Command) → command_of words ≡ Some c → P c → AreOf P words
+pub of_option : (P : Command → Type 0) (words : List (List ℕ)) (c : Command) → command_of words ≡ Some c → P c → AreWordsOf P words
 of_option P words c is holds = subst (λ o. MatchOption o ⊥ P) (sym is) holds
 
-pub of_words : (P : Command → Type 0) (words : List (List ℕ)) (c : Command) → command_of words ≡ Some c → AreOf P words → P c
+pub of_words : (P : Command → Type 0) (words : List (List ℕ)) (c : Command) → command_of words ≡ Some c → AreWordsOf P words → P c
 of_words P words c is holds = subst (λ o. MatchOption o ⊥ P) is holds
 
 pub fault_not_zero : (f : CommandFault) → fault_status f ≡ 0 → ⊥
@@ -173,7 +173,7 @@ pub record Judges (told : Option Files) (c : Command) (verdict : Verdict) : Type
   pub anchors : List Thread
   pub asked : proof_file c ≡ Some file
   pub given : GivesAnchors told c anchors
-  pub judged : IsJudged told file anchors (is_strict c) verdict
+  pub judged : IsFileJudged told file anchors (is_strict c) verdict
 
 -- the command asks for the proofs of files to be joined, and this part of them doesn't fit
 pub record LeavesGap (a : Asked) (c : Command) (place : ℕ) : Type 0 where
@@ -187,10 +187,10 @@ module _ {D : Type 0} (view : D → DiskView)
   abbrev Left : Type 0
   Left = IsLeft view o.disk.before o.disk.after
 
-  pub same_left : IsUntouched view o → Left
+  pub same_left : IsDiskUntouched view o → Left
   same_left is = untouched_left view o.disk.before o.disk.after only_now is
 
-  same_safe : IsUntouched view o → IsUntouched view o × Keeps view o.disk.before o.disk.after
+  same_safe : IsDiskUntouched view o → IsDiskUntouched view o × KeepsFollowerDisk view o.disk.before o.disk.after
   same_safe is = (is, left_keeps view o.disk.before o.disk.after (same_left is))
 
   -- that it is done, or why it isn't, by its outcome; each fault has its cause, a disk that reads as a history serves it, want of memory is
@@ -203,9 +203,9 @@ module _ {D : Type 0} (view : D → DiskView)
     pub undone : (f : CommandFault) → w.does (Undone f) → w.undone f
     pub input : w.undone InputFault → NamesFile c × Rose o.inputs.before o.inputs.after
     pub disk : w.undone DiskFault → w.uses_disk × Rose (view o.disk.before).faults (view o.disk.after).faults
-    pub serves : (IsOfFollower c → ⊥) → (h : History) → ReadsAs (view o.disk.before).content h → (why : StoreCause) → w.undone (Unserved why) → ⊥
+    pub serves : (IsOfFollower c → ⊥) → (h : History) → ReadsAsHeads (view o.disk.before).content h → (why : StoreCause) → w.undone (Unserved why) → ⊥
     pub memory : (outcome : Outcome) → TakesMemory outcome → w.does outcome → w.does (Undone NoMemory)
-    pub untouched : IsUntouched view o → w.does (Undone NoMemory)
+    pub untouched : IsDiskUntouched view o → w.does (Undone NoMemory)
     pub idle : (outcome : Outcome) → (status_of outcome ≡ 0 → ⊥) → (status_of outcome ≡ 5 → ⊥) → w.does outcome → Left
     pub safe : (outcome : Outcome) → w.does outcome → w.safe
     pub judging : (v : Verdict) → w.does (Judged v) → Judges o.inputs.told c v
@@ -215,15 +215,15 @@ module _ {D : Type 0} (view : D → DiskView)
   record Causes {X : Type 0} (c : Command) (NamesFile UsesDisk : Type 0) (Comes : Result X CommandFault → Type 0) : Type 0 where
     input : Comes (Err InputFault) → NamesFile × Rose o.inputs.before o.inputs.after
     disk : Comes (Err DiskFault) → UsesDisk × Rose (view o.disk.before).faults (view o.disk.after).faults
-    serves : (IsOfFollower c → ⊥) → (h : History) → ReadsAs (view o.disk.before).content h → (why : StoreCause) → Comes (Err (Unserved why)) → ⊥
+    serves : (IsOfFollower c → ⊥) → (h : History) → ReadsAsHeads (view o.disk.before).content h → (why : StoreCause) → Comes (Err (Unserved why)) → ⊥
     memory : Comes (Err NoMemory)
 
-  of_service : {X : Type 0} {NamesFile UsesDisk : Type 0} {Comes : Result X CommandFault → Type 0} → (c : Command) → HasCauses IsOf o.inputs (found_of view o) NamesFile UsesDisk Comes
+  of_service : {X : Type 0} {NamesFile UsesDisk : Type 0} {Comes : Result X CommandFault → Type 0} → (c : Command) → HasCauses IsImageOfHeads o.inputs (found_around view o) NamesFile UsesDisk Comes
       → Causes c NamesFile UsesDisk Comes
   of_service c causes = record { input = causes.input; disk = causes.disk; serves = λ _. causes.serves; memory = causes.memory }
 
   of_follower : {X : Type 0} {NamesFile UsesDisk : Type 0} {Comes : Result X CommandFault → Type 0} → (c : Command) → IsOfFollower c
-      → HasCauses IsOfList o.inputs (found_of view o) NamesFile UsesDisk Comes → Causes c NamesFile UsesDisk Comes
+      → HasCauses IsOfList o.inputs (found_around view o) NamesFile UsesDisk Comes → Causes c NamesFile UsesDisk Comes
   of_follower c is causes = record { input = causes.input; disk = causes.disk; serves = λ other. absurd (other is); memory = causes.memory }
 
   module _ {X : Type 0} (c : Command) (of : X → Outcome) (tells : Tells of) (Comes Leaves : Result X CommandFault → Type 0) (Safe : Type 0) (access : Option StoreAccess)
@@ -232,7 +232,7 @@ module _ {D : Type 0} (view : D → DiskView)
     May r = Comes r × Leaves r
 
     row : ((r : Result X CommandFault) → TakesMemory (outcome_by of r) → Leaves r → Leaves (Err NoMemory))
-        → (IsUntouched view o → Leaves (Err NoMemory))
+        → (IsDiskUntouched view o → Leaves (Err NoMemory))
         → ((r : Result X CommandFault) → (status_of (outcome_by of r) ≡ 0 → ⊥) → (status_of (outcome_by of r) ≡ 5 → ⊥) → Leaves r → Left)
         → ((r : Result X CommandFault) → Leaves r → Safe)
         → ((x : X) (v : Verdict) → Judged v ≡ of x → Comes (Ok x) → Judges o.inputs.told c v)
@@ -272,30 +272,30 @@ module _ {D : Type 0} (view : D → DiskView)
         (λ x v is comes. absurd (of_disk.unjudged x v is)) (λ x place is comes. absurd (of_disk.unjoined x (Unfit place) is))
 
   files_row : {X : Type 0} (c : Command) (of : X → Outcome) → Tells of → (Comes : Result X CommandFault → Type 0)
-      → HasCauses IsOf o.inputs (found_of view o) (NamesFile c) ⊥ Comes
+      → HasCauses IsImageOfHeads o.inputs (found_around view o) (NamesFile c) ⊥ Comes
       → ((x : X) (v : Verdict) → Judged v ≡ of x → Comes (Ok x) → Judges o.inputs.told c v)
       → ((x : X) (place : ℕ) → Joined (Unfit place) ≡ of x → Comes (Ok x) → LeavesGap o.inputs c place) → Row c (over_files view o of Comes)
   files_row c of tells Comes causes judging joining =
-      row c of tells Comes (λ r. IsUntouched view o) (IsUntouched view o × Keeps view o.disk.before o.disk.after) None (of_service c causes)
+      row c of tells Comes (λ r. IsDiskUntouched view o) (IsDiskUntouched view o × KeepsFollowerDisk view o.disk.before o.disk.after) None (of_service c causes)
       (λ r takes same. same) (λ is. is) (λ r zeroth fifth same. same_left same) (λ r same. same_safe same) judging joining
 
   -- one that makes a service or a step, and one that asks a service a question
   made_row : {Comes Leaves : Result Thread CommandFault → Type 0} {Safe : Type 0} → (c : Command)
-      → HasCauses IsOf o.inputs (found_of view o) (NamesFile c) (Unit {0}) Comes → IsSafe view o.disk.before o.disk.after Leaves Safe → Row c (writing view o Made Comes Leaves Safe)
+      → HasCauses IsImageOfHeads o.inputs (found_around view o) (NamesFile c) (Unit {0}) Comes → IsSafe view o.disk.before o.disk.after Leaves Safe → Row c (writing_disk view o Made Comes Leaves Safe)
   made_row {Comes} {Leaves} {Safe} c causes is_safe = disk_row c Made made_tells Comes Leaves Safe (Some Write) (of_service c causes) made_of_disk is_safe
 
   received_row : (file : List ℕ) (time : Option ℕ) → Row (Receive file time) (work view o (Receive file time))
   received_row file time =
-      disk_row (Receive file time) Received received_tells (ReceiveComes o.inputs (found_of view o) file time)
+      disk_row (Receive file time) Received received_tells (ReceiveComes o.inputs (found_around view o) file time)
       (ReceiveLeaves view o.disk.before o.disk.after o.inputs.told file time) (ReceiveSafe view o.disk.before o.disk.after o.inputs.told file time) (Some Write)
-      (of_service (Receive file time) (receive_causes o.inputs (found_of view o) file time)) received_of_disk
+      (of_service (Receive file time) (receive_causes o.inputs (found_around view o) file time)) received_of_disk
       (receive_is_safe view o.disk.before o.disk.after only_now as_it_reads o.inputs.told file time)
 
   asked_row : (c : Command) (asked : Option Question) → IsSome asked → Row c (asking view o asked)
   asked_row c None some = absurd (let none : false ≡ true = some in cc)
   asked_row c (Some q) some =
-      let causes = ask_causes o.inputs (found_of view o) q in
-      disk_row c Written written_tells (AskComes (found_of view o) q) (ReadLeaves view o.disk.before o.disk.after) (Left × Keeps view o.disk.before o.disk.after) (Some Read)
+      let causes = ask_causes o.inputs (found_around view o) q in
+      disk_row c Written written_tells (AskComes (found_around view o) q) (ReadLeavesHistory view o.disk.before o.disk.after) (Left × KeepsFollowerDisk view o.disk.before o.disk.after) (Some Read)
       (record { input = λ came. absurd (causes.input came).0; disk = causes.disk; serves = λ other. causes.serves; memory = causes.memory })
       written_of_disk (asking_is_safe view o.disk.before o.disk.after)
 
@@ -341,7 +341,7 @@ module _ {D : Type 0} (view : D → DiskView)
       judging : (w v : Verdict) → Judged v ≡ Judged w → VerifyFileComes o.inputs proof anchors (is_strict c) (Ok w) → Judges o.inputs.told c v
       judging w v is comes =
           let same : w ≡ v = cc in
-          record { file = proof; anchors = comes.0; asked = asked; given = given comes.0 comes.1; judged = subst (IsJudged o.inputs.told proof comes.0 (is_strict c)) same comes.2 }
+          record { file = proof; anchors = comes.0; asked = asked; given = given comes.0 comes.1; judged = subst (IsFileJudged o.inputs.told proof comes.0 (is_strict c)) same comes.2 }
 
   verify_one_row : (proof : List ℕ) (anchor : Thread) → Row (VerifyOne proof anchor) (work view o (VerifyOne proof anchor))
   verify_one_row proof anchor =
@@ -352,11 +352,11 @@ module _ {D : Type 0} (view : D → DiskView)
       judging : (w v : Verdict) → Judged v ≡ Judged w → VerifyOneComes o.inputs proof anchor (Ok w) → Judges o.inputs.told (VerifyOne proof anchor) v
       judging w v is comes =
           let same : w ≡ v = cc in
-          record { file = proof; anchors = anchor ∷ []; asked = refl; given = refl; judged = subst (IsJudged o.inputs.told proof (anchor ∷ []) false) same comes }
+          record { file = proof; anchors = anchor ∷ []; asked = refl; given = refl; judged = subst (IsFileJudged o.inputs.told proof (anchor ∷ []) false) same comes }
 
   -- one over files that reach beyond one proof
   answer_row : {X : Type 0} (c : Command) (of : X → Answer) → (Comes : Result X CommandFault → Type 0)
-      → HasCauses IsOf o.inputs (found_of view o) (NamesFile c) ⊥ Comes → Row c (over_files view o (λ x. Answered (of x)) Comes)
+      → HasCauses IsImageOfHeads o.inputs (found_around view o) (NamesFile c) ⊥ Comes → Row c (over_files view o (λ x. Answered (of x)) Comes)
   answer_row c of Comes causes =
       files_row c (λ x. Answered (of x)) (answered_tells of) Comes causes (λ x v is comes. cc) (λ x place is comes. cc)
 
@@ -397,10 +397,10 @@ module _ {D : Type 0} (view : D → DiskView)
   -- each command, by what is known of its results
   pub rows : (c : Command) → Row c (work view o c)
   rows (Init name) =
-      made_row (Init name) (init_causes o.inputs (found_of view o) name)
+      made_row (Init name) (init_causes o.inputs (found_around view o) name)
       (init_is_safe view o.disk.before o.disk.after only_now as_it_reads name)
   rows (Append file time) =
-      made_row (Append file time) (append_causes o.inputs (found_of view o) file time)
+      made_row (Append file time) (append_causes o.inputs (found_around view o) file time)
       (append_is_safe view o.disk.before o.disk.after only_now as_it_reads o.inputs.told file time)
   rows (Receive file time) = received_row file time
   rows (Show history step index) = show_row history step index
@@ -419,30 +419,30 @@ module _ {D : Type 0} (view : D → DiskView)
   rows (Accuse first second link) = accuse_row first second link
   rows (CheckFork file anchors) = check_fork_row file anchors
   rows (Watch name) =
-      disk_row (Watch name) Made made_tells (WatchComes (found_of view o) name)
+      disk_row (Watch name) Made made_tells (WatchComes (found_around view o) name)
       (WatchLeaves view o.disk.before o.disk.after name) (WatchSafe view o.disk.before o.disk.after name) (Some Write)
-      (of_follower (Watch name) tt (watch_causes o.inputs (found_of view o) name))
+      (of_follower (Watch name) tt (watch_causes o.inputs (found_around view o) name))
       made_of_disk (watch_is_safe view o.disk.before o.disk.after only_now as_it_reads name)
   rows (Offer file) =
-      disk_row (Offer file) Made made_tells (OfferComes o.inputs (found_of view o) file)
+      disk_row (Offer file) Made made_tells (OfferComes o.inputs (found_around view o) file)
       (OfferLeaves view o.disk.before o.disk.after o.inputs.told file) (OfferSafe view o.disk.before o.disk.after o.inputs.told file) (Some Write)
-      (of_follower (Offer file) tt (offer_causes o.inputs (found_of view o) file))
+      (of_follower (Offer file) tt (offer_causes o.inputs (found_around view o) file))
       made_of_disk (offer_is_safe view o.disk.before o.disk.after only_now as_it_reads o.inputs.told file)
   rows Heads =
-      disk_row Heads Written written_tells (HeadsComes (found_of view o))
+      disk_row Heads Written written_tells (HeadsComes (found_around view o))
       (HeadsLeaves view o.disk.before o.disk.after) (HeadsSafe view o.disk.before o.disk.after) (Some Read)
-      (of_follower Heads tt (heads_causes o.inputs (found_of view o)))
+      (of_follower Heads tt (heads_causes o.inputs (found_around view o)))
       written_of_disk (heads_is_safe view o.disk.before o.disk.after)
   rows c = asked_row c (question_of c) refl
 
   -- a disk that reads as a list of heads serves each command of a follower
   pub serves_list : (c : Command) → IsOfFollower c → (k : Kept) → ReadsAsList (view o.disk.before).content k → (why : StoreCause) → (work view o c).undone (Unserved why) → ⊥
   serves_list (Watch name) of k reads why came =
-      (watch_causes o.inputs (found_of view o) name).serves k reads why came.0
+      (watch_causes o.inputs (found_around view o) name).serves k reads why came.0
   serves_list (Offer file) of k reads why came =
-      (offer_causes o.inputs (found_of view o) file).serves k reads why came.0
+      (offer_causes o.inputs (found_around view o) file).serves k reads why came.0
   serves_list Heads of k reads why came =
-      (heads_causes o.inputs (found_of view o)).serves k reads why came.0
+      (heads_causes o.inputs (found_around view o)).serves k reads why came.0
   serves_list _ of k reads why came = absurd of
 
 -- a command that judges comes to a verdict or isn't done

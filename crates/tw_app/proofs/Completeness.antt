@@ -8,8 +8,8 @@ use Rattle.tw_base.specs.kinds.Lists.{Each}
 use Rattle.tw_disk.specs.Disk.{DiskView}
 use Rattle.tw_disk.specs.Image.{Image}
 use Rattle.tw_outside.specs.Asked.{Asked}
-use Rattle.tw_outside.specs.Files.{Files, Tells}
-use Rattle.tw_words.specs.CommandLine.{IsFirstBad, command_of}
+use Rattle.tw_outside.specs.Files.{Files, TellsBytes}
+use Rattle.tw_words.specs.CommandLine.{IsFirstBadWord, command_of}
 use Rattle.tw_words.specs.declared.command.Command.{Command}
 use Rattle.tw_words.specs.declared.command.Command.TheVariants.{Append, Receive, Show, Join, VerifyFile, Strict, CheckMap, Audit, Adopt, Atlas, Accuse, CheckFork, Offer, Heads, Replay}
 use Rattle.tw_text.specs.declared.fault.CommandFault.TheVariants.{Unreadable, Unserved}
@@ -21,7 +21,7 @@ use Rattle.tw_evidence.specs.Evidence.{link_proof_layout, thread_proof_layout}
 use Rattle.tw_msg.specs.AnchorsFile.{IsFirstBadLine, lines}
 use Rattle.tw_msg.specs.Messages.{message_layout}
 use Rattle.tw_tmap.specs.MapFiles.{high_layout, low_layout}
-use Rattle.tw_filecmd.specs.Joining.{HasBadPart, JoinComes}
+use Rattle.tw_filecmd.specs.Joining.{HasBadPartFile, JoinComes}
 use Rattle.tw_filecmd.specs.Showing.{ShowComes}
 use Rattle.tw_filecmd.specs.Verifying.{VerifyFileComes}
 use Rattle.tw_diskcmd.specs.Appending.{AppendComes, IsBadEventsByte}
@@ -36,11 +36,11 @@ use Rattle.tw_reachcmd.specs.Auditing.{AuditComes}
 use Rattle.tw_reachcmd.specs.Forks.{CheckForkComes}
 use Rattle.tw_reachcmd.specs.Maps.{CheckMapComes}
 use Rattle.tw_reachcmd.specs.Planning.{AtlasComes}
-use Rattle.tw_app.specs.Around.{Around, Outside, found_of}
+use Rattle.tw_app.specs.Around.{Around, Outside, found_around}
 use Rattle.tw_app.specs.Commands.{question_of}
-use Rattle.tw_app.specs.Complete.{HasAll, HasFile, HasFiles, HasHistory, HasItsDisk, HasLinkFile, HasValidFiles, AreHistoryFiles, AreReceiptFiles, IsAnchorsFile, IsAnswered, IsEventsFile, IsHistoryFile, IsScriptFile, IsWord}
-use Rattle.tw_app.specs.Replaying.{IsBadLine, ReplayComes}
-use Rattle.tw_app.specs.Running.{Ends, work}
+use Rattle.tw_app.specs.Complete.{HasAllNeeded, HasFile, HasFiles, HasHistoryOnDisk, HasItsDisk, HasLinkFile, HasValidFiles, AreHistoryFiles, AreReceiptFiles, IsAnchorsFile, IsStatusAnswered, IsEventsFile, IsHistoryFile, IsScriptFile, IsWord}
+use Rattle.tw_app.specs.Replaying.{IsBadScriptLine, ReplayComes}
+use Rattle.tw_app.specs.Running.{EndsAllowed, work}
 use Rattle.tw_app.specs.Statuses.{IsStatus}
 use Rattle.tw_app.proofs.Commands.{rows, serves_list}
 use Rattle.tw_app.proofs.Endings.{clash, disk_fault, done, input_fault, no_memory, output_fault, refused, rejected, statuses, unreadable, unserved, usage}
@@ -53,11 +53,11 @@ use Rattle.tw_app.proofs.OneFamily.{histories_not_bad}
 module _ (told : Option Files) where
   -- a file of a word isn't told to hold none
   word_held : {X : Type 0} (layout : Format X) (file : List ℕ) (place : ℕ) → HasFile told (IsWord layout) file
-      → ((bytes : List ℕ) → Tells told file bytes → SpellsNothing layout bytes × IsPlace layout bytes place) → ⊥
+      → ((bytes : List ℕ) → TellsBytes told file bytes → SpellsNothing layout bytes × IsPlace layout bytes place) → ⊥
   word_held layout file place has none = (none has.bytes has.tells).0 has.is.0 has.is.1
 
   -- an anchors file of good lines isn't told to have a bad one
-  lines_held : (file : List ℕ) (number : ℕ) → HasFile told IsAnchorsFile file → ((bytes : List ℕ) → Tells told file bytes → IsFirstBadLine (lines bytes) number) → ⊥
+  lines_held : (file : List ℕ) (number : ℕ) → HasFile told IsAnchorsFile file → ((bytes : List ℕ) → TellsBytes told file bytes → IsFirstBadLine (lines bytes) number) → ⊥
   lines_held file number has bad =
       let first = bad has.bytes has.tells in
       let both : true ≡ false = sym (has.is first.index first.within) ∙ first.bad in
@@ -67,7 +67,7 @@ bad_events : (bytes : List ℕ) (place : ℕ) → IsEventsFile bytes → IsBadEv
 bad_events bytes place is (inl long) = let short = is.0 in let more = long.0 in omega (arith, short, more)
 bad_events bytes place is (inr none) = none.1 is.1.0 is.1.1
 
-bad_script : (bytes : List ℕ) (line : ℕ) → IsScriptFile bytes → IsBadLine bytes line → ⊥
+bad_script : (bytes : List ℕ) (line : ℕ) → IsScriptFile bytes → IsBadScriptLine bytes line → ⊥
 bad_script bytes line is (inl bad) = let both = sym is.1 ∙ bad in cc
 bad_script bytes line is (inr bad) = let both = sym is.1 ∙ bad in cc
 
@@ -92,7 +92,7 @@ module _ (a : Asked) where
   show_reads file step index (Unsound named broken rule) has came = file_not_broken has.bytes has.is.0 broken rule has.is.1 (came.2 has.bytes has.tells)
   show_reads file step index (BadLine named number) has came = came
 
-  parts_read : (files : List (List ℕ)) (named : List ℕ) (place : ℕ) → Each (HasFile a.told (IsWord proof_layout)) files → HasBadPart a.told files named place → ⊥
+  parts_read : (files : List (List ℕ)) (named : List ℕ) (place : ℕ) → Each (HasFile a.told (IsWord proof_layout)) files → HasBadPartFile a.told files named place → ⊥
   parts_read [] named place each bad = bad
   parts_read (file ∷ files) named place each (inl none) = word_held a.told proof_layout file place each.0 none.1.nothing
   parts_read (file ∷ files) named place each (inr rest) = parts_read files named place each.1 rest.1
@@ -167,8 +167,8 @@ module _ {D : Type 0} (view : D → DiskView) (o : Outside D) where
   -- none tells a bad file of valid ones
   reads : (c : Command) → HasValidFiles o.inputs.told c → (bad : BadInput) → (work view o c).undone (Unreadable bad) → ⊥
   unfolding AskComes
-  reads (Append file time) valid bad came = append_reads o.inputs (found_of view o) file time bad valid came.0
-  reads (Receive file time) valid bad came = receive_reads o.inputs (found_of view o) file time bad valid came.0
+  reads (Append file time) valid bad came = append_reads o.inputs (found_around view o) file time bad valid came.0
+  reads (Receive file time) valid bad came = receive_reads o.inputs (found_around view o) file time bad valid came.0
   reads (Show history step index) valid bad came = show_reads o.inputs history step index bad valid came.0
   reads (Join files) valid bad came = join_reads o.inputs files bad valid came.0
   reads (VerifyFile proof anchors) valid bad came = verify_reads o.inputs proof anchors bad valid came.0
@@ -179,15 +179,15 @@ module _ {D : Type 0} (view : D → DiskView) (o : Outside D) where
   reads (Adopt history anchors proof more) valid bad came = adopt_reads o.inputs history anchors (proof ∷ more) bad valid.0 valid.1 came.0
   reads (Accuse first second link) valid bad came = accuse_reads o.inputs first second link bad valid.0 valid.1 valid.2 came.0
   reads (CheckFork file anchors) valid bad came = check_fork_reads o.inputs file anchors bad valid came.0
-  reads (Offer file) valid bad came = offer_reads o.inputs (found_of view o) file bad valid came.0
+  reads (Offer file) valid bad came = offer_reads o.inputs (found_around view o) file bad valid came.0
   reads (Replay file) valid bad came = replay_reads o.inputs file bad valid came.0
   reads _ valid bad came = came.0
 
   -- a question, where one is asked, isn't refused by a disk that reads as a history; one that isn't asked comes to nothing
-  asked_serves : (asked : Option Question) → MatchOption asked (Unit {0}) (λ (q : Question). HasHistory (view o.disk.before).content) → (why : StoreCause)
-      → MatchOption asked ⊥ (λ (q : Question). AskComes (found_of view o) q (Err (Unserved why))) → ⊥
+  asked_serves : (asked : Option Question) → MatchOption asked (Unit {0}) (λ (q : Question). HasHistoryOnDisk (view o.disk.before).content) → (why : StoreCause)
+      → MatchOption asked ⊥ (λ (q : Question). AskComes (found_around view o) q (Err (Unserved why))) → ⊥
   asked_serves None has why came = came
-  asked_serves (Some q) has why came = (ask_causes o.inputs (found_of view o) q).serves has.0 has.1 why came
+  asked_serves (Some q) has why came = (ask_causes o.inputs (found_around view o) q).serves has.0 has.1 why came
 
   module _ (only_now : (d : D) (image : Image) → (view d).left_since (view d).moment image → (view d).may_leave image)
       (as_it_reads : (d : D) (image : Image) → (view d).content ≡ Some image → (view d).may_leave image) where
@@ -210,16 +210,16 @@ both_of P Q (Some c) p q apart = apart c p q
 module _ {D : Type 0} (view : D → DiskView)
     (only_now : (d : D) (image : Image) → (view d).left_since (view d).moment image → (view d).may_leave image)
     (as_it_reads : (d : D) (image : Image) → (view d).content ≡ Some image → (view d).may_leave image) (a : Around D) (status : ℕ)
-    (all : HasAll view a) (run : Ends view a status) where
+    (all : HasAllNeeded view a) (run : EndsAllowed view a status) where
   no_usage : (number : ℕ) (option : Option Command) → MatchOption option ⊥ (HasValidFiles a.outside.inputs.told)
-      → MatchOption option (IsFirstBad a.words number) (λ c. ⊥) → ⊥
+      → MatchOption option (IsFirstBadWord a.words number) (λ c. ⊥) → ⊥
   no_usage number None valid used = valid
   no_usage number (Some c) valid used = used
 
-  pub whole : IsAnswered view a status
+  pub whole : IsStatusAnswered view a status
   whole = by (statuses view only_now as_it_reads a status run)
     where
-      by : IsStatus status → IsAnswered view a status
+      by : IsStatus status → IsStatusAnswered view a status
       by (inl is) = inl (is, done view only_now as_it_reads a status run is)
       by (inr (inl is)) = inr (inl (is, rejected view only_now as_it_reads a status run is))
       by (inr (inr (inl is))) = absurd (let used = usage view only_now as_it_reads a status run is in no_usage used.0 (command_of a.words) all.files used.1)

@@ -13,7 +13,7 @@ use Rattle.tw_base.proofs.lemmas.format.FormatLaws.{one_value}
 use Rattle.tw_disk.specs.Disk.{DiskView}
 use Rattle.tw_disk.specs.Image.{Image}
 use Rattle.tw_outside.specs.TakenBytes.{Appends}
-use Rattle.tw_words.specs.CommandLine.{IsFirstBad, command_of}
+use Rattle.tw_words.specs.CommandLine.{IsFirstBadWord, command_of}
 use Rattle.tw_text.specs.Faults.{fault_status, fault_text}
 use Rattle.tw_text.specs.Lines.{no_memory_text}
 use Rattle.tw_text.specs.declared.fault.CommandFault.{CommandFault}
@@ -30,7 +30,7 @@ use Rattle.tw_chain.specs.declared.verdict.Verdict.TheVariants.{Yes, No}
 use Rattle.tw_chain.specs.Accepting.{carried, proof_texts, report_of}
 use Rattle.tw_filecmd.specs.declared.joining.Joined.{Joined as JoinedProofs}
 use Rattle.tw_filecmd.specs.declared.joining.Joined.TheVariants.{Whole, Unfit}
-use Rattle.tw_diskcmd.specs.Disks.{IsLeft, ReadsAs}
+use Rattle.tw_diskcmd.specs.Disks.{IsLeft, ReadsAsHeads}
 use Rattle.tw_follow.specs.HeadLists.{Kept}
 use Rattle.tw_diskcmd.specs.FollowerDisks.{ReadsAs as ReadsAsList}
 use Rattle.tw_app.specs.declared.outcome.Outcome.{Outcome}
@@ -46,8 +46,8 @@ use Rattle.tw_reachcmd.specs.declared.answer.Answer.TheVariants as answers
 use Rattle.tw_app.specs.Around.{Around, Writes}
 use Rattle.tw_app.specs.Commands.{IsOfFollower, NamesFile}
 use Rattle.tw_app.specs.Outcomes.{TakesMemory, status_of, text_of}
-use Rattle.tw_app.specs.Running.{Ends, EndsWith, HasOutcome, HaveNoForm, IsUntouched, Work, work}
-use Rattle.tw_app.specs.Statuses.{AreOf, DiskFailed, IsAcceptedRun, IsAnsweredRun, IsDiskFaultRun, IsDoneRun, IsGapRun, IsIdle, IsInputFaultRun, IsRejectedRun, IsStatus, IsUndoneRun, IsUsageRun, IsVerify, IsWork}
+use Rattle.tw_app.specs.Running.{EndsAllowed, EndsWith, HasOutcome, HaveNoForm, IsDiskUntouched, Work, work}
+use Rattle.tw_app.specs.Statuses.{AreWordsOf, DiskFailed, IsAcceptedRun, IsAnsweredRun, IsDiskFaultRun, IsDoneRun, IsGapRun, IsIdle, IsInputFaultRun, IsRejectedRun, IsStatus, IsUndoneRun, IsUsageRun, IsVerify, IsWork}
 use Rattle.tw_app.proofs.Words.{no_text_outcome}
 use Rattle.tw_app.proofs.Commands.{Judges, LeavesGap, Row, fault_not_zero, of_option, of_words, rows, same_left, serves_list, verdict_or_fault}
 
@@ -107,11 +107,11 @@ module _ {D : Type 0} (view : D → DiskView)
     (as_it_reads : (d : D) (image : Image) → (view d).content ≡ Some image → (view d).may_leave image) (a : Around D) (status : ℕ) where
   -- the outcome that was come to, or want of memory for its text
   pub ends_by : (outcome : Outcome) → HasOutcome view a.outside a.words outcome
-      → EndsWith a.taken a.sink_faults status outcome ⊎ (TakesMemory outcome × EndsWith a.taken a.sink_faults status (Undone NoMemory)) → Ends view a status
+      → EndsWith a.taken a.sink_faults status outcome ⊎ (TakesMemory outcome × EndsWith a.taken a.sink_faults status (Undone NoMemory)) → EndsAllowed view a status
   ends_by outcome has (inl ends) = (outcome, record { has = has; ends = ends })
   ends_by outcome has (inr ends) = (Undone NoMemory, record { has = no_text_outcome view only_now as_it_reads a.outside a.words outcome ends.0 has; ends = ends.1 })
 
-  module _ (run : Ends view a status) where
+  module _ (run : EndsAllowed view a status) where
     abbrev outcome : Outcome
     outcome = run.0
 
@@ -128,14 +128,14 @@ module _ {D : Type 0} (view : D → DiskView)
     abbrev Left : Type 0
     Left = IsLeft view a.outside.disk.before a.outside.disk.after
 
-    untouched_left : IsUntouched view a.outside → Left
+    untouched_left : IsDiskUntouched view a.outside → Left
     untouched_left is = same_left view only_now as_it_reads a.outside is
 
     -- words of no form, or a command
-    by_words : {Q : Type 0} → (o : Outcome) → Has o → (HaveNoForm a.words o × IsUntouched view a.outside → Q) → ((c : Command) → command_of a.words ≡ Some c → Does c o → Q) → Q
+    by_words : {Q : Type 0} → (o : Outcome) → Has o → (HaveNoForm a.words o × IsDiskUntouched view a.outside → Q) → ((c : Command) → command_of a.words ≡ Some c → Does c o → Q) → Q
     by_words {Q} o has none some = by (command_of a.words) refl has
       where
-        by : (option : Option Command) → command_of a.words ≡ option → MatchOption option (HaveNoForm a.words o × IsUntouched view a.outside) (λ c. Does c o) → Q
+        by : (option : Option Command) → command_of a.words ≡ option → MatchOption option (HaveNoForm a.words o × IsDiskUntouched view a.outside) (λ c. Does c o) → Q
         by None is has = none has
         by (Some c) is has = some c is has
 
@@ -154,11 +154,11 @@ module _ {D : Type 0} (view : D → DiskView)
 
     -- ---- what is left of the disk
 
-    pub crash : MatchOption (command_of a.words) (IsUntouched view a.outside) (λ c. (work view a.outside c).safe)
+    pub crash : MatchOption (command_of a.words) (IsDiskUntouched view a.outside) (λ c. (work view a.outside c).safe)
     crash = by (command_of a.words) run.1.has
       where
-        by : (option : Option Command) → MatchOption option (HaveNoForm a.words outcome × IsUntouched view a.outside) (λ c. Does c outcome)
-            → MatchOption option (IsUntouched view a.outside) (λ c. (work view a.outside c).safe)
+        by : (option : Option Command) → MatchOption option (HaveNoForm a.words outcome × IsDiskUntouched view a.outside) (λ c. Does c outcome)
+            → MatchOption option (IsDiskUntouched view a.outside) (λ c. (work view a.outside c).safe)
         by None has = has.1
         by (Some c) has = (known c).safe outcome has
 
@@ -207,7 +207,7 @@ module _ {D : Type 0} (view : D → DiskView)
     }
     accepted_by zeroth c (No reason) is judges ended = absurd (omega (arith, zeroth, ended.0))
 
-    pub accepted : status ≡ 0 → AreOf IsVerify a.words → IsAcceptedRun a.outside.inputs.told a.words a.taken.before a.taken.after
+    pub accepted : status ≡ 0 → AreWordsOf IsVerify a.words → IsAcceptedRun a.outside.inputs.told a.words a.taken.before a.taken.after
     accepted zeroth asks = by (command_of a.words) refl run.1.has asks
       where
         of : (c : Command) → command_of a.words ≡ Some c → Does c outcome → ((v : Verdict) × (outcome ≡ Judged v)) ⊎ ((f : CommandFault) × (outcome ≡ Undone f))
@@ -217,7 +217,7 @@ module _ {D : Type 0} (view : D → DiskView)
             (told_of (Judged judged.0) judged.1 (zero_not_four status zeroth))
         of c is does (inr fault) = absurd (fault_not_zero fault.0 (sym (told_of (Undone fault.0) fault.1 (zero_not_four status zeroth)).0 ∙ zeroth))
 
-        by : (option : Option Command) → command_of a.words ≡ option → MatchOption option (HaveNoForm a.words outcome × IsUntouched view a.outside) (λ c. Does c outcome) → MatchOption option ⊥ IsVerify
+        by : (option : Option Command) → command_of a.words ≡ option → MatchOption option (HaveNoForm a.words outcome × IsDiskUntouched view a.outside) (λ c. Does c outcome) → MatchOption option ⊥ IsVerify
             → IsAcceptedRun a.outside.inputs.told a.words a.taken.before a.taken.after
         by None is has asks = absurd asks
         by (Some c) is has asks = of c is has (verdict_or_fault view a.outside c outcome asks has)
@@ -293,8 +293,8 @@ module _ {D : Type 0} (view : D → DiskView)
     pub usage : status ≡ 2 → IsUsageRun view a
     usage is = by_status 2 is (λ k. omega arith) by
       where
-        number_is : (n : ℕ) (option : Option Command) → MatchOption option (IsFirstBad a.words n × IsUntouched view a.outside) (λ c. Does c (BadWords n))
-            → MatchOption option (IsFirstBad a.words n) (λ c. ⊥)
+        number_is : (n : ℕ) (option : Option Command) → MatchOption option (IsFirstBadWord a.words n × IsDiskUntouched view a.outside) (λ c. Does c (BadWords n))
+            → MatchOption option (IsFirstBadWord a.words n) (λ c. ⊥)
         number_is n None has = has.0
         number_is n (Some c) has = (known c).usage n has
 
@@ -395,11 +395,11 @@ module _ {D : Type 0} (view : D → DiskView)
     pub unserved : status ≡ 8 → (cause : StoreCause) × IsUndoneRun view a (Unserved cause)
     unserved is = unserved_by is (λ cause has written. (cause, said (Unserved cause) (λ none. none) has written))
 
-    pub complete : status ≡ 8 → (AreOf IsOfFollower a.words → ⊥) → (h : History) → ReadsAs (view a.outside.disk.before).content h → ⊥
+    pub complete : status ≡ 8 → (AreWordsOf IsOfFollower a.words → ⊥) → (h : History) → ReadsAsHeads (view a.outside.disk.before).content h → ⊥
     complete is other h reads = unserved_by is (λ cause has written. undone_by (Unserved cause) (λ none. none) has
         (λ c of undone. (known c).serves (λ follows. other (of_option IsOfFollower a.words c of follows)) h reads cause undone))
 
-    pub list_complete : status ≡ 8 → AreOf IsOfFollower a.words → (k : Kept) → ReadsAsList (view a.outside.disk.before).content k → ⊥
+    pub list_complete : status ≡ 8 → AreWordsOf IsOfFollower a.words → (k : Kept) → ReadsAsList (view a.outside.disk.before).content k → ⊥
     list_complete is follows k reads = unserved_by is (λ cause has written. undone_by (Unserved cause) (λ none. none) has
         (λ c of undone. serves_list view only_now as_it_reads a.outside c (of_words IsOfFollower a.words c of follows) k reads cause undone))
 

@@ -7,7 +7,7 @@ use Rattle.tw_base.specs.format.Formats.{Format, IsPlace, Spells, SpellsNothing}
 use Rattle.tw_base.specs.kinds.Faults.{Rose}
 use Rattle.tw_disk.specs.Disk.{DiskView}
 use Rattle.tw_outside.specs.Asked.{Asked}
-use Rattle.tw_outside.specs.Files.{Files, Tells}
+use Rattle.tw_outside.specs.Files.{Files, TellsBytes}
 use Rattle.tw_words.specs.declared.command.Command.{Command}
 use Rattle.tw_words.specs.declared.command.Command.TheVariants.{CheckMap, CheckFork}
 use Rattle.tw_words.specs.CommandLine.{command_of}
@@ -25,28 +25,28 @@ use Rattle.tw_tmap.specs.declared.map_verdict.MapVerdict.TheVariants.{Yes, No, G
 use Rattle.tw_tmap.specs.Binding.{BindsMap}
 use Rattle.tw_tmap.specs.Checking.{map_verdict}
 use Rattle.tw_tmap.specs.MapFiles.{high_layout, low_layout}
-use Rattle.tw_msg.specs.AnchorsFile.{AllGood, IsFirstBadLine, anchor, lines}
+use Rattle.tw_msg.specs.AnchorsFile.{AllGood, IsFirstBadLine, anchor_on, lines}
 use Rattle.tw_filecmd.specs.Verifying.{HasAnchors}
 use Rattle.tw_reachcmd.specs.Forks.{CheckForkComes}
-use Rattle.tw_reachcmd.specs.Held.{Holds, HoldsNone}
+use Rattle.tw_reachcmd.specs.Held.{FileHolds, HoldsNone}
 use Rattle.tw_reachcmd.specs.Maps.{CheckMapComes, HoldMaps}
 use Rattle.tw_judge.specs.Forks.{IsForkTold, fork_status}
-use Rattle.tw_judge.specs.Maps.{AreMaps, AreMapsTold, AreUnjudged, ThreeFiles, map_status}
+use Rattle.tw_judge.specs.Maps.{AreMaps, AreMapsTold, AreMapsUnjudged, ThreeFiles, map_status}
 use Rattle.tw_judge.specs.Told.{IsUnjudged}
 use Rattle.tw_app.specs.declared.outcome.Outcome.{Outcome}
 use Rattle.tw_app.specs.Around.{Around, Writes}
 use Rattle.tw_app.specs.Judging.{JudgesEvidence, JudgesMapFiles, NoneFailed}
 use Rattle.tw_app.specs.Outcomes.{of_fork, of_mapped, outcome_by, status_of, text_of}
-use Rattle.tw_app.specs.Running.{Ends, EndsWith, HasOutcome, HaveNoForm, IsOutcomeOf, IsUntouched, work}
+use Rattle.tw_app.specs.Running.{EndsAllowed, EndsWith, HasOutcome, HaveNoForm, IsDiskUntouched, IsOutcomeOf, work}
 use Rattle.tw_app.proofs.ToldFiles.{same, there}
 
 -- ---- the bytes of a told file
 
-module _ {X : Type 0} (layout : Format X) (told : Option Files) (file bytes : List ℕ) (tells : Tells told file bytes) where
-  spelled-of : (x : X) → Holds layout told file x → Spells layout bytes x
+module _ {X : Type 0} (layout : Format X) (told : Option Files) (file bytes : List ℕ) (tells : TellsBytes told file bytes) where
+  spelled-of : (x : X) → FileHolds layout told file x → Spells layout bytes x
   spelled-of x holds = subst (λ (b : List ℕ). Spells layout b x) (sym (holds.same bytes tells)) holds.spelled
 
-  holds-of : (x : X) → Spells layout bytes x → Holds layout told file x
+  holds-of : (x : X) → Spells layout bytes x → FileHolds layout told file x
   holds-of x spells = record { there = there told file bytes tells; bytes = bytes; spelled = spells; same = λ others other. same told file others bytes other tells }
 
   holds_none-of : (place : ℕ) → SpellsNothing layout bytes × IsPlace layout bytes place → HoldsNone layout told file place
@@ -55,12 +55,12 @@ module _ {X : Type 0} (layout : Format X) (told : Option Files) (file bytes : Li
     nothing = λ others other. subst (λ (b : List ℕ). SpellsNothing layout b × IsPlace layout b place) (same told file bytes others tells other) is;
   }
 
-module _ (told : Option Files) (file bytes : List ℕ) (tells : Tells told file bytes) where
-  anchors-of : AllGood (lines bytes) → HasAnchors told file (map anchor (lines bytes))
+module _ (told : Option Files) (file bytes : List ℕ) (tells : TellsBytes told file bytes) where
+  anchors-of : AllGood (lines bytes) → HasAnchors told file (map anchor_on (lines bytes))
   anchors-of good = record {
     there = there told file bytes tells;
     good = λ others other. subst (λ b. AllGood (lines b)) (same told file bytes others tells other) good;
-    same = λ others other. ap (λ b. map anchor (lines b)) (same told file bytes others tells other);
+    same = λ others other. ap (λ b. map anchor_on (lines b)) (same told file bytes others tells other);
   }
 
 -- ---- what comes of a result that is told
@@ -79,8 +79,8 @@ map_status_is (Yes low high upto) = refl
 map_status_is (No reason) = refl
 map_status_is Gap = refl
 
-module _ (a : Asked) (bytes names : ThreeFiles) (low_told : Tells a.told names.low bytes.low) (high_told : Tells a.told names.high bytes.high)
-    (anchors_told : Tells a.told names.anchors bytes.anchors) where
+module _ (a : Asked) (bytes names : ThreeFiles) (low_told : TellsBytes a.told names.low bytes.low) (high_told : TellsBytes a.told names.high bytes.high)
+    (anchors_told : TellsBytes a.told names.anchors bytes.anchors) where
   abbrev MapComes : Result MapVerdict CommandFault → Type 0
   MapComes = CheckMapComes a names.low names.high names.anchors
 
@@ -96,7 +96,7 @@ module _ (a : Asked) (bytes names : ThreeFiles) (low_told : Tells a.told names.l
     high_held = holds-of high_layout a.told names.high bytes.high high_told h are.high_spelled;
   }
 
-  map-unjudged : (Rose a.before a.after → ⊥) → (f : CommandFault) → MapComes (Err f) → AreUnjudged bytes names f
+  map-unjudged : (Rose a.before a.after → ⊥) → (f : CommandFault) → MapComes (Err f) → AreMapsUnjudged bytes names f
   map-unjudged none (Unreadable (BadByte named place)) (inl is) = inl (is.0, is.1.nothing bytes.low low_told)
   map-unjudged none (Unreadable (BadByte named place)) (inr is) =
       inr (inl ((is.0.0, spelled-of low_layout a.told names.low bytes.low low_told is.0.0 is.0.1), (is.1.0, is.1.1.nothing bytes.high high_told)))
@@ -113,7 +113,7 @@ module _ (a : Asked) (bytes names : ThreeFiles) (low_told : Tells a.told names.l
       → AreMapsTold bytes names (status_of (outcome_by of_mapped r)) (text_of (outcome_by of_mapped r))
   map-told none (Err f) comes = inr (record { fault = f; unjudged = map-unjudged none f comes; status_is = refl; text_is = refl })
   map-told none (Ok v) (l, h, held, (hold, has, judged)) =
-      let under : held ≡ map anchor (lines bytes.anchors) = has.same bytes.anchors anchors_told in
+      let under : held ≡ map anchor_on (lines bytes.anchors) = has.same bytes.anchors anchors_told in
       inl (record {
         verdict = v;
         judged = record {
@@ -128,7 +128,7 @@ module _ (a : Asked) (bytes names : ThreeFiles) (low_told : Tells a.told names.l
         text_is = refl;
       })
 
-  map-fault : (f : CommandFault) → AreUnjudged bytes names f → MapComes (Err f)
+  map-fault : (f : CommandFault) → AreMapsUnjudged bytes names f → MapComes (Err f)
   map-fault (Unreadable (BadByte named place)) (inl is) =
       inl (is.0, holds_none-of low_layout a.told names.low bytes.low low_told place is.1, there a.told names.high bytes.high high_told, there a.told names.anchors bytes.anchors anchors_told)
   map-fault (Unreadable (BadByte named place)) (inr (inl is)) =
@@ -174,7 +174,7 @@ module _ (a : Asked) (bytes names : ThreeFiles) (low_told : Tells a.told names.l
         comes = (
           j.low,
           j.high,
-          map anchor (lines bytes.anchors),
+          map anchor_on (lines bytes.anchors),
           (
             hold-of j.low j.high j.are,
             anchors-of a.told names.anchors bytes.anchors anchors_told j.good,
@@ -192,7 +192,7 @@ fork_status_is : (v : ForkVerdict) → status_of (of_fork v) ≡ fork_status v
 fork_status_is (fork.Yes f) = refl
 fork_status_is (fork.No reason) = refl
 
-module _ (a : Asked) (evidence_file file evidence anchors : List ℕ) (evidence_told : Tells a.told evidence_file evidence) (anchors_told : Tells a.told file anchors) where
+module _ (a : Asked) (evidence_file file evidence anchors : List ℕ) (evidence_told : TellsBytes a.told evidence_file evidence) (anchors_told : TellsBytes a.told file anchors) where
   abbrev ForkComes : Result ForkVerdict CommandFault → Type 0
   ForkComes = CheckForkComes a evidence_file file
 
@@ -210,7 +210,7 @@ module _ (a : Asked) (evidence_file file evidence anchors : List ℕ) (evidence_
       → IsForkTold file evidence anchors (status_of (outcome_by of_fork r)) (text_of (outcome_by of_fork r))
   fork-told none (Err f) comes = inr (record { fault = f; unjudged = fork-unjudged none f comes; status_is = refl; text_is = refl })
   fork-told none (Ok v) (held, has, judged) =
-      let under : held ≡ map anchor (lines anchors) = has.same anchors anchors_told in
+      let under : held ≡ map anchor_on (lines anchors) = has.same anchors anchors_told in
       inl (
         has.good anchors anchors_told,
         record {
@@ -245,12 +245,12 @@ module _ (a : Asked) (evidence_file file evidence anchors : List ℕ) (evidence_
   fork-comes status text (inl (good, t)) = record {
     result = Ok t.verdict;
     comes = (
-      map anchor (lines anchors),
+      map anchor_on (lines anchors),
       anchors-of a.told file anchors anchors_told good,
       record {
         there = there a.told evidence_file evidence evidence_told;
-        is_verdict = λ bytes tells. subst (λ b. IsForkVerdict sha256 (map anchor (lines anchors)) b t.verdict) (same a.told evidence_file evidence bytes evidence_told tells) t.judged.is_verdict;
-        binds = λ bytes tells. subst (λ b. BindsFork sha256 (map anchor (lines anchors)) b t.verdict) (same a.told evidence_file evidence bytes evidence_told tells) t.judged.binds;
+        is_verdict = λ bytes tells. subst (λ b. IsForkVerdict sha256 (map anchor_on (lines anchors)) b t.verdict) (same a.told evidence_file evidence bytes evidence_told tells) t.judged.is_verdict;
+        binds = λ bytes tells. subst (λ b. BindsFork sha256 (map anchor_on (lines anchors)) b t.verdict) (same a.told evidence_file evidence bytes evidence_told tells) t.judged.binds;
       },
     );
     status_is = t.status_is ∙ sym (fork_status_is t.verdict);
@@ -262,14 +262,14 @@ module _ (a : Asked) (evidence_file file evidence anchors : List ℕ) (evidence_
 
 module _ {D : Type 0} (view : D → DiskView) (a : Around D) {X : Type 0} (of : X → Outcome) (Comes : Result X CommandFault → Type 0) (Told : ℕ → List ℕ → Type 0) where
   abbrev Works : Outcome → Type 0
-  Works = IsOutcomeOf of (λ (r : Result X CommandFault). Comes r × IsUntouched view a.outside)
+  Works = IsOutcomeOf of (λ (r : Result X CommandFault). Comes r × IsDiskUntouched view a.outside)
 
   abbrev HasAt : Outcome → Option Command → Type 0
-  HasAt outcome option = MatchOption option (HaveNoForm a.words outcome × IsUntouched view a.outside) (λ c. (work view a.outside c).does outcome)
+  HasAt outcome option = MatchOption option (HaveNoForm a.words outcome × IsDiskUntouched view a.outside) (λ c. (work view a.outside c).does outcome)
 
   module _ (command : Command) (is_command : command_of a.words ≡ Some command) where
     run-told : ((o : Outcome) → (work view a.outside command).does o → Works o) → ((r : Result X CommandFault) → Comes r → Told (status_of (outcome_by of r)) (text_of (outcome_by of r)))
-        → NoneFailed a → (status : ℕ) → Ends view a status → (text : List ℕ) × Told status text × Writes a text
+        → NoneFailed a → (status : ℕ) → EndsAllowed view a status → (text : List ℕ) × Told status text × Writes a text
     run-told works told none status run = by run.0 run.1.has run.1.ends
       where
         ended : (outcome : Outcome) → EndsWith a.taken a.sink_faults status outcome → (status ≡ status_of outcome) × Writes a (text_of outcome)
@@ -287,8 +287,8 @@ module _ {D : Type 0} (view : D → DiskView) (a : Around D) {X : Type 0} (of : 
             let ending = ended outcome ends in
             of_comes outcome (works outcome (subst (HasAt outcome) is_command has)) ending.0 ending.1
 
-    run-ends : ((o : Outcome) → Works o → (work view a.outside command).does o) → (status : ℕ) (text : List ℕ) → ComesTo of Comes status text → IsUntouched view a.outside
-        → Writes a text → Ends view a status
+    run-ends : ((o : Outcome) → Works o → (work view a.outside command).does o) → (status : ℕ) (text : List ℕ) → ComesTo of Comes status text → IsDiskUntouched view a.outside
+        → Writes a text → EndsAllowed view a status
     run-ends does status text to untouched writes = (
       outcome_by of to.result,
       record {
@@ -298,26 +298,26 @@ module _ {D : Type 0} (view : D → DiskView) (a : Around D) {X : Type 0} (of : 
     )
 
 module _ {D : Type 0} (view : D → DiskView) (a : Around D) where
-  pub map_run-told : (bytes names : ThreeFiles) (status : ℕ) → JudgesMapFiles a bytes names → NoneFailed a → Ends view a status
+  pub map_run-told : (bytes names : ThreeFiles) (status : ℕ) → JudgesMapFiles a bytes names → NoneFailed a → EndsAllowed view a status
       → (text : List ℕ) × AreMapsTold bytes names status text × Writes a text
   map_run-told bytes names status j none run =
       run-told view a of_mapped (CheckMapComes a.outside.inputs names.low names.high names.anchors) (AreMapsTold bytes names) (CheckMap names.low names.high names.anchors)
       j.is_command (λ o does. does) (map-told a.outside.inputs bytes names j.low_told j.high_told j.anchors_told none.inputs) none status run
 
-  pub map_run-ends : (bytes names : ThreeFiles) (status : ℕ) (text : List ℕ) → JudgesMapFiles a bytes names → IsUntouched view a.outside
-      → AreMapsTold bytes names status text → Writes a text → Ends view a status
+  pub map_run-ends : (bytes names : ThreeFiles) (status : ℕ) (text : List ℕ) → JudgesMapFiles a bytes names → IsDiskUntouched view a.outside
+      → AreMapsTold bytes names status text → Writes a text → EndsAllowed view a status
   map_run-ends bytes names status text j untouched told writes =
       run-ends view a of_mapped (CheckMapComes a.outside.inputs names.low names.high names.anchors) (AreMapsTold bytes names) (CheckMap names.low names.high names.anchors)
       j.is_command (λ o does. does) status text (map-comes a.outside.inputs bytes names j.low_told j.high_told j.anchors_told status text told) untouched writes
 
-  pub fork_run-told : (file evidence anchors : List ℕ) (status : ℕ) → JudgesEvidence a file evidence anchors → NoneFailed a → Ends view a status
+  pub fork_run-told : (file evidence anchors : List ℕ) (status : ℕ) → JudgesEvidence a file evidence anchors → NoneFailed a → EndsAllowed view a status
       → (text : List ℕ) × IsForkTold file evidence anchors status text × Writes a text
   fork_run-told file evidence anchors status j none run =
       run-told view a of_fork (CheckForkComes a.outside.inputs j.evidence_file file) (IsForkTold file evidence anchors) (CheckFork j.evidence_file file)
       j.is_command (λ o does. does) (fork-told a.outside.inputs j.evidence_file file evidence anchors j.evidence_told j.anchors_told none.inputs) none status run
 
-  pub fork_run-ends : (file evidence anchors : List ℕ) (status : ℕ) (text : List ℕ) → JudgesEvidence a file evidence anchors → IsUntouched view a.outside
-      → IsForkTold file evidence anchors status text → Writes a text → Ends view a status
+  pub fork_run-ends : (file evidence anchors : List ℕ) (status : ℕ) (text : List ℕ) → JudgesEvidence a file evidence anchors → IsDiskUntouched view a.outside
+      → IsForkTold file evidence anchors status text → Writes a text → EndsAllowed view a status
   fork_run-ends file evidence anchors status text j untouched told writes =
       run-ends view a of_fork (CheckForkComes a.outside.inputs j.evidence_file file) (IsForkTold file evidence anchors) (CheckFork j.evidence_file file)
       j.is_command (λ o does. does) status text (fork-comes a.outside.inputs j.evidence_file file evidence anchors j.evidence_told j.anchors_told status text told) untouched writes

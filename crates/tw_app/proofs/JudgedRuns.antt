@@ -5,7 +5,7 @@ use Rattle.sha2.specs.Sha256.{sha256}
 use Rattle.tw_base.specs.declared.history.thread.Thread.{Thread}
 use Rattle.tw_base.specs.kinds.Faults.{Rose}
 use Rattle.tw_disk.specs.Disk.{DiskView}
-use Rattle.tw_outside.specs.Files.{Tells}
+use Rattle.tw_outside.specs.Files.{TellsBytes}
 use Rattle.tw_outside.specs.Asked.{Asked}
 use Rattle.tw_words.specs.declared.command.Command.{Command}
 use Rattle.tw_text.specs.declared.fault.CommandFault.{CommandFault}
@@ -15,15 +15,15 @@ use Rattle.tw_chain.specs.declared.verdict.Verdict.{Verdict}
 use Rattle.tw_chain.specs.declared.verdict.Verdict.TheVariants.{Yes, No}
 use Rattle.tw_chain.specs.Binding.{BindsHistories}
 use Rattle.tw_chain.specs.Reasons.{IsVerdict}
-use Rattle.tw_msg.specs.AnchorsFile.{AllGood, IsFirstBadLine, anchor, lines}
+use Rattle.tw_msg.specs.AnchorsFile.{AllGood, IsFirstBadLine, anchor_on, lines}
 use Rattle.tw_filecmd.specs.Verifying.{HasAnchors, VerifyFileComes}
 use Rattle.tw_judge.specs.Told.{IsJudged, IsTold, IsUnjudged, verdict_status, verdict_text}
 use Rattle.tw_app.specs.declared.outcome.Outcome.{Outcome}
 use Rattle.tw_app.specs.declared.outcome.Outcome.TheVariants.{Judged}
 use Rattle.tw_app.specs.Around.{Around, Writes}
-use Rattle.tw_app.specs.Judging.{Judges, NoneFailed, judging}
+use Rattle.tw_app.specs.Judging.{JudgesFiles, NoneFailed, judging}
 use Rattle.tw_app.specs.Outcomes.{outcome_by, status_of, text_of}
-use Rattle.tw_app.specs.Running.{Ends, EndsWith, HasOutcome, HaveNoForm, IsOutcomeOf, IsUntouched, work}
+use Rattle.tw_app.specs.Running.{EndsAllowed, EndsWith, HasOutcome, HaveNoForm, IsDiskUntouched, IsOutcomeOf, work}
 use Rattle.tw_app.proofs.ToldFiles.{same, there}
 
 -- ---- the outcome of a verdict, and of a fault
@@ -38,12 +38,12 @@ text_is (No reason) = refl
 
 -- ---- files whose bytes are told
 
-module _ (a : Asked) (proof_file file proof anchors : List ℕ) (proof_told : Tells a.told proof_file proof) (anchors_told : Tells a.told file anchors) (strict : Bool) where
+module _ (a : Asked) (proof_file file proof anchors : List ℕ) (proof_told : TellsBytes a.told proof_file proof) (anchors_told : TellsBytes a.told file anchors) (strict : Bool) where
   -- a verdict on the files is one on their bytes
   judged_bytes : (v : Verdict) → VerifyFileComes a proof_file file strict (Ok v) → IsJudged strict proof anchors v
   judged_bytes v comes =
       let has : HasAnchors a.told file comes.0 = comes.1 in
-      let under : comes.0 ≡ map anchor (lines anchors) = has.same anchors anchors_told in
+      let under : comes.0 ≡ map anchor_on (lines anchors) = has.same anchors anchors_told in
       record {
         good = has.good anchors anchors_told;
         is_verdict = subst (λ (held : List Thread). IsVerdict sha256 held strict proof v) under (comes.2.is_verdict proof proof_told);
@@ -53,20 +53,20 @@ module _ (a : Asked) (proof_file file proof anchors : List ℕ) (proof_told : Te
   -- and one on their bytes is one on the files
   judged_files : (v : Verdict) → IsJudged strict proof anchors v → VerifyFileComes a proof_file file strict (Ok v)
   judged_files v judged = (
-    map anchor (lines anchors),
+    map anchor_on (lines anchors),
     has,
     record {
       there = there a.told proof_file proof proof_told;
-      is_verdict = λ bytes tells. subst (λ b. IsVerdict sha256 (map anchor (lines anchors)) strict b v) (same a.told proof_file proof bytes proof_told tells) judged.is_verdict;
-      binds = λ bytes tells. subst (λ b. BindsHistories sha256 (map anchor (lines anchors)) b v) (same a.told proof_file proof bytes proof_told tells) judged.binds;
+      is_verdict = λ bytes tells. subst (λ b. IsVerdict sha256 (map anchor_on (lines anchors)) strict b v) (same a.told proof_file proof bytes proof_told tells) judged.is_verdict;
+      binds = λ bytes tells. subst (λ b. BindsHistories sha256 (map anchor_on (lines anchors)) b v) (same a.told proof_file proof bytes proof_told tells) judged.binds;
     },
   )
     where
-      has : HasAnchors a.told file (map anchor (lines anchors))
+      has : HasAnchors a.told file (map anchor_on (lines anchors))
       has = record {
         there = there a.told file anchors anchors_told;
         good = λ bytes tells. subst (λ b. AllGood (lines b)) (same a.told file anchors bytes anchors_told tells) judged.good;
-        same = λ bytes tells. ap (λ b. map anchor (lines b)) (same a.told file anchors bytes anchors_told tells);
+        same = λ bytes tells. ap (λ b. map anchor_on (lines b)) (same a.told file anchors bytes anchors_told tells);
       }
 
   -- why there is no verdict on the files, where the inputs didn't fail, is why there is none on their bytes
@@ -120,7 +120,7 @@ module _ (a : Asked) (proof_file file proof anchors : List ℕ) (proof_told : Te
 module _ {D : Type 0} (view : D → DiskView) (a : Around D) where
   abbrev Comes : (strict : Bool) (proof_file file : List ℕ) → Outcome → Type 0
   Comes strict proof_file file outcome =
-      IsOutcomeOf Judged (λ (r : Result Verdict CommandFault). VerifyFileComes a.outside.inputs proof_file file strict r × IsUntouched view a.outside) outcome
+      IsOutcomeOf Judged (λ (r : Result Verdict CommandFault). VerifyFileComes a.outside.inputs proof_file file strict r × IsDiskUntouched view a.outside) outcome
 
   work_of : (strict : Bool) (proof_file file : List ℕ) (outcome : Outcome) → (work view a.outside (judging strict proof_file file)).does outcome
       → Comes strict proof_file file outcome
@@ -133,10 +133,10 @@ module _ {D : Type 0} (view : D → DiskView) (a : Around D) where
   of_work true proof_file file outcome comes = comes
 
   abbrev HasAt : Outcome → Option Command → Type 0
-  HasAt outcome option = MatchOption option (HaveNoForm a.words outcome × IsUntouched view a.outside) (λ c. (work view a.outside c).does outcome)
+  HasAt outcome option = MatchOption option (HaveNoForm a.words outcome × IsDiskUntouched view a.outside) (λ c. (work view a.outside c).does outcome)
 
-  module _ (strict : Bool) (file proof anchors : List ℕ) (j : Judges a strict file proof anchors) where
-    pub told : (status : ℕ) → NoneFailed a → Ends view a status → (text : List ℕ) × IsTold file strict proof anchors status text × Writes a text
+  module _ (strict : Bool) (file proof anchors : List ℕ) (j : JudgesFiles a strict file proof anchors) where
+    pub told : (status : ℕ) → NoneFailed a → EndsAllowed view a status → (text : List ℕ) × IsTold file strict proof anchors status text × Writes a text
     told status none run = by run.0 run.1.has run.1.ends
       where
         ended : (outcome : Outcome) → EndsWith a.taken a.sink_faults status outcome → (status ≡ status_of outcome) × Writes a (text_of outcome)
@@ -157,7 +157,7 @@ module _ {D : Type 0} (view : D → DiskView) (a : Around D) where
             let ending = ended outcome ends in
             of_comes outcome comes ending.0 ending.1
 
-    pub ends : (status : ℕ) (text : List ℕ) → IsUntouched view a.outside → IsTold file strict proof anchors status text → Writes a text → Ends view a status
+    pub ends : (status : ℕ) (text : List ℕ) → IsDiskUntouched view a.outside → IsTold file strict proof anchors status text → Writes a text → EndsAllowed view a status
     ends status text untouched is writes = (
       outcome,
       record {

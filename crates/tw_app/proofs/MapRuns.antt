@@ -15,14 +15,14 @@ use Rattle.tw_tmap.specs.Binding.{BindsMap}
 use Rattle.tw_tmap.specs.Checking.{high_told, low_told}
 use Rattle.tw_tmap.specs.Texts.{map_text}
 use Rattle.tw_tmap.proofs.MapChecks.{yes-accepted}
-use Rattle.tw_reachcmd.specs.Maps.{CheckMapComes, map_status}
+use Rattle.tw_reachcmd.specs.Maps.{CheckMapComes, map_command_status}
 use Rattle.tw_app.specs.declared.outcome.Outcome.{Outcome}
 use Rattle.tw_app.specs.declared.outcome.Outcome.TheVariants.{Undone}
 use Rattle.tw_app.specs.Around.{Around, Outside}
 use Rattle.tw_app.specs.MapRuns.{AsksMap, IsMapRun}
 use Rattle.tw_app.specs.Outcomes.{of_mapped, outcome_by, status_of, text_of}
-use Rattle.tw_app.specs.Running.{Ends, EndsWith, HaveNoForm, IsUntouched, work}
-use Rattle.tw_app.specs.Statuses.{AreOf}
+use Rattle.tw_app.specs.Running.{EndsAllowed, EndsWith, HaveNoForm, IsDiskUntouched, work}
+use Rattle.tw_app.specs.Statuses.{AreWordsOf}
 use Rattle.tw_app.proofs.Commands.{fault_not_zero}
 
 -- it comes to its verdict, or isn't done
@@ -40,23 +40,23 @@ checks view o (CheckMap low high anchors) outcome is came =
     record { low = low; high = high; anchors = anchors; is_command = refl; result = came.0; comes = came.1.0; is_outcome = came.2 }
 checks view o _ outcome is came = absurd is
 
-module _ {D : Type 0} (view : D → DiskView) (a : Around D) (status : ℕ) (run : Ends view a status) where
+module _ {D : Type 0} (view : D → DiskView) (a : Around D) (status : ℕ) (run : EndsAllowed view a status) where
   abbrev outcome : Outcome
   outcome = run.0
 
-  by_checks : {Q : Type 0} → AreOf AsksMap a.words → ((c : Command) → command_of a.words ≡ Some c → Checks a.outside c outcome → Q) → Q
+  by_checks : {Q : Type 0} → AreWordsOf AsksMap a.words → ((c : Command) → command_of a.words ≡ Some c → Checks a.outside c outcome → Q) → Q
   by_checks {Q} asks then = by (command_of a.words) refl run.1.has asks
     where
-      by : (option : Option Command) → command_of a.words ≡ option → MatchOption option (HaveNoForm a.words outcome × IsUntouched view a.outside) (λ c. (work view a.outside c).does outcome)
+      by : (option : Option Command) → command_of a.words ≡ option → MatchOption option (HaveNoForm a.words outcome × IsDiskUntouched view a.outside) (λ c. (work view a.outside c).does outcome)
           → MatchOption option ⊥ AsksMap → Q
       by None is has asks = absurd asks
       by (Some c) is has asks = then c is (checks view a.outside c outcome asks has)
 
   -- the status and the text are those of the verdict
-  told : (status ≡ 4 → ⊥) → (verdict : MapVerdict) → outcome ≡ of_mapped verdict → (status ≡ map_status verdict) × Appends a.taken.before a.taken.after (map_text verdict)
+  told : (status ≡ 4 → ⊥) → (verdict : MapVerdict) → outcome ≡ of_mapped verdict → (status ≡ map_command_status verdict) × Appends a.taken.before a.taken.after (map_text verdict)
   told other verdict is = by run.1.ends
     where
-      by : EndsWith a.taken a.sink_faults status outcome → (status ≡ map_status verdict) × Appends a.taken.before a.taken.after (map_text verdict)
+      by : EndsWith a.taken a.sink_faults status outcome → (status ≡ map_command_status verdict) × Appends a.taken.before a.taken.after (map_text verdict)
       by (inl ends) = (ends.0 ∙ ap status_of is, subst (λ (o : Outcome). Appends a.taken.before a.taken.after (text_of o)) is ends.1)
       by (inr cut) = absurd (other cut.0)
 
@@ -67,7 +67,7 @@ module _ {D : Type 0} (view : D → DiskView) (a : Around D) (status : ℕ) (run
       by (inl ends) = none (sym (ends.0 ∙ ap status_of is))
       by (inr cut) = other cut.0
 
-  pub between : status ≡ 0 → AreOf AsksMap a.words → IsMapRun a.outside.inputs.told a.words a.taken.before a.taken.after
+  pub between : status ≡ 0 → AreWordsOf AsksMap a.words → IsMapRun a.outside.inputs.told a.words a.taken.before a.taken.after
   between zeroth asks = by_checks asks (λ c is m. of c is m m.result m.comes m.is_outcome)
     where
       other : status ≡ 4 → ⊥

@@ -15,10 +15,10 @@ use Rattle.tw_adopt.specs.declared.receiving.Receiving.{Receiving}
 use Rattle.tw_adopt.specs.Adopting.{adopted_by, furthest}
 use Rattle.tw_adopt.proofs.AdoptionLaws.{refused}
 use Rattle.tw_adopt.proofs.OneAnswer.{first_fault_once, good_once}
-use Rattle.tw_filecmd.specs.Showing.{BreaksRule, IsBadByte, IsFileOf}
+use Rattle.tw_filecmd.specs.Showing.{BreaksRule, IsBadByte, IsHistoryFileOf}
 use Rattle.tw_reachcmd.specs.declared.adopting.Taken.{Taken}
 use Rattle.tw_reachcmd.specs.declared.adopting.Taken.TheVariants as taken
-use Rattle.tw_reachcmd.specs.Adopting.{IsTaken}
+use Rattle.tw_reachcmd.specs.Adopting.{IsAdoptionTaken}
 use Rattle.tw_reachcmd.specs.Held.{TellAll}
 use Rattle.tw_app.proofs.OneFamily.{broken_once, sound_not_broken}
 use Rattle.tw_app.proofs.ToldFiles.{place_once}
@@ -27,11 +27,11 @@ use Rattle.tw_app.proofs.ToldFiles.{place_once}
 
 module _ (bytes : List ℕ) where
   -- a file of a sound history has no bad byte, and breaks no rule
-  pub file_not_bad : (h : History) (place : ℕ) → IsFileOf bytes h → IsBadByte bytes place → ⊥
+  pub file_not_bad : (h : History) (place : ℕ) → IsHistoryFileOf bytes h → IsBadByte bytes place → ⊥
   file_not_bad h place is (inl long) = let short = is.short in let more = long.0 in omega (arith, short, more)
   file_not_bad h place is (inr none) = none.1 h is.spelled
 
-  pub file_not_broken : (h : History) (step rule : ℕ) → IsFileOf bytes h → BreaksRule bytes step rule → ⊥
+  pub file_not_broken : (h : History) (step rule : ℕ) → IsHistoryFileOf bytes h → BreaksRule bytes step rule → ⊥
   file_not_broken h step rule is breaks =
       sound_not_broken breaks.1.0 step rule (subst IsSound (one_value history_layout bytes h breaks.1.0 is.spelled breaks.1.1) is.sound) breaks.1.2
 
@@ -59,7 +59,7 @@ module _ (anchors : List Thread) (h : History) (told : Option Files) (files proo
   front [] = history_bytes h
   front (first ∷ rest) = history_bytes (adopted_by h (furthest first rest)).history
 
-  pub taken_once : (x y : Taken) → IsTaken told anchors files x h → IsTaken told anchors files y h → x ≡ y
+  pub taken_once : (x y : Taken) → IsAdoptionTaken told anchors files x h → IsAdoptionTaken told anchors files y h → x ≡ y
   taken_once (taken.File bytes) (taken.File other) one also =
       let is = one.answers proofs tells in
       let its = also.answers proofs tells in

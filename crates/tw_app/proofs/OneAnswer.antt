@@ -22,7 +22,7 @@ use Rattle.tw_text.specs.declared.refusal.BadInput.TheVariants.{BadByte, BadLine
 use Rattle.tw_text.specs.declared.refusal.Refusal.{Refusal}
 use Rattle.tw_text.specs.declared.refusal.StoreCause.{StoreCause}
 use Rattle.tw_audit.specs.Auditing.{IsAudit}
-use Rattle.tw_atlas.specs.Earliest.{IsPlanned}
+use Rattle.tw_atlas.specs.Earliest.{IsAtlasPlanned}
 use Rattle.tw_base.specs.declared.history.report.Hop.{Hop}
 use Rattle.tw_evidence.specs.declared.fork.ForkVerdict.{ForkVerdict}
 use Rattle.tw_evidence.specs.Forks.{IsForkVerdict}
@@ -31,17 +31,17 @@ use Rattle.tw_reachcmd.specs.declared.auditing.Audited.{Audited}
 use Rattle.tw_reachcmd.specs.declared.planning.Planned.{Planned}
 use Rattle.tw_reachcmd.specs.Accusing.{AccuseComes}
 use Rattle.tw_reachcmd.specs.declared.adopting.Taken.{Taken}
-use Rattle.tw_reachcmd.specs.Adopting.{AdoptComes, IsTaken}
+use Rattle.tw_reachcmd.specs.Adopting.{AdoptComes, IsAdoptionTaken}
 use Rattle.tw_reachcmd.specs.Auditing.{AuditComes, finding_answer}
 use Rattle.tw_reachcmd.specs.Forks.{CheckForkComes}
 use Rattle.tw_reachcmd.specs.Maps.{CheckMapComes}
 use Rattle.tw_reachcmd.specs.Planning.{AtlasComes}
 use Rattle.tw_app.specs.declared.outcome.Outcome.{Outcome}
-use Rattle.tw_app.specs.Alike.{AreAlike, ReachesBeyond, TellsEach}
+use Rattle.tw_app.specs.Alike.{AreRunsAlike, ReachesBeyond, TellsEach}
 use Rattle.tw_app.specs.Around.{Around, Writes}
-use Rattle.tw_app.specs.Commands.{files_of}
+use Rattle.tw_app.specs.Commands.{command_files}
 use Rattle.tw_app.specs.Outcomes.{of_accused, of_audited, of_fork, of_mapped, of_planned, of_taken, outcome_by, status_of, text_of}
-use Rattle.tw_app.specs.Running.{Ends, EndsWith, HaveNoForm, IsHindered, IsOutcomeOf, IsUntouched, work}
+use Rattle.tw_app.specs.Running.{EndsAllowed, EndsWith, HaveNoForm, IsDiskUntouched, IsHindered, IsOutcomeOf, work}
 use Rattle.tw_app.proofs.OneAdoption.{byte_not_broken, byte_once, file_not_bad, file_not_broken, rule_once, taken_once}
 use Rattle.tw_app.proofs.OneAtlas.{bad_receipts_once, hops_not_bad, hops_once, planned_once}
 use Rattle.tw_app.proofs.OneFamily.{bad_history_once, histories_not_bad, histories_once}
@@ -100,7 +100,7 @@ module _ {X : Type 0} where
 -- ---- each command, over files whose bytes are told
 
 module _ (told : Option Files) where
-  module _ (first second : List ℕ) (link : Option (List ℕ)) (tells : TellsEach told (files_of (Accuse first second link))) (m n k l : ℕ) where
+  module _ (first second : List ℕ) (link : Option (List ℕ)) (tells : TellsEach told (command_files (Accuse first second link))) (m n k l : ℕ) where
     accuse_bad : (bad other : BadInput) → AccuseComes (asked told m n) first second link (Err (Unreadable bad))
         → AccuseComes (asked told k l) first second link (Err (Unreadable other)) → bad ≡ other
     accuse_bad (BadByte named p) (BadByte again q) a b = (
@@ -120,7 +120,7 @@ module _ (told : Option Files) where
     accuse_apart x (BadLine named number) a b = b
     accuse_apart x (Unsound named step rule) a b = b
 
-  module _ (first second : List ℕ) (link : Option (List ℕ)) (tells : TellsEach told (files_of (Accuse first second link))) (m n k l : ℕ) where
+  module _ (first second : List ℕ) (link : Option (List ℕ)) (tells : TellsEach told (command_files (Accuse first second link))) (m n k l : ℕ) where
     accuse_agree : Agree (AccuseComes (asked told m n) first second link) (AccuseComes (asked told k l) first second link)
     accuse_agree = record {
       done_once = λ x y a b. made_once told first second link (tells_parts told first second link tells) a.0 a.1 b.0 b.1 a.2 b.2 x y a.3 b.3;
@@ -129,7 +129,7 @@ module _ (told : Option Files) where
       not_done = λ x bad a b. accuse_apart first second link tells k l m n x bad b a;
     }
 
-  module _ (file anchors : List ℕ) (tells : TellsEach told (files_of (CheckFork file anchors))) (m n k l : ℕ) where
+  module _ (file anchors : List ℕ) (tells : TellsEach told (command_files (CheckFork file anchors))) (m n k l : ℕ) where
     fork_done : (v w : ForkVerdict) → CheckForkComes (asked told m n) file anchors (Ok v) → CheckForkComes (asked told k l) file anchors (Ok w) → v ≡ w
     fork_done v w a b =
         let held : b.0 ≡ a.0 = anchors_once told anchors tells.1.0.0 tells.1.0.1 b.0 a.0 b.1 a.1 in
@@ -153,7 +153,7 @@ module _ (told : Option Files) where
     fork_apart v (BadByte named place) a b = b
     fork_apart v (Unsound named step rule) a b = b
 
-  module _ (file anchors : List ℕ) (tells : TellsEach told (files_of (CheckFork file anchors))) (m n k l : ℕ) where
+  module _ (file anchors : List ℕ) (tells : TellsEach told (command_files (CheckFork file anchors))) (m n k l : ℕ) where
     fork_agree : Agree (CheckForkComes (asked told m n) file anchors) (CheckForkComes (asked told k l) file anchors)
     fork_agree = record {
       done_once = fork_done file anchors tells m n k l;
@@ -162,7 +162,7 @@ module _ (told : Option Files) where
       not_done = λ v bad a b. fork_apart file anchors tells k l m n v bad b a;
     }
 
-  module _ (low high anchors : List ℕ) (tells : TellsEach told (files_of (CheckMap low high anchors))) (m n k l : ℕ) where
+  module _ (low high anchors : List ℕ) (tells : TellsEach told (command_files (CheckMap low high anchors))) (m n k l : ℕ) where
     map_agree : Agree (CheckMapComes (asked told m n) low high anchors) (CheckMapComes (asked told k l) low high anchors)
     map_agree = record {
       done_once = map_done told low high anchors tells m n k l;
@@ -176,7 +176,7 @@ module _ (told : Option Files) where
     atlas_done x y a b =
         let all = tell_all told files tells in
         let hops : b.1.0 ≡ a.1.0 = hops_once [] all.0 b.1.0 a.1.0 (b.1.1.are all.0 all.1) (a.1.1.are all.0 all.1) in
-        planned_once start a.1.0 x y a.0 b.0 a.1.2 (subst (λ (hs : List Hop). IsPlanned hs start y.atlas) hops b.1.2)
+        planned_once start a.1.0 x y a.0 b.0 a.1.2 (subst (λ (hs : List Hop). IsAtlasPlanned hs start y.atlas) hops b.1.2)
 
     atlas_bad : (bad other : BadInput) → AtlasComes (asked told m n) start files (Err (Unreadable bad))
         → AtlasComes (asked told k l) start files (Err (Unreadable other)) → bad ≡ other
@@ -208,7 +208,7 @@ module _ (told : Option Files) where
       not_done = λ x bad a b. atlas_apart start files tells k l m n x bad b a;
     }
 
-  module _ (proof anchors : List ℕ) (histories : List (List ℕ)) (tells : TellsEach told (files_of (Audit proof anchors histories))) (m n k l : ℕ) where
+  module _ (proof anchors : List ℕ) (histories : List (List ℕ)) (tells : TellsEach told (command_files (Audit proof anchors histories))) (m n k l : ℕ) where
     abbrev First : Result Audited CommandFault → Type 0
     First = AuditComes (asked told m n) proof anchors histories
 
@@ -256,7 +256,7 @@ module _ (told : Option Files) where
         let all = tell_all told histories tells.1.1 in
         histories_not_bad MOST_HISTORY_BYTES [] histories all.0 a.2.0 (Unsound named step rule) (a.2.1.0.are all.0 all.1) (b.2.1.is_bad all.0 all.1)
 
-  module _ (proof anchors : List ℕ) (histories : List (List ℕ)) (tells : TellsEach told (files_of (Audit proof anchors histories))) (m n k l : ℕ) where
+  module _ (proof anchors : List ℕ) (histories : List (List ℕ)) (tells : TellsEach told (command_files (Audit proof anchors histories))) (m n k l : ℕ) where
     audit_agree : Agree (AuditComes (asked told m n) proof anchors histories) (AuditComes (asked told k l) proof anchors histories)
     audit_agree = record {
       done_once = audit_done proof anchors histories tells m n k l;
@@ -265,7 +265,7 @@ module _ (told : Option Files) where
       not_done = λ x bad a b. audit_apart proof anchors histories tells k l m n x bad b a;
     }
 
-  module _ (history anchors proof : List ℕ) (more : List (List ℕ)) (tells : TellsEach told (files_of (Adopt history anchors proof more))) (m n k l : ℕ) where
+  module _ (history anchors proof : List ℕ) (more : List (List ℕ)) (tells : TellsEach told (command_files (Adopt history anchors proof more))) (m n k l : ℕ) where
     abbrev One : Result Taken CommandFault → Type 0
     One = AdoptComes (asked told m n) history anchors (proof ∷ more)
 
@@ -280,7 +280,7 @@ module _ (told : Option Files) where
         let other = b.3.holds tells.0.0 tells.0.1 in
         let same : other.0 ≡ one.0 = one_value history_layout tells.0.0 other.0 one.0 other.1.spelled one.1.spelled in
         taken_once a.0 one.0 told (proof ∷ more) all.0 all.1 x y one.2
-        (subst (λ (h : History). IsTaken told a.0 (proof ∷ more) y h) same (subst (λ (t : List Thread). IsTaken told t (proof ∷ more) y other.0) held other.2))
+        (subst (λ (h : History). IsAdoptionTaken told a.0 (proof ∷ more) y h) same (subst (λ (t : List Thread). IsAdoptionTaken told t (proof ∷ more) y other.0) held other.2))
 
     adopt_bad : (bad other : BadInput) → One (Err (Unreadable bad)) → Other (Err (Unreadable other)) → bad ≡ other
     adopt_bad (BadLine named p) (BadLine again q) a b = (
@@ -315,7 +315,7 @@ module _ (told : Option Files) where
     adopt_apart x (Unsound named step rule) a b =
         let of = a.3.holds tells.0.0 tells.0.1 in file_not_broken tells.0.0 of.0 step rule of.1 (b.2 tells.0.0 tells.0.1)
 
-  module _ (history anchors proof : List ℕ) (more : List (List ℕ)) (tells : TellsEach told (files_of (Adopt history anchors proof more))) (m n k l : ℕ) where
+  module _ (history anchors proof : List ℕ) (more : List (List ℕ)) (tells : TellsEach told (command_files (Adopt history anchors proof more))) (m n k l : ℕ) where
     adopt_agree : Agree (AdoptComes (asked told m n) history anchors (proof ∷ more)) (AdoptComes (asked told k l) history anchors (proof ∷ more))
     adopt_agree = record {
       done_once = adopt_done history anchors proof more tells m n k l;
@@ -371,7 +371,7 @@ module _ {D : Type 0} (a : Around D) (status : ℕ) (free : IsHindered a status 
         seen a.outside.inputs.before a.outside.inputs.after May files came.0
         (settled came.0 came.1.0 ((told_of outcome ends).0 ∙ ap status_of came.2)) came.1.0
 
-module _ {D : Type 0} (view : D → DiskView) (one other : Around D) (alike : AreAlike one other) (status again : ℕ)
+module _ {D : Type 0} (view : D → DiskView) (one other : Around D) (alike : AreRunsAlike one other) (status again : ℕ)
     (free : IsHindered one status → ⊥) (free_too : IsHindered other again → ⊥) where
   abbrev Ending : Type 0
   Ending = (again ≡ status) × ((text : List ℕ) × Writes one text × Writes other text)
@@ -408,51 +408,51 @@ module _ {D : Type 0} (view : D → DiskView) (one other : Around D) (alike : Ar
   l = other.outside.inputs.after
 
   -- of each command
-  by_command : (c : Command) → ReachesBeyond c → TellsEach told (files_of c) → (x y : Outcome) → (work view one.outside c).does x → (work view other.outside c).does y
+  by_command : (c : Command) → ReachesBeyond c → TellsEach told (command_files c) → (x y : Outcome) → (work view one.outside c).does x → (work view other.outside c).does y
       → EndsWith one.taken one.sink_faults status x → EndsWith other.taken other.sink_faults again y → Ending
   by_command (Accuse first second link) reaches tells x y came comes ends ended =
       alike_ends of_accused (AccuseComes one.outside.inputs first second link) (AccuseComes other.outside.inputs first second link)
       (accuse_files one.outside.inputs first second link) (accuse_files other.outside.inputs first second link)
       (subst (λ (t : Option Files). Agree (AccuseComes (asked told m n) first second link) (AccuseComes (asked t k l) first second link)) (sym alike.same_told)
       (accuse_agree told first second link tells m n k l))
-      (IsUntouched view one.outside) (IsUntouched view other.outside) x y came comes ends ended
+      (IsDiskUntouched view one.outside) (IsDiskUntouched view other.outside) x y came comes ends ended
   by_command (CheckFork file anchors) reaches tells x y came comes ends ended =
       alike_ends of_fork (CheckForkComes one.outside.inputs file anchors) (CheckForkComes other.outside.inputs file anchors)
       (fork_files one.outside.inputs file anchors) (fork_files other.outside.inputs file anchors)
       (subst (λ (t : Option Files). Agree (CheckForkComes (asked told m n) file anchors) (CheckForkComes (asked t k l) file anchors)) (sym alike.same_told)
       (fork_agree told file anchors tells m n k l))
-      (IsUntouched view one.outside) (IsUntouched view other.outside) x y came comes ends ended
+      (IsDiskUntouched view one.outside) (IsDiskUntouched view other.outside) x y came comes ends ended
   by_command (CheckMap low high anchors) reaches tells x y came comes ends ended =
       alike_ends of_mapped (CheckMapComes one.outside.inputs low high anchors) (CheckMapComes other.outside.inputs low high anchors)
       (map_files one.outside.inputs low high anchors) (map_files other.outside.inputs low high anchors)
       (subst (λ (t : Option Files). Agree (CheckMapComes (asked told m n) low high anchors) (CheckMapComes (asked t k l) low high anchors)) (sym alike.same_told)
       (map_agree told low high anchors tells m n k l))
-      (IsUntouched view one.outside) (IsUntouched view other.outside) x y came comes ends ended
+      (IsDiskUntouched view one.outside) (IsDiskUntouched view other.outside) x y came comes ends ended
   by_command (Atlas name pos files) reaches tells x y came comes ends ended =
       let start : Key = record { from = name; step = pos } in
       alike_ends of_planned (AtlasComes one.outside.inputs start files) (AtlasComes other.outside.inputs start files)
       (atlas_files one.outside.inputs start files) (atlas_files other.outside.inputs start files)
       (subst (λ (t : Option Files). Agree (AtlasComes (asked told m n) start files) (AtlasComes (asked t k l) start files)) (sym alike.same_told)
       (atlas_agree told start files tells m n k l))
-      (IsUntouched view one.outside) (IsUntouched view other.outside) x y came comes ends ended
+      (IsDiskUntouched view one.outside) (IsDiskUntouched view other.outside) x y came comes ends ended
   by_command (Audit proof anchors histories) reaches tells x y came comes ends ended =
       alike_ends of_audited (AuditComes one.outside.inputs proof anchors histories) (AuditComes other.outside.inputs proof anchors histories)
       (audit_files one.outside.inputs proof anchors histories) (audit_files other.outside.inputs proof anchors histories)
       (subst (λ (t : Option Files). Agree (AuditComes (asked told m n) proof anchors histories) (AuditComes (asked t k l) proof anchors histories)) (sym alike.same_told)
       (audit_agree told proof anchors histories tells m n k l))
-      (IsUntouched view one.outside) (IsUntouched view other.outside) x y came comes ends ended
+      (IsDiskUntouched view one.outside) (IsDiskUntouched view other.outside) x y came comes ends ended
   by_command (Adopt history anchors proof more) reaches tells x y came comes ends ended =
       alike_ends of_taken (AdoptComes one.outside.inputs history anchors (proof ∷ more)) (AdoptComes other.outside.inputs history anchors (proof ∷ more))
       (adopt_files one.outside.inputs history anchors (proof ∷ more)) (adopt_files other.outside.inputs history anchors (proof ∷ more))
       (subst (λ (t : Option Files). Agree (AdoptComes (asked told m n) history anchors (proof ∷ more)) (AdoptComes (asked t k l) history anchors (proof ∷ more))) (sym alike.same_told)
       (adopt_agree told history anchors proof more tells m n k l))
-      (IsUntouched view one.outside) (IsUntouched view other.outside) x y came comes ends ended
+      (IsDiskUntouched view one.outside) (IsDiskUntouched view other.outside) x y came comes ends ended
   by_command _ reaches tells x y came comes ends ended = absurd reaches
 
   abbrev HasAt : Around D → Outcome → Option Command → Type 0
-  HasAt a outcome option = MatchOption option (HaveNoForm a.words outcome × IsUntouched view a.outside) (λ c. (work view a.outside c).does outcome)
+  HasAt a outcome option = MatchOption option (HaveNoForm a.words outcome × IsDiskUntouched view a.outside) (λ c. (work view a.outside c).does outcome)
 
-  pub one_ending : Ends view one status → Ends view other again → Ending
+  pub one_ending : EndsAllowed view one status → EndsAllowed view other again → Ending
   one_ending run also =
       by_command alike.command alike.reaches alike.tells run.0 also.0 (subst (HasAt one run.0) alike.is_command run.1.has)
       (subst (HasAt other also.0) (ap command_of alike.same_words ∙ alike.is_command) also.1.has) run.1.ends also.1.ends

@@ -4,7 +4,7 @@ use Rattle.std.specs.Prelude.{Ok, Err}
 use Rattle.tw_base.specs.declared.history.report.Hop.{Hop}
 use Rattle.tw_base.specs.declared.history.thread.Key.{Key}
 use Rattle.tw_base.specs.declared.kinds.failure.ReadFault.TheVariants.{Malformed}
-use Rattle.tw_atlas.specs.Earliest.{IsPlanned}
+use Rattle.tw_atlas.specs.Earliest.{IsAtlasPlanned}
 use Rattle.tw_atlas.specs.ReceiptFiles.{AddsHops, receipt_hop, room}
 use Rattle.tw_atlas.proofs.ArrivalLaws.{one-atlas}
 use Rattle.tw_atlas.proofs.ReceiptFileLaws.{one-list, one-place}
@@ -55,7 +55,7 @@ bad_receipts_once before (file ∷ files) (bytes ∷ all) named again p q (inr o
 
 -- ---- the atlas
 
-pub planned_once : (start : Key) (hops : List Hop) (x y : Planned) → x.start ≡ start → y.start ≡ start → IsPlanned hops start x.atlas → IsPlanned hops start y.atlas → x ≡ y
+pub planned_once : (start : Key) (hops : List Hop) (x y : Planned) → x.start ≡ start → y.start ≡ start → IsAtlasPlanned hops start x.atlas → IsAtlasPlanned hops start y.atlas → x ≡ y
 planned_once start hops x y from also one other =
     let starts = from ∙ sym also in
     let legs = one.legs ∙ sym other.legs in

@@ -2,7 +2,7 @@
 use Rattle.std.proofs.Common.{◌≡◌, ◌∙◌, ℕ, List, refl, ap, sym, subst, inl, inr}
 use Rattle.std.specs.Prelude.{Option, Some, None, Result, Ok, Err}
 use Rattle.tw_base.proofs.lemmas.format.CodecLaws.{written-as}
-use Rattle.tw_outside.specs.Files.{Files, Tells}
+use Rattle.tw_outside.specs.Files.{Files, TellsBytes}
 use Rattle.tw_words.specs.declared.command.Command.TheVariants.{Accuse}
 use Rattle.tw_chain.specs.declared.proof.LinkProof.{LinkProof}
 use Rattle.tw_chain.specs.declared.proof.ThreadProof.{ThreadProof}
@@ -12,10 +12,10 @@ use Rattle.tw_evidence.specs.Evidence.{evidence_bytes, evidence_codec, link_proo
 use Rattle.tw_evidence.proofs.EvidenceCodec.{evidence-lawful}
 use Rattle.tw_reachcmd.specs.declared.accusing.Accused.{Accused}
 use Rattle.tw_reachcmd.specs.declared.accusing.Accused.TheVariants.{Whole, Unfit}
-use Rattle.tw_reachcmd.specs.Accusing.{HasBadPart, HoldParts, HoldsLink, PartsMake}
+use Rattle.tw_reachcmd.specs.Accusing.{HasBadLinkFile, HoldParts, HoldsLink, PartsMake}
 use Rattle.tw_reachcmd.specs.Held.{HoldsNone}
 use Rattle.tw_app.specs.Alike.{TellsEach}
-use Rattle.tw_app.specs.Commands.{files_of}
+use Rattle.tw_app.specs.Commands.{command_files}
 use Rattle.tw_app.proofs.ToldFiles.{held_not_none, held_once, none_once}
 
 -- ---- what parts make
@@ -44,15 +44,15 @@ parts_once one other between (Unfit p) (Unfit q) made also = ap (λ (place : ℕ
 -- the inputs tell the bytes of both proofs and of the link, where one is named
 pub record TellsParts (told : Option Files) (first second : List ℕ) (link : Option (List ℕ)) : Type 0 where
   pub one : List ℕ
-  pub tells_one : Tells told first one
+  pub tells_one : TellsBytes told first one
   pub other : List ℕ
-  pub tells_other : Tells told second other
-  pub between : (file : List ℕ) → link ≡ Some file → (bytes : List ℕ) × Tells told file bytes
+  pub tells_other : TellsBytes told second other
+  pub between : (file : List ℕ) → link ≡ Some file → (bytes : List ℕ) × TellsBytes told file bytes
 
 some_file : (one other : List ℕ) → Some one ≡ Some other → one ≡ other
 some_file one other is = cc
 
-pub tells_parts : (told : Option Files) (first second : List ℕ) (link : Option (List ℕ)) → TellsEach told (files_of (Accuse first second link))
+pub tells_parts : (told : Option Files) (first second : List ℕ) (link : Option (List ℕ)) → TellsEach told (command_files (Accuse first second link))
     → TellsParts told first second link
 tells_parts told first second None each =
     record { one = each.0.0; tells_one = each.0.1; other = each.1.0.0; tells_other = each.1.0.1; between = λ file is. cc }
@@ -61,7 +61,7 @@ tells_parts told first second (Some named) each = record {
   tells_one = each.0.1;
   other = each.1.0.0;
   tells_other = each.1.0.1;
-  between = λ file is. subst (λ (f : List ℕ). (bytes : List ℕ) × Tells told f bytes) (some_file named file is) each.1.1.0;
+  between = λ file is. subst (λ (f : List ℕ). (bytes : List ℕ) × TellsBytes told f bytes) (some_file named file is) each.1.1.0;
 }
 
 module _ (told : Option Files) (first second : List ℕ) (link : Option (List ℕ)) (t : TellsParts told first second link) where
@@ -90,7 +90,7 @@ module _ (told : Option Files) (first second : List ℕ) (link : Option (List �
       (subst (λ (l : Option LinkProof). PartsMake again next l y) links also.1)))
 
   pub parts_not_bad : (one other : ThreadProof) (between : Option LinkProof) (named : List ℕ) (place : ℕ) → HoldParts told first second link one other between
-      → HasBadPart told first second link named place → ⊥
+      → HasBadLinkFile told first second link named place → ⊥
   parts_not_bad one other between named place held (inl bad) = held_not_none thread_proof_layout told first t.one t.tells_one one place held.one_held bad.1
   parts_not_bad one other between named place held (inr (inl bad)) =
       held_not_none thread_proof_layout told second t.other t.tells_other other place held.other_held bad.1.1
@@ -101,7 +101,7 @@ module _ (told : Option Files) (first second : List ℕ) (link : Option (List �
       by None is = is
       by (Some l) is = let tells = t.between bad.2.0 bad.2.1 in held_not_none link_proof_layout told bad.2.0 tells.0 tells.1 l place is bad.2.3
 
-  pub bad_parts_once : (named again : List ℕ) (p q : ℕ) → HasBadPart told first second link named p → HasBadPart told first second link again q
+  pub bad_parts_once : (named again : List ℕ) (p q : ℕ) → HasBadLinkFile told first second link named p → HasBadLinkFile told first second link again q
       → (named ≡ again) × (p ≡ q)
   bad_parts_once named again p q (inl one) (inl other) = (one.0 ∙ sym other.0, none_once thread_proof_layout told first t.one t.tells_one p q one.1 other.1)
   bad_parts_once named again p q (inl one) (inr (inl other)) =

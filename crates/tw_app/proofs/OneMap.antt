@@ -17,10 +17,10 @@ use Rattle.tw_tmap.specs.Checking.{map_verdict}
 use Rattle.tw_tmap.specs.MapFiles.{high_layout, low_layout}
 use Rattle.tw_reachcmd.specs.Maps.{CheckMapComes, HasBadFile, HoldMaps, IsBadLineOf}
 use Rattle.tw_app.specs.Alike.{TellsEach}
-use Rattle.tw_app.specs.Commands.{files_of}
+use Rattle.tw_app.specs.Commands.{command_files}
 use Rattle.tw_app.proofs.ToldFiles.{anchors_once, bad_line_once, good_not_bad, held_not_none, held_once, none_once}
 
-module _ (told : Option Files) (low high anchors : List ℕ) (tells : TellsEach told (files_of (CheckMap low high anchors))) where
+module _ (told : Option Files) (low high anchors : List ℕ) (tells : TellsEach told (command_files (CheckMap low high anchors))) where
   abbrev Bad : BadInput → Type 0
   Bad bad = HasBadFile told low high anchors bad
 

@@ -14,7 +14,7 @@ use Rattle.tw_audit.specs.declared.finding.AuditFault.{AuditFault}
 use Rattle.tw_audit.specs.declared.finding.AuditFault.TheVariants as fault
 use Rattle.tw_audit.specs.declared.finding.Finding.{Finding}
 use Rattle.tw_audit.specs.declared.finding.Finding.TheVariants as finding
-use Rattle.tw_audit.specs.Auditing.{IsAudit, answer_of}
+use Rattle.tw_audit.specs.Auditing.{IsAudit, audit_answer}
 use Rattle.tw_evidence.specs.declared.fork.ForkReason.TheVariants as fork
 use Rattle.tw_evidence.specs.declared.fork.ForkVerdict.{ForkVerdict}
 use Rattle.tw_evidence.specs.declared.fork.ForkVerdict.TheVariants.{No}
@@ -56,7 +56,7 @@ module _ (family : List History) (anchors : List Thread) (bytes : List ℕ) wher
   IsRejected x = (reason : Reason) × (x ≡ Found (finding.NotAccepted reason)) × IsVerdict sha256 anchors false bytes (verdict.No reason)
 
   abbrev IsFound : Audited → Type 0
-  IsFound x = (accepts : Accepts sha256 anchors bytes) × (finding_answer x ≡ answer_of sha256 family anchors accepts.0)
+  IsFound x = (accepts : Accepts sha256 anchors bytes) × (finding_answer x ≡ audit_answer sha256 family anchors accepts.0)
 
   either : (x : Audited) → IsAudit sha256 family anchors bytes (finding_answer x) → IsRejected x ⊎ IsFound x
   either (Found (finding.NotAccepted reason)) says = inl (reason, refl, says)
@@ -77,4 +77,4 @@ module _ (family : List History) (anchors : List Thread) (bytes : List ℕ) wher
       by (inr one) (inl other) = absurd (apart y x other one)
       by (inr one) (inr other) =
           let same : other.0.0 ≡ one.0.0 = one_value proof_layout bytes other.0.0 one.0.0 other.0.1 one.0.1 in
-          same_answer x y (one.1 ∙ sym (ap (answer_of sha256 family anchors) same) ∙ sym other.1)
+          same_answer x y (one.1 ∙ sym (ap (audit_answer sha256 family anchors) same) ∙ sym other.1)

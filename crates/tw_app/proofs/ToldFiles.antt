@@ -5,17 +5,17 @@ use Rattle.std.proofs.lemmas.Bool.{cases_lt}
 use Rattle.tw_base.specs.declared.history.thread.Thread.{Thread}
 use Rattle.tw_base.specs.format.Formats.{Format, IsPlace, Spells}
 use Rattle.tw_base.proofs.lemmas.format.FormatLaws.{one_value}
-use Rattle.tw_outside.specs.Files.{Files, IsThere, Tells}
-use Rattle.tw_msg.specs.AnchorsFile.{AllGood, IsFirstBadLine, anchor, is_good, lines}
+use Rattle.tw_outside.specs.Files.{Files, IsThere, TellsBytes}
+use Rattle.tw_msg.specs.AnchorsFile.{AllGood, IsFirstBadLine, anchor_on, is_good, lines}
 use Rattle.tw_filecmd.specs.Verifying.{HasAnchors, HasBadLine}
 use Rattle.tw_reachcmd.specs.Anchors.{AreAnchorsOf}
-use Rattle.tw_reachcmd.specs.Held.{Holds, HoldsNone, TellAll}
+use Rattle.tw_reachcmd.specs.Held.{FileHolds, HoldsNone, TellAll}
 use Rattle.tw_app.specs.Alike.{TellsEach}
 
-pub there : (told : Option Files) (name bytes : List ℕ) → Tells told name bytes → IsThere told name
+pub there : (told : Option Files) (name bytes : List ℕ) → TellsBytes told name bytes → IsThere told name
 there told name bytes tells = λ some. subst IsSome (sym tells) refl
 
-pub same : (told : Option Files) (name bytes other : List ℕ) → Tells told name bytes → Tells told name other → bytes ≡ other
+pub same : (told : Option Files) (name bytes other : List ℕ) → TellsBytes told name bytes → TellsBytes told name other → bytes ≡ other
 same told name bytes other tells tells_other = some (sym tells ∙ tells_other)
   where
     some : Some bytes ≡ Some other → bytes ≡ other
@@ -35,14 +35,14 @@ tell_all told (file ∷ files) each = let rest = tell_all told files each.1 in (
 
 -- ---- what a file holds
 
-module _ {X : Type 0} (layout : Format X) (told : Option Files) (file bytes : List ℕ) (tells : Tells told file bytes) where
-  held_spells : (x : X) → Holds layout told file x → Spells layout bytes x
+module _ {X : Type 0} (layout : Format X) (told : Option Files) (file bytes : List ℕ) (tells : TellsBytes told file bytes) where
+  held_spells : (x : X) → FileHolds layout told file x → Spells layout bytes x
   held_spells x holds = subst (λ (b : List ℕ). Spells layout b x) (sym (holds.same bytes tells)) holds.spelled
 
-  pub held_once : (x y : X) → Holds layout told file x → Holds layout told file y → x ≡ y
+  pub held_once : (x y : X) → FileHolds layout told file x → FileHolds layout told file y → x ≡ y
   held_once x y one other = one_value layout bytes x y (held_spells x one) (held_spells y other)
 
-  pub held_not_none : (x : X) (place : ℕ) → Holds layout told file x → HoldsNone layout told file place → ⊥
+  pub held_not_none : (x : X) (place : ℕ) → FileHolds layout told file x → HoldsNone layout told file place → ⊥
   held_not_none x place holds none = (none.nothing bytes tells).0 x (held_spells x holds)
 
   pub none_once : (p q : ℕ) → HoldsNone layout told file p → HoldsNone layout told file q → p ≡ q
@@ -62,13 +62,13 @@ first_bad_once all one other is also = elim (cases_lt is.index also.index) [
     apart : (i : ℕ) → is_good all i ≡ true → is_good all i ≡ false → ⊥
     apart i good bad = let both : true ≡ false = sym good ∙ bad in cc
 
-module _ (told : Option Files) (file bytes : List ℕ) (tells : Tells told file bytes) where
+module _ (told : Option Files) (file bytes : List ℕ) (tells : TellsBytes told file bytes) where
   -- a file of good lines has their anchors
   pub has_anchors_of : (anchors : List Thread) → AreAnchorsOf bytes anchors → HasAnchors told file anchors
   has_anchors_of anchors are = record {
     there = there told file bytes tells;
     good = λ others other. subst (λ (b : List ℕ). AllGood (lines b)) (same told file bytes others tells other) are.good;
-    same = λ others other. are.are ∙ ap (λ (b : List ℕ). map anchor (lines b)) (same told file bytes others tells other);
+    same = λ others other. are.are ∙ ap (λ (b : List ℕ). map anchor_on (lines b)) (same told file bytes others tells other);
   }
 
   pub anchors_once : (one other : List Thread) → HasAnchors told file one → HasAnchors told file other → one ≡ other

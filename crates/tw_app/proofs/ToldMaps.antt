@@ -12,7 +12,7 @@ use Rattle.tw_text.specs.declared.fault.CommandFault.{CommandFault}
 use Rattle.tw_text.specs.declared.fault.CommandFault.TheVariants.{DiskFault, InputFault, NoMemory, Refused, Unreadable, Unserved}
 use Rattle.tw_text.specs.declared.refusal.BadInput.{BadInput}
 use Rattle.tw_text.specs.Faults.{fault_text}
-use Rattle.tw_msg.specs.AnchorsFile.{AllGood, anchor, lines}
+use Rattle.tw_msg.specs.AnchorsFile.{AllGood, anchor_on, lines}
 use Rattle.tw_filecmd.specs.Verifying.{HasAnchors}
 use Rattle.tw_tmap.specs.declared.map_file.HighFile.{HighFile}
 use Rattle.tw_tmap.specs.declared.map_file.LowFile.{LowFile}
@@ -22,15 +22,15 @@ use Rattle.tw_tmap.specs.Checking.{map_verdict}
 use Rattle.tw_tmap.specs.MapFiles.{high_layout, low_layout}
 use Rattle.tw_tmap.specs.Texts.{map_text}
 use Rattle.tw_tmap.proofs.OwnMaps.{own-accepted}
-use Rattle.tw_reachcmd.specs.Held.{Holds}
-use Rattle.tw_reachcmd.specs.Maps.{CheckMapComes, map_status}
+use Rattle.tw_reachcmd.specs.Held.{FileHolds}
+use Rattle.tw_reachcmd.specs.Maps.{CheckMapComes, map_command_status}
 use Rattle.tw_app.specs.declared.outcome.Outcome.{Outcome}
 use Rattle.tw_app.specs.Alike.{TellsEach}
 use Rattle.tw_app.specs.Around.{Around, Writes}
-use Rattle.tw_app.specs.Commands.{files_of}
-use Rattle.tw_app.specs.MapRuns.{AreAsked, AreOwnMaps, EndsUnhindered, JudgesMaps, RefusesMaps, TellsVerdict, bounds_of}
+use Rattle.tw_app.specs.Commands.{command_files}
+use Rattle.tw_app.specs.MapRuns.{AreAsked, AreOwnMaps, EndsUnhindered, JudgesMaps, RefusesMaps, TellsMapVerdict, bounds_of}
 use Rattle.tw_app.specs.Outcomes.{of_mapped, outcome_by, status_of, text_of}
-use Rattle.tw_app.specs.Running.{Ends, EndsWith, HaveNoForm, IsOutcomeOf, IsUntouched, work}
+use Rattle.tw_app.specs.Running.{EndsAllowed, EndsWith, HaveNoForm, IsDiskUntouched, IsOutcomeOf, work}
 use Rattle.tw_app.proofs.OneMap.{bad_map_once, maps_not_bad}
 use Rattle.tw_app.proofs.ToldFiles.{held_once, same, there}
 
@@ -43,14 +43,14 @@ module _ {D : Type 0} (view : D → DiskView) (a : Around D) (low : LowFile) (hi
   Comes r = CheckMapComes a.outside.inputs is.low_file is.high_file is.anchors_file r
 
   abbrev Ending : Type 0
-  Ending = TellsVerdict a status (map_verdict sha256 anchors low high)
+  Ending = TellsMapVerdict a status (map_verdict sha256 anchors low high)
 
   -- what the files hold
 
-  tells : TellsEach told (files_of (CheckMap is.low_file is.high_file is.anchors_file))
+  tells : TellsEach told (command_files (CheckMap is.low_file is.high_file is.anchors_file))
   tells = ((is.low_bytes, is.low_tells), ((is.high_bytes, is.high_tells), ((is.anchors_bytes, is.anchors_tell), tt)))
 
-  low_holds : Holds low_layout told is.low_file low
+  low_holds : FileHolds low_layout told is.low_file low
   low_holds = record {
     there = there told is.low_file is.low_bytes is.low_tells;
     bytes = is.low_bytes;
@@ -58,7 +58,7 @@ module _ {D : Type 0} (view : D → DiskView) (a : Around D) (low : LowFile) (hi
     same = λ others tells. sym (same told is.low_file is.low_bytes others is.low_tells tells);
   }
 
-  high_holds : Holds high_layout told is.high_file high
+  high_holds : FileHolds high_layout told is.high_file high
   high_holds = record {
     there = there told is.high_file is.high_bytes is.high_tells;
     bytes = is.high_bytes;
@@ -70,7 +70,7 @@ module _ {D : Type 0} (view : D → DiskView) (a : Around D) (low : LowFile) (hi
   good = record {
     there = there told is.anchors_file is.anchors_bytes is.anchors_tell;
     good = λ others tells. subst (λ (b : List ℕ). AllGood (lines b)) (same told is.anchors_file is.anchors_bytes others is.anchors_tell tells) is.are_anchors.good;
-    same = λ others tells. is.are_anchors.are ∙ ap (λ (b : List ℕ). map anchor (lines b)) (same told is.anchors_file is.anchors_bytes others is.anchors_tell tells);
+    same = λ others tells. is.are_anchors.are ∙ ap (λ (b : List ℕ). map anchor_on (lines b)) (same told is.anchors_file is.anchors_bytes others is.anchors_tell tells);
   }
 
   -- so the verdict is that on these
@@ -81,7 +81,7 @@ module _ {D : Type 0} (view : D → DiskView) (a : Around D) (low : LowFile) (hi
       let held_is : comes.2 ≡ anchors = comes.3.1.same is.anchors_bytes is.anchors_tell ∙ sym is.are_anchors.are in
       comes.3.2.is_verdict ∙ (λ k. map_verdict sha256 (held_is k) (low_is k) (high_is k))
 
-  status_is : (verdict : MapVerdict) → status_of (of_mapped verdict) ≡ map_status verdict
+  status_is : (verdict : MapVerdict) → status_of (of_mapped verdict) ≡ map_command_status verdict
   status_is (Yes l h upto) = refl
   status_is (No reason) = refl
   status_is Gap = refl
@@ -92,7 +92,7 @@ module _ {D : Type 0} (view : D → DiskView) (a : Around D) (low : LowFile) (hi
   by_result (Ok verdict) comes outcome came (inl ends) =
       let agrees = verdict_is verdict comes in
       inr (
-        ends.0 ∙ ap status_of came ∙ status_is verdict ∙ ap map_status agrees,
+        ends.0 ∙ ap status_of came ∙ status_is verdict ∙ ap map_command_status agrees,
         subst (λ (v : MapVerdict). Writes a (map_text v)) agrees (subst (λ (o : Outcome). Writes a (text_of o)) came ends.1),
       )
   by_result (Err InputFault) comes outcome came (inl ends) = inl (inl (ends.0 ∙ ap status_of came, comes))
@@ -104,22 +104,22 @@ module _ {D : Type 0} (view : D → DiskView) (a : Around D) (low : LowFile) (hi
       absurd (maps_not_bad told is.low_file is.high_file is.anchors_file tells low high anchors (record { low_held = low_holds; high_held = high_holds }) good bad comes)
 
   abbrev HasAt : Outcome → Option Command → Type 0
-  HasAt outcome option = MatchOption option (HaveNoForm a.words outcome × IsUntouched view a.outside) (λ c. (work view a.outside c).does outcome)
+  HasAt outcome option = MatchOption option (HaveNoForm a.words outcome × IsDiskUntouched view a.outside) (λ c. (work view a.outside c).does outcome)
 
   abbrev Came : Outcome → Type 0
-  Came outcome = IsOutcomeOf of_mapped (λ (r : Result MapVerdict CommandFault). Comes r × IsUntouched view a.outside) outcome
+  Came outcome = IsOutcomeOf of_mapped (λ (r : Result MapVerdict CommandFault). Comes r × IsDiskUntouched view a.outside) outcome
 
   by_outcome : (outcome : Outcome) → Came outcome → EndsWith a.taken a.sink_faults status outcome → Ending
   by_outcome outcome came ends = by_result came.0 came.1.0 outcome came.2 ends
 
-  pub tells_verdict : Ends view a status → Ending
+  pub tells_verdict : EndsAllowed view a status → Ending
   tells_verdict run = by_outcome run.0 (subst (HasAt run.0) is.is_command run.1.has) run.1.ends
 
   -- two services' own files
-  pub tells_bounds : (own other : History) (step top upto : ℕ) → AreAsked own other step top upto → AreOwnMaps own other step top upto low high anchors → Ends view a status
-      → TellsVerdict a status (bounds_of own other step upto)
+  pub tells_bounds : (own other : History) (step top upto : ℕ) → AreAsked own other step top upto → AreOwnMaps own other step top upto low high anchors → EndsAllowed view a status
+      → TellsMapVerdict a status (bounds_of own other step upto)
   tells_bounds own other step top upto asked are run =
-      subst (λ (v : MapVerdict). TellsVerdict a status v)
+      subst (λ (v : MapVerdict). TellsMapVerdict a status v)
       (own-accepted sha256 own other step top upto low high anchors asked.own_sound asked.other_sound asked.from_1 asked.order asked.within asked.some asked.upto_within are.own_low
       are.own_high are.own_held are.other_held)
       (tells_verdict run)
@@ -151,13 +151,13 @@ module _ {D : Type 0} (view : D → DiskView) (a : Around D) (bad : BadInput) (s
   refused_by (Err (Unserved cause)) comes outcome came (inl ends) = absurd comes
 
   abbrev Has : Outcome → Option Command → Type 0
-  Has outcome option = MatchOption option (HaveNoForm a.words outcome × IsUntouched view a.outside) (λ c. (work view a.outside c).does outcome)
+  Has outcome option = MatchOption option (HaveNoForm a.words outcome × IsDiskUntouched view a.outside) (λ c. (work view a.outside c).does outcome)
 
   abbrev CameSo : Outcome → Type 0
-  CameSo outcome = IsOutcomeOf of_mapped (λ (r : Result MapVerdict CommandFault). ComesSo r × IsUntouched view a.outside) outcome
+  CameSo outcome = IsOutcomeOf of_mapped (λ (r : Result MapVerdict CommandFault). ComesSo r × IsDiskUntouched view a.outside) outcome
 
   refusal_of : (outcome : Outcome) → CameSo outcome → EndsWith a.taken a.sink_faults status outcome → EndsSo
   refusal_of outcome came ends = refused_by came.0 came.1.0 outcome came.2 ends
 
-  pub tells_refusal : Ends view a status → EndsSo
+  pub tells_refusal : EndsAllowed view a status → EndsSo
   tells_refusal run = refusal_of run.0 (subst (Has run.0) is.is_command run.1.has) run.1.ends

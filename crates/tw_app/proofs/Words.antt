@@ -12,7 +12,7 @@ use Rattle.tw_app.specs.declared.outcome.Outcome.TheVariants.{Undone}
 use Rattle.tw_text.specs.declared.fault.CommandFault.TheVariants.{NoMemory as NoMemoryFault}
 use Rattle.tw_app.specs.Around.{Outside}
 use Rattle.tw_app.specs.Outcomes.{TakesMemory}
-use Rattle.tw_app.specs.Running.{HasOutcome, HaveNoForm, IsUntouched, work}
+use Rattle.tw_app.specs.Running.{HasOutcome, HaveNoForm, IsDiskUntouched, work}
 use Rattle.tw_app.proofs.Commands.{rows}
 
 abbrev asOk : Command → Result Command WordFault
@@ -30,14 +30,14 @@ module _ {D : Type 0} (view : D → DiskView)
     (only_now : (d : D) (image : Image) → (view d).left_since (view d).moment image → (view d).may_leave image)
     (as_it_reads : (d : D) (image : Image) → (view d).content ≡ Some image → (view d).may_leave image) (o : Outside D) (words : List (List ℕ)) where
   abbrev HasAt : Outcome → Option Command → Type 0
-  HasAt outcome option = MatchOption option (HaveNoForm words outcome × IsUntouched view o) (λ c. (work view o c).does outcome)
+  HasAt outcome option = MatchOption option (HaveNoForm words outcome × IsDiskUntouched view o) (λ c. (work view o c).does outcome)
 
   -- what the words' command comes to, the words come to
   pub has_outcome : (c : Command) → command_of words ≡ Some c → (outcome : Outcome) → (work view o c).does outcome → HasOutcome view o words outcome
   has_outcome c is outcome does = subst (HasAt outcome) (sym is) does
 
   -- want of memory is free, for the command and for its text
-  pub no_memory_outcome : IsUntouched view o → HasOutcome view o words (Undone NoMemoryFault)
+  pub no_memory_outcome : IsDiskUntouched view o → HasOutcome view o words (Undone NoMemoryFault)
   no_memory_outcome same = by (command_of words)
     where
       by : (option : Option Command) → HasAt (Undone NoMemoryFault) option

@@ -5,7 +5,7 @@ use Rattle.tw_base.specs.declared.history.thread.Thread.{Thread}
 use Rattle.tw_base.specs.history.History.{History}
 use Rattle.tw_base.specs.history.HistoryCodec.{history_bytes}
 use Rattle.tw_base.specs.kinds.Lists.{Each}
-use Rattle.tw_outside.specs.Files.{Files, IsThere, Tells}
+use Rattle.tw_outside.specs.Files.{Files, IsThere, TellsBytes}
 use Rattle.tw_outside.specs.TakenBytes.{Appends}
 use Rattle.tw_words.specs.CommandLine.{command_of}
 use Rattle.tw_words.specs.declared.command.Command.{Command}
@@ -14,7 +14,7 @@ use Rattle.tw_adopt.specs.declared.adopted.AdoptFault.{AdoptFault}
 use Rattle.tw_adopt.specs.declared.receiving.Receiving.{Receiving}
 use Rattle.tw_adopt.specs.Adopting.{AreGood, IsFirstFault, furthest}
 use Rattle.tw_adopt.specs.FirstSteps.{first_steps}
-use Rattle.tw_filecmd.specs.Showing.{IsFileOf, OfHistory}
+use Rattle.tw_filecmd.specs.Showing.{IsHistoryFileOf, OfHistory}
 use Rattle.tw_filecmd.specs.Verifying.{HasAnchors}
 use Rattle.tw_reachcmd.specs.Adopting.{IsTakenOver}
 use Rattle.tw_reachcmd.specs.AdoptTexts.{unadopted_text}
@@ -56,10 +56,10 @@ pub record IsAdoptionOf (told : Option Files) (words : List (List ℕ)) (h : His
   pub more_files : List (List ℕ)
   pub is_command : command_of words ≡ Some (Adopt history_file anchors_file proof_file more_files)
   pub file_bytes : List ℕ
-  pub history_told : Tells told history_file file_bytes
-  pub is_file : IsFileOf file_bytes h
+  pub history_told : TellsBytes told history_file file_bytes
+  pub is_file : IsHistoryFileOf file_bytes h
   pub anchor_bytes : List ℕ
-  pub anchors_told : Tells told anchors_file anchor_bytes
+  pub anchors_told : TellsBytes told anchors_file anchor_bytes
   pub are_anchors : AreAnchorsOf anchor_bytes anchors
   pub proofs_told : TellAll told (proof_file ∷ more_files) proofs
 
@@ -71,9 +71,9 @@ module _ {D : Type 0} (around : Around D) (status : ℕ) (h : History) (anchors 
       × EndsIn around status 0 (history_bytes (first_steps h (furthest first rest).entry.thread.step))
 
   -- one of them has this fault, and each before it is good; it was told
-  abbrev pub TellsFault : Type 0
-  TellsFault = (fault : AdoptFault) × IsFirstFault sha256 anchors h 1 proofs fault × EndsIn around status 1 (unadopted_text fault)
+  abbrev pub TellsAdoptFault : Type 0
+  TellsAdoptFault = (fault : AdoptFault) × IsFirstFault sha256 anchors h 1 proofs fault × EndsIn around status 1 (unadopted_text fault)
 
   -- it ends in one of both ways, unless it was hindered
   abbrev pub IsAdoptingRun : Type 0
-  IsAdoptingRun = IsHindered around status ⊎ (TakesOver ⊎ TellsFault)
+  IsAdoptingRun = IsHindered around status ⊎ (TakesOver ⊎ TellsAdoptFault)

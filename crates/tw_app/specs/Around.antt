@@ -22,8 +22,8 @@ abbrev pub outside : {D : Type 0} → (inputs : Asked) → (old new : D) → Out
 outside inputs old new = record { inputs = inputs; disk = span old new }
 
 -- what was met of that disk
-abbrev pub found_of : {D : Type 0} → (view : D → DiskView) → Outside D → FoundDisk
-found_of view o = found_disk (view o.disk.before).content (view o.disk.before).faults (view o.disk.after).faults
+abbrev pub found_around : {D : Type 0} → (view : D → DiskView) → Outside D → FoundDisk
+found_around view o = found_disk (view o.disk.before).content (view o.disk.before).faults (view o.disk.after).faults
 
 pub record Around (D : Type 0) : Type 0 where
   pub words : List (List ℕ)

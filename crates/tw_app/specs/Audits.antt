@@ -9,7 +9,7 @@ use Rattle.tw_base.specs.format.Formats.{Spells}
 use Rattle.tw_base.specs.history.Family.{AllSound, HasThreads}
 use Rattle.tw_base.specs.history.History.{History}
 use Rattle.tw_base.specs.kinds.Clash.{Clash}
-use Rattle.tw_outside.specs.Files.{Files, IsThere, Tells}
+use Rattle.tw_outside.specs.Files.{Files, IsThere, TellsBytes}
 use Rattle.tw_outside.specs.TakenBytes.{Appends}
 use Rattle.tw_words.specs.CommandLine.{command_of}
 use Rattle.tw_words.specs.declared.command.Command.{Command}
@@ -50,8 +50,8 @@ pub record AuditsFiles (told : Option Files) (words : List (List ℕ)) (P : (fam
   pub hold_histories : HoldHistories told histories family
   pub sound : AllSound family
   pub there : IsThere told proof
-  pub spelled : (bytes : List ℕ) → Tells told proof bytes → (p : Proof) × Spells proof_layout bytes p
-  pub says : (bytes : List ℕ) → Tells told proof bytes → (p : Proof) → Spells proof_layout bytes p → P family anchors p
+  pub spelled : (bytes : List ℕ) → TellsBytes told proof bytes → (p : Proof) × Spells proof_layout bytes p
+  pub says : (bytes : List ℕ) → TellsBytes told proof bytes → (p : Proof) → Spells proof_layout bytes p → P family anchors p
 
 -- status 0 of an audit: the report of an accepted proof stands, and was written whole
 abbrev pub IsStandingRun : (told : Option Files) (words : List (List ℕ)) (taken_before taken_after : Option (List ℕ)) → Type 0
@@ -74,9 +74,9 @@ pub record IsAuditOf (told : Option Files) (words : List (List ℕ)) (bytes : Li
   pub anchors_file : List ℕ
   pub history_files : List (List ℕ)
   pub is_command : command_of words ≡ Some (Audit proof_file anchors_file history_files)
-  pub proof_told : Tells told proof_file bytes
+  pub proof_told : TellsBytes told proof_file bytes
   pub anchor_bytes : List ℕ
-  pub anchors_told : Tells told anchors_file anchor_bytes
+  pub anchors_told : TellsBytes told anchors_file anchor_bytes
   pub are_anchors : AreAnchorsOf anchor_bytes anchors
   pub history_bytes : List (List ℕ)
   pub histories_told : TellAll told history_files history_bytes

@@ -7,24 +7,24 @@ use Rattle.tw_words.specs.declared.command.Command.TheVariants.{Append, Thread, 
 use Rattle.tw_script.specs.AskedWords.{asked_of}
 
 -- the files that a command's words name, in their order; a directory is none
-abbrev pub files_of : Command → List (List ℕ)
-files_of (Append file time) = file ∷ []
-files_of (Receive file time) = file ∷ []
-files_of (Show history step index) = history ∷ []
-files_of (Join files) = files
-files_of (VerifyFile proof anchors) = proof ∷ anchors ∷ []
-files_of (VerifyOne proof anchor) = proof ∷ []
-files_of (Strict proof anchors) = proof ∷ anchors ∷ []
-files_of (CheckMap low high anchors) = low ∷ high ∷ anchors ∷ []
-files_of (Audit proof anchors histories) = proof ∷ anchors ∷ histories
-files_of (Atlas name pos files) = files
-files_of (Accuse first second None) = first ∷ second ∷ []
-files_of (Accuse first second (Some link)) = first ∷ second ∷ link ∷ []
-files_of (CheckFork file anchors) = file ∷ anchors ∷ []
-files_of (Adopt history anchors proof more) = history ∷ anchors ∷ proof ∷ more
-files_of (Offer file) = file ∷ []
-files_of (Replay file) = file ∷ []
-files_of _ = []
+abbrev pub command_files : Command → List (List ℕ)
+command_files (Append file time) = file ∷ []
+command_files (Receive file time) = file ∷ []
+command_files (Show history step index) = history ∷ []
+command_files (Join files) = files
+command_files (VerifyFile proof anchors) = proof ∷ anchors ∷ []
+command_files (VerifyOne proof anchor) = proof ∷ []
+command_files (Strict proof anchors) = proof ∷ anchors ∷ []
+command_files (CheckMap low high anchors) = low ∷ high ∷ anchors ∷ []
+command_files (Audit proof anchors histories) = proof ∷ anchors ∷ histories
+command_files (Atlas name pos files) = files
+command_files (Accuse first second None) = first ∷ second ∷ []
+command_files (Accuse first second (Some link)) = first ∷ second ∷ link ∷ []
+command_files (CheckFork file anchors) = file ∷ anchors ∷ []
+command_files (Adopt history anchors proof more) = history ∷ anchors ∷ proof ∷ more
+command_files (Offer file) = file ∷ []
+command_files (Replay file) = file ∷ []
+command_files _ = []
 
 -- what the command asks a service; most ask nothing, and those that make a proof what `asked_of` says
 abbrev pub question_of : Command → Option Question
@@ -48,4 +48,4 @@ IsSomeFile (file ∷ files) = Unit {0}
 
 -- the command's words name a file
 abbrev pub NamesFile : Command → Type 0
-NamesFile command = IsSomeFile (files_of command)
+NamesFile command = IsSomeFile (command_files command)

@@ -8,7 +8,7 @@ use Rattle.tw_base.specs.history.History.{History}
 use Rattle.tw_base.specs.kinds.Lists.{Each}
 use Rattle.tw_disk.specs.Disk.{DiskView}
 use Rattle.tw_disk.specs.Image.{Image}
-use Rattle.tw_outside.specs.Files.{Files, Tells}
+use Rattle.tw_outside.specs.Files.{Files, TellsBytes}
 use Rattle.tw_words.specs.declared.command.Command.{Command}
 use Rattle.tw_words.specs.declared.command.Command.TheVariants.{Append, Receive, Show, Join, VerifyFile, Strict, CheckMap, Audit, Adopt, Atlas, Accuse, CheckFork, Offer, Heads, Replay}
 use Rattle.tw_text.specs.Lines.{no_memory_text}
@@ -23,9 +23,9 @@ use Rattle.tw_msg.specs.Messages.{message_layout}
 use Rattle.tw_tmap.specs.MapFiles.{high_layout, low_layout}
 use Rattle.tw_script.specs.Scripts.{script_of}
 use Rattle.tw_script.specs.declared.script.NumberedLine.{NumberedLine}
-use Rattle.tw_filecmd.specs.Showing.{IsFileOf}
+use Rattle.tw_filecmd.specs.Showing.{IsHistoryFileOf}
 use Rattle.tw_diskcmd.specs.declared.limits.TheConstants.{EVENTS_LIMIT}
-use Rattle.tw_diskcmd.specs.Disks.{ReadsAs}
+use Rattle.tw_diskcmd.specs.Disks.{ReadsAsHeads}
 use Rattle.tw_diskcmd.specs.FollowerDisks.{ReadsAs as ReadsAsList}
 use Rattle.tw_reachcmd.specs.Held.{TellAll}
 use Rattle.tw_reachcmd.specs.Histories.{AreHistories}
@@ -33,7 +33,7 @@ use Rattle.tw_reachcmd.specs.Planning.{AreHops}
 use Rattle.tw_app.specs.Around.{Around, Writes}
 use Rattle.tw_app.specs.Commands.{question_of}
 use Rattle.tw_app.specs.Judging.{NoneFailed}
-use Rattle.tw_app.specs.Statuses.{AreOf, DiskFailed, IsAnsweredRun, IsDoneRun, IsGapRun, IsRejectedRun, IsUndoneRun}
+use Rattle.tw_app.specs.Statuses.{AreWordsOf, DiskFailed, IsAnsweredRun, IsDoneRun, IsGapRun, IsRejectedRun, IsUndoneRun}
 
 -- ---- the files
 
@@ -47,7 +47,7 @@ IsEventsFile bytes = (length bytes ≤ EVENTS_LIMIT) × IsWord events_file bytes
 
 -- the file of a sound history
 abbrev pub IsHistoryFile : (bytes : List ℕ) → Type 0
-IsHistoryFile bytes = (h : History) × IsFileOf bytes h
+IsHistoryFile bytes = (h : History) × IsHistoryFileOf bytes h
 
 -- an anchors file, each of whose lines is good
 abbrev pub IsAnchorsFile : (bytes : List ℕ) → Type 0
@@ -69,7 +69,7 @@ module _ (told : Option Files) where
   -- the inputs tell the bytes of the file, and P holds of them
   pub record HasFile (P : (bytes : List ℕ) → Type 0) (file : List ℕ) : Type 0 where
     pub bytes : List ℕ
-    pub tells : Tells told file bytes
+    pub tells : TellsBytes told file bytes
     pub is : P bytes
 
   -- the inputs tell the bytes of all these files, and P holds of all
@@ -105,8 +105,8 @@ module _ (told : Option Files) where
 -- ---- the disk
 
 -- what the disk read as stands for a history
-abbrev pub HasHistory : (found : Option Image) → Type 0
-HasHistory found = (h : History) × ReadsAs found h
+abbrev pub HasHistoryOnDisk : (found : Option Image) → Type 0
+HasHistoryOnDisk found = (h : History) × ReadsAsHeads found h
 
 -- for a list of heads
 abbrev pub HasList : (found : Option Image) → Type 0
@@ -114,25 +114,25 @@ HasList found = (k : Kept) × ReadsAsList found k
 
 -- the disk serves the command: it read as a history, or as a list of heads; `init` and `watch` may meet any
 abbrev pub HasItsDisk : (found : Option Image) → Command → Type 0
-HasItsDisk found (Append file time) = HasHistory found
-HasItsDisk found (Receive file time) = HasHistory found
+HasItsDisk found (Append file time) = HasHistoryOnDisk found
+HasItsDisk found (Receive file time) = HasHistoryOnDisk found
 HasItsDisk found (Offer file) = HasList found
 HasItsDisk found Heads = HasList found
-HasItsDisk found command = MatchOption (question_of command) (Unit {0}) (λ (q : Question). HasHistory found)
+HasItsDisk found command = MatchOption (question_of command) (Unit {0}) (λ (q : Question). HasHistoryOnDisk found)
 
 -- ---- the run
 
 module _ {D : Type 0} (view : D → DiskView) (a : Around D) where
   -- the words are of a command, its files and its disk are as they have to be, and neither inputs, sink nor disk failed
-  pub record HasAll : Type 0 where
-    pub files : AreOf (HasValidFiles a.outside.inputs.told) a.words
-    pub disk : AreOf (HasItsDisk (view a.outside.disk.before).content) a.words
+  pub record HasAllNeeded : Type 0 where
+    pub files : AreWordsOf (HasValidFiles a.outside.inputs.told) a.words
+    pub disk : AreWordsOf (HasItsDisk (view a.outside.disk.before).content) a.words
     pub none : NoneFailed a
     pub disk_held : DiskFailed view a → ⊥
 
   -- the run's status is that of an answer, which was written whole: the command is done, rejects or is refused, tells a clash, or found no memory
-  abbrev pub IsAnswered : (status : ℕ) → Type 0
-  IsAnswered status =
+  abbrev pub IsStatusAnswered : (status : ℕ) → Type 0
+  IsStatusAnswered status =
       ((status ≡ 0) × IsDoneRun view a)
       ⊎ ((status ≡ 1) × (IsRejectedRun a ⊎ IsGapRun a ⊎ IsAnsweredRun view a 1))
       ⊎ ((status ≡ 6) × Writes a no_memory_text)

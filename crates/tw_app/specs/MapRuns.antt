@@ -5,7 +5,7 @@ use Rattle.tw_base.specs.declared.history.thread.Thread.{Thread}
 use Rattle.tw_base.specs.format.Formats.{Spells}
 use Rattle.tw_base.specs.history.History.{History}
 use Rattle.tw_base.specs.history.Sound.{IsSound}
-use Rattle.tw_outside.specs.Files.{Files, Tells}
+use Rattle.tw_outside.specs.Files.{Files, TellsBytes}
 use Rattle.tw_outside.specs.TakenBytes.{Appends}
 use Rattle.tw_words.specs.CommandLine.{command_of}
 use Rattle.tw_words.specs.declared.command.Command.{Command}
@@ -18,15 +18,15 @@ use Rattle.tw_tmap.specs.declared.map_verdict.MapVerdict.{MapVerdict}
 use Rattle.tw_tmap.specs.declared.map_verdict.MapVerdict.TheVariants.{Yes}
 use Rattle.tw_tmap.specs.Binding.{BindsMap}
 use Rattle.tw_tmap.specs.Bounds.{high_bound, low_bound}
-use Rattle.tw_tmap.specs.Checking.{AreAccepted, high_told, low_told}
+use Rattle.tw_tmap.specs.Checking.{AreMapFilesAccepted, high_told, low_told}
 use Rattle.tw_tmap.specs.MapFiles.{high_layout, low_layout}
 use Rattle.tw_tmap.specs.OwnFiles.{IsAnchoredAt, IsOwnHigh, IsOwnLow}
 use Rattle.tw_tmap.specs.Texts.{map_text}
 use Rattle.tw_reachcmd.specs.Anchors.{AreAnchorsOf}
-use Rattle.tw_reachcmd.specs.Maps.{HasBadFile, HoldMaps, map_status}
+use Rattle.tw_reachcmd.specs.Maps.{HasBadFile, HoldMaps, map_command_status}
 use Rattle.tw_app.specs.Alike.{TellsEach}
 use Rattle.tw_app.specs.Around.{Around, Writes}
-use Rattle.tw_app.specs.Commands.{files_of}
+use Rattle.tw_app.specs.Commands.{command_files}
 use Rattle.tw_app.specs.Running.{IsHindered}
 
 -- the words ask for two map files to be judged
@@ -47,7 +47,7 @@ pub record IsMapRun (told : Option Files) (words : List (List ℕ)) (taken_befor
   pub anchors : List Thread
   pub hold : HoldMaps told low_file high_file low high
   pub has_anchors : HasAnchors told anchors_file anchors
-  pub accepted : AreAccepted sha256 anchors low high
+  pub accepted : AreMapFilesAccepted sha256 anchors low high
   pub written : Appends taken_before taken_after (map_text (Yes (low_told low) (high_told high) high.top))
   pub binds : BindsMap sha256 anchors low high (Yes (low_told low) (high_told high) high.top)
 
@@ -63,9 +63,9 @@ pub record JudgesMaps (told : Option Files) (words : List (List ℕ)) (low : Low
   pub low_bytes : List ℕ
   pub high_bytes : List ℕ
   pub anchors_bytes : List ℕ
-  pub low_tells : Tells told low_file low_bytes
-  pub high_tells : Tells told high_file high_bytes
-  pub anchors_tell : Tells told anchors_file anchors_bytes
+  pub low_tells : TellsBytes told low_file low_bytes
+  pub high_tells : TellsBytes told high_file high_bytes
+  pub anchors_tell : TellsBytes told anchors_file anchors_bytes
   pub low_spelled : Spells low_layout low_bytes low
   pub high_spelled : Spells high_layout high_bytes high
   pub are_anchors : AreAnchorsOf anchors_bytes anchors
@@ -76,15 +76,15 @@ pub record RefusesMaps (told : Option Files) (words : List (List ℕ)) (bad : Ba
   pub high_file : List ℕ
   pub anchors_file : List ℕ
   pub is_command : command_of words ≡ Some (CheckMap low_file high_file anchors_file)
-  pub tells : TellsEach told (files_of (CheckMap low_file high_file anchors_file))
+  pub tells : TellsEach told (command_files (CheckMap low_file high_file anchors_file))
   pub bad_file : HasBadFile told low_file high_file anchors_file bad
 
 -- the status is the one that is wanted, and the text was written whole, unless the command was kept from its answer
 abbrev pub EndsUnhindered : {D : Type 0} → Around D → (status wanted : ℕ) (text : List ℕ) → Type 0
 EndsUnhindered around status wanted text = IsHindered around status ⊎ ((status ≡ wanted) × Writes around text)
 
-abbrev pub TellsVerdict : {D : Type 0} → Around D → (status : ℕ) → MapVerdict → Type 0
-TellsVerdict around status verdict = EndsUnhindered around status (map_status verdict) (map_text verdict)
+abbrev pub TellsMapVerdict : {D : Type 0} → Around D → (status : ℕ) → MapVerdict → Type 0
+TellsMapVerdict around status verdict = EndsUnhindered around status (map_command_status verdict) (map_text verdict)
 
 -- ---- the map files of two services
 

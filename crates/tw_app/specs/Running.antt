@@ -4,7 +4,7 @@ use Rattle.tw_base.specs.declared.history.question.Question.{Question}
 use Rattle.tw_base.specs.kinds.Faults.{Rose}
 use Rattle.tw_disk.specs.Disk.{DiskView}
 use Rattle.tw_outside.specs.TakenBytes.{Appends, AppendsPart}
-use Rattle.tw_words.specs.CommandLine.{IsFirstBad, command_of}
+use Rattle.tw_words.specs.CommandLine.{IsFirstBadWord, command_of}
 use Rattle.tw_words.specs.declared.command.Command.{Command}
 use Rattle.tw_text.specs.declared.fault.CommandFault.{CommandFault}
 use Rattle.tw_text.specs.declared.fault.CommandFault.TheVariants.{NoMemory}
@@ -14,7 +14,7 @@ use Rattle.tw_filecmd.specs.Showing.{ShowComes}
 use Rattle.tw_filecmd.specs.Verifying.{VerifyFileComes, VerifyOneComes}
 use Rattle.tw_diskcmd.specs.Appending.{AppendComes, AppendLeaves, AppendSafe}
 use Rattle.tw_diskcmd.specs.Asking.{AskComes}
-use Rattle.tw_diskcmd.specs.Disks.{IsLeft, Keeps, ReadLeaves}
+use Rattle.tw_diskcmd.specs.Disks.{IsLeft, KeepsFollowerDisk, ReadLeavesHistory}
 use Rattle.tw_diskcmd.specs.Making.{InitComes, InitLeaves, InitSafe}
 use Rattle.tw_diskcmd.specs.Receiving.{ReceiveComes, ReceiveLeaves, ReceiveSafe}
 use Rattle.tw_diskcmd.specs.Listing.{HeadsComes, HeadsLeaves, HeadsSafe}
@@ -30,7 +30,7 @@ use Rattle.tw_app.specs.declared.outcome.Outcome.{Outcome}
 use Rattle.tw_app.specs.declared.outcome.Outcome.TheVariants.{Judged, Written, Joined, Made, Received, BadWords, Undone}
 use Rattle.tw_app.specs.declared.store.StoreAccess.{StoreAccess}
 use Rattle.tw_app.specs.declared.store.StoreAccess.TheVariants.{Read, Write}
-use Rattle.tw_app.specs.Around.{Around, Outside, Span, found_of}
+use Rattle.tw_app.specs.Around.{Around, Outside, Span, found_around}
 use Rattle.tw_app.specs.Commands.{question_of}
 use Rattle.tw_app.specs.Generating.{GenerateComes}
 use Rattle.tw_app.specs.Replaying.{ReplayComes}
@@ -86,36 +86,36 @@ by_results of May Safe access = record {
 
 module _ {D : Type 0} (view : D → DiskView) (o : Outside D) where
   -- no device call was made, and so the disk keeps what it keeps
-  abbrev pub IsUntouched : Type 0
-  IsUntouched = o.disk.after ≡ o.disk.before
+  abbrev pub IsDiskUntouched : Type 0
+  IsDiskUntouched = o.disk.after ≡ o.disk.before
 
   -- a command without a folder
   abbrev pub over_files : {X : Type 0} → (of : X → Outcome) → (Comes : Result X CommandFault → Type 0) → Work
-  over_files of Comes = by_results of (λ result. Comes result × IsUntouched) (IsUntouched × Keeps view o.disk.before o.disk.after) None
+  over_files of Comes = by_results of (λ result. Comes result × IsDiskUntouched) (IsDiskUntouched × KeepsFollowerDisk view o.disk.before o.disk.after) None
 
   -- a command that reads the disk of a folder, and writes nothing
-  abbrev pub reading : {X : Type 0} → (of : X → Outcome) → (Comes : Result X CommandFault → Type 0) → Work
-  reading of Comes =
-      by_results of (λ result. Comes result × ReadLeaves view o.disk.before o.disk.after result)
-      (IsLeft view o.disk.before o.disk.after × Keeps view o.disk.before o.disk.after) (Some Read)
+  abbrev pub reading_disk : {X : Type 0} → (of : X → Outcome) → (Comes : Result X CommandFault → Type 0) → Work
+  reading_disk of Comes =
+      by_results of (λ result. Comes result × ReadLeavesHistory view o.disk.before o.disk.after result)
+      (IsLeft view o.disk.before o.disk.after × KeepsFollowerDisk view o.disk.before o.disk.after) (Some Read)
 
   -- one that asks the service of that disk this
   abbrev pub asking : Option Question → Work
-  asking asked = reading Written (λ result. MatchOption asked ⊥ (λ q. AskComes (found_of view o) q result))
+  asking asked = reading_disk Written (λ result. MatchOption asked ⊥ (λ q. AskComes (found_around view o) q result))
 
   -- one that writes it
-  abbrev pub writing : {X : Type 0} → (of : X → Outcome) → (Comes Leaves : Result X CommandFault → Type 0) → (Safe : Type 0) → Work
-  writing of Comes Leaves Safe = by_results of (λ result. Comes result × Leaves result) Safe (Some Write)
+  abbrev pub writing_disk : {X : Type 0} → (of : X → Outcome) → (Comes Leaves : Result X CommandFault → Type 0) → (Safe : Type 0) → Work
+  writing_disk of Comes Leaves Safe = by_results of (λ result. Comes result × Leaves result) Safe (Some Write)
 
   -- what each command does; those that aren't listed ask a service a question
   abbrev pub work : Command → Work
   work (Init name) =
-      writing Made (InitComes (found_of view o) name) (InitLeaves view o.disk.before o.disk.after name) (InitSafe view o.disk.before o.disk.after name)
+      writing_disk Made (InitComes (found_around view o) name) (InitLeaves view o.disk.before o.disk.after name) (InitSafe view o.disk.before o.disk.after name)
   work (Append file time) =
-      writing Made (AppendComes o.inputs (found_of view o) file time) (AppendLeaves view o.disk.before o.disk.after o.inputs.told file time)
+      writing_disk Made (AppendComes o.inputs (found_around view o) file time) (AppendLeaves view o.disk.before o.disk.after o.inputs.told file time)
       (AppendSafe view o.disk.before o.disk.after o.inputs.told file time)
   work (Receive file time) =
-      writing Received (ReceiveComes o.inputs (found_of view o) file time) (ReceiveLeaves view o.disk.before o.disk.after o.inputs.told file time)
+      writing_disk Received (ReceiveComes o.inputs (found_around view o) file time) (ReceiveLeaves view o.disk.before o.disk.after o.inputs.told file time)
       (ReceiveSafe view o.disk.before o.disk.after o.inputs.told file time)
   work (Show history step index) = over_files Written (ShowComes o.inputs history step index)
   work (Join files) = over_files Joined (JoinComes o.inputs files)
@@ -131,12 +131,12 @@ module _ {D : Type 0} (view : D → DiskView) (o : Outside D) where
   work (Replay file) = over_files Written (ReplayComes o.inputs file)
   work (Generate number rounds) = over_files Written (GenerateComes number rounds)
   work (Watch name) =
-      writing Made (WatchComes (found_of view o) name) (WatchLeaves view o.disk.before o.disk.after name) (WatchSafe view o.disk.before o.disk.after name)
+      writing_disk Made (WatchComes (found_around view o) name) (WatchLeaves view o.disk.before o.disk.after name) (WatchSafe view o.disk.before o.disk.after name)
   work (Offer file) =
-      writing Made (OfferComes o.inputs (found_of view o) file)
+      writing_disk Made (OfferComes o.inputs (found_around view o) file)
       (OfferLeaves view o.disk.before o.disk.after o.inputs.told file) (OfferSafe view o.disk.before o.disk.after o.inputs.told file)
   work Heads =
-      by_results Written (λ result. HeadsComes (found_of view o) result × HeadsLeaves view o.disk.before o.disk.after result)
+      by_results Written (λ result. HeadsComes (found_around view o) result × HeadsLeaves view o.disk.before o.disk.after result)
       (HeadsSafe view o.disk.before o.disk.after) (Some Read)
   work command = asking (question_of command)
 
@@ -144,14 +144,14 @@ module _ {D : Type 0} (view : D → DiskView) (o : Outside D) where
 
 -- what words come to that have no form: the number is that of the first word at which none goes on
 abbrev pub HaveNoForm : (words : List (List ℕ)) → Outcome → Type 0
-HaveNoForm words (BadWords number) = IsFirstBad words number
+HaveNoForm words (BadWords number) = IsFirstBadWord words number
 HaveNoForm words (Undone NoMemory) = Unit {0}
 HaveNoForm words _ = ⊥
 
 -- what the words come to, and what that leaves of the disk
 abbrev pub HasOutcome : {D : Type 0} → (view : D → DiskView) → Outside D → (words : List (List ℕ)) → Outcome → Type 0
 HasOutcome view o words outcome =
-    MatchOption (command_of words) (HaveNoForm words outcome × IsUntouched view o) (λ command. (work view o command).does outcome)
+    MatchOption (command_of words) (HaveNoForm words outcome × IsDiskUntouched view o) (λ command. (work view o command).does outcome)
 
 -- ---- how the run ends
 
@@ -165,12 +165,12 @@ EndsWith taken sink_faults status outcome =
 module _ {D : Type 0} (view : D → DiskView) (around : Around D) (status : ℕ) where
   -- the run comes to this outcome, which is allowed, leaves the disk as is right for it, whether its text could be written or not, and ends
   -- with this status
-  pub record EndsAs (outcome : Outcome) : Type 0 where
+  pub record EndsAsOutcome (outcome : Outcome) : Type 0 where
     pub has : HasOutcome view around.outside around.words outcome
     pub ends : EndsWith around.taken around.sink_faults status outcome
 
-  abbrev pub Ends : Type 0
-  Ends = (outcome : Outcome) × EndsAs outcome
+  abbrev pub EndsAllowed : Type 0
+  EndsAllowed = (outcome : Outcome) × EndsAsOutcome outcome
 
 -- a command over files alone was kept from its answer: the inputs or the sink failed, or there was no memory
 abbrev pub IsHindered : {D : Type 0} → Around D → (status : ℕ) → Type 0

@@ -11,9 +11,9 @@ use Rattle.tw_base.specs.format.Formats.{Spells}
 use Rattle.tw_base.specs.history.History.{History}
 use Rattle.tw_base.specs.kinds.Lists.{In}
 use Rattle.tw_disk.specs.Disk.{DiskView}
-use Rattle.tw_outside.specs.Files.{Files, IsThere, Tells}
+use Rattle.tw_outside.specs.Files.{Files, IsThere, TellsBytes}
 use Rattle.tw_outside.specs.TakenBytes.{Appends}
-use Rattle.tw_words.specs.CommandLine.{IsFirstBad, command_of}
+use Rattle.tw_words.specs.CommandLine.{IsFirstBadWord, command_of}
 use Rattle.tw_text.specs.Lines.{usage_text}
 use Rattle.tw_text.specs.Reports.{gap_text, rejected_text, report_text}
 use Rattle.tw_words.specs.declared.command.Command.{Command}
@@ -27,7 +27,7 @@ use Rattle.tw_chain.specs.Proofs.{proof_layout}
 use Rattle.tw_chain.specs.Accepting.{Accepts, carried, held, proof_texts, report_of}
 use Rattle.tw_join.specs.Joining.{Joins}
 use Rattle.tw_chain.specs.Reasons.{IsLowest}
-use Rattle.tw_filecmd.specs.Joining.{AreProofsOf}
+use Rattle.tw_filecmd.specs.Joining.{AreProofsOfFiles}
 use Rattle.tw_filecmd.specs.Verifying.{HasAnchors}
 use Rattle.tw_app.specs.Around.{Around, Writes}
 use Rattle.tw_app.specs.Commands.{NamesFile}
@@ -36,8 +36,8 @@ use Rattle.tw_app.specs.Running.{Work, work}
 -- ---- what the words ask for
 
 -- the words are of a command for which P holds
-abbrev pub AreOf : (Command → Type 0) → (words : List (List ℕ)) → Type 0
-AreOf P words = MatchOption (command_of words) ⊥ P
+abbrev pub AreWordsOf : (Command → Type 0) → (words : List (List ℕ)) → Type 0
+AreWordsOf P words = MatchOption (command_of words) ⊥ P
 
 -- the commands that judge a proof
 abbrev pub IsVerify : Command → Type 0
@@ -87,10 +87,10 @@ pub record IsAcceptedRun (told : Option Files) (words : List (List ℕ)) (taken_
   pub asked : proof_file command ≡ Some file
   pub given : GivesAnchors told command anchors
   pub there : IsThere told file
-  pub accepted : (bytes : List ℕ) → Tells told file bytes →
+  pub accepted : (bytes : List ℕ) → TellsBytes told file bytes →
       (accepts : Accepts sha256 anchors bytes) × Appends taken_before taken_after (report_text (report_of accepts.0))
-  pub bare : (bytes : List ℕ) → Tells told file bytes → (p : Proof) → Spells proof_layout bytes p → is_strict command ≡ true → carried p ≡ []
-  pub binds : (bytes : List ℕ) → Tells told file bytes → (p : Proof) → Spells proof_layout bytes p
+  pub bare : (bytes : List ℕ) → TellsBytes told file bytes → (p : Proof) → Spells proof_layout bytes p → is_strict command ≡ true → carried p ≡ []
+  pub binds : (bytes : List ℕ) → TellsBytes told file bytes → (p : Proof) → Spells proof_layout bytes p
       → (family : List History) → AllSound family → HasThreads sha256 family (held anchors p)
       → OrClash sha256 (family_texts sha256 family ++ proof_texts sha256 p)
       (Facts sha256 family (report_of p).hops (report_of p).claim × TimesRise (report_of p).hops (report_of p).claim)
@@ -108,7 +108,7 @@ pub record IsRejectedRun {D : Type 0} (around : Around D) : Type 0 where
   pub given : GivesAnchors around.outside.inputs.told command anchors
   pub there : IsThere around.outside.inputs.told file
   pub written : Writes around (rejected_text reason)
-  pub refused : (bytes : List ℕ) → Tells around.outside.inputs.told file bytes →
+  pub refused : (bytes : List ℕ) → TellsBytes around.outside.inputs.told file bytes →
       ((accepts : Accepts sha256 anchors bytes) → (is_strict command ≡ true) × (carried accepts.0 ≢ []))
       × IsLowest sha256 anchors (is_strict command) bytes reason
 
@@ -119,14 +119,14 @@ pub record IsGapRun {D : Type 0} (around : Around D) : Type 0 where
   pub parts : List Proof
   pub place : ℕ
   pub is_command : command_of around.words ≡ Some (Join files)
-  pub hold : AreProofsOf around.outside.inputs.told files parts
+  pub hold : AreProofsOfFiles around.outside.inputs.told files parts
   pub gap : Joins parts (Err (Gap place))
   pub written : Writes around (gap_text place)
 
 module _ {D : Type 0} (view : D → DiskView) where
   -- the words are of a command, and this holds of what it does
   abbrev pub IsWork : Around D → (Work → Type 0) → Type 0
-  IsWork around P = AreOf (λ command. P (work view around.outside command)) around.words
+  IsWork around P = AreWordsOf (λ command. P (work view around.outside command)) around.words
 
   -- the words are of a command that comes to an answer of this status, and its text was written whole
   abbrev pub IsAnsweredRun : Around D → (status : ℕ) → Type 0
@@ -142,7 +142,7 @@ module _ {D : Type 0} (view : D → DiskView) where
 
   -- the words have no form, and this is the first word at which none goes on
   abbrev pub IsUsage : (words : List (List ℕ)) (number : ℕ) → Type 0
-  IsUsage words number = MatchOption (command_of words) (IsFirstBad words number) (λ command. ⊥)
+  IsUsage words number = MatchOption (command_of words) (IsFirstBadWord words number) (λ command. ⊥)
 
   -- status 2: the words have no form, and the line with the word's number was written whole
   abbrev pub IsUsageRun : Around D → Type 0
@@ -151,7 +151,7 @@ module _ {D : Type 0} (view : D → DiskView) where
   -- status 3: the words are of a command that names a file, and the inputs failed
   abbrev pub IsInputFaultRun : Around D → Type 0
   IsInputFaultRun around =
-      AreOf NamesFile around.words × Rose around.outside.inputs.before around.outside.inputs.after
+      AreWordsOf NamesFile around.words × Rose around.outside.inputs.before around.outside.inputs.after
       × IsUndoneRun around InputFault
 
   -- the disk failed

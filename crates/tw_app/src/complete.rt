@@ -2,8 +2,8 @@
 
 ghost use Rattle.std.specs.Prelude.{ℕ};
 ghost use Rattle.tw_app.specs.Around.{Around};
-ghost use Rattle.tw_app.specs.Complete.{HasAll, IsAnswered};
-ghost use Rattle.tw_app.specs.Running.{Ends};
+ghost use Rattle.tw_app.specs.Complete.{HasAllNeeded, IsStatusAnswered};
+ghost use Rattle.tw_app.specs.Running.{EndsAllowed};
 
 use tw_disk::Disk;
 
@@ -14,5 +14,5 @@ pub fn answered_laws<D: Disk>()
     // sink nor the disk counted a fault, ends with an answer that was written whole: done, with status 0; with status 1, a rejection;
     // with status 7, a refusal; with status 10, a clash; or with status 6, without memory. Each is one that status 0, 1, 7 or 10
     // says of such a run.
-    ensures whole { (a : Around D) (status : ℕ) → HasAll D.view a → Ends D.view a status → IsAnswered D.view a status }
+    ensures whole { (a : Around D) (status : ℕ) → HasAllNeeded D.view a → EndsAllowed D.view a status → IsStatusAnswered D.view a status }
 {}

@@ -14,12 +14,12 @@ ghost use Rattle.tw_app.specs.declared.outcome.Outcome.TheVariants.{Undone};
 ghost use Rattle.tw_text.specs.declared.fault.CommandFault.TheVariants.{NoMemory as NoMemoryFault};
 ghost use Rattle.tw_app.specs.Adoptions.{AsksAdoption, IsAdoptedRun, IsAdoptingRun, IsAdoptionOf};
 ghost use Rattle.tw_app.specs.Around.{around, outside, span};
-ghost use Rattle.tw_app.specs.Commands.{files_of};
+ghost use Rattle.tw_app.specs.Commands.{command_files};
 ghost use Rattle.tw_app.specs.MapRuns.{AsksMap, IsMapRun};
 ghost use Rattle.tw_app.specs.Outcomes.{TakesMemory, status_of as status_of_outcome};
 ghost use Rattle.tw_app.specs.Audits.{AsksAudit, IsAuditOf, IsClashRun, IsFoundRun, IsStandingRun};
-ghost use Rattle.tw_app.specs.Running.{Ends, EndsWith, work};
-ghost use Rattle.tw_app.specs.Statuses.{AreOf, IsAcceptedRun, IsIdle, IsStatus, IsVerify};
+ghost use Rattle.tw_app.specs.Running.{EndsAllowed, EndsWith, work};
+ghost use Rattle.tw_app.specs.Statuses.{AreWordsOf, IsAcceptedRun, IsIdle, IsStatus, IsVerify};
 
 use crate::following::{Followed, follow_words};
 use crate::outcome::Outcome;
@@ -127,8 +127,8 @@ fn run_to_the_end<D: Disk, I: Inputs, S: Sink>(
     inputs: &mut I,
     out: &mut S,
 ) -> Ran<D>
-    requires { IfSome (command_of (map string_bytes words.now)) (λ command. Each (I.may_ask inputs.old) (files_of command)) }
-    ensures { Ends D.view (around (map string_bytes words.now)
+    requires { IfSome (command_of (map string_bytes words.now)) (λ command. Each (I.may_ask inputs.old) (command_files command)) }
+    ensures { EndsAllowed D.view (around (map string_bytes words.now)
         (outside (asked (I.told inputs.old) (I.faults inputs.old) (I.faults inputs.new)) disk result.disk)
         (span (S.taken out.old) (S.taken out.new)) (span (S.faults out.old) (S.faults out.new))) result.status }
 {
@@ -171,12 +171,12 @@ pub fn run<D: Disk, I: Inputs, S: Sink>(
     inputs: &mut I,
     out: &mut S,
 ) -> Ran<D>
-    requires { IfSome (command_of (map string_bytes words.now)) (λ command. Each (I.may_ask inputs.old) (files_of command)) }
+    requires { IfSome (command_of (map string_bytes words.now)) (λ command. Each (I.may_ask inputs.old) (command_files command)) }
     // Each run comes to one outcome that the words, the files, what the disk read as and the counts of faults allow,
     // and leaves the disk as is right for that outcome. It ends with the outcome's text, written whole, and its status;
     // or the sink's count of faults rose, a part of the text was written, and the status is 4. Want of memory is always
     // allowed, all else only for its cause.
-    ensures ends { Ends D.view (around (map string_bytes words.now)
+    ensures ends { EndsAllowed D.view (around (map string_bytes words.now)
         (outside (asked (I.told inputs.old) (I.faults inputs.old) (I.faults inputs.new)) disk result.disk)
         (span (S.taken out.old) (S.taken out.new)) (span (S.faults out.old) (S.faults out.new))) result.status }
 
@@ -191,7 +191,7 @@ pub fn run<D: Disk, I: Inputs, S: Sink>(
     // above the second one's. Of a thread in an archive: the service received it at the step that is told, which isn't
     // above the one that is named. Of a thread in no archive: no step up to the one that is named received one of its
     // service and step. Of a link: the service has the authenticator that is told at the step that is named.
-    ensures accepted { result.status ≡ 0 → AreOf IsVerify (map string_bytes words.now)
+    ensures accepted { result.status ≡ 0 → AreWordsOf IsVerify (map string_bytes words.now)
         → IsAcceptedRun (I.told inputs.old) (map string_bytes words.now) (S.taken out.old) (S.taken out.new) }
     // Status 0 of `audit`: the proof file is there, and its bytes spell a proof that is accepted under the anchors of the
     // anchors file, which is there and has no bad line. The other files are there and are those of sound histories, of
@@ -199,7 +199,7 @@ pub fn run<D: Disk, I: Inputs, S: Sink>(
     // services and steps that the proof names, and the threads that it carries. No two different texts of these histories
     // and of the proof have one SHA-256 digest. What the proof's report claims is so of the histories, by the report's own
     // hops, and its lines from the second on were written whole behind `stands`.
-    ensures stands { result.status ≡ 0 → AreOf AsksAudit (map string_bytes words.now)
+    ensures stands { result.status ≡ 0 → AreWordsOf AsksAudit (map string_bytes words.now)
         → IsStandingRun (I.told inputs.old) (map string_bytes words.now) (S.taken out.old) (S.taken out.new) }
     // Status 10: the words are `audit`, and all this is so but for the texts and the report: two of these texts, both of
     // bytes, differ and have one SHA-256 digest. The first text whose digest an earlier different one has and the earliest
@@ -227,7 +227,7 @@ pub fn run<D: Disk, I: Inputs, S: Sink>(
     // both of bytes, have one SHA-256 digest. One of the proofs shows who received the thread of that authenticator. And
     // what each proof shows is so in every list of sound histories that has the anchors and the carried threads held of it,
     // or two different texts of these histories and of the proof, both of bytes, have one SHA-256 digest.
-    ensures adopted { result.status ≡ 0 → AreOf AsksAdoption (map string_bytes words.now)
+    ensures adopted { result.status ≡ 0 → AreWordsOf AsksAdoption (map string_bytes words.now)
         → IsAdoptedRun (I.told inputs.old) (map string_bytes words.now) (S.taken out.old) (S.taken out.new) }
     // Where the words are `adopt`, the inputs tell the bytes of all its files, the anchors file has no bad line, and the history
     // file is that of a sound history: unless the inputs or the sink failed or there was no memory, each of the proofs is good
@@ -246,7 +246,7 @@ pub fn run<D: Disk, I: Inputs, S: Sink>(
     // step of the peer in threads that the service received before its step, and 0 where there is none. `high` is the least
     // step of the peer up to `upto` that received a thread of the service of its step or of a later one, and `none` where none
     // did.
-    ensures between { result.status ≡ 0 → AreOf AsksMap (map string_bytes words.now)
+    ensures between { result.status ≡ 0 → AreWordsOf AsksMap (map string_bytes words.now)
         → IsMapRun (I.told inputs.old) (map string_bytes words.now) (S.taken out.old) (S.taken out.new) }
     // There are no other statuses than 0 to 10.
     ensures statuses { IsStatus result.status }

@@ -6,7 +6,7 @@ ghost use Rattle.tw_outside.specs.Asked.{asked};
 ghost use Rattle.tw_words.specs.CommandLine.{command_of};
 ghost use Rattle.tw_words.specs.Ranges.{IsWithinRanges};
 ghost use Rattle.tw_app.specs.Around.{outside};
-ghost use Rattle.tw_app.specs.Commands.{files_of};
+ghost use Rattle.tw_app.specs.Commands.{command_files};
 ghost use Rattle.tw_app.specs.Outcomes.{outcome_by};
 ghost use Rattle.tw_app.specs.declared.outcome.Outcome.TheVariants.{Made as OfThread, Received as OfReceipt, Written as OfBytes};
 ghost use Rattle.tw_app.specs.Running.{HasOutcome, work};
@@ -44,7 +44,7 @@ pub(crate) fn follow_words<D: Disk, I: Inputs>(
     disk: D,
     inputs: &mut I,
 ) -> Followed<D>
-    requires { IfSome (command_of (map string_bytes words.now)) (λ command. Each (I.may_ask inputs.old) (files_of command)) }
+    requires { IfSome (command_of (map string_bytes words.now)) (λ command. Each (I.may_ask inputs.old) (command_files command)) }
     ensures { HasOutcome D.view (outside (asked (I.told inputs.old) (I.faults inputs.old) (I.faults inputs.new)) disk result.disk)
         (map string_bytes words.now) result.outcome }
 {
@@ -69,7 +69,7 @@ fn follow<D: Disk, I: Inputs>(
     disk: D,
     inputs: &mut I,
 ) -> Followed<D>
-    requires files { Each (I.may_ask inputs.old) (files_of command.now) }
+    requires files { Each (I.may_ask inputs.old) (command_files command.now) }
     requires ranges { IsWithinRanges command.now }
     ensures { (work D.view (outside (asked (I.told inputs.old) (I.faults inputs.old) (I.faults inputs.new)) disk result.disk) command.now).does result.outcome }
 {

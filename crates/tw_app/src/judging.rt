@@ -5,8 +5,8 @@ ghost use Rattle.tw_judge.specs.Forks.{IsForkTold};
 ghost use Rattle.tw_judge.specs.Maps.{AreMapsTold, ThreeFiles};
 ghost use Rattle.tw_judge.specs.Told.{IsTold};
 ghost use Rattle.tw_app.specs.Around.{Around, Writes};
-ghost use Rattle.tw_app.specs.Judging.{Judges, JudgesEvidence, JudgesMapFiles, NoneFailed};
-ghost use Rattle.tw_app.specs.Running.{Ends, IsUntouched};
+ghost use Rattle.tw_app.specs.Judging.{JudgesEvidence, JudgesFiles, JudgesMapFiles, NoneFailed};
+ghost use Rattle.tw_app.specs.Running.{EndsAllowed, IsDiskUntouched};
 
 use tw_disk::Disk;
 
@@ -14,25 +14,25 @@ use tw_disk::Disk;
 pub fn judging_laws<D: Disk>()
     // A run of `verify` or `strict` over files whose bytes are told, whose inputs and sink didn't fail, ends with a status
     // and a text, written whole, that are told of these bytes under the anchors file's name.
-    ensures told { (a : Around D) (strict : Bool) (file proof anchors : List ℕ) (status : ℕ) → Judges a strict file proof anchors → NoneFailed a
-        → Ends D.view a status → (text : List ℕ) × IsTold file strict proof anchors status text × Writes a text }
+    ensures told { (a : Around D) (strict : Bool) (file proof anchors : List ℕ) (status : ℕ) → JudgesFiles a strict file proof anchors → NoneFailed a
+        → EndsAllowed D.view a status → (text : List ℕ) × IsTold file strict proof anchors status text × Writes a text }
     // And each status and text that are told of these bytes are those with which such a run may end.
-    ensures ends { (a : Around D) (strict : Bool) (file proof anchors : List ℕ) (status : ℕ) (text : List ℕ) → Judges a strict file proof anchors
-        → IsUntouched D.view a.outside → IsTold file strict proof anchors status text → Writes a text → Ends D.view a status }
+    ensures ends { (a : Around D) (strict : Bool) (file proof anchors : List ℕ) (status : ℕ) (text : List ℕ) → JudgesFiles a strict file proof anchors
+        → IsDiskUntouched D.view a.outside → IsTold file strict proof anchors status text → Writes a text → EndsAllowed D.view a status }
 {}
 
 /// What is told of map files and of evidence by the bytes of their files is what a run tells that judges them.
 pub fn reach_judging_laws<D: Disk>()
     // A run of `checkmap` over files whose bytes are told, whose inputs and sink didn't fail, ends with a status and a text, written
     // whole, that are told of these bytes under the files' names.
-    ensures map_told { (a : Around D) (bytes names : ThreeFiles) (status : ℕ) → JudgesMapFiles a bytes names → NoneFailed a → Ends D.view a status
+    ensures map_told { (a : Around D) (bytes names : ThreeFiles) (status : ℕ) → JudgesMapFiles a bytes names → NoneFailed a → EndsAllowed D.view a status
         → (text : List ℕ) × AreMapsTold bytes names status text × Writes a text }
     // And each status and text that are told of these bytes are those with which such a run may end.
     ensures map_ends { (a : Around D) (bytes names : ThreeFiles) (status : ℕ) (text : List ℕ) → JudgesMapFiles a bytes names
-        → IsUntouched D.view a.outside → AreMapsTold bytes names status text → Writes a text → Ends D.view a status }
+        → IsDiskUntouched D.view a.outside → AreMapsTold bytes names status text → Writes a text → EndsAllowed D.view a status }
     // The same of `checkfork` and of the evidence of a fork.
     ensures fork_told { (a : Around D) (file evidence anchors : List ℕ) (status : ℕ) → JudgesEvidence a file evidence anchors → NoneFailed a
-        → Ends D.view a status → (text : List ℕ) × IsForkTold file evidence anchors status text × Writes a text }
+        → EndsAllowed D.view a status → (text : List ℕ) × IsForkTold file evidence anchors status text × Writes a text }
     ensures fork_ends { (a : Around D) (file evidence anchors : List ℕ) (status : ℕ) (text : List ℕ) → JudgesEvidence a file evidence anchors
-        → IsUntouched D.view a.outside → IsForkTold file evidence anchors status text → Writes a text → Ends D.view a status }
+        → IsDiskUntouched D.view a.outside → IsForkTold file evidence anchors status text → Writes a text → EndsAllowed D.view a status }
 {}

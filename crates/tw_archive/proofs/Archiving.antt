@@ -22,7 +22,7 @@ use Rattle.tw_rbtree.specs.Planting.{AreNodeTrees, IsMarked, IsMarkOf}
 use Rattle.tw_rbtree.specs.Reading.{IsPageAt}
 use Rattle.tw_rbtree.specs.Standing.{HasNamed, IsRootTree, OfPage, StandsWith, any_page}
 use Rattle.tw_archive.specs.Archives.{KeepsTrees, archiving, named_at, named_by}
-use Rattle.tw_archive.specs.Numbering.{Numbered, history_node, number_at, numbered, numbered_on, pages_of, new_from}
+use Rattle.tw_archive.specs.Numbering.{Numbered, history_node, number_of_page, numbered_archive, numbered_on, numbers_of_nodes, new_from}
 use Rattle.tw_archive.proofs.Haves.{IsPage, same-tree, stands-both}
 use Rattle.tw_archive.proofs.Keeping.{forest-count}
 use Rattle.tw_archive.proofs.Numbers.{marked, number-up_to, unmarked}
@@ -70,7 +70,7 @@ module _ (dig : List ℕ → List ℕ) (ps : Image) (h : History) (step_page : �
   last = length h.steps
 
   abbrev Now : Numbered
-  Now = numbered dig ps step_page archive last
+  Now = numbered_archive dig ps step_page archive last
 
   abbrev from : ℕ
   from = new_from step_page last
@@ -108,7 +108,7 @@ module _ (dig : List ℕ → List ℕ) (ps : Image) (h : History) (step_page : �
 
     -- the number of a page that a node marks is that of its tree
     pub marked-tree : (level least page : ℕ) (u : Tree) → page ≢ 0 → 1 ≤ least → IsPage dig now Known level least page u → (n : NewNode) → In n nodes → n.page ≡ page
-        → get_or (forest h last ++ trees) (number_at (pages_of Now.count nodes ++ Now.pages) page) Empty ≡ u
+        → get_or (forest h last ++ trees) (number_of_page (numbers_of_nodes Now.count nodes ++ Now.pages) page) Empty ≡ u
     marked-tree level least page u some keys is n there marks =
         let m = marked Now.pages page some Now.count nodes n there marks in
         let tree_of = node-tree dig Known now from [] nodes trees are m.place m.node m.there in
@@ -129,18 +129,18 @@ module _ (dig : List ℕ → List ℕ) (ps : Image) (h : History) (step_page : �
     pub page-numbered : (below : ℕ) → (level least page : ℕ) (u v : Tree) → 1 ≤ least → IsPage dig now Known level least page u → IsMarked from nodes page v
         → HasNamed (named_by (numbered_on Now nodes).pages (forest (plus h s) (suc last)) below) page u
     page-numbered below level least page u v keys is marks less =
-        ap (λ (ts : List Tree). get_or ts (number_at (pages_of Now.count nodes ++ Now.pages) page) Empty) forest-next ∙ by (cases_lt page from)
+        ap (λ (ts : List Tree). get_or ts (number_of_page (numbers_of_nodes Now.count nodes ++ Now.pages) page) Empty) forest-next ∙ by (cases_lt page from)
       where
         some : page ≢ 0
         some none = (let low = is.at.low in absurd (omega (arith, none, low)))
 
-        by : (page < from) ⊎ (from ≤ page) → get_or (forest h last ++ trees) (number_at (pages_of Now.count nodes ++ Now.pages) page) Empty ≡ u
+        by : (page < from) ⊎ (from ≤ page) → get_or (forest h last ++ trees) (number_of_page (numbers_of_nodes Now.count nodes ++ Now.pages) page) Empty ≡ u
         by (inl old) =
             let count = forest-count dig ps h step_page archive keeps last (omega arith) in
             let low = number-up_to dig ps step_page archive last page in
             ap (λ (k : ℕ). get_or (forest h last ++ trees) k Empty)
             (unmarked Now.pages page some Now.count nodes (older-unmarked dig Known now from page some old [] nodes trees are))
-            ∙ get_or_append_left (forest h last) trees Empty (number_at Now.pages page) (omega (arith, count, low))
+            ∙ get_or_append_left (forest h last) trees Empty (number_of_page Now.pages page) (omega (arith, count, low))
             ∙ is.has old
         by (inr new) = let m = marks new in marked-tree level least page u some keys is m.0 m.1 m.2
 
@@ -151,7 +151,7 @@ module _ (dig : List ℕ → List ℕ) (ps : Image) (h : History) (step_page : �
       tree-next some = ap (λ (o : Option Step). get_or (forest (plus h s) (suc last)) (root_of o) Empty) (step_at-new h s) ∙ by stands.tree marks.tree
         where
           by : IsRootTree dig Known now root.page grown → IsRootTree dig (IsMarked from nodes) now root.page grown
-              → get_or (forest (plus h s) (suc last)) (number_at (numbered_on Now nodes).pages root.page) Empty ≡ grown
+              → get_or (forest (plus h s) (suc last)) (number_of_page (numbered_on Now nodes).pages root.page) Empty ≡ grown
           by (inl none) b = absurd (some none.0)
           by (inr (level, a)) (inl none) = absurd (some none.0)
           by (inr (level, a)) (inr (other, b)) = page-numbered (suc root.page) level 1 root.page grown grown (omega arith) a b.has (omega arith)

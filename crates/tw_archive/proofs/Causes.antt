@@ -16,10 +16,10 @@ use Rattle.tw_msg.specs.declared.message.Message.{Message}
 use Rattle.tw_msg.specs.Messages.{IsLinked, Leads}
 use Rattle.tw_skipproof.specs.Paths.{climbed}
 use Rattle.tw_archive.specs.declared.judgement.Judgement.TheVariants.{Known, Forked, Stale, BadLink, Accept}
-use Rattle.tw_archive.specs.Judging.{judge_known, judge_new, judged, judgement, kept_auth, last_of, last_step, leads, thread_key}
+use Rattle.tw_archive.specs.Judging.{archive_key, judge_known, judge_new, judged_message, judgement, kept_auth, last_entry_step, last_of_peer, leads_from_last}
 use Rattle.tw_archive.proofs.Peers.{IsLatest, up-to-last, with-key}
 
-known-entry : (e : Entry) (m : Message) (archived : ℕ) → key_of e ≡ thread_key m.thread → judge_known e m ≡ Known archived → (e.thread ≡ m.thread) × (e.archived ≡ archived)
+known-entry : (e : Entry) (m : Message) (archived : ℕ) → key_of e ≡ archive_key m.thread → judge_known e m ≡ Known archived → (e.thread ≡ m.thread) × (e.archived ≡ archived)
 known-entry e m archived key is = by (bytes_eq e.thread.auth m.thread.auth) refl is
   where
     by : (b : Bool) → bytes_eq e.thread.auth m.thread.auth ≡ b → cond b (Known e.archived) (Forked m.thread.step e.thread.auth m.thread.auth) ≡ Known archived → (e.thread ≡ m.thread) × (e.archived ≡ archived)
@@ -33,7 +33,7 @@ abbrev IsFork : Entry → Message → (step : ℕ) → (kept offered : List ℕ)
 IsFork e m step kept offered =
     (step ≡ m.thread.step) × (offered ≡ m.thread.auth) × (kept ≢ offered) × (e.thread.from ≡ m.thread.from) × (e.thread.step ≡ step) × (e.thread.auth ≡ kept)
 
-forked-entry : (e : Entry) (m : Message) (step : ℕ) (kept offered : List ℕ) → key_of e ≡ thread_key m.thread → judge_known e m ≡ Forked step kept offered → IsFork e m step kept offered
+forked-entry : (e : Entry) (m : Message) (step : ℕ) (kept offered : List ℕ) → key_of e ≡ archive_key m.thread → judge_known e m ≡ Forked step kept offered → IsFork e m step kept offered
 forked-entry e m step kept offered key is = by (bytes_eq e.thread.auth m.thread.auth) refl is
   where
     by : (b : Bool) → bytes_eq e.thread.auth m.thread.auth ≡ b → cond b (Known e.archived) (Forked m.thread.step e.thread.auth m.thread.auth) ≡ Forked step kept offered → IsFork e m step kept offered
@@ -53,37 +53,37 @@ forked-entry e m step kept offered key is = by (bytes_eq e.thread.auth m.thread.
 module _ (dig : List ℕ → List ℕ) where
   -- a judgement by the last entry is none of the first two
   new-not_known : (last : Option Entry) (m : Message) (archived : ℕ) → judge_new dig last m ≡ Known archived → ⊥
-  new-not_known last m archived is = by (nat_lt m.thread.step (last_step last)) (leads dig last m) is
+  new-not_known last m archived is = by (nat_lt m.thread.step (last_entry_step last)) (leads_from_last dig last m) is
     where
-      by : (b c : Bool) → cond b (Stale (last_step last)) (cond c Accept (BadLink (last_step last) (kept_auth dig m.thread.from last))) ≡ Known archived → ⊥
+      by : (b c : Bool) → cond b (Stale (last_entry_step last)) (cond c Accept (BadLink (last_entry_step last) (kept_auth dig m.thread.from last))) ≡ Known archived → ⊥
       by true c found = cc
       by false true found = cc
       by false false found = cc
 
   new-not_forked : (last : Option Entry) (m : Message) (step : ℕ) (kept offered : List ℕ) → judge_new dig last m ≡ Forked step kept offered → ⊥
-  new-not_forked last m step kept offered is = by (nat_lt m.thread.step (last_step last)) (leads dig last m) is
+  new-not_forked last m step kept offered is = by (nat_lt m.thread.step (last_entry_step last)) (leads_from_last dig last m) is
     where
-      by : (b c : Bool) → cond b (Stale (last_step last)) (cond c Accept (BadLink (last_step last) (kept_auth dig m.thread.from last))) ≡ Forked step kept offered → ⊥
+      by : (b c : Bool) → cond b (Stale (last_entry_step last)) (cond c Accept (BadLink (last_entry_step last) (kept_auth dig m.thread.from last))) ≡ Forked step kept offered → ⊥
       by true c found = cc
       by false true found = cc
       by false false found = cc
 
   new-accepted : (last : Option Entry) (m : Message) → IsLinked m → judge_new dig last m ≡ Accept
-      → (last_step last ≤ m.thread.step) × (m.since ≡ last_step last) × Leads dig (kept_auth dig m.thread.from last) m
-  new-accepted last m linked is = by (nat_lt m.thread.step (last_step last)) refl (m.since == last_step last) refl (bytes_eq climbs m.thread.auth) refl is
+      → (last_entry_step last ≤ m.thread.step) × (m.since ≡ last_entry_step last) × Leads dig (kept_auth dig m.thread.from last) m
+  new-accepted last m linked is = by (nat_lt m.thread.step (last_entry_step last)) refl (m.since == last_entry_step last) refl (bytes_eq climbs m.thread.auth) refl is
     where
       climbs : List ℕ
       climbs = climbed dig m.link.links m.thread.step m.since (kept_auth dig m.thread.from last)
 
-      by : (b : Bool) → nat_lt m.thread.step (last_step last) ≡ b → (c : Bool) → (m.since == last_step last) ≡ c → (d : Bool) → bytes_eq climbs m.thread.auth ≡ d
-          → cond b (Stale (last_step last)) (cond (c && d) Accept (BadLink (last_step last) (kept_auth dig m.thread.from last))) ≡ Accept
-          → (last_step last ≤ m.thread.step) × (m.since ≡ last_step last) × Leads dig (kept_auth dig m.thread.from last) m
+      by : (b : Bool) → nat_lt m.thread.step (last_entry_step last) ≡ b → (c : Bool) → (m.since == last_entry_step last) ≡ c → (d : Bool) → bytes_eq climbs m.thread.auth ≡ d
+          → cond b (Stale (last_entry_step last)) (cond (c && d) Accept (BadLink (last_entry_step last) (kept_auth dig m.thread.from last))) ≡ Accept
+          → (last_entry_step last ≤ m.thread.step) × (m.since ≡ last_entry_step last) × Leads dig (kept_auth dig m.thread.from last) m
       by true below c since_is d reach found = cc
       by false above false since_is d reach found = cc
       by false above true since_is false reach found = cc
       by false above true since_is true reach found = (
-        ltb-false m.thread.step (last_step last) above,
-        (Decides-eqb m.since (last_step last)).0 since_is,
+        ltb-false m.thread.step (last_entry_step last) above,
+        (Decides-eqb m.since (last_entry_step last)).0 since_is,
         record { shape = linked.link; reaches = (bytes_eq-Decides climbs m.thread.auth).0 reach },
       )
 
@@ -95,48 +95,48 @@ module _ (dig : List ℕ → List ℕ) where
       by false found = cc
 
   module _ (es : List Entry) (m : Message) where
-    pub judged-known : (archived : ℕ) → judged dig es m ≡ Known archived → (e : Entry) × In e es × (e.thread ≡ m.thread) × (e.archived ≡ archived)
+    pub judged-known : (archived : ℕ) → judged_message dig es m ≡ Known archived → (e : Entry) × In e es × (e.thread ≡ m.thread) × (e.archived ≡ archived)
     unfolding judgement
-    judged-known archived is = by (entry_with es (thread_key m.thread)) refl is
+    judged-known archived is = by (entry_with es (archive_key m.thread)) refl is
       where
-        by : (o : Option Entry) → entry_with es (thread_key m.thread) ≡ o → judgement dig o (last_of es m.thread.from) m ≡ Known archived
+        by : (o : Option Entry) → entry_with es (archive_key m.thread) ≡ o → judgement dig o (last_of_peer es m.thread.from) m ≡ Known archived
             → (e : Entry) × In e es × (e.thread ≡ m.thread) × (e.archived ≡ archived)
-        by None none found = absurd (new-not_known (last_of es m.thread.from) m archived found)
+        by None none found = absurd (new-not_known (last_of_peer es m.thread.from) m archived found)
         by (Some e) some found =
-            let k = known-entry e m archived (with-key es (thread_key m.thread) e some) found in (e, in-with es (thread_key m.thread) e some, k.0, k.1)
+            let k = known-entry e m archived (with-key es (archive_key m.thread) e some) found in (e, in-with es (archive_key m.thread) e some, k.0, k.1)
 
-    pub judged-forked : (step : ℕ) (kept offered : List ℕ) → judged dig es m ≡ Forked step kept offered
+    pub judged-forked : (step : ℕ) (kept offered : List ℕ) → judged_message dig es m ≡ Forked step kept offered
         → (step ≡ m.thread.step) × (offered ≡ m.thread.auth) × (kept ≢ offered)
         × ((e : Entry) × In e es × (e.thread.from ≡ m.thread.from) × (e.thread.step ≡ step) × (e.thread.auth ≡ kept))
     unfolding judgement
-    judged-forked step kept offered is = by (entry_with es (thread_key m.thread)) refl is
+    judged-forked step kept offered is = by (entry_with es (archive_key m.thread)) refl is
       where
-        by : (o : Option Entry) → entry_with es (thread_key m.thread) ≡ o → judgement dig o (last_of es m.thread.from) m ≡ Forked step kept offered
+        by : (o : Option Entry) → entry_with es (archive_key m.thread) ≡ o → judgement dig o (last_of_peer es m.thread.from) m ≡ Forked step kept offered
             → (step ≡ m.thread.step) × (offered ≡ m.thread.auth) × (kept ≢ offered)
             × ((e : Entry) × In e es × (e.thread.from ≡ m.thread.from) × (e.thread.step ≡ step) × (e.thread.auth ≡ kept))
-        by None none found = absurd (new-not_forked (last_of es m.thread.from) m step kept offered found)
+        by None none found = absurd (new-not_forked (last_of_peer es m.thread.from) m step kept offered found)
         by (Some e) some found =
-            let f = forked-entry e m step kept offered (with-key es (thread_key m.thread) e some) found in
-            (f.0, f.1, f.2, (e, in-with es (thread_key m.thread) e some, f.3, f.4, f.5))
+            let f = forked-entry e m step kept offered (with-key es (archive_key m.thread) e some) found in
+            (f.0, f.1, f.2, (e, in-with es (archive_key m.thread) e some, f.3, f.4, f.5))
 
-    pub judged-accepted : ((e : Entry) → In e es → e.thread.from ≡ m.thread.from → IsLatest m.thread.from es e) → IsLinked m → judged dig es m ≡ Accept
+    pub judged-accepted : ((e : Entry) → In e es → e.thread.from ≡ m.thread.from → IsLatest m.thread.from es e) → IsLinked m → judged_message dig es m ≡ Accept
         → ((e : Entry) → In e es → e.thread.from ≡ m.thread.from → e.thread.step < m.thread.step)
-        × (m.since ≡ last_step (last_of es m.thread.from)) × Leads dig (kept_auth dig m.thread.from (last_of es m.thread.from)) m
+        × (m.since ≡ last_entry_step (last_of_peer es m.thread.from)) × Leads dig (kept_auth dig m.thread.from (last_of_peer es m.thread.from)) m
     unfolding judgement
-    judged-accepted latest linked is = by (entry_with es (thread_key m.thread)) refl is
+    judged-accepted latest linked is = by (entry_with es (archive_key m.thread)) refl is
       where
-        lower : entry_with es (thread_key m.thread) ≡ None → last_step (last_of es m.thread.from) ≤ m.thread.step
+        lower : entry_with es (archive_key m.thread) ≡ None → last_entry_step (last_of_peer es m.thread.from) ≤ m.thread.step
             → (e : Entry) → In e es → e.thread.from ≡ m.thread.from → e.thread.step < m.thread.step
         lower none low e there same = elim (cases_lt e.thread.step m.thread.step) [
           | inl less ↦ less
           | inr at_least ↦ (let up = up-to-last m.thread.from es latest e there same in
               let steps : e.thread.step ≡ m.thread.step = omega (arith, at_least, up, low) in
-              let key : key_of e ≡ thread_key m.thread = λ i. record { from = same i; step = steps i } in
-              absurd (Each-in (λ (f : Entry). key_of f ≢ thread_key m.thread) es e (each-without es (thread_key m.thread) none) there key))
+              let key : key_of e ≡ archive_key m.thread = λ i. record { from = same i; step = steps i } in
+              absurd (Each-in (λ (f : Entry). key_of f ≢ archive_key m.thread) es e (each-without es (archive_key m.thread) none) there key))
         ]
 
-        by : (o : Option Entry) → entry_with es (thread_key m.thread) ≡ o → judgement dig o (last_of es m.thread.from) m ≡ Accept
+        by : (o : Option Entry) → entry_with es (archive_key m.thread) ≡ o → judgement dig o (last_of_peer es m.thread.from) m ≡ Accept
             → ((e : Entry) → In e es → e.thread.from ≡ m.thread.from → e.thread.step < m.thread.step)
-            × (m.since ≡ last_step (last_of es m.thread.from)) × Leads dig (kept_auth dig m.thread.from (last_of es m.thread.from)) m
-        by None none found = let n = new-accepted (last_of es m.thread.from) m linked found in (lower none n.0, n.1, n.2)
+            × (m.since ≡ last_entry_step (last_of_peer es m.thread.from)) × Leads dig (kept_auth dig m.thread.from (last_of_peer es m.thread.from)) m
+        by None none found = let n = new-accepted (last_of_peer es m.thread.from) m linked found in (lower none n.0, n.1, n.2)
         by (Some e) some found = absurd (known-not_accepted e m found)

@@ -24,7 +24,7 @@ use Rattle.tw_rbtree.proofs.Markings.{root-marks}
 use Rattle.tw_rbtree.proofs.PageLaws.{one_page as page-once}
 use Rattle.tw_rbtree.proofs.Plantings.{IsWithin, root-plants}
 use Rattle.tw_archive.specs.Archives.{Agree, HasGrown, KeepsTrees, MayArchive, archiving, named_at}
-use Rattle.tw_archive.specs.Numbering.{numbered, new_from}
+use Rattle.tw_archive.specs.Numbering.{numbered_archive, new_from}
 use Rattle.tw_archive.proofs.Archiving.{entry-known, tree-next}
 use Rattle.tw_archive.proofs.Keeping.{keeps-on, kept-named}
 use Rattle.tw_archive.proofs.NextTree.{keeps-last, from-some, stays-sound}
@@ -45,7 +45,7 @@ module _ (dig : List ℕ → List ℕ) (ps more : Image) (h : History) (step_pag
   Known = HasNamed (named_at dig ps h step_page archive last)
 
   abbrev step_of : List NewNode → Step
-  step_of nodes = archiving (numbered dig ps step_page archive last) t time nodes root.page
+  step_of nodes = archiving (numbered_archive dig ps step_page archive last) t time nodes root.page
 
   some : root.page ≢ 0
   some none = let low = has.behind in let first = from-some step_page last in absurd (omega (arith, none, low, first))

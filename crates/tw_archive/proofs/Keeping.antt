@@ -14,7 +14,7 @@ use Rattle.tw_rbtree.specs.Listing.{listed}
 use Rattle.tw_rbtree.specs.Standing.{HasNamed, Named, StandsWith}
 use Rattle.tw_rbtree.proofs.Keeping.{stands-kept}
 use Rattle.tw_archive.specs.Archives.{Agree, KeepsTree, KeepsTrees, named_at, named_by}
-use Rattle.tw_archive.specs.Numbering.{Numbered, history_node, new_nodes, nodes_in, number_at, numbered, numbered_on, new_from}
+use Rattle.tw_archive.specs.Numbering.{Numbered, history_node, archive_new_nodes, nodes_in, number_of_page, numbered_archive, numbered_on, new_from}
 use Rattle.tw_archive.proofs.Listings.{listed-more}
 use Rattle.tw_archive.proofs.Planted.{length-planted}
 
@@ -28,14 +28,14 @@ map-length f (x ∷ xs) = ap suc (map-length f xs)
 
 module _ (dig : List ℕ → List ℕ) (ps : Image) (h : History) (step_page : ℕ → ℕ) (archive : ℕ → Root) (keeps : KeepsTrees dig ps h step_page archive) where
   abbrev Before : ℕ → Numbered
-  Before k = numbered dig ps step_page archive k
+  Before k = numbered_archive dig ps step_page archive k
 
   -- as many nodes are numbered as the history has
   pub forest-count : (k : ℕ) → k ≤ length h.steps → length (forest h k) ≡ (Before k).count + 1
-  unfolding forest numbered
+  unfolding forest numbered_archive
   forest-count zero within = refl
   forest-count (suc k) within =
-      let nodes : List NewNode = new_nodes dig ps step_page archive k in
+      let nodes : List NewNode = archive_new_nodes dig ps step_page archive k in
       let new : length (new_trees h k) ≡ length nodes =
       length-planted (entry_to h (suc k)) (forest h k) (fresh_of (step_at h (suc k))) ∙ ap (λ (ns : List Node). length ns) (keeps.trees k within).fresh
       ∙ map-length (history_node (Before k).pages (Before k).count) nodes in
@@ -57,16 +57,16 @@ module _ (dig : List ℕ → List ℕ) (ps : Image) (h : History) (step_page : �
     next-from zero within = refl
     next-from (suc k) within = ap suc (sym (pages_same (suc k) within))
 
-    listed-next : (k : ℕ) → k < length h.steps → listed dig (ps ++ more) (new_from next_page k) (next_archive (suc k)) ≡ Is (new_nodes dig ps step_page archive k)
+    listed-next : (k : ℕ) → k < length h.steps → listed dig (ps ++ more) (new_from next_page k) (next_archive (suc k)) ≡ Is (archive_new_nodes dig ps step_page archive k)
     listed-next k less =
         (λ i. listed dig (ps ++ more) (next-from k (omega (arith, less)) i) (sym (roots_same (suc k) (omega (arith, less))) i))
-        ∙ listed-more dig ps more (new_from step_page k) (archive (suc k)) (new_nodes dig ps step_page archive k) (keeps.trees k less).lists
+        ∙ listed-more dig ps more (new_from step_page k) (archive (suc k)) (archive_new_nodes dig ps step_page archive k) (keeps.trees k less).lists
 
-    new-next : (k : ℕ) → k < length h.steps → new_nodes dig (ps ++ more) next_page next_archive k ≡ new_nodes dig ps step_page archive k
+    new-next : (k : ℕ) → k < length h.steps → archive_new_nodes dig (ps ++ more) next_page next_archive k ≡ archive_new_nodes dig ps step_page archive k
     new-next k less = ap nodes_in (listed-next k less)
 
-    pub numbered-next : (k : ℕ) → k ≤ length h.steps → numbered dig (ps ++ more) next_page next_archive k ≡ Before k
-    unfolding numbered
+    pub numbered-next : (k : ℕ) → k ≤ length h.steps → numbered_archive dig (ps ++ more) next_page next_archive k ≡ Before k
+    unfolding numbered_archive
     numbered-next zero within = refl
     numbered-next (suc k) within = λ i. numbered_on (numbered-next k (omega (arith, within)) i) (new-next k within i)
 
@@ -90,7 +90,7 @@ module _ (dig : List ℕ → List ℕ) (ps : Image) (h : History) (step_page : �
                 (ap (λ (r : Root). r.page) (sym root) ∙ was.0 ∙ ap (λ (r : Root). r.page) (roots_same k within), ap fresh_of step ∙ was.1));
             lists = listed-next k less ∙ ap (λ (ns : List NewNode). Is ns) (sym (new-next k less));
             fresh = ap fresh_of step ∙ old.fresh ∙ (λ i. map (history_node (sym (numbered-next k within) i).pages (sym (numbered-next k within) i).count) (sym (new-next k less) i));
-            root = ap root_of step ∙ old.root ∙ (λ i. number_at (sym (numbered-next (suc k) less) i).pages (root i).page);
+            root = ap root_of step ∙ old.root ∙ (λ i. number_of_page (sym (numbered-next (suc k) less) i).pages (root i).page);
             stands = subst (λ (r : Root). StandsWith dig (HasNamed (named_at dig (ps ++ more) (plus h s) next_page next_archive (suc k))) (ps ++ more) r (tree (plus h s) (suc k))) root
                 (subst (λ (t : Tree). StandsWith dig (HasNamed (named_at dig (ps ++ more) (plus h s) next_page next_archive (suc k))) (ps ++ more) (archive (suc k)) t) (sym (tree-plus h s (suc k) less))
                 (stands-next (suc k) less (archive (suc k)) (tree h (suc k)) old.stands));

@@ -24,7 +24,7 @@ use Rattle.tw_rbtree.specs.Planting.{AreNodeTrees, IsMarked}
 use Rattle.tw_rbtree.specs.Reading.{IsPageAt}
 use Rattle.tw_rbtree.specs.Standing.{HasNamed, IsRootTree, StandsWith, any_page}
 use Rattle.tw_archive.specs.Archives.{Agree, KeepsTree, KeepsTrees, MayArchive, archiving, named_at, named_by}
-use Rattle.tw_archive.specs.Numbering.{Numbered, history_node, new_nodes, nodes_in, number_at, numbered, numbered_on, new_from}
+use Rattle.tw_archive.specs.Numbering.{Numbered, history_node, archive_new_nodes, nodes_in, number_of_page, numbered_archive, numbered_on, new_from}
 use Rattle.tw_archive.proofs.Archiving.{new-at, nodes-known, stands-numbered, tree-next, trees-new}
 use Rattle.tw_archive.proofs.Keeping.{forest-count, next-from, numbered-next}
 use Rattle.tw_archive.proofs.Numbers.{number-up_to}
@@ -49,10 +49,10 @@ module _ (dig : List ℕ → List ℕ) (ps : Image) (h : History) (step_page : �
   last = length h.steps
 
   abbrev Now : Numbered
-  Now = numbered dig ps step_page archive last
+  Now = numbered_archive dig ps step_page archive last
 
   abbrev Next : ℕ → Numbered
-  Next k = numbered dig now next_page next_archive k
+  Next k = numbered_archive dig now next_page next_archive k
 
   abbrev s : Step
   s = archiving Now t time nodes root.page
@@ -64,11 +64,11 @@ module _ (dig : List ℕ → List ℕ) (ps : Image) (h : History) (step_page : �
   lists-last =
       (λ i. listed dig now (next-from dig ps h step_page archive keeps more next_page next_archive pages_same roots_same last (omega arith) i) (root_is i)) ∙ listed_is
 
-  new-last : new_nodes dig now next_page next_archive last ≡ nodes
+  new-last : archive_new_nodes dig now next_page next_archive last ≡ nodes
   new-last = ap nodes_in lists-last
 
   numbered-last : Next (suc last) ≡ numbered_on Now nodes
-  unfolding numbered
+  unfolding numbered_archive
   numbered-last = λ i. numbered_on (last-same i) (new-last i)
 
   module _ (are : AreNodeTrees dig (HasNamed (named_at dig ps h step_page archive last)) now (new_from step_page last) [] nodes trees)
@@ -93,7 +93,7 @@ module _ (dig : List ℕ → List ℕ) (ps : Image) (h : History) (step_page : �
           of_events = λ none. absurd (let is : thread_of (step_at (plus h s) (suc last)) ≡ Some t = ap thread_of step in let never : Some t ≡ None = sym is ∙ none in cc);
           lists = lists-last ∙ ap (λ (ns : List NewNode). Is ns) (sym new-last);
           fresh = ap fresh_of step ∙ (λ i. map (history_node (sym last-same i).pages (sym last-same i).count) (sym new-last i));
-          root = ap root_of step ∙ (λ i. number_at (sym numbered-last i).pages (sym root_is i).page);
+          root = ap root_of step ∙ (λ i. number_of_page (sym numbered-last i).pages (sym root_is i).page);
           stands = stands-last;
         }
 
@@ -117,7 +117,7 @@ module _ (dig : List ℕ → List ℕ) (ps : Image) (h : History) (step_page : �
             let inside : last < length (plus h s).steps = omega (arith, length_push h.steps s) in
             let count = forest-count dig now (plus h s) next_page next_archive keeps_now (suc last) inside in
             let low = number-up_to dig now next_page next_archive (suc last) (next_archive (suc last)).page in
-            let is : s.root ≡ number_at (Next (suc last)).pages (next_archive (suc last)).page = sym (ap root_of (step_at-new h s)) ∙ (keeps_now.trees last inside).root in
+            let is : s.root ≡ number_of_page (Next (suc last)).pages (next_archive (suc last)).page = sym (ap root_of (step_at-new h s)) ∙ (keeps_now.trees last inside).root in
             omega (arith, count, low, is)
 
         above : Each (λ e. e.thread.from ≡ t.from → e.thread.step < t.step) (received h last)

@@ -15,7 +15,7 @@ use Rattle.tw_base.specs.history.Asking.{entry_with, last_below}
 use Rattle.tw_base.specs.history.Entries.{key_cmp, key_of}
 use Rattle.tw_base.specs.kinds.Lists.{Each, In}
 use Rattle.tw_base.proofs.lemmas.history.Members.{without-each}
-use Rattle.tw_archive.specs.Judging.{last_of, last_step, of_peer, peer_end}
+use Rattle.tw_archive.specs.Judging.{last_entry_step, last_of_peer, of_peer, peer_end}
 
 pub each-of : {X : Type 0} (P : X → Type 0) (xs : List X) → ((x : X) → In x xs → P x) → Each P xs
 each-of P [] all = tt
@@ -69,25 +69,25 @@ module _ (peer : List ℕ) where
     module _ (latest : (e : Entry) → In e es → e.thread.from ≡ peer → IsLatest e) where
       -- where the peer has an entry, it has a last one
       pub has-last : (f : Entry) → In f es → f.thread.from ≡ peer →
-          (e : Entry) × (last_of es peer ≡ Some e) × In e es × (e.thread.from ≡ peer) × ((f ≡ e) ⊎ (f.thread.step < e.thread.step))
+          (e : Entry) × (last_of_peer es peer ≡ Some e) × In e es × (e.thread.from ≡ peer) × ((f ≡ e) ⊎ (f.thread.step < e.thread.step))
       has-last f there same =
           let l = latest f there same in
           (l.0, ap (of_peer peer) l.1 ∙ peer-of l.0 l.3, l.2, l.3, l.4)
 
-      pub without-last : last_of es peer ≡ None → (f : Entry) → In f es → f.thread.from ≡ peer → ⊥
+      pub without-last : last_of_peer es peer ≡ None → (f : Entry) → In f es → f.thread.from ≡ peer → ⊥
       without-last none f there same = let l = has-last f there same in let never : Some l.0 ≡ None = sym l.1 ∙ none in cc
 
       -- no entry of the peer is above its last one
-      pub up-to-last : (f : Entry) → In f es → f.thread.from ≡ peer → f.thread.step < last_step (last_of es peer) + 1
+      pub up-to-last : (f : Entry) → In f es → f.thread.from ≡ peer → f.thread.step < last_entry_step (last_of_peer es peer) + 1
       up-to-last f there same =
           let l = has-last f there same in
-          let is : last_step (last_of es peer) ≡ l.0.thread.step = ap last_step l.1 in
+          let is : last_entry_step (last_of_peer es peer) ≡ l.0.thread.step = ap last_entry_step l.1 in
           elim l.4 [
             | inl one ↦ (let steps : f.thread.step ≡ l.0.thread.step = ap (λ (x : Entry). x.thread.step) one in omega (arith, is, steps))
             | inr less ↦ omega (arith, is, less)
           ]
 
-      pub above-last : (step : ℕ) → nat_lt (last_step (last_of es peer)) step ≡ true → entry_with es (record { from = peer; step = step }) ≡ None
+      pub above-last : (step : ℕ) → nat_lt (last_entry_step (last_of_peer es peer)) step ≡ true → entry_with es (record { from = peer; step = step }) ≡ None
       above-last step above =
           without-each es (record { from = peer; step = step }) (each-of (λ (f : Entry). key_of f ≢ record { from = peer; step = step }) es never)
         where
@@ -95,10 +95,10 @@ module _ (peer : List ℕ) where
           never f there is =
               let low = up-to-last f there (ap (λ (k : Key). k.from) is) in
               let same : f.thread.step ≡ step = ap (λ (k : Key). k.step) is in
-              let less = ltb-true (last_step (last_of es peer)) step above in
+              let less = ltb-true (last_entry_step (last_of_peer es peer)) step above in
               omega (arith, low, same, less)
 
-      pub last-is : (e : Entry) → (last_below es (peer_end peer) ≡ Some e → In e es) → last_of es peer ≡ Some e →
+      pub last-is : (e : Entry) → (last_below es (peer_end peer) ≡ Some e → In e es) → last_of_peer es peer ≡ Some e →
           In e es × (e.thread.from ≡ peer) × ((f : Entry) → In f es → f.thread.from ≡ peer → (f ≡ e) ⊎ (f.thread.step < e.thread.step))
       last-is e has is =
           let o = of-peer (last_below es (peer_end peer)) e is in (

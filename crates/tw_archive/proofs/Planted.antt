@@ -17,7 +17,7 @@ use Rattle.tw_rbtree.specs.declared.new_node.Side.TheVariants.{Empty as NoTree, 
 use Rattle.tw_rbtree.specs.Planting.{AreNodeTrees, IsMarkOf, IsSideTree}
 use Rattle.tw_rbtree.specs.Standing.{HasNamed, OfPage}
 use Rattle.tw_archive.specs.Archives.{named_by}
-use Rattle.tw_archive.specs.Numbering.{PageNumbers, history_node, number_at, side_number}
+use Rattle.tw_archive.specs.Numbering.{PageNumbers, history_node, number_of_page, side_number}
 
 pub length-planted : (entry : ℕ → Option Entry) (trees : List Tree) (ns : List Node) → length (planted entry trees ns) ≡ length ns
 unfolding planted
@@ -63,7 +63,7 @@ trees-rise dig Has ps since before (n ∷ ns) [] are = absurd are
 trees-rise dig Has ps since before (n ∷ ns) (t ∷ ts) are = (are.0.6, trees-rise dig Has ps since (before ++ t ∷ []) ns ts are.1)
 
 -- the sides of the listed nodes are nodes before them
-module _ (dig : List ℕ → List ℕ) (Has : OfPage) (ps : Image) (since : ℕ) (h : History) (step : ℕ) (known : PageNumbers) (before : ℕ) (low : (page : ℕ) → number_at known page ≤ before) where
+module _ (dig : List ℕ → List ℕ) (Has : OfPage) (ps : Image) (since : ℕ) (h : History) (step : ℕ) (known : PageNumbers) (before : ℕ) (low : (page : ℕ) → number_of_page known page ≤ before) where
   side-low : (listed : List Tree) (s : Side) (t : Tree) → IsSideTree dig Has ps since listed s t → side_number known before s < before + 1 + length listed
   side-low listed NoTree t is = omega arith
   side-low listed (New place) t is = let within = slice_get_within listed (place - 1) t is.1 in omega (arith, is.0, within)
@@ -82,7 +82,7 @@ module _ (dig : List ℕ → List ℕ) (Has : OfPage) (ps : Image) (since : ℕ)
 
 -- the trees of the nodes before, of which number 0 is the empty one, and the numbers of the pages among them
 module _ (dig : List ℕ → List ℕ) (ps : Image) (trees : List Tree) (before : ℕ) (size : length trees ≡ before + 1) (none : get_or trees 0 Empty ≡ Empty)
-    (known : PageNumbers) (low : (page : ℕ) → number_at known page ≤ before) (since : ℕ) where
+    (known : PageNumbers) (low : (page : ℕ) → number_of_page known page ≤ before) (since : ℕ) where
   abbrev Has : OfPage
   Has = HasNamed (named_by known trees since)
 
@@ -94,7 +94,7 @@ module _ (dig : List ℕ → List ℕ) (ps : Image) (trees : List Tree) (before 
       ∙ ap (λ (k : ℕ). get_or listed k Empty) (let e : before + place - (before + 1) ≡ place - 1 = omega (arith, is.0) in e)
       ∙ get_or_from_slice_get listed (place - 1) t Empty is.1
   side-tree listed (Old page) t is =
-      get_or_append_left trees listed Empty (number_at known page) (omega (arith, size, low page)) ∙ is.2.2.has is.1
+      get_or_append_left trees listed Empty (number_of_page known page) (omega (arith, size, low page)) ∙ is.2.2.has is.1
 
   -- the new nodes stand for the listed trees
   pub planted-are : (entry : ℕ → Option Entry) (listed : List Tree) (ns : List NewNode) (ts : List Tree) → AreNodeTrees dig Has ps since listed ns ts

@@ -20,7 +20,7 @@ use Rattle.tw_rbtree.specs.Listing.{is_old, listed}
 use Rattle.tw_rbtree.proofs.ListLaws.{is-old, listed-none}
 use Rattle.tw_rbtree.specs.Standing.{AreTrees, HasNamed, IsRootTree, IsTreeBelow, Named, OfPage, StandsWith}
 use Rattle.tw_archive.specs.Archives.{Agree, KeepsTree, KeepsTrees, named_at, named_by}
-use Rattle.tw_archive.specs.Numbering.{Numbered, history_node, new_nodes, nodes_in, number_at, numbered, numbered_on, new_from}
+use Rattle.tw_archive.specs.Numbering.{Numbered, history_node, archive_new_nodes, nodes_in, number_of_page, numbered_archive, numbered_on, new_from}
 use Rattle.tw_archive.proofs.Haves.{IsPage}
 use Rattle.tw_archive.proofs.Keeping.{keeps-on, kept-named, next-from, numbered-next, stands-at}
 
@@ -93,9 +93,9 @@ module _ (dig : List ℕ → List ℕ) (ps : Image) (h : History) (step_page : �
   last = length h.steps
 
   abbrev Now : Numbered
-  Now = numbered dig ps step_page archive last
+  Now = numbered_archive dig ps step_page archive last
 
-  last-same : numbered dig now next_page next_archive last ≡ Now
+  last-same : numbered_archive dig now next_page next_archive last ≡ Now
   last-same = numbered-next dig ps h step_page archive keeps more next_page next_archive pages_same roots_same last (omega arith)
 
   stands-there : StandsWith dig (HasNamed (named_at dig ps h step_page archive last)) ps (archive last) (tree h last)
@@ -106,11 +106,11 @@ module _ (dig : List ℕ → List ℕ) (ps : Image) (h : History) (step_page : �
       (λ i. listed dig now (next-from dig ps h step_page archive keeps more next_page next_archive pages_same roots_same last (omega arith) i) (root_is i))
       ∙ none_listed (new_from step_page last) (archive last) (low-root dig (HasNamed (named_at dig ps h step_page archive last)) ps (archive last) (tree h last) (new_from step_page last) stands-there older)
 
-  new-last : new_nodes dig now next_page next_archive last ≡ []
+  new-last : archive_new_nodes dig now next_page next_archive last ≡ []
   new-last = ap nodes_in lists-last
 
-  numbered-last : numbered dig now next_page next_archive (suc last) ≡ numbered_on Now []
-  unfolding numbered
+  numbered-last : numbered_archive dig now next_page next_archive (suc last) ≡ numbered_on Now []
+  unfolding numbered_archive
   numbered-last = λ i. numbered_on (last-same i) (new-last i)
 
   forest-last : forest (plus h s) (suc last) ≡ forest h last
@@ -125,8 +125,8 @@ module _ (dig : List ℕ → List ℕ) (ps : Image) (h : History) (step_page : �
   tree-last =
       (λ i. get_or (forest-last i) (root_of (step_at-new h s i)) Empty) ∙ ap (λ (r : ℕ). get_or (forest h last) r Empty) rests.2
 
-  root-number : (k : ℕ) → k ≤ length h.steps → root_of (step_at h k) ≡ number_at (numbered dig ps step_page archive k).pages (archive k).page
-  unfolding numbered
+  root-number : (k : ℕ) → k ≤ length h.steps → root_of (step_at h k) ≡ number_of_page (numbered_archive dig ps step_page archive k).pages (archive k).page
+  unfolding numbered_archive
   root-number zero within = refl
   root-number (suc k) within = (keeps.trees k within).root
 
@@ -149,7 +149,7 @@ module _ (dig : List ℕ → List ℕ) (ps : Image) (h : History) (step_page : �
         of_events = λ none. (ap (λ (r : Root). r.page) (root_is ∙ roots_same last (omega arith)), ap fresh_of step ∙ rests.1);
         lists = lists-last ∙ ap (λ (ns : List NewNode). Is ns) (sym new-last);
         fresh = ap fresh_of step ∙ rests.1 ∙ (λ i. map (history_node (sym last-same i).pages (sym last-same i).count) (sym new-last i));
-        root = ap root_of step ∙ rests.2 ∙ root-number last (omega arith) ∙ (λ i. number_at (sym numbered-last i).pages (sym root_is i).page);
+        root = ap root_of step ∙ rests.2 ∙ root-number last (omega arith) ∙ (λ i. number_of_page (sym numbered-last i).pages (sym root_is i).page);
         stands = stands-last;
       }
 

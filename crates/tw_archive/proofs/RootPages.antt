@@ -6,7 +6,7 @@ use Rattle.tw_base.specs.history.History.{History, received}
 use Rattle.tw_base.specs.history.Sound.{IsSound}
 use Rattle.tw_base.specs.history.Tree.{Tree, entries, tree}
 use Rattle.tw_disk.specs.Image.{Image}
-use Rattle.tw_rbtree.specs.Standing.{HasNamed, IsRootTree, Named, StandsFor, StandsWith, any_page}
+use Rattle.tw_rbtree.specs.Standing.{HasNamed, IsRootTree, Named, StandsForTree, StandsWith, any_page}
 use Rattle.tw_rbtree.proofs.SizeLaws.{root-count}
 use Rattle.tw_archive.specs.Archives.{KeepsTrees, named_at}
 use Rattle.tw_archive.proofs.SoundNext.{same-length}
@@ -20,7 +20,7 @@ power-some (suc n) = let more = power-more n in let some = power-some n in omega
 
 module _ (dig : List ℕ → List ℕ) (ps : Image) where
   -- a tree with a page has an entry, and its page is one of the pages
-  pub some-entry : (root : Root) (t : Tree) → StandsFor dig ps root t → root.page ≢ 0 → (0 < length (entries t)) × (4 ≤ root.page) × (root.page < 4 + length ps)
+  pub some-entry : (root : Root) (t : Tree) → StandsForTree dig ps root t → root.page ≢ 0 → (0 < length (entries t)) × (4 ≤ root.page) × (root.page < 4 + length ps)
   some-entry root t stands some = by stands.tree
     where
       by : IsRootTree dig any_page ps root.page t → (0 < length (entries t)) × (4 ≤ root.page) × (root.page < 4 + length ps)
@@ -31,7 +31,7 @@ module _ (dig : List ℕ → List ℕ) (ps : Image) where
           (omega (arith, many, power), is.at.low, is.at.below)
 
   -- one without a page has none
-  no-entry : (root : Root) (t : Tree) → StandsFor dig ps root t → root.page ≡ 0 → length (entries t) ≡ 0
+  no-entry : (root : Root) (t : Tree) → StandsForTree dig ps root t → root.page ≡ 0 → length (entries t) ≡ 0
   no-entry root t stands none = by stands.tree
     where
       by : IsRootTree dig any_page ps root.page t → length (entries t) ≡ 0
@@ -39,8 +39,8 @@ module _ (dig : List ℕ → List ℕ) (ps : Image) where
       by (inr (level, is)) = let low = is.at.low in absurd (omega (arith, low, none))
 
   module _ (h : History) (step_page : ℕ → ℕ) (archive : ℕ → Root) (keeps : KeepsTrees dig ps h step_page archive) (sound : IsSound h)
-      (any : (named : Named) (root : Root) (t : Tree) → StandsWith dig (HasNamed named) ps root t → StandsFor dig ps root t) where
-    stands-for : (k : ℕ) → k < length h.steps → StandsFor dig ps (archive (suc k)) (tree h (suc k))
+      (any : (named : Named) (root : Root) (t : Tree) → StandsWith dig (HasNamed named) ps root t → StandsForTree dig ps root t) where
+    stands-for : (k : ℕ) → k < length h.steps → StandsForTree dig ps (archive (suc k)) (tree h (suc k))
     stands-for k less = any (named_at dig ps h step_page archive (suc k)) (archive (suc k)) (tree h (suc k)) (keeps.trees k less).stands
 
     pub no-page : (k : ℕ) → k ≤ length h.steps → length (received h k) ≡ 0 → (archive k).page ≡ 0

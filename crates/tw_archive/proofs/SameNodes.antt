@@ -9,7 +9,7 @@ use Rattle.tw_disk.specs.Image.{Image}
 use Rattle.tw_rbtree.specs.Listing.{child_listed, is_old, listed, listed_at}
 use Rattle.tw_rbtree.specs.Reading.{node_in}
 use Rattle.tw_archive.specs.Archives.{Agree, KeepsTrees}
-use Rattle.tw_archive.specs.Numbering.{history_node, new_nodes, nodes_in, number_at, numbered, numbered_on, new_from}
+use Rattle.tw_archive.specs.Numbering.{history_node, archive_new_nodes, nodes_in, number_of_page, numbered_archive, numbered_on, new_from}
 
 -- what is listed of a root is that of its page
 listed-page : (dig : List ℕ → List ℕ) (ps : Image) (from : ℕ) (one other : Root) → one.page ≡ other.page → listed dig ps from one ≡ listed dig ps from other
@@ -25,13 +25,13 @@ module _ (dig : List ℕ → List ℕ) (ps : Image) (h g : History) (one_page ot
   from-same zero within = refl
   from-same (suc k) within = ap suc (pages (suc k) within)
 
-  new-same : (k : ℕ) → k < length h.steps → new_nodes dig ps one_page one k ≡ new_nodes dig ps other_page other k
+  new-same : (k : ℕ) → k < length h.steps → archive_new_nodes dig ps one_page one k ≡ archive_new_nodes dig ps other_page other k
   new-same k less =
       ap (λ (from : ℕ). nodes_in (listed dig ps from (one (suc k)))) (from-same k (omega (arith, less)))
       ∙ ap nodes_in (listed-page dig ps (new_from other_page k) (one (suc k)) (other (suc k)) (roots (suc k) less))
 
-  numbered-same : (k : ℕ) → k ≤ length h.steps → numbered dig ps one_page one k ≡ numbered dig ps other_page other k
-  unfolding numbered
+  numbered-same : (k : ℕ) → k ≤ length h.steps → numbered_archive dig ps one_page one k ≡ numbered_archive dig ps other_page other k
+  unfolding numbered_archive
   numbered-same zero within = refl
   numbered-same (suc k) within = λ i. numbered_on (numbered-same k (omega (arith, within)) i) (new-same k within i)
 
@@ -45,5 +45,5 @@ module _ (dig : List ℕ → List ℕ) (ps : Image) (h g : History) (one_page ot
   pub same-root : (k : ℕ) → k ≤ length h.steps → root_of (step_at h k) ≡ root_of (step_at g k)
   same-root zero within = refl
   same-root (suc k) within =
-      (kept.trees k within).root ∙ (λ i. number_at (numbered-same (suc k) within i).pages (roots (suc k) within i))
+      (kept.trees k within).root ∙ (λ i. number_of_page (numbered-same (suc k) within i).pages (roots (suc k) within i))
       ∙ sym (too.trees k (omega (arith, within, count))).root

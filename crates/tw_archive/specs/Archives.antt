@@ -16,11 +16,11 @@ use Rattle.tw_disk.specs.Image.{Image}
 use Rattle.tw_rbtree.specs.declared.new_node.NewNode.{NewNode}
 use Rattle.tw_rbtree.specs.Listing.{listed}
 use Rattle.tw_rbtree.specs.Standing.{HasNamed, Named, StandsWith}
-use Rattle.tw_archive.specs.Numbering.{Numbered, PageNumbers, history_node, new_nodes, number_at, numbered, numbered_on, new_from}
+use Rattle.tw_archive.specs.Numbering.{Numbered, PageNumbers, history_node, archive_new_nodes, number_of_page, numbered_archive, numbered_on, new_from}
 
 -- the pages below a number are to be the trees of their numbers
 abbrev pub named_by : PageNumbers → List Tree → (below : ℕ) → Named
-named_by numbers trees below = record { below = below; tree = λ page. slice_index_or trees (number_at numbers page) Empty }
+named_by numbers trees below = record { below = below; tree = λ page. slice_index_or trees (number_of_page numbers page) Empty }
 
 -- the step that archives a thread where so many nodes are numbered, these nodes are new, and this is the new root's page
 abbrev pub archiving : Numbered → Thread → (time : Option ℕ) → List NewNode → (page : ℕ) → Step
@@ -28,7 +28,7 @@ archiving n t time nodes page = record {
   content = Received t;
   time = time;
   fresh = map (history_node n.pages n.count) nodes;
-  root = number_at (numbered_on n nodes).pages page;
+  root = number_of_page (numbered_on n nodes).pages page;
 }
 
 -- two sequences agree up to this step
@@ -39,17 +39,17 @@ Agree step one other = (k : ℕ) → k ≤ step → one k ≡ other k
 module _ (dig : List ℕ → List ℕ) (pages : Image) (h : History) (step_page : ℕ → ℕ) (archive : ℕ → Root) where
   -- each tree page up to that of step k is to be the tree of the number that it has after the step
   abbrev pub named_at : ℕ → Named
-  named_at k = named_by (numbered dig pages step_page archive k).pages (forest h k) (new_from step_page k)
+  named_at k = named_by (numbered_archive dig pages step_page archive k).pages (forest h k) (new_from step_page k)
 
   -- The archive after step k + 1. Its pages stand for the history's tree, and each of them up to the step's own page is the tree of its
   -- number; those behind the page of the step before list the step's new nodes, in their order; the root has the number of the root's
   -- page. A step of events keeps the root's page, and has no new node.
   pub record KeepsTree (k : ℕ) : Type 0 where
     pub of_events : thread_of (step_at h (suc k)) ≡ None → ((archive (suc k)).page ≡ (archive k).page) × (fresh_of (step_at h (suc k)) ≡ [])
-    pub lists : listed dig pages (new_from step_page k) (archive (suc k)) ≡ Is (new_nodes dig pages step_page archive k)
+    pub lists : listed dig pages (new_from step_page k) (archive (suc k)) ≡ Is (archive_new_nodes dig pages step_page archive k)
     pub fresh : fresh_of (step_at h (suc k))
-        ≡ map (history_node (numbered dig pages step_page archive k).pages (numbered dig pages step_page archive k).count) (new_nodes dig pages step_page archive k)
-    pub root : root_of (step_at h (suc k)) ≡ number_at (numbered dig pages step_page archive (suc k)).pages (archive (suc k)).page
+        ≡ map (history_node (numbered_archive dig pages step_page archive k).pages (numbered_archive dig pages step_page archive k).count) (archive_new_nodes dig pages step_page archive k)
+    pub root : root_of (step_at h (suc k)) ≡ number_of_page (numbered_archive dig pages step_page archive (suc k)).pages (archive (suc k)).page
     pub stands : StandsWith dig (HasNamed (named_at (suc k))) pages (archive (suc k)) (tree h (suc k))
 
   -- the pages keep the tree of each step; before the first one there is none, whose root has page 0

@@ -17,8 +17,8 @@ use Rattle.tw_skipproof.specs.Paths.{climbed}
 use Rattle.tw_archive.specs.declared.judgement.Judgement.{Judgement}
 use Rattle.tw_archive.specs.declared.judgement.Judgement.TheVariants.{Known, Forked, Stale, BadLink, Accept}
 
-abbrev pub thread_key : Thread → Key
-thread_key t = record { from = t.from; step = t.step }
+abbrev pub archive_key : Thread → Key
+archive_key t = record { from = t.from; step = t.step }
 
 -- above each key of the peer, since a step is at most 2^40 - 1
 abbrev pub peer_end : (peer : List ℕ) → Key
@@ -30,13 +30,13 @@ of_peer peer None = None
 of_peer peer (Some e) = if bytes_eq e.thread.from peer then Some e else None
 
 -- the peer's entry with the greatest step
-abbrev pub last_of : List Entry → (peer : List ℕ) → Option Entry
-last_of es peer = of_peer peer (last_below es (peer_end peer))
+abbrev pub last_of_peer : List Entry → (peer : List ℕ) → Option Entry
+last_of_peer es peer = of_peer peer (last_below es (peer_end peer))
 
 -- the step of the peer's last entry; 0 before the first one
-abbrev pub last_step : Option Entry → ℕ
-last_step None = 0
-last_step (Some e) = e.thread.step
+abbrev pub last_entry_step : Option Entry → ℕ
+last_entry_step None = 0
+last_entry_step (Some e) = e.thread.step
 
 -- ---- the table
 
@@ -51,15 +51,15 @@ module _ (dig : List ℕ → List ℕ) where
   kept_auth peer (Some e) = e.thread.auth
 
   -- the message's link climbs from the last entry's authenticator to the message's
-  abbrev pub leads : (last : Option Entry) → Message → Bool
-  leads last m =
-      (m.since == last_step last) && bytes_eq (climbed dig m.link.links m.thread.step m.since (kept_auth m.thread.from last)) m.thread.auth
+  abbrev pub leads_from_last : (last : Option Entry) → Message → Bool
+  leads_from_last last m =
+      (m.since == last_entry_step last) && bytes_eq (climbed dig m.link.links m.thread.step m.since (kept_auth m.thread.from last)) m.thread.auth
 
   -- of any other message
   abbrev pub judge_new : (last : Option Entry) → Message → Judgement
   judge_new last m =
-      if nat_lt m.thread.step (last_step last) then Stale (last_step last)
-      else (if leads last m then Accept else BadLink (last_step last) (kept_auth m.thread.from last))
+      if nat_lt m.thread.step (last_entry_step last) then Stale (last_entry_step last)
+      else (if leads_from_last last m then Accept else BadLink (last_entry_step last) (kept_auth m.thread.from last))
 
   -- by the entry of the message's key, if there is one, and the peer's last entry; the first line that fits
   unfoldable pub judgement : (known last : Option Entry) → Message → Judgement
@@ -67,8 +67,8 @@ module _ (dig : List ℕ → List ℕ) where
   judgement None last m = judge_new last m
 
   -- by the entries of an archive
-  abbrev pub judged : List Entry → Message → Judgement
-  judged es m = judgement (entry_with es (thread_key m.thread)) (last_of es m.thread.from) m
+  abbrev pub judged_message : List Entry → Message → Judgement
+  judged_message es m = judgement (entry_with es (archive_key m.thread)) (last_of_peer es m.thread.from) m
 
   -- a judgement of the message by entries within their limits tells steps within theirs: 1 to 2^40 - 1, and of a wrong link from 0 on, of
   -- which the authenticator of the name is kept. A fork is of the message's step and authenticator, and keeps another one
@@ -88,7 +88,7 @@ module _ (dig : List ℕ → List ℕ) where
 
     -- the entry of the thread's key, which isn't looked for where the step is above the last entry's
     unfoldable pub found_known : (last : Option Entry) → Thread → Found (Option Entry)
-    found_known last t = if nat_lt (last_step last) t.step then Is None else found_with dig pages root (thread_key t)
+    found_known last t = if nat_lt (last_entry_step last) t.step then Is None else found_with dig pages root (archive_key t)
 
     -- the judgement by these two
     unfoldable pub found_judgement : Message → Found Judgement

@@ -20,9 +20,9 @@ abbrev pub PageNumbers : Type 0
 PageNumbers = List PageNumber
 
 -- the number of the page's root; 0 where the page has none, as page 0 has
-abbrev pub number_at : PageNumbers → (page : ℕ) → ℕ
-number_at [] page = 0
-number_at (p ∷ ps) page = if p.page == page then p.node else number_at ps page
+abbrev pub number_of_page : PageNumbers → (page : ℕ) → ℕ
+number_of_page [] page = 0
+number_of_page (p ∷ ps) page = if p.page == page then p.node else number_of_page ps page
 
 -- `known` are the numbers of older pages, and `before` is how many nodes were numbered before
 module _ (known : PageNumbers) (before : ℕ) where
@@ -30,17 +30,17 @@ module _ (known : PageNumbers) (before : ℕ) where
   abbrev pub side_number : Side → ℕ
   side_number NoTree = 0
   side_number (New place) = before + place
-  side_number (Old page) = number_at known page
+  side_number (Old page) = number_of_page known page
 
   -- a listed node, as the history has it
   abbrev pub history_node : NewNode → Node
   history_node n = record { left = side_number n.left; entry = n.entry.archived; right = side_number n.right }
 
 -- the pages whose roots these nodes are
-abbrev pub pages_of : (before : ℕ) → List NewNode → PageNumbers
-pages_of before [] = []
-pages_of before (n ∷ ns) =
-    if n.page == 0 then pages_of (suc before) ns else record { page = n.page; node = suc before } ∷ pages_of (suc before) ns
+abbrev pub numbers_of_nodes : (before : ℕ) → List NewNode → PageNumbers
+numbers_of_nodes before [] = []
+numbers_of_nodes before (n ∷ ns) =
+    if n.page == 0 then numbers_of_nodes (suc before) ns else record { page = n.page; node = suc before } ∷ numbers_of_nodes (suc before) ns
 
 -- how many nodes were numbered, and the pages of those that are a page's root
 pub record Numbered : Type 0 where
@@ -49,7 +49,7 @@ pub record Numbered : Type 0 where
 
 -- the same where these nodes are numbered too; their pages stand first
 abbrev pub numbered_on : Numbered → List NewNode → Numbered
-numbered_on n nodes = record { count = n.count + length nodes; pages = pages_of n.count nodes ++ n.pages }
+numbered_on n nodes = record { count = n.count + length nodes; pages = numbers_of_nodes n.count nodes ++ n.pages }
 
 -- what is listed; nothing where pages are bad
 abbrev pub nodes_in : Found (List NewNode) → List NewNode
@@ -64,10 +64,10 @@ new_from step_page (suc k) = suc (step_page (suc k))
 -- the number of each step's page, and the archive's root after each step
 module _ (dig : List ℕ → List ℕ) (pages : Image) (step_page : ℕ → ℕ) (archive : ℕ → Root) where
   -- the nodes that are new in step k + 1
-  abbrev pub new_nodes : ℕ → List NewNode
-  new_nodes k = nodes_in (listed dig pages (new_from step_page k) (archive (suc k)))
+  abbrev pub archive_new_nodes : ℕ → List NewNode
+  archive_new_nodes k = nodes_in (listed dig pages (new_from step_page k) (archive (suc k)))
 
   -- what is numbered after step k
-  unfoldable pub numbered : ℕ → Numbered
-  numbered zero = record { count = 0; pages = [] }
-  numbered (suc k) = numbered_on (numbered k) (new_nodes k)
+  unfoldable pub numbered_archive : ℕ → Numbered
+  numbered_archive zero = record { count = 0; pages = [] }
+  numbered_archive (suc k) = numbered_on (numbered_archive k) (archive_new_nodes k)

@@ -6,7 +6,7 @@ ghost use Rattle.tw_base.specs.history.Limits.{IsEntryInRange};
 ghost use Rattle.tw_disk.specs.Answers.{ReadsPages};
 ghost use Rattle.tw_disk.specs.WalkFaults.{walk_faults};
 ghost use Rattle.tw_msg.specs.Messages.{IsLinked};
-ghost use Rattle.tw_archive.specs.Judging.{IsJudgementFor, found_judgement, found_known, found_last, judge_known as judge_known_as, judge_new as judge_new_as, judgement, kept_auth, last_step as last_step_of, leads as leads_from, of_peer as entry_of, thread_key};
+ghost use Rattle.tw_archive.specs.Judging.{IsJudgementFor, archive_key, found_judgement, found_known, found_last, judge_known as judge_known_as, judge_new as judge_new_as, judgement, kept_auth, last_entry_step, leads_from_last, of_peer as entry_of};
 
 use crate::judgement::Judgement;
 use tw_base::limits::LAST_STEP;
@@ -28,7 +28,7 @@ fn of_peer(entry: Option<Entry>, peer: &Name) -> Option<Entry>
 
 /// The step of the last entry, or 0.
 fn last_step(last: &Option<Entry>) -> u64
-    ensures { result ≡ last_step_of last.now }
+    ensures { result ≡ last_entry_step last.now }
 {
     match last {
         Some(entry) => entry.thread.step,
@@ -49,7 +49,7 @@ fn kept<H: Hasher>(peer: &Name, last: &Option<Entry>) -> Digest
 /// Whether the message's link climbs from the last entry to the message's thread.
 fn leads<H: Hasher>(last: &Option<Entry>, message: &Message) -> bool
     requires { IsLinked message.now }
-    ensures { result ≡ leads_from H.dig last.now message.now }
+    ensures { result ≡ leads_from_last H.dig last.now message.now }
 {
     if message.since != last_step(last) {
         return false;
@@ -152,7 +152,7 @@ fn known_of<P: Pages, H: Hasher>(
     thread: &Thread,
 ) -> Result<Option<Entry>, WalkFault>
     ensures reads { ReadsPages walk_faults P.view P.same pages.old pages.new (λ e. e) result (λ ps. found_known H.dig ps root.now last.now thread.now) }
-    ensures entry { IfOk result (λ o. IfSome o (λ e. (key_of e ≡ thread_key thread.now) × IsEntryInRange e)) }
+    ensures entry { IfOk result (λ o. IfSome o (λ e. (key_of e ≡ archive_key thread.now) × IsEntryInRange e)) }
 {
     if last_step(last) < thread.step {
         return Ok(None);

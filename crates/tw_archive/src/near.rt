@@ -6,7 +6,7 @@ ghost use Rattle.tw_base.specs.history.Entries.{key_of};
 ghost use Rattle.tw_base.specs.history.Limits.{IsEntryInRange};
 ghost use Rattle.tw_base.specs.history.Tree.{Tree, entries};
 ghost use Rattle.tw_archive.specs.Judging.{IsJudgementFor, found_judgement};
-ghost use Rattle.tw_disk.specs.Keeping.{AreOf};
+ghost use Rattle.tw_disk.specs.Keeping.{ArePagesOf};
 ghost use Rattle.tw_disk.specs.Shelves.{kept_on};
 ghost use Rattle.tw_disk.specs.Answers.{AddsBy, AnswersOr, ReadsPages};
 ghost use Rattle.tw_disk.specs.Image.{Image};
@@ -35,13 +35,13 @@ pub fn judge_near<P: Pages, H: Hasher>(
     message: &Message,
 ) -> Result<Judgement, WalkFault>
     requires linked { IsLinked message.now }
-    requires shelf { AreOf (P.view pages.old).list (kept_on shelf.old) }
+    requires shelf { ArePagesOf (P.view pages.old).list (kept_on shelf.old) }
     // With a shelf of its pages at hand, the judgement is what `judge_in` answers.
     ensures reads { ReadsPages walk_faults P.view P.same pages.old pages.new (λ j. j) result (λ ps. found_judgement H.dig ps root.now message.now) }
     // So are the steps and authenticators that it tells.
     ensures told { IfOk result (IsJudgementFor H.dig message.now) }
     // What is on the shelf are pages of the same list still.
-    ensures shelf { AreOf (P.view pages.new).list (kept_on shelf.new) }
+    ensures shelf { ArePagesOf (P.view pages.new).list (kept_on shelf.new) }
 {
     let mut near = Shelved::over(pages, shelf);
     judge_in::<Shelved<P>, H>(&mut near, root, message)
@@ -58,7 +58,7 @@ pub fn insert_near<P: Pages, H: Hasher>(
 ) -> Result<Root, TreeFault>
     requires used { (P.view pages.old).used < 2 ^ 47 }
     requires range { IsEntryInRange entry }
-    requires shelf { AreOf (P.view pages.old).list (kept_on shelf.old) }
+    requires shelf { ArePagesOf (P.view pages.old).list (kept_on shelf.old) }
     // With a shelf of its pages at hand, the answer of an insert is what `insert` answers.
     ensures adds { AddsBy tree_faults P.view P.same pages.old pages.new result (NeverUntrue result) (AnswersOr tree_faults (λ (_ : Root). tt))
         (λ ps. found_insert H.dig ps root.now (key_of entry)) }

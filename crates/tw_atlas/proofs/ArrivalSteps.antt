@@ -19,7 +19,7 @@ use Rattle.tw_base.specs.declared.history.thread.Key.{Key}
 use Rattle.tw_base.specs.kinds.Lists.{Each, In}
 use Rattle.tw_atlas.specs.declared.atlas.Arrival.{Arrival}
 use Rattle.tw_atlas.specs.Atlases.{AreArrivals, IsBest}
-use Rattle.tw_atlas.specs.BestSoFar.{AreBest, is_lower, kept_for}
+use Rattle.tw_atlas.specs.BestSoFar.{AreBest, is_arrival_lower, kept_for}
 use Rattle.tw_atlas.proofs.Hops.{in-get}
 use Rattle.tw_atlas.proofs.RoundLaws.{each-all, get-append, get-cases, get-within}
 
@@ -111,19 +111,19 @@ module _ (before : List Key) (stop : Key) where
       name = ap (λ (a : Arrival). a.service) is
 
 -- what `offer` does, by what is kept
-pub offer-stays : (before : List Key) (stop : Key) (kept : List ℕ → Option Arrival) → is_lower stop.step (kept stop.from) ≡ false → AreBest before kept → AreBest (before ++ stop ∷ []) kept
+pub offer-stays : (before : List Key) (stop : Key) (kept : List ℕ → Option Arrival) → is_arrival_lower stop.step (kept stop.from) ≡ false → AreBest before kept → AreBest (before ++ stop ∷ []) kept
 offer-stays before stop kept over best = by (kept stop.from) refl over
   where
-    by : (o : Option Arrival) → kept stop.from ≡ o → is_lower stop.step o ≡ false → AreBest (before ++ stop ∷ []) kept
+    by : (o : Option Arrival) → kept stop.from ≡ o → is_arrival_lower stop.step o ≡ false → AreBest (before ++ stop ∷ []) kept
     by None is test = cc
     by (Some a) is test = best-stays before stop kept a best is (ltb-false stop.step a.step test)
 
-better-from : (before : List Key) (stop : Key) (o : Option Arrival) → is_lower stop.step o ≡ true → IsBetter before stop o
+better-from : (before : List Key) (stop : Key) (o : Option Arrival) → is_arrival_lower stop.step o ≡ true → IsBetter before stop o
 better-from before stop None test a is = cc
 better-from before stop (Some b) test a is = let same : b ≡ a = (let e : Some b ≡ Some a = is in cc) in subst (λ (x : Arrival). stop.step < x.step) same (ltb-true stop.step b.step test)
 
 pub offer-changes : (r : Result (Unit {0}) NoMemory) (stop : Key) (number : ℕ) (old new : List ℕ → Option Arrival) (offered : Arrival)
-    → offered ≡ record { service = stop.from; step = stop.step; leg = number } → is_lower stop.step (old stop.from) ≡ true
+    → offered ≡ record { service = stop.from; step = stop.step; leg = number } → is_arrival_lower stop.step (old stop.from) ≡ true
     → OnOk r (new offered.service ≡ Some offered) → OnOk r ((service : List ℕ) → service ≢ offered.service → new service ≡ old service)
     → OnOk r ((before : List Key) → length before ≡ number → AreBest before old → AreBest (before ++ stop ∷ []) new)
 offer-changes (Ok done) stop number old new offered is test here others = λ before count best.

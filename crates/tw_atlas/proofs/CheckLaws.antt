@@ -21,8 +21,8 @@ use Rattle.tw_base.proofs.lemmas.kinds.ListLemmas.{Apart, Each-in}
 use Rattle.tw_atlas.specs.declared.atlas.Arrival.{Arrival}
 use Rattle.tw_atlas.specs.declared.atlas.Atlas.{Atlas}
 use Rattle.tw_atlas.specs.declared.atlas.Leg.{Leg}
-use Rattle.tw_atlas.specs.Atlases.{IsAtlas, IsBest, IsClosed, IsGrounded, leg_hops, stops}
-use Rattle.tw_atlas.specs.Checks.{all_arrive, are_closed, are_grounded, are_once, arrives, follows, is_among, is_best, is_better, is_grounded, is_listed, is_reached, is_same, names_rise, none_better, passes, stands}
+use Rattle.tw_atlas.specs.Atlases.{IsAtlas, IsAtlasClosed, IsBest, IsGrounded, leg_hops, stops}
+use Rattle.tw_atlas.specs.Checks.{all_arrive, are_closed, are_grounded, are_once, arrives, atlas_passes, follows, is_among_hops, is_best, is_better, is_grounded, is_listed, is_reached, is_same, names_rise, none_better, stands}
 use Rattle.tw_atlas.specs.Reaching.{goes_on_from, target}
 use Rattle.tw_atlas.proofs.RoundLaws.{each-all, pairs-apart}
 
@@ -81,9 +81,9 @@ same-decides a b =
 in-some : {X : Type 0} (x : X) (xs : List X) → (y : X) × In y xs × (y ≡ x) → In x xs
 in-some x xs some = subst (λ y. In y xs) some.2 some.1
 
-among-decides : (hops : List Hop) (hop : Hop) → Decides (is_among hops hop) (In hop hops)
+among-decides : (hops : List Hop) (hop : Hop) → Decides (is_among_hops hops hop) (In hop hops)
 among-decides hops hop =
-    Decides-like (is_among hops hop) (in-some hop hops) (λ there. (hop, there, refl)) (any-decides (λ other. is_same other hop) (λ (other : Hop). other ≡ hop) (λ other. same-decides other hop) hops)
+    Decides-like (is_among_hops hops hop) (in-some hop hops) (λ there. (hop, there, refl)) (any-decides (λ other. is_same other hop) (λ (other : Hop). other ≡ hop) (λ other. same-decides other hop) hops)
 
 listed-decides : (legs : List Leg) (hop : Hop) → Decides (is_listed legs hop) (In hop (leg_hops legs))
 listed-decides legs hop =
@@ -124,8 +124,8 @@ module _ (given : List Hop) (start : Key) (legs : List Leg) where
   leg-decides : (k : ℕ) (leg : Leg) → Decides (is_grounded given start legs k leg) (IsGrounded given start legs k leg)
   leg-decides k leg =
       Decides-like (is_grounded given start legs k leg) (λ s. record { earlier = s.0; follows = s.1.0; is_given = s.1.1 }) (λ g. (g.earlier, (g.follows, g.is_given)))
-      (Decides-and (leb leg.after k) (follows (slice_get (stops start legs) leg.after) leg.hop && is_among given leg.hop) (leb-true leg.after k, le-leb leg.after k)
-      (Decides-and (follows (slice_get (stops start legs) leg.after) leg.hop) (is_among given leg.hop) (follows-decides (slice_get (stops start legs) leg.after) leg.hop) (among-decides given leg.hop)))
+      (Decides-and (leb leg.after k) (follows (slice_get (stops start legs) leg.after) leg.hop && is_among_hops given leg.hop) (leb-true leg.after k, le-leb leg.after k)
+      (Decides-and (follows (slice_get (stops start legs) leg.after) leg.hop) (is_among_hops given leg.hop) (follows-decides (slice_get (stops start legs) leg.after) leg.hop) (among-decides given leg.hop)))
 
   GroundedFrom : (k : ℕ) → List Leg → Type 0
   GroundedFrom k [] = Unit {0}
@@ -183,19 +183,19 @@ module _ (given : List Hop) (start : Key) (legs : List Leg) where
           → (goes_on_from start hop ≡ true) ⊎ ((at : Key) × In at (map (λ (leg : Leg). target leg.hop) legs) × (goes_on_from at hop ≡ true))
       from some = at-stop some.0 some.1 some.2
 
-  closed-decides : Decides (are_closed start legs given) (IsClosed given start legs)
+  closed-decides : Decides (are_closed start legs given) (IsAtlasClosed given start legs)
   unfolding Reached
   closed-decides = Decides-like (are_closed start legs given) to from
       (all-decides (λ hop. not (is_reached start legs hop) || is_listed legs hop) (λ (hop : Hop). (Reached hop → ⊥) ⊎ In hop (leg_hops legs))
       (λ hop. Decides-or (not (is_reached start legs hop)) (is_listed legs hop) (Decides-not (is_reached start legs hop) (reached-decides hop)) (listed-decides legs hop)) given)
     where
-      to : Each (λ (hop : Hop). (Reached hop → ⊥) ⊎ In hop (leg_hops legs)) given → IsClosed given start legs
+      to : Each (λ (hop : Hop). (Reached hop → ⊥) ⊎ In hop (leg_hops legs)) given → IsAtlasClosed given start legs
       to all at hop stop there on = elim (Each-in (λ (hop : Hop). (Reached hop → ⊥) ⊎ In hop (leg_hops legs)) given hop all there) [
         | inl never ↦ absurd (never (at, stop, on))
         | inr listed ↦ listed
       ]
 
-      from : IsClosed given start legs → Each (λ (hop : Hop). (Reached hop → ⊥) ⊎ In hop (leg_hops legs)) given
+      from : IsAtlasClosed given start legs → Each (λ (hop : Hop). (Reached hop → ⊥) ⊎ In hop (leg_hops legs)) given
       from closed = each-all (λ (hop : Hop). (Reached hop → ⊥) ⊎ In hop (leg_hops legs)) given (λ hop there. by hop there (is_reached start legs hop) refl)
         where
           by : (hop : Hop) → In hop given → (b : Bool) → is_reached start legs hop ≡ b → (Reached hop → ⊥) ⊎ In hop (leg_hops legs)
@@ -326,12 +326,12 @@ all-arrive-decides start legs arrivals =
 
 -- ---- all checks
 
-pub passes-decides : (given : List Hop) (start : Key) (atlas : Atlas) → Decides (passes given start atlas) (IsAtlas given start atlas)
+pub passes-decides : (given : List Hop) (start : Key) (atlas : Atlas) → Decides (atlas_passes given start atlas) (IsAtlas given start atlas)
 passes-decides given start atlas =
     let legs : List Leg = atlas.legs in
     let arrivals : List Arrival = atlas.arrivals in
     let at : List Key = stops start legs in
-    Decides-like (passes given start atlas)
+    Decides-like (atlas_passes given start atlas)
     (λ s. record { once = s.0; grounded = s.1.0; closed = s.1.1.0; arrivals = record { names_rise = s.1.1.1.0; best = s.1.1.1.1.0; all = s.1.1.1.1.1 } })
     (λ is. (is.once, (is.grounded, (is.closed, (is.arrivals.names_rise, (is.arrivals.best, is.arrivals.all))))))
     (Decides-and (are_once legs) (are_grounded given start legs 0 legs && (are_closed start legs given && (names_rise arrivals && (list_all (is_best at) arrivals && all_arrive start legs arrivals)))) (once-decides legs)

@@ -11,26 +11,26 @@ use Rattle.tw_base.proofs.lemmas.kinds.ListLemmas.{Each-in, Each-map}
 use Rattle.tw_atlas.specs.declared.atlas.Arrival.{Arrival}
 use Rattle.tw_atlas.specs.declared.atlas.Atlas.{Atlas}
 use Rattle.tw_atlas.specs.declared.atlas.Leg.{Leg}
-use Rattle.tw_atlas.specs.Atlases.{IsAtlas, IsBest, IsClosed, IsGrounded, leg_hops, stops}
+use Rattle.tw_atlas.specs.Atlases.{IsAtlas, IsAtlasClosed, IsBest, IsGrounded, leg_hops, stops}
 use Rattle.tw_atlas.specs.Earliest.{IsEarliest, IsWay, IsWayBack, arrives_at}
-use Rattle.tw_atlas.specs.Reaching.{IsChain, IsLeast, Reaches, end_of, goes_on_from, target}
+use Rattle.tw_atlas.specs.Reaching.{IsChain, IsLeast, ReachesByHops, end_of_hops, goes_on_from, target}
 use Rattle.tw_atlas.proofs.Hops.{get-mapped, goes-on, goes-on-from, in-get, in-map, in-mapped}
 
 -- ---- chains
 
 module _ (given : List Hop) where
-  chain-snoc : (hops : List Hop) (start : Key) (hop : Hop) → IsChain given start hops → In hop given → goes_on_from (end_of start hops) hop ≡ true
+  chain-snoc : (hops : List Hop) (start : Key) (hop : Hop) → IsChain given start hops → In hop given → goes_on_from (end_of_hops start hops) hop ≡ true
       → IsChain given start (hops ++ hop ∷ [])
   chain-snoc [] start hop chain there on = (there, on, tt)
   chain-snoc (one ∷ hops) start hop chain there on = (chain.0, chain.1, chain-snoc hops (target one) hop chain.2 there on)
 
-end-snoc : (hops : List Hop) (start : Key) (hop : Hop) → end_of start (hops ++ hop ∷ []) ≡ target hop
+end-snoc : (hops : List Hop) (start : Key) (hop : Hop) → end_of_hops start (hops ++ hop ∷ []) ≡ target hop
 end-snoc [] start hop = refl
 end-snoc (one ∷ hops) start hop = end-snoc hops (target one) hop
 
 -- a chain of hops that stand leads to where it ends
 leads-along : (dig : List ℕ → List ℕ) (family : List History) (given hops : List Hop) (start : Key) → Each (HopStands dig family) hops
-    → IsChain given start hops → LeadsBy dig family hops start (end_of start hops)
+    → IsChain given start hops → LeadsBy dig family hops start (end_of_hops start hops)
 leads-along dig family given [] start stand chain = (refl, omega arith)
 leads-along dig family given (hop ∷ hops) start stand chain =
     let on = goes-on start hop chain.1 in
@@ -39,7 +39,7 @@ leads-along dig family given (hop ∷ hops) start stand chain =
 -- hops that lead to a goal are a chain, which ends on its service, at a step at most the goal's
 chain-of : (dig : List ℕ → List ℕ) (family : List History) (given : List Hop) → ((hop : Hop) → HopStands dig family hop → In hop given)
     → (hops : List Hop) (start goal : Key) → LeadsBy dig family hops start goal
-    → IsChain given start hops × ((end_of start hops).from ≡ goal.from) × ((end_of start hops).step ≤ goal.step)
+    → IsChain given start hops × ((end_of_hops start hops).from ≡ goal.from) × ((end_of_hops start hops).step ≤ goal.step)
 chain-of dig family given all [] start goal leads = (tt, leads.0, leads.1)
 chain-of dig family given all (hop ∷ hops) start goal leads =
     let rest = chain-of dig family given all hops (target hop) goal leads.3 in
@@ -54,8 +54,8 @@ target-in legs hop there =
     subst (λ (h : Hop). In (target h) (map (λ (leg : Leg). target leg.hop) legs)) (sym leg.2) stop
 
 -- a chain that begins at a stop ends at one
-ends-at : (given : List Hop) (start : Key) (legs : List Leg) → IsClosed given start legs
-    → (hops : List Hop) (at : Key) → In at (stops start legs) → IsChain given at hops → In (end_of at hops) (stops start legs)
+ends-at : (given : List Hop) (start : Key) (legs : List Leg) → IsAtlasClosed given start legs
+    → (hops : List Hop) (at : Key) → In at (stops start legs) → IsChain given at hops → In (end_of_hops at hops) (stops start legs)
 ends-at given start legs closed [] at there chain = there
 ends-at given start legs closed (hop ∷ hops) at there chain =
     ends-at given start legs closed hops (target hop) (inr (target-in legs hop (closed at hop there chain.0 chain.1))) chain.2
@@ -68,7 +68,7 @@ pub record Way (given : List Hop) (start : Key) (legs : List Leg) (number : ℕ)
   pub back : List Hop
   pub is_way : IsWayBack legs number back
   pub chain : IsChain given start (reverse back)
-  pub ends : end_of start (reverse back) ≡ at
+  pub ends : end_of_hops start (reverse back) ≡ at
 
 module _ (given : List Hop) (start : Key) (legs : List Leg) (grounded : (k : ℕ) (leg : Leg) → slice_get legs k ≡ Some leg → IsGrounded given start legs k leg) where
   longer : (k : ℕ) (leg : Leg) (at from : Key) → slice_get legs k ≡ Some leg → target leg.hop ≡ at → In leg.hop given → goes_on_from from leg.hop ≡ true
@@ -80,7 +80,7 @@ module _ (given : List Hop) (start : Key) (legs : List Leg) (grounded : (k : ℕ
         back = leg.hop ∷ way.back;
         is_way = (k, leg, refl, is, refl, way.is_way);
         chain = subst (IsChain given start) (sym turned) chain;
-        ends = ap (end_of start) turned ∙ end-snoc (reverse way.back) start leg.hop ∙ lands;
+        ends = ap (end_of_hops start) turned ∙ end-snoc (reverse way.back) start leg.hop ∙ lands;
       }
 
   way-within : (most number : ℕ) (at : Key) → number ≤ most → slice_get (stops start legs) number ≡ Some at → Way given start legs number at
@@ -102,7 +102,7 @@ module _ (given : List Hop) (start : Key) (atlas : Atlas) (is : IsAtlas given st
   way-of : (arrival : Arrival) → IsBest (stops start atlas.legs) arrival → Way given start atlas.legs arrival.leg (arrives_at arrival)
   way-of arrival best = way-to given start atlas.legs is.grounded arrival.leg (arrives_at arrival) best.stands
 
-  reached-stop : (at : Key) → Reaches given start at → In at (stops start atlas.legs)
+  reached-stop : (at : Key) → ReachesByHops given start at → In at (stops start atlas.legs)
   reached-stop at reaches =
       subst (λ (x : Key). In x (stops start atlas.legs)) reaches.2 (ends-at given start atlas.legs is.closed reaches.0 start (inl refl) reaches.1)
 
@@ -134,7 +134,7 @@ module _ (given : List Hop) (start : Key) (atlas : Atlas) (is : IsAtlas given st
     way = Each-map (IsBest (stops start atlas.legs)) (λ (arrival : Arrival). (back : List Hop) × IsWay given start atlas.legs arrival back) atlas.arrivals way-for is.arrivals.best;
     complete = λ dig family all hops goal leads. (
         let chain = chain-of dig family given all hops start goal leads in
-        let end : Key = end_of start hops in
+        let end : Key = end_of_hops start hops in
         let there = reached-stop end (hops, chain.0, refl) in
         let has = Each-in (λ (at : Key). (arrival : Arrival) × In arrival atlas.arrivals × (arrival.service ≡ at.from)) (stops start atlas.legs) end is.arrivals.all there in
         let best = Each-in (IsBest (stops start atlas.legs)) atlas.arrivals has.0 is.arrivals.best has.1 in

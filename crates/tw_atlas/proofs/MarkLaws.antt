@@ -10,7 +10,7 @@ use Rattle.tw_base.specs.declared.history.thread.Key.{Key}
 use Rattle.tw_atlas.specs.declared.atlas.Leg.{Leg}
 use Rattle.tw_atlas.specs.Marking.{AreMarked, marked_leg}
 use Rattle.tw_atlas.specs.Reaching.{goes_on_from}
-use Rattle.tw_atlas.specs.Rounds.{after_of, left_over, round}
+use Rattle.tw_atlas.specs.Rounds.{after_of, left_over, round_of_hops}
 
 -- the first place, or else the second
 abbrev pub or_next : Option ℕ → Option ℕ → Option ℕ
@@ -91,7 +91,7 @@ abbrev HasNone : (first : ℕ) → Hop → Option ℕ → Type 0
 HasNone first hop mark = [] ≡ marked_leg first mark hop
 
 -- the legs of one hop are told by its mark
-pub one-leg : (stops : List Key) (first : ℕ) (hop : Hop) → first ≤ length stops → round stops (left_over (take first stops) (hop ∷ [])) ≡ marked_leg first (after_of stops hop) hop
+pub one-leg : (stops : List Key) (first : ℕ) (hop : Hop) → first ≤ length stops → round_of_hops stops (left_over (take first stops) (hop ∷ [])) ≡ marked_leg first (after_of stops hop) hop
 one-leg stops first hop within =
     by (after_of (take first stops) hop) refl (position_from (λ (at : Key). goes_on_from at hop) (0 + length (take first stops)) (drop first stops)) refl
     (sym (ap (λ keys. after_of keys hop) (take-append-drop first stops)) ∙ position-append (λ (at : Key). goes_on_from at hop) (take first stops) (drop first stops) 0)
@@ -102,7 +102,7 @@ one-leg stops first hop within =
     by : (front : Option ℕ) → after_of (take first stops) hop ≡ front
         → (back : Option ℕ) → position_from (λ (at : Key). goes_on_from at hop) (0 + length (take first stops)) (drop first stops) ≡ back
         → after_of stops hop ≡ or_next front back
-        → round stops (cond (is_none front) (hop ∷ []) []) ≡ marked_leg first (after_of stops hop) hop
+        → round_of_hops stops (cond (is_none front) (hop ∷ []) []) ≡ marked_leg first (after_of stops hop) hop
     by None is None later e = subst (AreLegs first hop) (sym e) refl
     by None is (Some k) later e =
         let late = (position-within (λ (at : Key). goes_on_from at hop) (drop first stops) (0 + length (take first stops)) k later).0 in
@@ -114,14 +114,14 @@ one-leg stops first hop within =
         subst (HasNone first hop) (sym e) (ap (λ b. cond b (record { after = k; hop = hop } ∷ []) []) (sym test))
 
 pub round-more : (stops : List Key) (first i : ℕ) (hops : List Hop) (hop : Hop) → first ≤ length stops → i < length hops → get_or hops i hop ≡ hop
-    → round stops (left_over (take first stops) (take (i + 1) hops))
-    ≡ round stops (left_over (take first stops) (take i hops)) ++ marked_leg first (after_of stops hop) hop
+    → round_of_hops stops (left_over (take first stops) (take (i + 1) hops))
+    ≡ round_of_hops stops (left_over (take first stops) (take i hops)) ++ marked_leg first (after_of stops hop) hop
 round-more stops first i hops hop within below is =
     let front : take (i + 1) hops ≡ take i hops ++ hop ∷ [] = take_more hops i hop below ∙ ap (λ (h : Hop). take i hops ++ h ∷ []) is in
-    ap (λ hs. round stops (left_over (take first stops) hs)) front
-    ∙ ap (round stops) (filter-append (λ hop. is_none (after_of (take first stops) hop)) (take i hops) (hop ∷ []))
+    ap (λ hs. round_of_hops stops (left_over (take first stops) hs)) front
+    ∙ ap (round_of_hops stops) (filter-append (λ hop. is_none (after_of (take first stops) hop)) (take i hops) (hop ∷ []))
     ∙ filter_map-append (λ hop. option_map (λ after. leg_of hop after) (after_of stops hop)) (left_over (take first stops) (take i hops)) (left_over (take first stops) (hop ∷ []))
-    ∙ ap (λ legs. round stops (left_over (take first stops) (take i hops)) ++ legs) (one-leg stops first hop within)
+    ∙ ap (λ legs. round_of_hops stops (left_over (take first stops) (take i hops)) ++ legs) (one-leg stops first hop within)
   where
     leg_of : Hop → ℕ → Leg
     leg_of hop after = record { after = after; hop = hop }
@@ -129,9 +129,9 @@ round-more stops first i hops hop within below is =
 -- the legs up to a hop, and that of its mark
 pub list-more : (stops : List Key) (first i : ℕ) (hops : List Hop) (hop : Hop) (marks : List (Option ℕ)) → first ≤ length stops → i < length hops → hop ≡ get_or hops i hop
     → AreMarked stops hops marks
-    → round stops (left_over (take first stops) (take i hops)) ++ marked_leg first (get_or marks i None) hop ≡ round stops (left_over (take first stops) (take (i + 1) hops))
+    → round_of_hops stops (left_over (take first stops) (take i hops)) ++ marked_leg first (get_or marks i None) hop ≡ round_of_hops stops (left_over (take first stops) (take (i + 1) hops))
 list-more stops first i hops hop marks within below is marked =
-    ap (λ (m : Option ℕ). round stops (left_over (take first stops) (take i hops)) ++ marked_leg first m hop)
+    ap (λ (m : Option ℕ). round_of_hops stops (left_over (take first stops) (take i hops)) ++ marked_leg first m hop)
     (ap (λ (ms : List (Option ℕ)). get_or ms i None) marked ∙ get-mapped-or hops i below ∙ ap (after_of stops) (sym is))
     ∙ sym (round-more stops first i hops hop within below (sym is))
   where

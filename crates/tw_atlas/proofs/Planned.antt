@@ -5,13 +5,13 @@ use Rattle.tw_base.specs.declared.history.thread.Key.{Key}
 use Rattle.tw_atlas.specs.declared.atlas.Arrival.{Arrival}
 use Rattle.tw_atlas.specs.declared.atlas.Leg.{Leg}
 use Rattle.tw_atlas.specs.Atlases.{AreArrivals, IsAtlas, leg_hops, stops}
-use Rattle.tw_atlas.specs.Earliest.{IsPlanned}
+use Rattle.tw_atlas.specs.Earliest.{IsAtlasPlanned}
 use Rattle.tw_atlas.specs.Rounds.{legs_of}
 use Rattle.tw_atlas.proofs.Leastness.{earliest}
 use Rattle.tw_atlas.proofs.RoundLaws.{Whole, legs-whole, pairs-apart}
 
 pub planned : (given : List Hop) (start : Key) (legs : List Leg) (arrivals : List Arrival) → legs ≡ legs_of given start → AreArrivals (stops start legs) arrivals
-    → IsPlanned given start (record { legs = legs; arrivals = arrivals })
+    → IsAtlasPlanned given start (record { legs = legs; arrivals = arrivals })
 planned given start legs arrivals are arrive =
     let whole = subst (Whole given start) (sym are) (legs-whole given start) in
     let is : IsAtlas given start (record { legs = legs; arrivals = arrivals }) = record {

@@ -14,7 +14,7 @@ use Rattle.tw_msg.specs.Receipts.{receipt_bytes, receipt_layout}
 use Rattle.tw_msg.specs.declared.receipt.Receipt.{Receipt}
 use Rattle.tw_msg.proofs.ReceiptCodec.{receipt-lawful, receipt-size}
 use Rattle.tw_atlas.specs.ReceiptFiles.{AddsHops, BeginsWith, GoesNoFurther, IsFull, receipt_hop, receipts_bytes, room}
-use Rattle.tw_atlas.specs.ReceiptSteps.{AddsNext, IsLater}
+use Rattle.tw_atlas.specs.ReceiptSteps.{AddsNext, IsFaultLater}
 use Rattle.tw_atlas.specs.declared.limits.TheConstants.{MOST_RECEIPTS}
 
 abbrev pub AreSpelled : List Receipt → Type 0
@@ -225,7 +225,7 @@ pub smaller : (n at size : ℕ) → at < n → 0 < size → n - (at + size) < n 
 smaller n at size below some = omega (arith, below, some)
 
 pub read-fails : (bytes : List ℕ) (before hops new end : List Hop) (at : ℕ) (fault later : ReadFault) → ReadSoFar bytes before hops at → length before ≤ MOST_RECEIPTS → at < length bytes
-    → AddsNext (drop at bytes) hops new (Err fault) → IsLater at fault later → AddsHops bytes before end (Err later)
+    → AddsNext (drop at bytes) hops new (Err fault) → IsFaultLater at fault later → AddsHops bytes before end (Err later)
 read-fails bytes before hops new end at (Malformed place) later s few below next is =
     subst (λ (f : ReadFault). AddsHops bytes before end (Err f)) (sym is) (read-stops bytes before hops new end at place s few below next)
 read-fails bytes before hops new end at NoMemory later s few below next is = subst (λ (f : ReadFault). AddsHops bytes before end (Err f)) (sym is) tt

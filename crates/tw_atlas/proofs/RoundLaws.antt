@@ -10,9 +10,9 @@ use Rattle.tw_base.specs.declared.history.thread.Key.{Key}
 use Rattle.tw_base.specs.kinds.Lists.{Each, In}
 use Rattle.tw_base.proofs.lemmas.kinds.ListLemmas.{Apart, Each-append, Each-in, In-cases_append}
 use Rattle.tw_atlas.specs.declared.atlas.Leg.{Leg}
-use Rattle.tw_atlas.specs.Atlases.{IsClosed, IsGrounded, leg_hops, stops}
+use Rattle.tw_atlas.specs.Atlases.{IsAtlasClosed, IsGrounded, leg_hops, stops}
 use Rattle.tw_atlas.specs.Reaching.{goes_on_from, target}
-use Rattle.tw_atlas.specs.Rounds.{after_of, left_over, legs_of, ordered, round, rounds}
+use Rattle.tw_atlas.specs.Rounds.{after_of, left_over, legs_of, ordered, round_of_hops, rounds}
 use Rattle.tw_atlas.proofs.HopOrder.{in-ordered, ordered-has, ordered-rises, rises-apart}
 
 -- ---- the first place at which a test passes
@@ -89,21 +89,21 @@ map-append f (x ∷ xs) ys = ap (λ zs. f x ∷ zs) (map-append f xs ys)
 -- ---- one round
 
 module _ (at : List Key) where
-  in-round : (left : List Hop) (leg : Leg) → In leg (round at left) → In leg.hop left × (after_of at leg.hop ≡ Some leg.after)
+  in-round : (left : List Hop) (leg : Leg) → In leg (round_of_hops at left) → In leg.hop left × (after_of at leg.hop ≡ Some leg.after)
   in-round [] leg p = absurd p
   in-round (hop ∷ left) leg p = by (after_of at hop) refl (in-round left leg) p
     where
-      by : (o : Option ℕ) → after_of at hop ≡ o → (In leg (round at left) → In leg.hop left × (after_of at leg.hop ≡ Some leg.after)) → In leg (cons_option (option_map (λ after. record { after = after; hop = hop }) o) (round at left))
+      by : (o : Option ℕ) → after_of at hop ≡ o → (In leg (round_of_hops at left) → In leg.hop left × (after_of at leg.hop ≡ Some leg.after)) → In leg (cons_option (option_map (λ after. record { after = after; hop = hop }) o) (round_of_hops at left))
           → In leg.hop (hop ∷ left) × (after_of at leg.hop ≡ Some leg.after)
       by None is more p = let there = more p in (inr there.0, there.1)
       by (Some after) is more (inl same) = (inl (ap (λ (l : Leg). l.hop) same), ap (λ (l : Leg). after_of at l.hop) same ∙ is ∙ ap (λ (l : Leg). Some l.after) (sym same))
       by (Some after) is more (inr p) = let there = more p in (inr there.0, there.1)
 
-  round-has : (left : List Hop) (hop : Hop) (after : ℕ) → In hop left → after_of at hop ≡ Some after → In hop (leg_hops (round at left))
+  round-has : (left : List Hop) (hop : Hop) (after : ℕ) → In hop left → after_of at hop ≡ Some after → In hop (leg_hops (round_of_hops at left))
   round-has [] hop after p e = absurd p
   round-has (one ∷ left) hop after p e = by (after_of at one) refl (λ there. round-has left hop after there e) p
     where
-      by : (o : Option ℕ) → after_of at one ≡ o → (In hop left → In hop (leg_hops (round at left))) → In hop (one ∷ left) → In hop (leg_hops (cons_option (option_map (λ after. record { after = after; hop = one }) o) (round at left)))
+      by : (o : Option ℕ) → after_of at one ≡ o → (In hop left → In hop (leg_hops (round_of_hops at left))) → In hop (one ∷ left) → In hop (leg_hops (cons_option (option_map (λ after. record { after = after; hop = one }) o) (round_of_hops at left)))
       by None is more (inl same) = absurd (let never : Some after ≡ None = sym e ∙ ap (after_of at) same ∙ is in cc)
       by None is more (inr there) = more there
       by (Some k) is more (inl same) = inl same
@@ -128,12 +128,12 @@ module _ (at : List Key) where
       by (Some k) is more (inl same) = absurd (let never : None ≡ Some k = sym e ∙ ap (after_of at) same ∙ is in cc)
       by (Some k) is more (inr there) = more there
 
-  pub round-count : (left : List Hop) → length (round at left) + length (left_over at left) ≡ length left
+  pub round-count : (left : List Hop) → length (round_of_hops at left) + length (left_over at left) ≡ length left
   round-count [] = omega arith
   round-count (one ∷ left) = by (after_of at one) (round-count left)
     where
-      by : (o : Option ℕ) → length (round at left) + length (left_over at left) ≡ length left
-          → length (cons_option (option_map (λ after. record { after = after; hop = one }) o) (round at left)) + length (cond (is_none o) (one ∷ left_over at left) (left_over at left)) ≡ length (one ∷ left)
+      by : (o : Option ℕ) → length (round_of_hops at left) + length (left_over at left) ≡ length left
+          → length (cons_option (option_map (λ after. record { after = after; hop = one }) o) (round_of_hops at left)) + length (cond (is_none o) (one ∷ left_over at left) (left_over at left)) ≡ length (one ∷ left)
       by None more = omega (arith, more)
       by (Some k) more = omega (arith, more)
 
@@ -145,8 +145,8 @@ module _ (at : List Key) where
       by None more = (each-all (λ (y : Hop). one ≢ y) (left_over at left) (λ y there. Each-in (λ (y : Hop). one ≢ y) left y apart.0 (in-left left y there).0), more)
       by (Some k) more = more
 
-  round-hop : (left : List Hop) (hop : Hop) → In hop (leg_hops (round at left)) → In hop left × ((after : ℕ) × (after_of at hop ≡ Some after))
-  round-hop left hop p = found (round at left) p (in-round left)
+  round-hop : (left : List Hop) (hop : Hop) → In hop (leg_hops (round_of_hops at left)) → In hop left × ((after : ℕ) × (after_of at hop ≡ Some after))
+  round-hop left hop p = found (round_of_hops at left) p (in-round left)
     where
       found : (legs : List Leg) → In hop (leg_hops legs) → ((leg : Leg) → In leg legs → In leg.hop left × (after_of at leg.hop ≡ Some leg.after)) → In hop left × ((after : ℕ) × (after_of at hop ≡ Some after))
       found [] p all = absurd p
@@ -154,30 +154,30 @@ module _ (at : List Key) where
           (subst (λ (h : Hop). In h left) (sym same) here.0, (leg.after, ap (after_of at) same ∙ here.1))
       found (leg ∷ legs) (inr p) all = found legs p (λ l there. all l (inr there))
 
-  apart-round : (left : List Hop) → Apart left → Apart (leg_hops (round at left))
+  apart-round : (left : List Hop) → Apart left → Apart (leg_hops (round_of_hops at left))
   apart-round [] apart = tt
   apart-round (one ∷ left) apart = by (after_of at one) (apart-round left apart.1)
     where
-      by : (o : Option ℕ) → Apart (leg_hops (round at left)) → Apart (leg_hops (cons_option (option_map (λ after. record { after = after; hop = one }) o) (round at left)))
+      by : (o : Option ℕ) → Apart (leg_hops (round_of_hops at left)) → Apart (leg_hops (cons_option (option_map (λ after. record { after = after; hop = one }) o) (round_of_hops at left)))
       by None more = more
-      by (Some k) more = (each-all (λ (y : Hop). one ≢ y) (leg_hops (round at left)) (λ y there. Each-in (λ (y : Hop). one ≢ y) left y apart.0 (round-hop left y there).0), more)
+      by (Some k) more = (each-all (λ (y : Hop). one ≢ y) (leg_hops (round_of_hops at left)) (λ y there. Each-in (λ (y : Hop). one ≢ y) left y apart.0 (round-hop left y there).0), more)
 
   -- ---- a round that lists nothing
 
   abbrev pub NoneGoes : List Hop → Type 0
   NoneGoes left = Each (λ hop. after_of at hop ≡ None) left
 
-  none-goes : (left : List Hop) → round at left ≡ [] → NoneGoes left
+  none-goes : (left : List Hop) → round_of_hops at left ≡ [] → NoneGoes left
   none-goes [] e = tt
   none-goes (one ∷ left) e = by (after_of at one) refl (none-goes left) e
     where
-      by : (o : Option ℕ) → after_of at one ≡ o → (round at left ≡ [] → NoneGoes left) → cons_option (option_map (λ after. record { after = after; hop = one }) o) (round at left) ≡ [] → NoneGoes (one ∷ left)
+      by : (o : Option ℕ) → after_of at one ≡ o → (round_of_hops at left ≡ [] → NoneGoes left) → cons_option (option_map (λ after. record { after = after; hop = one }) o) (round_of_hops at left) ≡ [] → NoneGoes (one ∷ left)
       by None is more e = (is, more e)
       by (Some k) is more e = cc
 
-  round-none : (left : List Hop) → NoneGoes left → round at left ≡ []
+  round-none : (left : List Hop) → NoneGoes left → round_of_hops at left ≡ []
   round-none [] none = refl
-  round-none (one ∷ left) none = ap (λ (o : Option ℕ). cons_option (option_map (λ after. leg_of after) o) (round at left)) none.0 ∙ round-none left none.1
+  round-none (one ∷ left) none = ap (λ (o : Option ℕ). cons_option (option_map (λ after. leg_of after) o) (round_of_hops at left)) none.0 ∙ round-none left none.1
     where
       leg_of : ℕ → Leg
       leg_of after = record { after = after; hop = one }
@@ -210,7 +210,7 @@ pub record Parts (given : List Hop) (start : Key) (legs : List Leg) (left : List
 pub record Whole (given : List Hop) (start : Key) (legs : List Leg) : Type 0 where
   pub once : Apart (leg_hops legs)
   pub grounded : (k : ℕ) (leg : Leg) → slice_get legs k ≡ Some leg → IsGrounded given start legs k leg
-  pub closed : IsClosed given start legs
+  pub closed : IsAtlasClosed given start legs
 
 module _ (given : List Hop) (start : Key) where
   stops-more : (legs more : List Leg) → stops start (legs ++ more) ≡ stops start legs ++ map (λ (leg : Leg). target leg.hop) more
@@ -241,14 +241,14 @@ module _ (given : List Hop) (start : Key) where
         follows = (found.1, ap (λ keys. slice_get keys leg.after) (stops-more legs more) ∙ get-append (stops start legs) (map (λ (leg : Leg). target leg.hop) more) leg.after found.1 here, found.4);
       }
 
-  parts-more : (legs : List Leg) (left : List Hop) → Parts given start legs left → Parts given start (legs ++ round (stops start legs) left) (left_over (stops start legs) left)
+  parts-more : (legs : List Leg) (left : List Hop) → Parts given start legs left → Parts given start (legs ++ round_of_hops (stops start legs) left) (left_over (stops start legs) left)
   parts-more legs left p =
       let at : List Key = stops start legs in
-      let listed : (hop : Hop) → In hop (leg_hops (legs ++ round at left)) → In hop (leg_hops legs) ⊎ In hop (leg_hops (round at left)) =
-      λ hop there. In-cases_append hop (leg_hops legs) (leg_hops (round at left)) (subst (In hop) (map-append (λ (leg : Leg). leg.hop) legs (round at left)) there) in
+      let listed : (hop : Hop) → In hop (leg_hops (legs ++ round_of_hops at left)) → In hop (leg_hops legs) ⊎ In hop (leg_hops (round_of_hops at left)) =
+      λ hop there. In-cases_append hop (leg_hops legs) (leg_hops (round_of_hops at left)) (subst (In hop) (map-append (λ (leg : Leg). leg.hop) legs (round_of_hops at left)) there) in
       record {
-        once = subst Apart (sym (map-append (λ (leg : Leg). leg.hop) legs (round at left)))
-            (apart-append (leg_hops legs) (leg_hops (round at left)) p.once (apart-round at left p.left_once) (λ hop here there. p.never_both hop here (round-hop at left hop there).0));
+        once = subst Apart (sym (map-append (λ (leg : Leg). leg.hop) legs (round_of_hops at left)))
+            (apart-append (leg_hops legs) (leg_hops (round_of_hops at left)) p.once (apart-round at left p.left_once) (λ hop here there. p.never_both hop here (round-hop at left hop there).0));
         left_once = apart-left at left p.left_once;
         never_both = λ hop here there. (let over = in-left at left hop there in elim (listed hop here) [
           | inl early ↦ p.never_both hop early over.0
@@ -256,12 +256,12 @@ module _ (given : List Hop) (start : Key) where
         ]);
         left_given = λ hop there. p.left_given hop (in-left at left hop there).0;
         all = λ hop there. elim (p.all hop there) [
-          | inl early ↦ inl (subst (In hop) (sym (map-append (λ (leg : Leg). leg.hop) legs (round at left))) (in-front hop (leg_hops legs) (leg_hops (round at left)) early))
+          | inl early ↦ inl (subst (In hop) (sym (map-append (λ (leg : Leg). leg.hop) legs (round_of_hops at left))) (in-front hop (leg_hops legs) (leg_hops (round_of_hops at left)) early))
           | inr late ↦ goes hop (after_of at hop) refl late
         ];
-        grounded = λ k leg is. elim (get-cases legs (round at left) k leg is) [
-          | inl early ↦ still legs (round at left) k leg (p.grounded k leg early)
-          | inr late ↦ fresh legs (round at left) k leg late.0 (p.left_given leg.hop (in-round at left leg late.1).0) (in-round at left leg late.1).1
+        grounded = λ k leg is. elim (get-cases legs (round_of_hops at left) k leg is) [
+          | inl early ↦ still legs (round_of_hops at left) k leg (p.grounded k leg early)
+          | inr late ↦ fresh legs (round_of_hops at left) k leg late.0 (p.left_given leg.hop (in-round at left leg late.1).0) (in-round at left leg late.1).1
         ];
       }
     where
@@ -275,11 +275,11 @@ module _ (given : List Hop) (start : Key) where
       in-back hop (x ∷ xs) ys there = inr (in-back hop xs ys there)
 
       goes : (hop : Hop) (o : Option ℕ) → after_of (stops start legs) hop ≡ o → In hop left
-          → In hop (leg_hops (legs ++ round (stops start legs) left)) ⊎ In hop (left_over (stops start legs) left)
+          → In hop (leg_hops (legs ++ round_of_hops (stops start legs) left)) ⊎ In hop (left_over (stops start legs) left)
       goes hop None is there = inr (left-has (stops start legs) left hop there is)
       goes hop (Some after) is there =
-          inl (subst (In hop) (sym (map-append (λ (leg : Leg). leg.hop) legs (round (stops start legs) left)))
-          (in-back hop (leg_hops legs) (leg_hops (round (stops start legs) left)) (round-has (stops start legs) left hop after there is)))
+          inl (subst (In hop) (sym (map-append (λ (leg : Leg). leg.hop) legs (round_of_hops (stops start legs) left)))
+          (in-back hop (leg_hops legs) (leg_hops (round_of_hops (stops start legs) left)) (round-has (stops start legs) left hop after there is)))
 
   ended : (legs : List Leg) (left : List Hop) → Parts given start legs left → NoneGoes (stops start legs) left → Whole given start legs
   ended legs left p none = record {
@@ -296,17 +296,17 @@ module _ (given : List Hop) (start : Key) where
   rounds-whole zero legs [] p few = ended legs [] p tt
   rounds-whole zero legs (hop ∷ left) p few = absurd (omega arith)
   rounds-whole (suc more) legs left p few =
-      by (round (stops start legs) left) refl (rounds-whole more (legs ++ round (stops start legs) left) (left_over (stops start legs) left)) (parts-more legs left p)
+      by (round_of_hops (stops start legs) left) refl (rounds-whole more (legs ++ round_of_hops (stops start legs) left) (left_over (stops start legs) left)) (parts-more legs left p)
     where
-      by : (r : List Leg) → round (stops start legs) left ≡ r
-          → (Parts given start (legs ++ round (stops start legs) left) (left_over (stops start legs) left) → length (left_over (stops start legs) left) ≤ more
-          → Whole given start (rounds more start (legs ++ round (stops start legs) left) (left_over (stops start legs) left)))
-          → Parts given start (legs ++ round (stops start legs) left) (left_over (stops start legs) left)
-          → Whole given start (rounds more start (legs ++ round (stops start legs) left) (left_over (stops start legs) left))
+      by : (r : List Leg) → round_of_hops (stops start legs) left ≡ r
+          → (Parts given start (legs ++ round_of_hops (stops start legs) left) (left_over (stops start legs) left) → length (left_over (stops start legs) left) ≤ more
+          → Whole given start (rounds more start (legs ++ round_of_hops (stops start legs) left) (left_over (stops start legs) left)))
+          → Parts given start (legs ++ round_of_hops (stops start legs) left) (left_over (stops start legs) left)
+          → Whole given start (rounds more start (legs ++ round_of_hops (stops start legs) left) (left_over (stops start legs) left))
       by [] is go next = let none = none-goes (stops start legs) left is in subst (Whole given start) (sym (rounds-none (suc more) start legs left none)) (ended legs left p none)
       by (leg ∷ r) is go next =
           let count = round-count (stops start legs) left in
-          let some : length (round (stops start legs) left) ≡ length (leg ∷ r) = ap (λ (l : List Leg). length l) is in
+          let some : length (round_of_hops (stops start legs) left) ≡ length (leg ∷ r) = ap (λ (l : List Leg). length l) is in
           go next (omega (arith, count, some, few))
 
 -- before the first round

@@ -9,7 +9,7 @@ use Rattle.tw_base.specs.declared.history.thread.Key.{Key}
 use Rattle.tw_atlas.specs.declared.atlas.Leg.{Leg}
 use Rattle.tw_atlas.specs.Atlases.{stops}
 use Rattle.tw_atlas.specs.Reaching.{goes_on_from, target}
-use Rattle.tw_atlas.specs.Rounds.{after_of, left_over, round, rounds}
+use Rattle.tw_atlas.specs.Rounds.{after_of, left_over, round_of_hops, rounds}
 use Rattle.tw_atlas.proofs.MarkLaws.{or_next, position-append}
 use Rattle.tw_atlas.proofs.RoundLaws.{NoneGoes, each-all, in-left, round-count, rounds-none}
 
@@ -62,18 +62,18 @@ abbrev left-then : (at : List Key) → (first : ℕ) → List Hop → List Hop
 left-then at first hops = left_over (take first at) hops
 
 abbrev listed-next : (at : List Key) → (first : ℕ) → List Hop → List Leg
-listed-next at first hops = round at (left-then at first hops)
+listed-next at first hops = round_of_hops at (left-then at first hops)
 
 pub so-far-more : (n i : ℕ) (start : Key) (hops : List Hop) (legs : List Leg) (at : List Key) (first : ℕ) → i < n → SoFar n i start hops legs at first
-    → (legs' : List Leg) (at' : List Key) → legs' ≡ legs ++ round at (left_over (take first at) hops)
-    → at' ≡ at ++ map (λ (leg : Leg). target leg.hop) (round at (left_over (take first at) hops))
+    → (legs' : List Leg) (at' : List Key) → legs' ≡ legs ++ round_of_hops at (left_over (take first at) hops)
+    → at' ≡ at ++ map (λ (leg : Leg). target leg.hop) (round_of_hops at (left_over (take first at) hops))
     → SoFar n (i + 1) start hops legs' at' (length at)
 so-far-more n i start hops legs at first below s legs' at' legs-are at-are = record {
   legs_go_on =
       ap (λ (keys : List Key). rounds (n - (i + 1)) start legs' (left_over keys hops)) seam
       ∙ ap (λ ls. rounds (n - (i + 1)) start ls (left_over at hops)) legs-are
       ∙ ap (λ hs. rounds (n - (i + 1)) start (legs ++ listed-next at first hops) hs) (sym (left-front at first hops))
-      ∙ ap (λ (keys : List Key). rounds (n - (i + 1)) start (legs ++ round keys (left-then at first hops)) (left_over keys (left-then at first hops))) s.are_stops
+      ∙ ap (λ (keys : List Key). rounds (n - (i + 1)) start (legs ++ round_of_hops keys (left-then at first hops)) (left_over keys (left-then at first hops))) s.are_stops
       ∙ ap (λ (k : ℕ). rounds k start legs (left-then at first hops)) (let next : suc (n - (i + 1)) ≡ n - i = omega (arith, below) in next)
       ∙ s.legs_go_on;
   are_stops = at-are ∙ ap (λ (keys : List Key). keys ++ map (λ (leg : Leg). target leg.hop) (listed-next at first hops)) s.are_stops

@@ -26,8 +26,8 @@ pub record IsGrounded (given : List Hop) (start : Key) (legs : List Leg) (k : �
   pub follows : (at : Key) × (slice_get (stops start legs) leg.after ≡ Some at) × IsTrue (goes_on_from at leg.hop)
 
 -- each given hop that goes on from a stop is a leg
-abbrev pub IsClosed : (given : List Hop) → (start : Key) → List Leg → Type 0
-IsClosed given start legs =
+abbrev pub IsAtlasClosed : (given : List Hop) → (start : Key) → List Leg → Type 0
+IsAtlasClosed given start legs =
     (at : Key) (hop : Hop) → In at (stops start legs) → In hop given → IsTrue (goes_on_from at hop) → In hop (leg_hops legs)
 
 -- the least step of the service among the stops, and the least number of a stop that has it
@@ -46,5 +46,5 @@ pub record AreArrivals (at : List Key) (arrivals : List Arrival) : Type 0 where
 pub record IsAtlas (given : List Hop) (start : Key) (atlas : Atlas) : Type 0 where
   pub once : AllPairs (λ one other. one ≢ other) (leg_hops atlas.legs)
   pub grounded : (k : ℕ) (leg : Leg) → slice_get atlas.legs k ≡ Some leg → IsGrounded given start atlas.legs k leg
-  pub closed : IsClosed given start atlas.legs
+  pub closed : IsAtlasClosed given start atlas.legs
   pub arrivals : AreArrivals (stops start atlas.legs) atlas.arrivals

@@ -19,6 +19,6 @@ AreBest at kept =
     (λ (arrival : Arrival). (arrival.service ≡ service) × IsBest at arrival)
 
 -- the step is below that of the arrival, where there is one
-abbrev pub is_lower : (step : ℕ) → Option Arrival → Bool
-is_lower step None = true
-is_lower step (Some arrival) = nat_lt step arrival.step
+abbrev pub is_arrival_lower : (step : ℕ) → Option Arrival → Bool
+is_arrival_lower step None = true
+is_arrival_lower step (Some arrival) = nat_lt step arrival.step

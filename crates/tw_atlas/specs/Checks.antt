@@ -15,8 +15,8 @@ use Rattle.tw_atlas.specs.Reaching.{goes_on_from, target}
 abbrev pub is_same : Hop → Hop → Bool
 is_same a b = bytes_eq a.from b.from && (a.step == b.step && (bytes_eq a.by b.by && a.archived == b.archived))
 
-abbrev pub is_among : List Hop → Hop → Bool
-is_among hops hop = list_any (λ other. is_same other hop) hops
+abbrev pub is_among_hops : List Hop → Hop → Bool
+is_among_hops hops hop = list_any (λ other. is_same other hop) hops
 
 abbrev pub is_listed : List Leg → Hop → Bool
 is_listed legs hop = list_any (λ (leg : Leg). is_same leg.hop hop) legs
@@ -32,7 +32,7 @@ follows (Some at) hop = goes_on_from at hop
 module _ (given : List Hop) (start : Key) (legs : List Leg) where
   -- the leg with the number k + 1
   abbrev pub is_grounded : (k : ℕ) → Leg → Bool
-  is_grounded k leg = nat_le leg.after k && (follows (slice_get (stops start legs) leg.after) leg.hop && is_among given leg.hop)
+  is_grounded k leg = nat_le leg.after k && (follows (slice_get (stops start legs) leg.after) leg.hop && is_among_hops given leg.hop)
 
   -- those from that number on
   abbrev pub are_grounded : (k : ℕ) → List Leg → Bool
@@ -77,7 +77,7 @@ abbrev pub all_arrive : (start : Key) → List Leg → List Arrival → Bool
 all_arrive start legs arrivals = arrives arrivals start.from && list_all (λ (leg : Leg). arrives arrivals leg.hop.by) legs
 
 -- all of them
-abbrev pub passes : (given : List Hop) → (start : Key) → Atlas → Bool
-passes given start atlas =
+abbrev pub atlas_passes : (given : List Hop) → (start : Key) → Atlas → Bool
+atlas_passes given start atlas =
     are_once atlas.legs && (are_grounded given start atlas.legs 0 atlas.legs && (are_closed start atlas.legs given
     && (names_rise atlas.arrivals && (list_all (is_best (stops start atlas.legs)) atlas.arrivals && all_arrive start atlas.legs atlas.arrivals))))

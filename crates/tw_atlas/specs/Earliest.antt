@@ -10,7 +10,7 @@ use Rattle.tw_atlas.specs.declared.atlas.Atlas.{Atlas}
 use Rattle.tw_atlas.specs.declared.atlas.Leg.{Leg}
 use Rattle.tw_atlas.specs.Atlases.{IsAtlas}
 use Rattle.tw_atlas.specs.Rounds.{legs_of}
-use Rattle.tw_atlas.specs.Reaching.{IsChain, IsLeast, Reaches, end_of}
+use Rattle.tw_atlas.specs.Reaching.{IsChain, IsLeast, ReachesByHops, end_of_hops}
 
 -- the step of the service at which the arrival is
 abbrev pub arrives_at : Arrival → Key
@@ -27,7 +27,7 @@ IsWayBack legs number (hop ∷ back) =
 pub record IsWay (given : List Hop) (start : Key) (legs : List Leg) (arrival : Arrival) (back : List Hop) : Type 0 where
   pub followed : IsWayBack legs arrival.leg back
   pub chain : IsChain given start (reverse back)
-  pub ends : end_of start (reverse back) ≡ arrives_at arrival
+  pub ends : end_of_hops start (reverse back) ≡ arrives_at arrival
   pub leads : (dig : List ℕ → List ℕ) (family : List History) → Each (HopStands dig family) (reverse back)
       → LeadsBy dig family (reverse back) start (arrives_at arrival)
 
@@ -36,7 +36,7 @@ pub record IsEarliest (given : List Hop) (start : Key) (atlas : Atlas) : Type 0 
   pub least : Each (λ (arrival : Arrival). IsLeast given start arrival.service arrival.step) atlas.arrivals
   -- to a service without an arrival no chain leads
   pub no_line : (service : List ℕ) → Each (λ (arrival : Arrival). arrival.service ≢ service) atlas.arrivals
-      → (step : ℕ) → Reaches given start (record { from = service; step = step }) → ⊥
+      → (step : ℕ) → ReachesByHops given start (record { from = service; step = step }) → ⊥
   -- there is a way to each arrival
   pub way : Each (λ (arrival : Arrival). (back : List Hop) × IsWay given start atlas.legs arrival back) atlas.arrivals
   -- where no other hops than the given ones stand in a family, and any that stand lead to a step of a service, there is an arrival of
@@ -46,7 +46,7 @@ pub record IsEarliest (given : List Hop) (start : Key) (atlas : Atlas) : Type 0 
       → (arrival : Arrival) × In arrival atlas.arrivals × (arrival.service ≡ goal.from) × (arrival.step ≤ goal.step)
 
 -- the one plan: the atlas whose legs stand in rounds
-pub record IsPlanned (given : List Hop) (start : Key) (atlas : Atlas) : Type 0 where
+pub record IsAtlasPlanned (given : List Hop) (start : Key) (atlas : Atlas) : Type 0 where
   pub legs : atlas.legs ≡ legs_of given start
   pub is_atlas : IsAtlas given start atlas
   pub earliest : IsEarliest given start atlas

@@ -11,5 +11,5 @@ abbrev pub hop_between : Key → Key → Hop
 hop_between from to = record { from = from.from; step = from.step; by = to.from; archived = to.step }
 
 -- the entries of a map that has the ends of these hops as its keys
-abbrev pub entries_of : List Hop → List ((Key × Key) × Unit {0})
-entries_of hops = map (λ hop. (ends_of hop, tt)) hops
+abbrev pub hop_entries : List Hop → List ((Key × Key) × Unit {0})
+hop_entries hops = map (λ hop. (ends_of hop, tt)) hops

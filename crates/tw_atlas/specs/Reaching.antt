@@ -21,15 +21,15 @@ abbrev pub IsChain : (given : List Hop) → (start : Key) → List Hop → Type 
 IsChain given start [] = Unit {0}
 IsChain given start (hop ∷ hops) = In hop given × IsTrue (goes_on_from start hop) × IsChain given (target hop) hops
 
-abbrev pub end_of : (start : Key) → List Hop → Key
-end_of start [] = start
-end_of start (hop ∷ hops) = end_of (target hop) hops
+abbrev pub end_of_hops : (start : Key) → List Hop → Key
+end_of_hops start [] = start
+end_of_hops start (hop ∷ hops) = end_of_hops (target hop) hops
 
 -- a chain ends there; that of no hop ends at the start, so the start's own step counts for its service, and for no other
-abbrev pub Reaches : (given : List Hop) → (start at : Key) → Type 0
-Reaches given start at = (hops : List Hop) × IsChain given start hops × (end_of start hops ≡ at)
+abbrev pub ReachesByHops : (given : List Hop) → (start at : Key) → Type 0
+ReachesByHops given start at = (hops : List Hop) × IsChain given start hops × (end_of_hops start hops ≡ at)
 
 -- the least step of the service to which a chain leads
 pub record IsLeast (given : List Hop) (start : Key) (service : List ℕ) (step : ℕ) : Type 0 where
-  pub reached : Reaches given start (record { from = service; step = step })
-  pub least : (other : ℕ) → Reaches given start (record { from = service; step = other }) → step ≤ other
+  pub reached : ReachesByHops given start (record { from = service; step = step })
+  pub least : (other : ℕ) → ReachesByHops given start (record { from = service; step = other }) → step ≤ other

@@ -20,9 +20,9 @@ AddsNext bytes before after (Err (Malformed place)) =
 AddsNext bytes before after (Err NoMemory) = Unit {0}
 
 -- the same of a fault's place, counted from earlier bytes
-abbrev pub IsLater : (at : ℕ) → ReadFault → ReadFault → Type 0
-IsLater at (Malformed place) later = later ≡ Malformed (at + place)
-IsLater at NoMemory later = later ≡ NoMemory
+abbrev pub IsFaultLater : (at : ℕ) → ReadFault → ReadFault → Type 0
+IsFaultLater at (Malformed place) later = later ≡ Malformed (at + place)
+IsFaultLater at NoMemory later = later ≡ NoMemory
 
 -- the place that a fault tells, if any, is at most so much
 abbrev pub IsWithin : (most : ℕ) → ReadFault → Type 0

@@ -28,8 +28,8 @@ abbrev pub after_of : (stops : List Key) → Hop → Option ℕ
 after_of stops hop = position_from (λ at. goes_on_from at hop) 0 stops
 
 -- a round: of the hops left, in their order, those that go on from a stop of an earlier round, and those that don't
-abbrev pub round : (stops : List Key) → (left : List Hop) → List Leg
-round stops left = filter_map (λ hop. option_map (λ after. record { after = after; hop = hop }) (after_of stops hop)) left
+abbrev pub round_of_hops : (stops : List Key) → (left : List Hop) → List Leg
+round_of_hops stops left = filter_map (λ hop. option_map (λ after. record { after = after; hop = hop }) (after_of stops hop)) left
 
 abbrev pub left_over : (stops : List Key) → (left : List Hop) → List Hop
 left_over stops left = filter (λ hop. is_none (after_of stops hop)) left
@@ -37,7 +37,7 @@ left_over stops left = filter (λ hop. is_none (after_of stops hop)) left
 -- so many rounds more
 abbrev pub rounds : (more : ℕ) → (start : Key) → List Leg → (left : List Hop) → List Leg
 rounds zero start legs left = legs
-rounds (suc more) start legs left = rounds more start (legs ++ round (stops start legs) left) (left_over (stops start legs) left)
+rounds (suc more) start legs left = rounds more start (legs ++ round_of_hops (stops start legs) left) (left_over (stops start legs) left)
 
 -- the legs of all rounds: each round but the last lists a hop, so there are at most as many as different hops
 abbrev pub legs_of : (given : List Hop) → (start : Key) → List Leg

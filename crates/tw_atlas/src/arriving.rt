@@ -6,7 +6,7 @@ ghost use Rattle.std.specs.Cmp.Lexicographic.{slice_cmp};
 ghost use Rattle.std.specs.Ordering.{nat_cmp};
 ghost use Rattle.tw_base.specs.declared.history.thread.Key.{Key};
 ghost use Rattle.tw_atlas.specs.Atlases.{AreArrivals};
-ghost use Rattle.tw_atlas.specs.BestSoFar.{AreBest, is_lower as is_lower_of, kept_for};
+ghost use Rattle.tw_atlas.specs.BestSoFar.{AreBest, is_arrival_lower, kept_for};
 
 use crate::atlas::{Arrival, ArrivalList};
 use std::alloc::Global;
@@ -72,7 +72,7 @@ fn kept_of(best: &BTreeMap<Name, Arrival>, service: &Name) -> Option<Arrival>
 
 /// Whether the step is below that of the arrival, where there is one.
 fn is_lower(kept: Option<Arrival>, step: u64) -> bool
-    ensures { result ≡ is_lower_of step kept }
+    ensures { result ≡ is_arrival_lower step kept }
 {
     match kept {
         Some(arrival) => step < arrival.step,

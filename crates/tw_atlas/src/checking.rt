@@ -4,7 +4,7 @@ ghost use Rattle.std.specs.Prelude.{◌≡◌, ◌↔◌, IsTrue, map, slice_get
 ghost use Rattle.std.specs.List.{list_all, list_any};
 ghost use Rattle.tw_atlas.specs.Reaching.{goes_on_from, target as target_of};
 ghost use Rattle.tw_atlas.specs.Atlases.{IsAtlas, stops as stops_of};
-ghost use Rattle.tw_atlas.specs.Checks.{passes, are_closed as are_closed_of, are_grounded as are_grounded_of, are_once as are_once_of, all_arrive as all_arrive_of, arrives as arrives_of, follows as follows_of, is_among, is_below_first as is_below_first_of, is_best as is_best_of, is_better as is_better_of, is_grounded as is_grounded_of, is_listed, is_reached as is_reached_of, is_same as is_same_of, names_rise as names_rise_of, none_better as none_better_of, stands as stands_of};
+ghost use Rattle.tw_atlas.specs.Checks.{atlas_passes, are_closed as are_closed_of, are_grounded as are_grounded_of, are_once as are_once_of, all_arrive as all_arrive_of, arrives as arrives_of, follows as follows_of, is_among_hops, is_below_first as is_below_first_of, is_best as is_best_of, is_better as is_better_of, is_grounded as is_grounded_of, is_listed, is_reached as is_reached_of, is_same as is_same_of, names_rise as names_rise_of, none_better as none_better_of, stands as stands_of};
 ghost use Rattle.tw_atlas.specs.Earliest.{IsEarliest};
 
 use crate::atlas::{Arrival, Atlas, Leg};
@@ -33,7 +33,7 @@ pub fn check_atlas(hops: &HopList, from: &Name, step: u64, atlas: &Atlas) -> boo
 
 /// Whether all checks pass.
 fn all_pass(given: &[Hop], start: &Key, atlas: &Atlas) -> bool
-    ensures { result ≡ passes given.now start.now atlas.now }
+    ensures { result ≡ atlas_passes given.now start.now atlas.now }
 {
     let legs = atlas.legs.as_slice();
     let arrivals = atlas.arrivals.as_slice();
@@ -73,7 +73,7 @@ fn is_leg(legs: &[Leg], hop: &Hop) -> bool
 
 /// Whether the hop is one of these.
 fn is_one_of(hops: &[Hop], hop: &Hop) -> bool
-    ensures { result ≡ is_among hops.now hop.now }
+    ensures { result ≡ is_among_hops hops.now hop.now }
 {
     hops.iter().any(|other| is_same(other, hop))
 }

@@ -3,7 +3,7 @@
 ghost use Rattle.std.specs.Prelude.{◌≡◌, List, IfOk};
 ghost use Rattle.tw_base.specs.declared.history.report.Hop.{Hop};
 ghost use Rattle.tw_atlas.specs.Reaching.{source as source_of, target as target_of};
-ghost use Rattle.tw_atlas.specs.HopEnds.{entries_of, hop_between as hop_between_of};
+ghost use Rattle.tw_atlas.specs.HopEnds.{hop_between as hop_between_of, hop_entries};
 ghost use Rattle.tw_atlas.specs.Rounds.{ordered};
 
 use std::alloc::Global;
@@ -52,7 +52,7 @@ pub(crate) fn different_hops(alloc: Global, hops: &HopList) -> Result<Vec<Hop>, 
 
 /// The hops between the steps that are kept, in their order.
 fn hops_between(alloc: Global, all: &BTreeMap<(Key, Key), ()>) -> Result<Vec<Hop>, NoMemory>
-    ensures { (given : List Hop) → all.now.entries ≡ entries_of given → IfOk result (λ hops. hops.items ≡ given) }
+    ensures { (given : List Hop) → all.now.entries ≡ hop_entries given → IfOk result (λ hops. hops.items ≡ given) }
 {
     let mut hops = Vec::new(alloc);
     for ends in all.keys() {
@@ -63,7 +63,7 @@ fn hops_between(alloc: Global, all: &BTreeMap<(Key, Key), ()>) -> Result<Vec<Hop
 
 /// The steps that the different hops leave, and those to which they lead, in order.
 fn ordered_ends(alloc: Global, hops: &[Hop]) -> Result<BTreeMap<(Key, Key), ()>, NoMemory>
-    ensures { IfOk result (λ all. all.entries ≡ entries_of (ordered hops.now)) }
+    ensures { IfOk result (λ all. all.entries ≡ hop_entries (ordered hops.now)) }
 {
     let mut all = BTreeMap::new(alloc);
     for hop in hops {

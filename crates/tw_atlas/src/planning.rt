@@ -1,7 +1,7 @@
 // Planning an atlas.
 
 ghost use Rattle.std.specs.Prelude.{◌≤◌, length, IfOk};
-ghost use Rattle.tw_atlas.specs.Earliest.{IsPlanned};
+ghost use Rattle.tw_atlas.specs.Earliest.{IsAtlasPlanned};
 ghost use Rattle.tw_atlas.specs.Rounds.{ordered};
 ghost use Rattle.tw_atlas.specs.declared.limits.TheConstants.{MOST_RECEIPTS};
 
@@ -22,7 +22,7 @@ pub fn plan(alloc: Global, hops: &HopList, from: &Name, step: u64) -> Result<Atl
     // round and aren't listed yet, within a round by service, step, recorder and archived step; each with the least number of
     // a leg, or of the start, that it goes on from. All that is checked of an atlas holds. Each arrival is at the least step
     // of its service to which a chain leads, with the legs as the way there; to a service without an arrival no chain leads.
-    ensures { IfOk result (IsPlanned hops.now (record { from = from.now; step = step })) }
+    ensures { IfOk result (IsAtlasPlanned hops.now (record { from = from.now; step = step })) }
 {
     let start = Key { from: *from, step };
     let different = different_hops(alloc, hops)?;

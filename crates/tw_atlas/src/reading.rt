@@ -4,7 +4,7 @@ ghost use Rattle.std.specs.Prelude.{◌≡◌, ◌≢◌, ◌+◌, ◌<◌, ◌�
 ghost use Rattle.tw_base.specs.format.Formats.{ReadsFrontAs};
 ghost use Rattle.tw_msg.specs.Receipts.{receipt_layout};
 ghost use Rattle.tw_atlas.specs.ReceiptFiles.{AddsHops, receipt_hop as receipt_hop_of};
-ghost use Rattle.tw_atlas.specs.ReceiptSteps.{AddsNext, IsLater, IsWithin};
+ghost use Rattle.tw_atlas.specs.ReceiptSteps.{AddsNext, IsFaultLater, IsWithin};
 ghost use Rattle.tw_atlas.specs.declared.limits.TheConstants.{MOST_RECEIPTS};
 
 use crate::limits::MOST_RECEIPTS;
@@ -104,7 +104,7 @@ fn next_receipt(bytes: &[u8]) -> Result<(Receipt, u64), ReadFault>
 /// The fault, with its place counted from so many bytes before.
 fn later(fault: ReadFault, at: u64) -> ReadFault
     requires { (most : ℕ) × IsWithin most fault × (at + most < 2 ^ 64) }
-    ensures { IsLater at fault result }
+    ensures { IsFaultLater at fault result }
 {
     match fault {
         ReadFault::Malformed { place } => ReadFault::Malformed { place: at + place },

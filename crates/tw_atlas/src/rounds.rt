@@ -7,7 +7,7 @@ ghost use Rattle.tw_base.specs.history.Entries.{key_cmp};
 ghost use Rattle.tw_atlas.specs.Atlases.{stops as stops_of};
 ghost use Rattle.tw_atlas.specs.Marking.{AreMarked, marked_leg};
 ghost use Rattle.tw_atlas.specs.Reaching.{goes_on_from, source as source_of, target as target_of};
-ghost use Rattle.tw_atlas.specs.Rounds.{hop_cmp, left_over, round, rounds};
+ghost use Rattle.tw_atlas.specs.Rounds.{hop_cmp, left_over, round_of_hops, rounds};
 
 use crate::atlas::{Leg, LegList};
 use crate::ordering::{source, target};
@@ -145,9 +145,9 @@ fn list_marked(
 ) -> Result<(), NoMemory>
     requires first { first ≤ length listed.old.stops.items }
     requires marked { AreMarked listed.old.stops.items hops.now marks.now }
-    ensures legs { OnOk result (listed.new.legs ≡ listed.old.legs ++ round listed.old.stops.items (left_over (take first listed.old.stops.items) hops.now)) }
+    ensures legs { OnOk result (listed.new.legs ≡ listed.old.legs ++ round_of_hops listed.old.stops.items (left_over (take first listed.old.stops.items) hops.now)) }
     ensures stops { OnOk result (listed.new.stops.items ≡ listed.old.stops.items
-        ++ map (λ leg. target_of leg.hop) (round listed.old.stops.items (left_over (take first listed.old.stops.items) hops.now))) }
+        ++ map (λ leg. target_of leg.hop) (round_of_hops listed.old.stops.items (left_over (take first listed.old.stops.items) hops.now))) }
 {
     for i in 0..hops.len() {
         listed.list(&hops[i], marks[i], first)?;

@@ -28,7 +28,7 @@ use Rattle.tw_audit.specs.declared.finding.AuditFault.TheVariants.{NotHeld, NoMe
 use Rattle.tw_audit.specs.declared.finding.Finding.{Finding}
 use Rattle.tw_audit.specs.declared.finding.Finding.TheVariants.{Stands, Clash, NotAccepted}
 use Rattle.tw_audit.specs.Answers.{AnswerMeans, ReportHolds, TellsClash, TextsClash, ThreadMissing}
-use Rattle.tw_audit.specs.Auditing.{IsAudit, agrees_with, answer_of, audited_texts, auth_in, of_pair}
+use Rattle.tw_audit.specs.Auditing.{IsAudit, agrees_with, audit_answer, audited_texts, auth_in, of_pair}
 use Rattle.tw_audit.proofs.Agreeing.{first-missing, none-missing}
 
 -- a proof that the bytes spell is the one that they spell
@@ -41,8 +41,8 @@ module _ (dig : List ℕ → List ℕ) (size : (text : List ℕ) → length (dig
   accepted-of accepts = subst (IsAccepted dig anchors) (same_proof bytes accepts.0 p accepts.1 spells) accepts.2
 
   -- what is found of the proof that an acceptance has is what is found of the proof
-  answer-same : (accepts : Accepts dig anchors bytes) (result : Result Finding AuditFault) → result ≡ answer_of dig family anchors accepts.0 → result ≡ answer_of dig family anchors p
-  answer-same accepts result is = is ∙ ap (answer_of dig family anchors) (same_proof bytes accepts.0 p accepts.1 spells)
+  answer-same : (accepts : Accepts dig anchors bytes) (result : Result Finding AuditFault) → result ≡ audit_answer dig family anchors accepts.0 → result ≡ audit_answer dig family anchors p
+  answer-same accepts result is = is ∙ ap (audit_answer dig family anchors) (same_proof bytes accepts.0 p accepts.1 spells)
 
   module _ (sound : AllSound family) where
     texts-bytes : Each AreBytes (audited_texts dig family p)
@@ -72,7 +72,7 @@ module _ (dig : List ℕ → List ℕ) (size : (text : List ℕ) → length (dig
         }
 
     -- what is found of an accepted proof is so
-    found-means : IsAccepted dig anchors p → AnswerMeans dig family anchors p (answer_of dig family anchors p)
+    found-means : IsAccepted dig anchors p → AnswerMeans dig family anchors p (audit_answer dig family anchors p)
     found-means accepted = by (find (λ (t : Thread). not (agrees_with dig family t)) (held anchors p)) refl
       where
         paired : HasThreads dig family (held anchors p) → (o : Option Pair) → clash_pair dig (audited_texts dig family p) ≡ o → AnswerMeans dig family anchors p (Ok (of_pair dig (report_of p) o))
@@ -86,7 +86,7 @@ module _ (dig : List ℕ → List ℕ) (size : (text : List ℕ) → length (dig
             let missing = first-missing dig family (held anchors p) t some in
             record { accepted = accepted; first = (missing.before, missing.after, missing.split, missing.there); missing = missing.lacked; is_found = refl }
 
-    of_audit : (accepts : Accepts dig anchors bytes) (result : Result Finding AuditFault) → result ≡ answer_of dig family anchors accepts.0 → AnswerMeans dig family anchors p result
+    of_audit : (accepts : Accepts dig anchors bytes) (result : Result Finding AuditFault) → result ≡ audit_answer dig family anchors accepts.0 → AnswerMeans dig family anchors p result
     of_audit accepts result is = subst (AnswerMeans dig family anchors p) (sym (answer-same accepts result is)) (found-means (accepted-of accepts))
 
     rejected : (reason : Reason) → IsVerdict dig anchors false bytes (No reason) → (IsAccepted dig anchors p → ⊥) × StandsAgainst dig anchors false p reason

@@ -16,14 +16,14 @@ use Rattle.tw_skipproof.specs.declared.opening.Opening.{Opening}
 use Rattle.tw_skipproof.specs.Acceptance.{part_texts}
 use Rattle.tw_skipproof.specs.Openings.{opening_texts}
 use Rattle.tw_skipproof.specs.Paths.{path_texts}
-use Rattle.tw_treeproof.specs.Answers.{proof_texts as tree_proof_texts}
+use Rattle.tw_treeproof.specs.Answers.{tree_proof_texts}
 use Rattle.tw_chain.specs.declared.proof.HopPart.{HopPart}
 use Rattle.tw_chain.specs.declared.proof.LinkProof.{LinkProof}
 use Rattle.tw_chain.specs.declared.proof.PrecedenceProof.{PrecedenceProof}
 use Rattle.tw_chain.specs.declared.proof.Proof.TheVariants.{Linked, Precedes}
 use Rattle.tw_chain.specs.declared.proof.Tail.{Tail}
 use Rattle.tw_chain.specs.Accepting.{held, proof_texts}
-use Rattle.tw_chain.specs.Checks.{Check, bind_checks, bind_of, end_of, head_checks, hop_checks, hops_checks, link_checks, opening_checks, root_of, start_of, tail_at, tail_checks, under_anchor}
+use Rattle.tw_chain.specs.Checks.{Check, bind_checks, bind_of, end_of_order, head_checks, hop_checks, hops_checks, link_checks, opening_checks, opening_root, start_of, tail_at, tail_checks, under_anchor}
 use Rattle.tw_chain.specs.Checks.Check.{AnswerOf, CarriesThread, EventOf}
 use Rattle.tw_chain.specs.Passing.{check_texts, held_by}
 use Rattle.tw_audit.specs.HopHeld.{held_of_hop}
@@ -69,8 +69,8 @@ module _ (dig : List ℕ → List ℕ) where
   texts-hops : (hops : List HopPart) (part step : ℕ) (root : List ℕ) → texts_of (hops_checks part step root hops) ≡ flat_map (hop_texts dig) hops
   texts-hops [] part step root = refl
   texts-hops (hop ∷ hops) part step root =
-      gathered (check_texts dig) (hop_checks part step root hop) (hops_checks (suc part) hop.entry.thread.step (root_of hop.opening) hops)
-      ∙ (λ k. texts-hop part step root hop k ++ texts-hops hops (suc part) hop.entry.thread.step (root_of hop.opening) k)
+      gathered (check_texts dig) (hop_checks part step root hop) (hops_checks (suc part) hop.entry.thread.step (opening_root hop.opening) hops)
+      ∙ (λ k. texts-hop part step root hop k ++ texts-hops hops (suc part) hop.entry.thread.step (opening_root hop.opening) k)
 
   texts-tail : (part : ℕ) (t : Thread) (tail : Tail) → texts_of (tail_checks part t tail) ≡ seen_texts dig (tail_at t tail) tail.event
   texts-tail part t tail = ap (λ ts. part_texts dig (tail_at t tail) ++ ts) (append-nil (audit_texts dig tail.opening.count tail.event.index tail.event.event tail.event.path))
@@ -78,15 +78,15 @@ module _ (dig : List ℕ → List ℕ) where
   -- those of a proof from event to event, as they are handed on
   pub texts-precedes : (p : PrecedenceProof)
       → ((seen_texts dig p.head p.event ++ opened_texts dig (start_of p).step p.before) ++ flat_map (hop_texts dig) p.hops)
-      ++ seen_texts dig (tail_at (end_of p) p.tail) p.tail.event
+      ++ seen_texts dig (tail_at (end_of_order p) p.tail) p.tail.event
       ≡ proof_texts dig (Precedes p)
   texts-precedes p =
       let head : List (List ℕ) = seen_texts dig p.head p.event in
       let before : List (List ℕ) = opened_texts dig (start_of p).step p.before in
       let hops : List (List ℕ) = flat_map (hop_texts dig) p.hops in
-      let tail : List (List ℕ) = seen_texts dig (tail_at (end_of p) p.tail) p.tail.event in
+      let tail : List (List ℕ) = seen_texts dig (tail_at (end_of_order p) p.tail) p.tail.event in
       append_assoc (head ++ before) hops tail
-      ∙ sym (gathered (check_texts dig) (head_checks p) (hops_checks 1 (start_of p).step (root_of p.before) p.hops ++ tail_checks (suc (length p.hops)) (end_of p) p.tail)
+      ∙ sym (gathered (check_texts dig) (head_checks p) (hops_checks 1 (start_of p).step (opening_root p.before) p.hops ++ tail_checks (suc (length p.hops)) (end_of_order p) p.tail)
       ∙ (λ k. heads k ++ rests k))
     where
       heads : texts_of (head_checks p) ≡ seen_texts dig p.head p.event ++ opened_texts dig (start_of p).step p.before
@@ -94,11 +94,11 @@ module _ (dig : List ℕ → List ℕ) where
           ap (λ ts. part_texts dig p.head ++ (audit_texts dig p.head.opening.count p.event.index p.event.event p.event.path ++ ts)) (texts-opened 0 (start_of p) p.before)
           ∙ sym (append_assoc (part_texts dig p.head) (audit_texts dig p.head.opening.count p.event.index p.event.event p.event.path) (opened_texts dig (start_of p).step p.before))
 
-      rests : texts_of (hops_checks 1 (start_of p).step (root_of p.before) p.hops ++ tail_checks (suc (length p.hops)) (end_of p) p.tail)
-          ≡ flat_map (hop_texts dig) p.hops ++ seen_texts dig (tail_at (end_of p) p.tail) p.tail.event
+      rests : texts_of (hops_checks 1 (start_of p).step (opening_root p.before) p.hops ++ tail_checks (suc (length p.hops)) (end_of_order p) p.tail)
+          ≡ flat_map (hop_texts dig) p.hops ++ seen_texts dig (tail_at (end_of_order p) p.tail) p.tail.event
       rests =
-          gathered (check_texts dig) (hops_checks 1 (start_of p).step (root_of p.before) p.hops) (tail_checks (suc (length p.hops)) (end_of p) p.tail)
-          ∙ (λ k. texts-hops p.hops 1 (start_of p).step (root_of p.before) k ++ texts-tail (suc (length p.hops)) (end_of p) p.tail k)
+          gathered (check_texts dig) (hops_checks 1 (start_of p).step (opening_root p.before) p.hops) (tail_checks (suc (length p.hops)) (end_of_order p) p.tail)
+          ∙ (λ k. texts-hops p.hops 1 (start_of p).step (opening_root p.before) k ++ texts-tail (suc (length p.hops)) (end_of_order p) p.tail k)
 
 -- ---- what is held
 
@@ -130,23 +130,23 @@ module _ (anchors : List Thread) where
   held-hops : (hops : List HopPart) (part step : ℕ) (root : List ℕ) → held_of (hops_checks part step root hops) ≡ flat_map (held_of_hop anchors) hops
   held-hops [] part step root = refl
   held-hops (hop ∷ hops) part step root =
-      gathered (held_by anchors) (hop_checks part step root hop) (hops_checks (suc part) hop.entry.thread.step (root_of hop.opening) hops)
-      ∙ (λ k. held-hop part step root hop k ++ held-hops hops (suc part) hop.entry.thread.step (root_of hop.opening) k)
+      gathered (held_by anchors) (hop_checks part step root hop) (hops_checks (suc part) hop.entry.thread.step (opening_root hop.opening) hops)
+      ∙ (λ k. held-hop part step root hop k ++ held-hops hops (suc part) hop.entry.thread.step (opening_root hop.opening) k)
 
   pub held-precedes : (p : PrecedenceProof)
       → option_to_list (anchor_of anchors p.head.service p.head.top) ++ flat_map (held_of_hop anchors) p.hops ≡ held anchors (Precedes p)
   held-precedes p =
-      sym (gathered (held_by anchors) (head_checks p) (hops_checks 1 (start_of p).step (root_of p.before) p.hops ++ tail_checks (suc (length p.hops)) (end_of p) p.tail)
+      sym (gathered (held_by anchors) (head_checks p) (hops_checks 1 (start_of p).step (opening_root p.before) p.hops ++ tail_checks (suc (length p.hops)) (end_of_order p) p.tail)
       ∙ (λ k. heads k ++ rests k))
     where
       heads : held_of (head_checks p) ≡ option_to_list (anchor_of anchors p.head.service p.head.top)
       heads = sym (held-under 0 p.head (EventOf 0 p.head.opening p.event ∷ opening_checks 0 (start_of p) p.before) (held-opened 0 (start_of p) p.before))
 
-      rests : held_of (hops_checks 1 (start_of p).step (root_of p.before) p.hops ++ tail_checks (suc (length p.hops)) (end_of p) p.tail) ≡ flat_map (held_of_hop anchors) p.hops
+      rests : held_of (hops_checks 1 (start_of p).step (opening_root p.before) p.hops ++ tail_checks (suc (length p.hops)) (end_of_order p) p.tail) ≡ flat_map (held_of_hop anchors) p.hops
       rests =
-          gathered (held_by anchors) (hops_checks 1 (start_of p).step (root_of p.before) p.hops) (tail_checks (suc (length p.hops)) (end_of p) p.tail)
-          ∙ append-nil (held_of (hops_checks 1 (start_of p).step (root_of p.before) p.hops))
-          ∙ held-hops p.hops 1 (start_of p).step (root_of p.before)
+          gathered (held_by anchors) (hops_checks 1 (start_of p).step (opening_root p.before) p.hops) (tail_checks (suc (length p.hops)) (end_of_order p) p.tail)
+          ∙ append-nil (held_of (hops_checks 1 (start_of p).step (opening_root p.before) p.hops))
+          ∙ held-hops p.hops 1 (start_of p).step (opening_root p.before)
 
   pub held-link : (p : LinkProof) → option_to_list (anchor_of anchors p.service p.top) ≡ held anchors (Linked p)
   held-link p = sym (append-nil (option_to_list (anchor_of anchors p.service p.top)))

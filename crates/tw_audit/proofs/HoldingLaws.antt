@@ -18,7 +18,7 @@ use Rattle.tw_audit.specs.declared.finding.AuditFault.TheVariants.{NotHeld, NoMe
 use Rattle.tw_audit.specs.declared.finding.Finding.{Finding}
 use Rattle.tw_audit.specs.declared.finding.Finding.TheVariants.{Stands, Clash, NotAccepted}
 use Rattle.tw_audit.specs.declared.passing.Missing.{Missing}
-use Rattle.tw_audit.specs.Auditing.{IsAnswer, IsAudit, agrees_with, answer_of, audited_texts, auth_in, of_pair}
+use Rattle.tw_audit.specs.Auditing.{IsAudit, IsAuditAnswer, agrees_with, audit_answer, audited_texts, auth_in, of_pair}
 use Rattle.tw_audit.specs.Stops.{missing_in}
 
 module _ (dig : List ℕ → List ℕ) (family : List History) (anchors : List Thread) (p : Proof) where
@@ -32,7 +32,7 @@ module _ (dig : List ℕ → List ℕ) (family : List History) (anchors : List T
   first = find (λ (t : Thread). not (agrees_with dig family t)) (held anchors p)
 
   -- a thread is missing
-  pub answer-missing : (m : Missing) → Some m ≡ missing_in dig family (held anchors p) → Err (NotHeld m.held m.found) ≡ answer_of dig family anchors p
+  pub answer-missing : (m : Missing) → Some m ≡ missing_in dig family (held anchors p) → Err (NotHeld m.held m.found) ≡ audit_answer dig family anchors p
   answer-missing m is = by first is
     where
       by : (o : Option Thread) → Some m ≡ noted o → (Err (NotHeld m.held m.found)) ≡ told o (Ok (of_pair dig (report_of p) (clash_pair dig (audited_texts dig family p))))
@@ -41,7 +41,7 @@ module _ (dig : List ℕ → List ℕ) (family : List History) (anchors : List T
 
   -- none is
   pub answer-found : (found : Finding) (report : Report) (pair : Option Pair) → None ≡ missing_in dig family (held anchors p) → report ≡ report_of p
-      → pair ≡ clash_pair dig (audited_texts dig family p) → found ≡ of_pair dig report pair → Ok found ≡ answer_of dig family anchors p
+      → pair ≡ clash_pair dig (audited_texts dig family p) → found ≡ of_pair dig report pair → Ok found ≡ audit_answer dig family anchors p
   answer-found found report pair none is_report is_pair is = by first none
     where
       by : (o : Option Thread) → None ≡ noted o → (Ok found) ≡ told o (Ok (of_pair dig (report_of p) (clash_pair dig (audited_texts dig family p))))
@@ -49,7 +49,7 @@ module _ (dig : List ℕ → List ℕ) (family : List History) (anchors : List T
       by (Some t) e = cc
 
   -- an answer is never that the proof isn't accepted
-  never-rejected : (reason : Reason) → Ok (NotAccepted reason) ≡ answer_of dig family anchors p → ⊥
+  never-rejected : (reason : Reason) → Ok (NotAccepted reason) ≡ audit_answer dig family anchors p → ⊥
   never-rejected reason is = by first (clash_pair dig (audited_texts dig family p)) is
     where
       by : (o : Option Thread) (pair : Option Pair) → (Ok (NotAccepted reason)) ≡ told o (Ok (of_pair dig (report_of p) pair)) → ⊥
@@ -59,7 +59,7 @@ module _ (dig : List ℕ → List ℕ) (family : List History) (anchors : List T
 
 -- what is found of an accepted proof is what an audit of its bytes answers
 pub answer-audit : (dig : List ℕ → List ℕ) (family : List History) (anchors : List Thread) (bytes : List ℕ) (accepts : Accepts dig anchors bytes) (result : Result Finding AuditFault)
-    → IsAnswer dig family anchors accepts.0 result → IsAudit dig family anchors bytes result
+    → IsAuditAnswer dig family anchors accepts.0 result → IsAudit dig family anchors bytes result
 answer-audit dig family anchors bytes accepts (Ok (Stands report)) is = (accepts, is)
 answer-audit dig family anchors bytes accepts (Ok (Clash one other digest)) is = (accepts, is)
 answer-audit dig family anchors bytes accepts (Ok (NotAccepted reason)) is = absurd (never-rejected dig family anchors accepts.0 reason is)
@@ -68,7 +68,7 @@ answer-audit dig family anchors bytes accepts (Err NoMemory) is = tt
 
 -- of a verdict that accepts
 pub verdict-audit : (dig : List ℕ → List ℕ) (family : List History) (anchors : List Thread) (bytes : List ℕ) (report : Report) (result : Result Finding AuditFault)
-    → IsVerdict dig anchors false bytes (Yes report) → ((p : Proof) → Spells proof_layout bytes p → report ≡ report_of p → IsAnswer dig family anchors p result)
+    → IsVerdict dig anchors false bytes (Yes report) → ((p : Proof) → Spells proof_layout bytes p → report ≡ report_of p → IsAuditAnswer dig family anchors p result)
     → IsAudit dig family anchors bytes result
 verdict-audit dig family anchors bytes report result verdict holds =
     let accepts : Accepts dig anchors bytes = verdict.0 in

@@ -19,7 +19,7 @@ use Rattle.tw_base.specs.kinds.Clash.{Among, Within}
 use Rattle.tw_base.proofs.lemmas.kinds.Clashes.{Among-left, Among-right, both_within, same_or_other}
 use Rattle.tw_audit.specs.declared.keys.Keys.{Keys}
 use Rattle.tw_audit.specs.declared.keys.Repeated.{Repeated}
-use Rattle.tw_audit.specs.KeyLists.{CoversClashes, HasKeys, is_among, key_of, known_at}
+use Rattle.tw_audit.specs.KeyLists.{CoversClashes, HasKeys, digest_key, is_among_keys, known_at}
 
 -- one text more, that is among them
 within-more : (texts listed : List (List ℕ)) (s : List ℕ) → Within texts listed → Among s listed → Within (texts ++ s ∷ []) listed
@@ -43,11 +43,11 @@ module _ (dig : List ℕ → List ℕ) (texts : List (List ℕ)) where
   }
 
   -- a text whose key was added
-  pub keys-added : (old new : Keys) (s : List ℕ) → HasKeys dig texts old → new.keys.items ≡ old.keys.items ++ key_of (dig s) ∷ []
+  pub keys-added : (old new : Keys) (s : List ℕ) → HasKeys dig texts old → new.keys.items ≡ old.keys.items ++ digest_key (dig s) ∷ []
       → ((key : ℕ) → (known_at new key ≡ known_at old key) ⊎ (known_at new key ≡ Some s)) → HasKeys dig (texts ++ s ∷ []) new
   keys-added old new s is pushed known = record {
     listed = is.listed ++ s ∷ [];
-    keys = pushed ∙ ap (λ w. w ++ key_of (dig s) ∷ []) is.keys ∙ sym (map_push (λ t. key_of (dig t)) is.listed s);
+    keys = pushed ∙ ap (λ w. w ++ digest_key (dig s) ∷ []) is.keys ∙ sym (map_push (λ t. digest_key (dig t)) is.listed s);
     all = both_within texts (s ∷ []) is.listed (s ∷ []) is.all (λ t a. a);
     known = λ key. by key (known key);
   }
@@ -67,28 +67,28 @@ hits-more key k keys = sum_by-cons (λ n. cond (bytes_eq n key) 1 0) k keys
 
 module _ (dig : List ℕ → List ℕ) (key : List ℕ) where
   abbrev keys_of : List (List ℕ) → List (List ℕ)
-  keys_of listed = map (λ t. key_of (dig t)) listed
+  keys_of listed = map (λ t. digest_key (dig t)) listed
 
-  is-hit : (z x : List ℕ) → x ≡ z → key_of (dig x) ≡ key → bytes_eq (key_of (dig z)) key ≡ true
-  is-hit z x here is = (bytes_eq-Decides (key_of (dig z)) key).1 (ap (λ t. key_of (dig t)) (sym here) ∙ is)
+  is-hit : (z x : List ℕ) → x ≡ z → digest_key (dig x) ≡ key → bytes_eq (digest_key (dig z)) key ≡ true
+  is-hit z x here is = (bytes_eq-Decides (digest_key (dig z)) key).1 (ap (λ t. digest_key (dig t)) (sym here) ∙ is)
 
   -- a text more, of another key or the same
-  more-hits : (z : List ℕ) (zs : List (List ℕ)) → hits key (keys_of (z ∷ zs)) ≡ cond (bytes_eq (key_of (dig z)) key) 1 0 + hits key (keys_of zs)
-  more-hits z zs = hits-more key (key_of (dig z)) (keys_of zs)
+  more-hits : (z : List ℕ) (zs : List (List ℕ)) → hits key (keys_of (z ∷ zs)) ≡ cond (bytes_eq (digest_key (dig z)) key) 1 0 + hits key (keys_of zs)
+  more-hits z zs = hits-more key (digest_key (dig z)) (keys_of zs)
 
-  one-more : (z : List ℕ) (zs : List (List ℕ)) → bytes_eq (key_of (dig z)) key ≡ true → hits key (keys_of (z ∷ zs)) ≡ 1 + hits key (keys_of zs)
+  one-more : (z : List ℕ) (zs : List (List ℕ)) → bytes_eq (digest_key (dig z)) key ≡ true → hits key (keys_of (z ∷ zs)) ≡ 1 + hits key (keys_of zs)
   one-more z zs is = more-hits z zs ∙ ap (λ b. cond b 1 0 + hits key (keys_of zs)) is
 
   no-less : (z : List ℕ) (zs : List (List ℕ)) → hits key (keys_of zs) ≤ hits key (keys_of (z ∷ zs))
   no-less z zs = omega (arith, more-hits z zs)
 
-  once : (listed : List (List ℕ)) (x : List ℕ) → Among x listed → key_of (dig x) ≡ key → 1 ≤ hits key (keys_of listed)
+  once : (listed : List (List ℕ)) (x : List ℕ) → Among x listed → digest_key (dig x) ≡ key → 1 ≤ hits key (keys_of listed)
   once [] x a is = absurd a
   once (z ∷ zs) x (inl here) is = omega (arith, one-more z zs (is-hit z x here is))
   once (z ∷ zs) x (inr there) is = let more : 1 ≤ hits key (keys_of zs) = once zs x there is in omega (arith, more, no-less z zs)
 
   -- two texts that differ, and have it
-  twice : (listed : List (List ℕ)) (x y : List ℕ) → Among x listed → Among y listed → key_of (dig x) ≡ key → key_of (dig y) ≡ key → x ≢ y → 2 ≤ hits key (keys_of listed)
+  twice : (listed : List (List ℕ)) (x y : List ℕ) → Among x listed → Among y listed → digest_key (dig x) ≡ key → digest_key (dig y) ≡ key → x ≢ y → 2 ≤ hits key (keys_of listed)
   twice [] x y a b is also differ = absurd a
   twice (z ∷ zs) x y (inl here) (inl there) is also differ = absurd (differ (here ∙ sym there))
   twice (z ∷ zs) x y (inl here) (inr b) is also differ =
@@ -180,28 +180,28 @@ covers dig texts k keys r is moved sorted neighbours x y a b digest none =
     elim (same_or_other x y) [
       | inl same ↦ same
       | inr differ ↦ absurd (
-          let key : List ℕ = key_of (dig x) in
-          let some : 2 ≤ hits key (keys_of dig key is.listed) = twice dig key is.listed x y (is.all x a) (is.all y b) refl (ap key_of (sym digest)) differ in
+          let key : List ℕ = digest_key (dig x) in
+          let some : 2 ≤ hits key (keys_of dig key is.listed) = twice dig key is.listed x y (is.all x a) (is.all y b) refl (ap digest_key (sym digest)) differ in
           let count : hits key keys ≡ hits key (keys_of dig key is.listed) = sum_by-IsPermutation (λ n. cond (bytes_eq n key) 1 0) k.keys.items keys moved ∙ ap (hits key) is.keys in
           let there : contains (slice_cmp nat_cmp) r.keys key ≡ true = beside keys sorted r.keys neighbours key (places-of key keys (omega (arith, some, count))) in
           let wrong : true ≡ false = sym there ∙ none in cc)
     ]
 
 -- without keys there is no text of one
-pub none-among : (r : Repeated) → length r.keys.keys ≡ 0 → (digest : List ℕ) → is_among r digest ≡ false
+pub none-among : (r : Repeated) → length r.keys.keys ≡ 0 → (digest : List ℕ) → is_among_keys r digest ≡ false
 none-among r none digest = by r.keys.keys none
   where
-    by : (keys : List (List ℕ)) → length keys ≡ 0 → contains (slice_cmp nat_cmp) (record { keys = keys }) (key_of digest) ≡ false
+    by : (keys : List (List ℕ)) → length keys ≡ 0 → contains (slice_cmp nat_cmp) (record { keys = keys }) (digest_key digest) ≡ false
     by [] none = refl
     by (k ∷ keys) none = absurd (omega (arith, none))
 
 -- more keys cover no less
 pub covers-more : (dig : List ℕ → List ℕ) (texts : List (List ℕ)) (one other : Repeated)
     → ((k : List ℕ) → contains (slice_cmp nat_cmp) one.keys k ≡ true → contains (slice_cmp nat_cmp) other.keys k ≡ true) → CoversClashes dig texts one → CoversClashes dig texts other
-covers-more dig texts one other within covered x y a b digest none = covered x y a b digest (by (is_among one (dig x)) refl)
+covers-more dig texts one other within covered x y a b digest none = covered x y a b digest (by (is_among_keys one (dig x)) refl)
   where
-    by : (c : Bool) → is_among one (dig x) ≡ c → c ≡ false
-    by true has = let there : is_among other (dig x) ≡ true = within (key_of (dig x)) has in let wrong : true ≡ false = sym there ∙ none in absurd cc
+    by : (c : Bool) → is_among_keys one (dig x) ≡ c → c ≡ false
+    by true has = let there : is_among_keys other (dig x) ≡ true = within (digest_key (dig x)) has in let wrong : true ≡ false = sym there ∙ none in absurd cc
     by false has = refl
 
 -- of fewer texts

@@ -8,7 +8,7 @@ use Rattle.tw_base.specs.history.HistoryTexts.{history_texts}
 use Rattle.tw_base.specs.kinds.Lists.{Each}
 use Rattle.tw_base.proofs.lemmas.kinds.ListLemmas.{Each-append}
 use Rattle.tw_audit.specs.declared.passing.Passed.{Passed}
-use Rattle.tw_audit.specs.Stops.{AnswerInTurn, AnswersFor}
+use Rattle.tw_audit.specs.Stops.{AnswerInTurn, AnswersForHeld}
 use Rattle.tw_base.specs.declared.history.thread.Thread.{Thread}
 use Rattle.tw_audit.proofs.CheckTexts.{gathered}
 
@@ -41,7 +41,7 @@ module _ (dig : List ℕ → List ℕ) where
   pub family-all : (family : List History) (i : ℕ) → length family ≤ i → family_texts dig (take i family) ≡ family_texts dig family
   family-all family i past = ap (family_texts dig) (take_all i family past)
 
-  turn-push : (held : List Thread) (hs : List History) (ps : List Passed) (h : History) (p : Passed) → AnswerInTurn dig held hs ps → AnswersFor dig held h p
+  turn-push : (held : List Thread) (hs : List History) (ps : List Passed) (h : History) (p : Passed) → AnswerInTurn dig held hs ps → AnswersForHeld dig held h p
       → AnswerInTurn dig held (hs ++ h ∷ []) (ps ++ p ∷ [])
   turn-push held [] [] h p all one = (one, tt)
   turn-push held [] (q ∷ ps) h p all one = absurd all
@@ -49,6 +49,6 @@ module _ (dig : List ℕ → List ℕ) where
   turn-push held (g ∷ hs) (q ∷ ps) h p all one = (all.0, turn-push held hs ps h p all.1 one)
 
   pub turn-more : (held : List Thread) (family : List History) (i : ℕ) (d : History) (ps : List Passed) (p : Passed) → i < length family → AnswerInTurn dig held (take i family) ps
-      → AnswersFor dig held (get_or family i d) p → AnswerInTurn dig held (take (i + 1) family) (ps ++ p ∷ [])
+      → AnswersForHeld dig held (get_or family i d) p → AnswerInTurn dig held (take (i + 1) family) (ps ++ p ∷ [])
   turn-more held family i d ps p inside all one =
       subst (λ hs. AnswerInTurn dig held hs (ps ++ p ∷ [])) (sym (take_more family i d inside)) (turn-push held (take i family) ps (get_or family i d) p all one)

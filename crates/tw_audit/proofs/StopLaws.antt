@@ -17,14 +17,14 @@ use Rattle.tw_base.proofs.lemmas.kinds.ListLemmas.{Each-append, Each-in, Each-ma
 use Rattle.tw_audit.specs.declared.passing.Passed.{Passed}
 use Rattle.tw_audit.specs.declared.passing.Stop.{Stop}
 use Rattle.tw_audit.specs.Auditing.{auth_in, auth_within}
-use Rattle.tw_audit.specs.Stops.{AnswerInTurn, AnswersAll, HasStop, HasStops, found_of, stopped_at}
+use Rattle.tw_audit.specs.Stops.{AnswerInTurn, AnswersAll, HasStop, HasStopsHeld, found_by_stops, stopped_at}
 
 has-more : (stops more : List Stop) (step : ℕ) → HasStop stops step → HasStop (stops ++ more) step
 has-more stops more step (s, has, at) = (s, In-left s stops more has, at)
 
 module _ (dig : List ℕ → List ℕ) (h : History) (held : List Thread) where
   -- the beginning
-  pub stops-begin : (auth_0 : List ℕ) → auth_0 ≡ auth dig h 0 → HasStops dig h held (record { step = 0; auth = auth_0 } ∷ []) 0
+  pub stops-begin : (auth_0 : List ℕ) → auth_0 ≡ auth dig h 0 → HasStopsHeld dig h held (record { step = 0; auth = auth_0 } ∷ []) 0
   stops-begin auth_0 is = record {
     own = ((omega arith, is), tt);
     all = all_of held;
@@ -35,11 +35,11 @@ module _ (dig : List ℕ → List ℕ) (h : History) (held : List Thread) where
       all_of (t ∷ ts) = ((λ of within. (record { step = 0; auth = auth_0 }, inl refl, (let e : 0 ≡ t.step = omega (arith, within) in e))), all_of ts)
 
   -- one stop more, behind which no thread held stands before it
-  pub stops-more : (stops new : List Stop) (at next : ℕ) (auth_next : List ℕ) → HasStops dig h held stops at → at < next → auth_next ≡ auth dig h next
+  pub stops-more : (stops new : List Stop) (at next : ℕ) (auth_next : List ℕ) → HasStopsHeld dig h held stops at → at < next → auth_next ≡ auth dig h next
       → Each (λ (t : Thread). t.from ≡ h.name → t.step < next → t.step ≤ at) held → new ≡ stops ++ record { step = next; auth = auth_next } ∷ []
-      → HasStops dig h held new next
+      → HasStopsHeld dig h held new next
   stops-more stops new at next auth_next has behind is between pushed =
-      subst (λ ss. HasStops dig h held ss next) (sym pushed) (record {
+      subst (λ ss. HasStopsHeld dig h held ss next) (sym pushed) (record {
         own = Each-append _ stops (record { step = next; auth = auth_next } ∷ []) (Each-map _ _ stops (λ s own. (omega (arith, own.0, behind), own.1)) has.own) ((omega arith, is), tt);
         all = all_of held has.all between;
       })
@@ -79,7 +79,7 @@ module _ (dig : List ℕ → List ℕ) (h : History) (held : List Thread) where
       by more false apart = more
 
   -- at the end they tell what the history has
-  pub stops-answer : (stops : List Stop) → HasStops dig h held stops (length h.steps)
+  pub stops-answer : (stops : List Stop) → HasStopsHeld dig h held stops (length h.steps)
       → Each (λ (t : Thread). t.from ≡ h.name → stopped_at stops t.step ≡ auth_within dig h t.step) held
   stops-answer stops has = Each-map _ _ held one has.all
     where
@@ -92,24 +92,24 @@ module _ (dig : List ℕ → List ℕ) (h : History) (held : List Thread) where
 
 module _ (dig : List ℕ → List ℕ) (held : List Thread) where
   -- a thread that is held, by the first history of its service
-  turn-at : (family : List History) (passed : List Passed) → AnswerInTurn dig held family passed → (t : Thread) → In t held → found_of passed t ≡ auth_in dig family t
+  turn-at : (family : List History) (passed : List Passed) → AnswerInTurn dig held family passed → (t : Thread) → In t held → found_by_stops passed t ≡ auth_in dig family t
   turn-at [] [] turn t has = refl
   turn-at [] (p ∷ passed) turn t has = absurd turn
   turn-at (h ∷ family) [] turn t has = absurd turn
   turn-at (h ∷ family) (p ∷ passed) turn t has = branch (turn-at family passed turn.1 t has) (bytes_eq h.name t.from) refl
     where
-      branch : found_of passed t ≡ auth_in dig family t → (b : Bool) → bytes_eq h.name t.from ≡ b → found_of (p ∷ passed) t ≡ auth_in dig (h ∷ family) t
+      branch : found_by_stops passed t ≡ auth_in dig family t → (b : Bool) → bytes_eq h.name t.from ≡ b → found_by_stops (p ∷ passed) t ≡ auth_in dig (h ∷ family) t
       branch rest true same =
-          ap (λ b. if b then stopped_at p.stops.items t.step else found_of passed t) (ap (λ n. bytes_eq n t.from) turn.0.service ∙ same)
+          ap (λ b. if b then stopped_at p.stops.items t.step else found_by_stops passed t) (ap (λ n. bytes_eq n t.from) turn.0.service ∙ same)
           ∙ Each-in _ held t turn.0.found has (sym ((bytes_eq-Decides h.name t.from).0 same))
           ∙ sym (ap (λ b. option_and_then (λ g. auth_within dig g t.step) (if b then Some h else history_of family t.from)) same)
       branch rest false apart =
-          ap (λ b. if b then stopped_at p.stops.items t.step else found_of passed t) (ap (λ n. bytes_eq n t.from) turn.0.service ∙ apart)
+          ap (λ b. if b then stopped_at p.stops.items t.step else found_by_stops passed t) (ap (λ n. bytes_eq n t.from) turn.0.service ∙ apart)
           ∙ rest
           ∙ sym (ap (λ b. option_and_then (λ g. auth_within dig g t.step) (if b then Some h else history_of family t.from)) apart)
 
   turn-of : (family : List History) (passed : List Passed) → AnswerInTurn dig held family passed → (ts : List Thread) → ((t : Thread) → In t ts → In t held)
-      → Each (λ (t : Thread). found_of passed t ≡ auth_in dig family t) ts
+      → Each (λ (t : Thread). found_by_stops passed t ≡ auth_in dig family t) ts
   turn-of family passed turn [] inside = tt
   turn-of family passed turn (t ∷ ts) inside = (turn-at family passed turn t (inside t (inl refl)), turn-of family passed turn ts (λ u has. inside u (inr has)))
 

@@ -12,7 +12,7 @@ use Rattle.tw_base.specs.kinds.Clash.{clash_pair, clashes}
 use Rattle.tw_audit.specs.declared.table.Place.{Place}
 use Rattle.tw_audit.specs.declared.table.PairPlaces.{PairPlaces}
 use Rattle.tw_audit.specs.declared.table.Table.{Table}
-use Rattle.tw_audit.specs.Tables.{HasTaken, IsInside, kept, other_than, pair_at, place_of, text_at, words_of}
+use Rattle.tw_audit.specs.Tables.{HasTaken, IsInside, kept, other_than, pair_at, place_in_table, text_at, words_of}
 use Rattle.tw_audit.proofs.Knowing.{knows-new, knows-same}
 use Rattle.tw_audit.proofs.PairLaws.{pair-none, pair-some}
 
@@ -70,9 +70,9 @@ module _ (dig : List ℕ → List ℕ) (texts : List (List ℕ)) where
 
   module _ (old new : Table) (s : List ℕ) (p : Place) (is : HasTaken dig texts old) (none : old.found ≡ None) (absent : kept old (dig s) ≡ None)
       (arena : new.arena.items ≡ old.arena.items ++ s) (start : p.start ≡ length old.arena.items) (end : p.end ≡ length old.arena.items + length s)
-      (same : new.found ≡ old.found) (here : place_of new (words_of (dig s)) ≡ Some p)
-      (others : (t : List ℕ) → dig t ≢ dig s → place_of new (words_of (dig t)) ≡ place_of old (words_of (dig t)))
-      (places : (words : List ℕ) → (place_of new words ≡ place_of old words) ⊎ (place_of new words ≡ Some p)) where
+      (same : new.found ≡ old.found) (here : place_in_table new (words_of (dig s)) ≡ Some p)
+      (others : (t : List ℕ) → dig t ≢ dig s → place_in_table new (words_of (dig t)) ≡ place_in_table old (words_of (dig t)))
+      (places : (words : List ℕ) → (place_in_table new words ≡ place_in_table old words) ⊎ (place_in_table new words ≡ Some p)) where
     kept_here : kept new (dig s) ≡ Some s
     kept_here =
         ap (option_map (text_at new.arena.items)) here
@@ -81,17 +81,17 @@ module _ (dig : List ℕ → List ℕ) (texts : List (List ℕ)) where
     kept_others : (t : List ℕ) → dig t ≢ dig s → kept new (dig t) ≡ kept old (dig t)
     kept_others t differ =
         ap (option_map (text_at new.arena.items)) (others t differ)
-        ∙ ap (λ a. option_map (text_at a) (place_of old (words_of (dig t)))) arena
-        ∙ texts-more old.arena.items s (place_of old (words_of (dig t))) (is.places (words_of (dig t)))
+        ∙ ap (λ a. option_map (text_at a) (place_in_table old (words_of (dig t)))) arena
+        ∙ texts-more old.arena.items s (place_in_table old (words_of (dig t))) (is.places (words_of (dig t)))
 
     no_clash : find (clashes dig s) texts ≡ None
     no_clash = is.knows none s ∙ ap (other_than s) absent
 
-    inside : (words : List ℕ) → IfSome (place_of new words) (IsInside new.arena.items)
-    inside words = subst (λ a. IfSome (place_of new words) (IsInside a)) (sym arena) (by (places words))
+    inside : (words : List ℕ) → IfSome (place_in_table new words) (IsInside new.arena.items)
+    inside words = subst (λ a. IfSome (place_in_table new words) (IsInside a)) (sym arena) (by (places words))
       where
-        by : (place_of new words ≡ place_of old words) ⊎ (place_of new words ≡ Some p) → IfSome (place_of new words) (IsInside (old.arena.items ++ s))
-        by (inl e) = subst (λ o. IfSome o (IsInside (old.arena.items ++ s))) (sym e) (insides-more old.arena.items s (place_of old words) (is.places words))
+        by : (place_in_table new words ≡ place_in_table old words) ⊎ (place_in_table new words ≡ Some p) → IfSome (place_in_table new words) (IsInside (old.arena.items ++ s))
+        by (inl e) = subst (λ o. IfSome o (IsInside (old.arena.items ++ s))) (sym e) (insides-more old.arena.items s (place_in_table old words) (is.places words))
         by (inr e) = subst (λ o. IfSome o (IsInside (old.arena.items ++ s))) (sym e) (inside-new old.arena.items s p start end)
 
     pub taken-new : HasTaken dig (texts ++ s ∷ []) new
@@ -126,9 +126,9 @@ module _ (dig : List ℕ → List ℕ) (texts : List (List ℕ)) where
         ∙ sym (ap (option_map (pair_at new.arena.items)) found
         ∙ (λ k. Some (record { one = one_is k; other = other_is k })));
     knows = λ unfound. (let no : Some (record { one = one; other = other }) ≡ None = sym found ∙ unfound in cc);
-    places = λ words. subst (λ a. IfSome (place_of new words) (IsInside a)) (sym arena)
+    places = λ words. subst (λ a. IfSome (place_in_table new words) (IsInside a)) (sym arena)
         (subst (λ m. IfSome (get (slice_cmp nat_cmp) m words) (IsInside (old.arena.items ++ s))) (sym places)
-        (insides-more old.arena.items s (place_of old words) (is.places words)));
+        (insides-more old.arena.items s (place_in_table old words) (is.places words)));
     found = subst (λ o. IfSome o (λ (q : PairPlaces). IsInside new.arena.items q.one × IsInside new.arena.items q.other)) (sym found)
         (subst (λ a. IsInside a one × IsInside a other) (sym arena) (inside-more old.arena.items s one inside, inside-new old.arena.items s other start end));
   }

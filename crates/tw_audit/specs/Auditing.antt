@@ -45,19 +45,19 @@ module _ (dig : List ℕ → List ℕ) (family : List History) where
 
   -- of an accepted proof: the first of the threads held with which the family doesn't agree, and what it has there; where there is
   -- none, the first clash of the texts, or that the proof's report stands
-  abbrev pub answer_of : (anchors : List Thread) → Proof → Result Finding AuditFault
-  answer_of anchors p =
+  abbrev pub audit_answer : (anchors : List Thread) → Proof → Result Finding AuditFault
+  audit_answer anchors p =
       option_map_or (λ t. Err (NotHeld t (auth_in t))) (find (λ t. not (agrees_with t)) (held anchors p))
       (Ok (of_pair dig (report_of p) (clash_pair dig (audited_texts p))))
 
   -- the answer is that, or there was no memory
-  abbrev pub IsAnswer : (anchors : List Thread) → Proof → Result Finding AuditFault → Type 0
-  IsAnswer anchors p (Err NoMemory) = Unit {0}
-  IsAnswer anchors p result = result ≡ answer_of anchors p
+  abbrev pub IsAuditAnswer : (anchors : List Thread) → Proof → Result Finding AuditFault → Type 0
+  IsAuditAnswer anchors p (Err NoMemory) = Unit {0}
+  IsAuditAnswer anchors p result = result ≡ audit_answer anchors p
 
   -- what an audit of the bytes answers: that they aren't accepted, with the lowest reason; else what is found of the proof that
   -- they spell. Want of memory is free
   abbrev pub IsAudit : (anchors : List Thread) → List ℕ → Result Finding AuditFault → Type 0
   IsAudit anchors bytes (Ok (NotAccepted reason)) = IsVerdict dig anchors false bytes (No reason)
   IsAudit anchors bytes (Err NoMemory) = Unit {0}
-  IsAudit anchors bytes result = (accepts : Accepts dig anchors bytes) × (result ≡ answer_of anchors accepts.0)
+  IsAudit anchors bytes result = (accepts : Accepts dig anchors bytes) × (result ≡ audit_answer anchors accepts.0)

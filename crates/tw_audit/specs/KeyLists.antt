@@ -9,8 +9,8 @@ use Rattle.tw_base.specs.kinds.Clash.{Among, Within}
 use Rattle.tw_audit.specs.declared.keys.Keys.{Keys}
 use Rattle.tw_audit.specs.declared.keys.Repeated.{Repeated}
 
-abbrev pub key_of : (digest : List ℕ) → List ℕ
-key_of digest = slice_range digest 0 7
+abbrev pub digest_key : (digest : List ℕ) → List ℕ
+digest_key digest = slice_range digest 0 7
 
 -- the text that is known of a number
 abbrev pub known_at : Keys → (number : ℕ) → Option (List ℕ)
@@ -19,7 +19,7 @@ known_at k number = get nat_cmp k.known number
 -- the keys are those of a list of texts, among which is each text that was taken, and each that is known
 pub record HasKeys (dig : List ℕ → List ℕ) (texts : List (List ℕ)) (k : Keys) : Type 0 where
   pub listed : List (List ℕ)
-  pub keys : k.keys.items ≡ map (λ t. key_of (dig t)) listed
+  pub keys : k.keys.items ≡ map (λ t. digest_key (dig t)) listed
   pub all : Within texts listed
   pub known : (number : ℕ) → IfSome (known_at k number) (λ t. Among t listed)
 
@@ -28,13 +28,13 @@ abbrev pub TookKeys : (dig : List ℕ → List ℕ) → Keys → List (List ℕ)
 TookKeys dig k texts = k.spent ≡ false → HasKeys dig texts k
 
 -- the digest's key is one of these
-abbrev pub is_among : Repeated → (digest : List ℕ) → Bool
-is_among r digest = contains (slice_cmp nat_cmp) r.keys (key_of digest)
+abbrev pub is_among_keys : Repeated → (digest : List ℕ) → Bool
+is_among_keys r digest = contains (slice_cmp nat_cmp) r.keys (digest_key digest)
 
 -- the texts with one of these keys
 abbrev pub doubtful : (dig : List ℕ → List ℕ) → Repeated → List (List ℕ) → List (List ℕ)
-doubtful dig r texts = filter (λ t. is_among r (dig t)) texts
+doubtful dig r texts = filter (λ t. is_among_keys r (dig t)) texts
 
 -- of two different texts with one digest the key is one of these
 abbrev pub CoversClashes : (dig : List ℕ → List ℕ) → List (List ℕ) → Repeated → Type 0
-CoversClashes dig texts r = (x y : List ℕ) → Among x texts → Among y texts → dig x ≡ dig y → is_among r (dig x) ≡ false → x ≡ y
+CoversClashes dig texts r = (x y : List ℕ) → Among x texts → Among y texts → dig x ≡ dig y → is_among_keys r (dig x) ≡ false → x ≡ y

@@ -11,7 +11,7 @@ use Rattle.tw_skipproof.specs.declared.opening.Opening.{Opening}
 use Rattle.tw_skipproof.specs.Acceptance.{part_texts}
 use Rattle.tw_skipproof.specs.Openings.{opening_texts}
 use Rattle.tw_skipproof.specs.Paths.{path_texts}
-use Rattle.tw_treeproof.specs.Answers.{proof_texts as tree_proof_texts}
+use Rattle.tw_treeproof.specs.Answers.{tree_proof_texts}
 
 module _ (dig : List ℕ → List ℕ) where
   abbrev pub seen_texts : Part → EventPart → List (List ℕ)

@@ -16,7 +16,7 @@ pub record HasLinks (links : List Link) (from to : ℕ) : Type 0 where
   pub shape : HasShape links from to
   pub from_within : from ≤ LAST_STEP
 
-pub record IsPartShaped (at : Part) : Type 0 where
+pub record IsPartAuditable (at : Part) : Type 0 where
   pub labels : length at.opening.others < 40
   pub links : HasLinks at.path.links at.top at.step
 
@@ -32,9 +32,9 @@ pub record IsHopShaped (hop : HopPart) : Type 0 where
   pub bound : hop.bind ≢ 0 → HasLinks hop.link.links hop.bind hop.entry.thread.step
   pub opened : IfSome hop.opening (λ (o : Opening). length o.others < 40)
 
-abbrev pub IsShaped : Check → Type 0
-IsShaped (PathOf part at upper) = IsPartShaped at
-IsShaped (LinkOf part l) = HasLinks l.path.links l.top l.step
-IsShaped (OpeningOf part t o) = length o.others < 40
-IsShaped (EventOf part o e) = IsEventShaped o.count e
-IsShaped _ = Unit {0}
+abbrev pub IsCheckShaped : Check → Type 0
+IsCheckShaped (PathOf part at upper) = IsPartAuditable at
+IsCheckShaped (LinkOf part l) = HasLinks l.path.links l.top l.step
+IsCheckShaped (OpeningOf part t o) = length o.others < 40
+IsCheckShaped (EventOf part o e) = IsEventShaped o.count e
+IsCheckShaped _ = Unit {0}

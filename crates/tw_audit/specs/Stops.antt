@@ -20,29 +20,29 @@ abbrev pub HasStop : List Stop → (step : ℕ) → Type 0
 HasStop stops step = (s : Stop) × In s stops × (s.step ≡ step)
 
 -- of a history that was passed up to this step: each that was kept is the history's, and one was kept for each thread held
-pub record HasStops (dig : List ℕ → List ℕ) (h : History) (held : List Thread) (stops : List Stop) (upto : ℕ) : Type 0 where
+pub record HasStopsHeld (dig : List ℕ → List ℕ) (h : History) (held : List Thread) (stops : List Stop) (upto : ℕ) : Type 0 where
   pub own : Each (λ (s : Stop). (s.step ≤ upto) × (s.auth ≡ auth dig h s.step)) stops
   pub all : Each (λ (t : Thread). t.from ≡ h.name → t.step ≤ upto → HasStop stops t.step) held
 
 -- what was kept of the first history of the thread's service, at its step
-abbrev pub found_of : List Passed → Thread → Option (List ℕ)
-found_of [] t = None
-found_of (p ∷ passed) t = if bytes_eq p.service t.from then stopped_at p.stops.items t.step else found_of passed t
+abbrev pub found_by_stops : List Passed → Thread → Option (List ℕ)
+found_by_stops [] t = None
+found_by_stops (p ∷ passed) t = if bytes_eq p.service t.from then stopped_at p.stops.items t.step else found_by_stops passed t
 
 -- what was kept of a history answers for the threads held of its service
-pub record AnswersFor (dig : List ℕ → List ℕ) (held : List Thread) (h : History) (p : Passed) : Type 0 where
+pub record AnswersForHeld (dig : List ℕ → List ℕ) (held : List Thread) (h : History) (p : Passed) : Type 0 where
   pub service : p.service ≡ h.name
   pub found : Each (λ (t : Thread). t.from ≡ h.name → stopped_at p.stops.items t.step ≡ auth_within dig h t.step) held
 
 -- each history's, in their order
 abbrev pub AnswerInTurn : (dig : List ℕ → List ℕ) (held : List Thread) → List History → List Passed → Type 0
 AnswerInTurn dig held [] [] = Unit {0}
-AnswerInTurn dig held (h ∷ hs) (p ∷ ps) = AnswersFor dig held h p × AnswerInTurn dig held hs ps
+AnswerInTurn dig held (h ∷ hs) (p ∷ ps) = AnswersForHeld dig held h p × AnswerInTurn dig held hs ps
 AnswerInTurn dig held _ _ = ⊥
 
 -- what was kept of the family tells of each thread held what the family has there
 abbrev pub AnswersAll : (dig : List ℕ → List ℕ) (family : List History) (held : List Thread) → List Passed → Type 0
-AnswersAll dig family held passed = Each (λ (t : Thread). found_of passed t ≡ auth_in dig family t) held
+AnswersAll dig family held passed = Each (λ (t : Thread). found_by_stops passed t ≡ auth_in dig family t) held
 
 -- the first of the threads that the family doesn't have, with what it has there
 abbrev pub missing_in : (dig : List ℕ → List ℕ) (family : List History) → List Thread → Option Missing

@@ -24,12 +24,12 @@ text_at arena p = slice_range arena p.start p.end
 abbrev pub pair_at : (arena : List ℕ) → PairPlaces → Pair
 pair_at arena p = record { one = text_at arena p.one; other = text_at arena p.other }
 
-abbrev pub place_of : Table → (words : List ℕ) → Option Place
-place_of t words = get (slice_cmp nat_cmp) t.places words
+abbrev pub place_in_table : Table → (words : List ℕ) → Option Place
+place_in_table t words = get (slice_cmp nat_cmp) t.places words
 
 -- the text that is kept of a digest
 abbrev pub kept : Table → (digest : List ℕ) → Option (List ℕ)
-kept t digest = option_map (text_at t.arena.items) (place_of t (words_of digest))
+kept t digest = option_map (text_at t.arena.items) (place_in_table t (words_of digest))
 
 -- the text that was kept, where it is another one
 abbrev pub other_than : (text : List ℕ) → Option (List ℕ) → Option (List ℕ)
@@ -48,7 +48,7 @@ Knows dig texts kept = (text : List ℕ) → find (clashes dig text) texts ≡ o
 pub record HasTaken (dig : List ℕ → List ℕ) (texts : List (List ℕ)) (t : Table) : Type 0 where
   pub pair : clash_pair dig texts ≡ option_map (pair_at t.arena.items) t.found
   pub knows : t.found ≡ None → Knows dig texts (kept t)
-  pub places : (words : List ℕ) → IfSome (place_of t words) (IsInside t.arena.items)
+  pub places : (words : List ℕ) → IfSome (place_in_table t words) (IsInside t.arena.items)
   pub found : IfSome t.found (λ (p : PairPlaces). IsInside t.arena.items p.one × IsInside t.arena.items p.other)
 
 -- unless memory was wanting

@@ -13,9 +13,9 @@ ghost use Rattle.tw_chain.specs.Checks.{checks};
 ghost use Rattle.tw_chain.specs.Proofs.{proof_layout};
 ghost use Rattle.tw_chain.specs.Reasons.{IsVerdict};
 ghost use Rattle.tw_audit.specs.Answers.{AnswerMeans};
-ghost use Rattle.tw_audit.specs.Auditing.{IsAnswer, IsAudit, audited_texts, of_pair};
+ghost use Rattle.tw_audit.specs.Auditing.{IsAudit, IsAuditAnswer, audited_texts, of_pair};
 ghost use Rattle.tw_audit.specs.KeyLists.{CoversClashes, TookKeys, doubtful};
-ghost use Rattle.tw_audit.specs.Shapes.{IsShaped};
+ghost use Rattle.tw_audit.specs.Shapes.{IsCheckShaped};
 ghost use Rattle.tw_audit.specs.Stops.{missing_in};
 ghost use Rattle.tw_audit.specs.Tables.{Took};
 ghost use Rattle.tw_audit.specs.declared.table.TextPair.{TextPair as TextPairMeant};
@@ -74,7 +74,7 @@ fn pair_among<H: Hasher>(
     repeated: &Repeated,
     finder: Finder<H>,
 ) -> Result<Option<TextPair>, NoMemory>
-    requires { Each IsShaped (checks proof.now) }
+    requires { Each IsCheckShaped (checks proof.now) }
     ensures { IfOk result (λ pair. CoversClashes H.dig (audited_texts H.dig histories.now proof.now) repeated.now → Took H.dig finder.table (doubtful H.dig finder.repeated []) →
         option_map (λ (p : TextPairMeant). record { one = p.one; other = p.other }) pair ≡ clash_pair H.dig (audited_texts H.dig histories.now proof.now)) }
 {
@@ -99,7 +99,7 @@ fn pair_of<H: Hasher>(
     histories: &[History],
     keys: KeyTranscript<H>,
 ) -> Result<Option<TextPair>, NoMemory>
-    requires { Each IsShaped (checks proof.now) }
+    requires { Each IsCheckShaped (checks proof.now) }
     ensures { IfOk result (λ pair. TookKeys H.dig keys.keys (proof_texts H.dig proof.now ++ family_texts H.dig histories.now) →
         option_map (λ (p : TextPairMeant). record { one = p.one; other = p.other }) pair ≡ clash_pair H.dig (audited_texts H.dig histories.now proof.now)) }
 {
@@ -121,9 +121,9 @@ fn judge<H: Hasher>(
     histories: &[History],
     keys: KeyTranscript<H>,
 ) -> Result<Finding, AuditFault>
-    requires { Each IsShaped (checks proof.now) }
+    requires { Each IsCheckShaped (checks proof.now) }
     ensures { (anchors : List ThreadMeant) → report ≡ report_of proof.now → missing ≡ missing_in H.dig histories.now (held anchors proof.now) →
-        TookKeys H.dig keys.keys (proof_texts H.dig proof.now ++ family_texts H.dig histories.now) → IsAnswer H.dig histories.now anchors proof.now result }
+        TookKeys H.dig keys.keys (proof_texts H.dig proof.now ++ family_texts H.dig histories.now) → IsAuditAnswer H.dig histories.now anchors proof.now result }
 {
     if let Some(Missing { held, found }) = missing {
         drop(report);
@@ -160,8 +160,8 @@ fn hold<H: Hasher>(
     anchors: &[Thread],
     histories: &[History],
 ) -> Result<Finding, AuditFault>
-    requires { Each IsShaped (checks proof.now) }
-    ensures { report ≡ report_of proof.now → IsAnswer H.dig histories.now anchors.now proof.now result }
+    requires { Each IsCheckShaped (checks proof.now) }
+    ensures { report ≡ report_of proof.now → IsAuditAnswer H.dig histories.now anchors.now proof.now result }
 {
     let mut keys = KeyTranscript::<H>::new(alloc);
     keys.reserve(expected_texts(histories));
@@ -185,7 +185,7 @@ fn hold_bytes<H: Hasher>(
     anchors: &[Thread],
     histories: &[History],
 ) -> Result<Finding, AuditFault>
-    ensures { (p : ProofMeant) → Spells proof_layout bytes.now p → report ≡ report_of p → IsAnswer H.dig histories.now anchors.now p result }
+    ensures { (p : ProofMeant) → Spells proof_layout bytes.now p → report ≡ report_of p → IsAuditAnswer H.dig histories.now anchors.now p result }
 {
     match read_proof(alloc, bytes) {
         Ok(proof) => hold::<H>(alloc, &proof, report, anchors, histories),

@@ -5,7 +5,7 @@ ghost use Rattle.std.specs.BTreeSet.{btree_set_len, contains as has_key};
 ghost use Rattle.std.specs.Cmp.Lexicographic.{slice_cmp};
 ghost use Rattle.std.specs.List.Sorted.{IsSorted};
 ghost use Rattle.std.specs.Ordering.{nat_cmp};
-ghost use Rattle.tw_audit.specs.KeyLists.{CoversClashes, HasKeys, TookKeys, is_among, key_of, known_at};
+ghost use Rattle.tw_audit.specs.KeyLists.{CoversClashes, HasKeys, TookKeys, digest_key, is_among_keys, known_at};
 
 use crate::table::word;
 use std::alloc::Global;
@@ -21,7 +21,7 @@ const MOST_KNOWN: usize = 1024;
 
 /// The key of a digest.
 pub(crate) fn key(digest: &Digest) -> Key
-    ensures { result ≡ key_of digest.now }
+    ensures { result ≡ digest_key digest.now }
 {
     let mut key = [0; 7];
     key.copy_from_slice(&digest.0[0..7]);
@@ -84,7 +84,7 @@ impl Keys {
 
     /// Adds the key of a text.
     fn add(&mut self, key: Key, number: u64, text: &[u8]) -> Result<(), NoMemory>
-        ensures taken { OnOk result ((dig : List ℕ → List ℕ) (texts : List (List ℕ)) → key ≡ key_of (dig text.now) → HasKeys dig texts self.old →
+        ensures taken { OnOk result ((dig : List ℕ → List ℕ) (texts : List (List ℕ)) → key ≡ digest_key (dig text.now) → HasKeys dig texts self.old →
             HasKeys dig (texts ++ text.now ∷ []) self.new) }
         ensures spent { self.new.spent ≡ self.old.spent }
     {
@@ -156,7 +156,7 @@ impl Repeated {
 
     /// Whether the key of this digest is among them.
     pub(crate) fn has(&self, digest: &Digest) -> bool
-        ensures { result ≡ is_among self.now digest.now }
+        ensures { result ≡ is_among_keys self.now digest.now }
     {
         self.keys.contains(&key(digest))
     }

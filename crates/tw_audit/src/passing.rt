@@ -7,7 +7,7 @@ ghost use Rattle.tw_base.specs.history.HistoryTexts.{history_texts};
 ghost use Rattle.tw_base.specs.kinds.Lists.{Each};
 ghost use Rattle.tw_history.specs.PassSteps.{HandsOn, HasPassed};
 ghost use Rattle.tw_audit.specs.Auditing.{is_found};
-ghost use Rattle.tw_audit.specs.Stops.{AnswersAll, AnswersFor, HasStops, found_of, missing_in, stopped_at};
+ghost use Rattle.tw_audit.specs.Stops.{AnswersAll, AnswersForHeld, HasStopsHeld, found_by_stops, missing_in, stopped_at};
 ghost use Rattle.tw_base.specs.kinds.Handing.{Hands};
 
 use std::alloc::Global;
@@ -66,8 +66,8 @@ fn pass_to_end<T: Transcript>(
     texts: &mut T,
 ) -> Result<(), NoMemory>
     requires passed { HasPassed T.dig history.now 0 digests.old }
-    requires stops { HasStops T.dig history.now held.now stops.old.items 0 }
-    ensures stops { OnOk result (HasStops T.dig history.now held.now stops.new.items (length history.now.steps)) }
+    requires stops { HasStopsHeld T.dig history.now held.now stops.old.items 0 }
+    ensures stops { OnOk result (HasStopsHeld T.dig history.now held.now stops.new.items (length history.now.steps)) }
     ensures took { OnOk result (HandsOn T.dig history.now T.took texts.old texts.new 0 (length history.now.steps)) }
 {
     let last = count_of_steps(history);
@@ -91,7 +91,7 @@ fn pass_history<T: Transcript>(
     held: &[Thread],
     texts: &mut T,
 ) -> Result<Passed, NoMemory>
-    ensures answers { IfOk result (AnswersFor T.dig held.now history.now) }
+    ensures answers { IfOk result (AnswersForHeld T.dig held.now history.now) }
     ensures took { OnOk result (Hands T.took texts.old texts.new (history_texts T.dig history.now)) }
 {
     let mut digests = begin_pass(alloc, history, texts)?;
@@ -139,7 +139,7 @@ fn stop_at(stops: &[Stop], step: u64) -> Option<Digest>
 
 /// What the first history of the thread's service has at its step.
 fn found_in(passed: &[Passed], thread: &Thread) -> Option<Digest>
-    ensures { result ≡ found_of passed.now thread.now }
+    ensures { result ≡ found_by_stops passed.now thread.now }
 {
     for one in passed {
         if one.service == thread.from {

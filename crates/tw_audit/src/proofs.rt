@@ -8,9 +8,9 @@ ghost use Rattle.tw_skipproof.specs.Acceptance.{part_texts};
 ghost use Rattle.tw_skipproof.specs.Paths.{HasShape, path_texts};
 ghost use Rattle.tw_chain.specs.declared.proof.Proof.TheVariants.{Absent, Archived, Exists, Precedes};
 ghost use Rattle.tw_chain.specs.Accepting.{proof_texts};
-ghost use Rattle.tw_chain.specs.Checks.{checks, end_of};
+ghost use Rattle.tw_chain.specs.Checks.{checks, end_of_order};
 ghost use Rattle.tw_audit.specs.PieceTexts.{bind_texts, hop_texts, opened_texts, seen_texts};
-ghost use Rattle.tw_audit.specs.Shapes.{IsEventShaped, IsHopShaped, IsPartShaped, IsShaped};
+ghost use Rattle.tw_audit.specs.Shapes.{IsCheckShaped, IsEventShaped, IsHopShaped, IsPartAuditable};
 ghost use Rattle.tw_base.specs.kinds.Handing.{Hands};
 
 use tw_base::{Ask, Digest, EventPart, Transcript};
@@ -44,7 +44,7 @@ fn hash_part<T: Transcript>(step: u64, top: u64, path: &Path, opening: &Opening,
 
 /// Hands on the texts of a step under its top, and then those of one of its events.
 fn hash_seen<T: Transcript>(at: &Part, event: &EventPart, texts: &mut T)
-    requires part { IsPartShaped at.now }
+    requires part { IsPartAuditable at.now }
     requires event { IsEventShaped at.now.opening.count event.now }
     ensures { Hands T.took texts.old texts.new (seen_texts T.dig at.now event.now) }
 {
@@ -54,7 +54,7 @@ fn hash_seen<T: Transcript>(at: &Part, event: &EventPart, texts: &mut T)
 
 /// Hands on the texts of a proof of an event.
 fn hash_existence<T: Transcript>(proof: &ExistenceProof, texts: &mut T)
-    requires { Each IsShaped (checks (Exists proof.now)) }
+    requires { Each IsCheckShaped (checks (Exists proof.now)) }
     ensures { Hands T.took texts.old texts.new (proof_texts T.dig (Exists proof.now)) }
 {
     hash_seen(&proof.at, &proof.event, texts);
@@ -62,7 +62,7 @@ fn hash_existence<T: Transcript>(proof: &ExistenceProof, texts: &mut T)
 
 /// Hands on the texts of a proof that a thread was received.
 fn hash_archived<T: Transcript>(proof: &ThreadProof, texts: &mut T)
-    requires { Each IsShaped (checks (Archived proof.now)) }
+    requires { Each IsCheckShaped (checks (Archived proof.now)) }
     ensures { Hands T.took texts.old texts.new (proof_texts T.dig (Archived proof.now)) }
 {
     let at = &proof.at;
@@ -72,7 +72,7 @@ fn hash_archived<T: Transcript>(proof: &ThreadProof, texts: &mut T)
 
 /// Hands on the texts of a proof that no thread of a key was received.
 fn hash_absence<T: Transcript>(proof: &AbsenceProof, texts: &mut T)
-    requires { Each IsShaped (checks (Absent proof.now)) }
+    requires { Each IsCheckShaped (checks (Absent proof.now)) }
     ensures { Hands T.took texts.old texts.new (proof_texts T.dig (Absent proof.now)) }
 {
     let at = &proof.at;
@@ -127,7 +127,7 @@ fn hash_hops<T: Transcript>(hops: &[HopPart], texts: &mut T)
 
 /// The step to which the hops come from the second event's.
 fn end_step(proof: &PrecedenceProof) -> u64
-    ensures { result ≡ (end_of proof.now).step }
+    ensures { result ≡ (end_of_order proof.now).step }
 {
     match proof.hops.as_slice().last() {
         None => proof.head.step.saturating_sub(1),
@@ -138,7 +138,7 @@ fn end_step(proof: &PrecedenceProof) -> u64
 /// Hands on the texts of a proof from event to event: the second event's, those of the step before it, the
 /// hops', and the first event's.
 fn hash_precedence<T: Transcript>(proof: &PrecedenceProof, texts: &mut T)
-    requires { Each IsShaped (checks (Precedes proof.now)) }
+    requires { Each IsCheckShaped (checks (Precedes proof.now)) }
     ensures { Hands T.took texts.old texts.new (proof_texts T.dig (Precedes proof.now)) }
 {
     hash_seen(&proof.head, &proof.event, texts);
@@ -151,7 +151,7 @@ fn hash_precedence<T: Transcript>(proof: &PrecedenceProof, texts: &mut T)
 
 /// Hands on what checking the proof hashes, in the order of its bytes.
 pub(crate) fn hash_proof<T: Transcript>(proof: &Proof, texts: &mut T)
-    requires { Each IsShaped (checks proof.now) }
+    requires { Each IsCheckShaped (checks proof.now) }
     ensures { Hands T.took texts.old texts.new (proof_texts T.dig proof.now) }
 {
     match proof {

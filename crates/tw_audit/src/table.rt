@@ -5,7 +5,7 @@ ghost use Rattle.std.specs.Int.{from_be_bytes, w64};
 ghost use Rattle.std.specs.Option.{option_map};
 ghost use Rattle.tw_base.specs.kinds.Clash.{clash_pair};
 ghost use Rattle.tw_audit.specs.declared.table.TextPair.{TextPair as TextPairMeant};
-ghost use Rattle.tw_audit.specs.Tables.{GivesDigests, HasTaken, IsInside, Took, kept, place_of, text_at as text_of_place, words_of};
+ghost use Rattle.tw_audit.specs.Tables.{GivesDigests, HasTaken, IsInside, Took, kept, place_in_table, text_at as text_of_place, words_of};
 
 use std::alloc::Global;
 use std::collections::BTreeMap;
@@ -90,7 +90,7 @@ impl Table {
 
     /// Where the text with this digest's words stands, if one is kept.
     fn place(&self, words: &[u64; 4]) -> Option<Place>
-        ensures { result ≡ place_of self.now words.now }
+        ensures { result ≡ place_in_table self.now words.now }
     {
         self.places.get(words).copied()
     }

@@ -17,7 +17,7 @@ use Rattle.tw_skipproof.specs.Paths.{HasLinkSizes}
 use Rattle.tw_treeproof.specs.Sizes.{HasProofSizes}
 use Rattle.tw_chain.specs.declared.proof.HopPart.{HopPart}
 use Rattle.tw_chain.specs.Accepting.{hop_from, hops_to}
-use Rattle.tw_chain.specs.Checks.{Check, bind_checks, bind_of, hop_checks, hops_checks, last_thread, link_checks, opening_checks, root_of}
+use Rattle.tw_chain.specs.Checks.{Check, bind_checks, bind_of, hop_checks, hops_checks, last_hop_thread, link_checks, opening_checks, opening_root}
 use Rattle.tw_chain.specs.Checks.Check.{AnswerOf, CarriesThread}
 use Rattle.tw_chain.specs.Proofs.{following, hop_bytes, hop_codec}
 use Rattle.tw_chain.proofs.ArchiveAnswers.{has-received}
@@ -81,18 +81,18 @@ module _ (s : Setting) where
 
   -- from a thread's step down the hops: the family has the thread that they come to, and from each step up to it they lead back
   pub chain-binds : (hops : List HopPart) (part at : ℕ) (t : Thread) (opening : Option Opening) → EachFits hop_bytes hop_codec (following (length hops)) hops
-      → FitsOpening (length hops) t.step opening → HasThread s.dig s.family t → AreChecked s (opening_checks part t opening) → AreChecked s (hops_checks at t.step (root_of opening) hops)
-      → (step : ℕ) → step ≤ (last_thread t hops).step
-      → OrTheyClash s (HasThread s.dig s.family (last_thread t hops) × LeadsBy s.dig s.family (hops_to t.from hops)
-      (record { from = (last_thread t hops).from; step = step }) (record { from = t.from; step = t.step }))
+      → FitsOpening (length hops) t.step opening → HasThread s.dig s.family t → AreChecked s (opening_checks part t opening) → AreChecked s (hops_checks at t.step (opening_root opening) hops)
+      → (step : ℕ) → step ≤ (last_hop_thread t hops).step
+      → OrTheyClash s (HasThread s.dig s.family (last_hop_thread t hops) × LeadsBy s.dig s.family (hops_to t.from hops)
+      (record { from = (last_hop_thread t hops).from; step = step }) (record { from = t.from; step = t.step }))
   chain-binds [] part at t opening fits opens thread opened checked step order = inl (thread, (refl, order))
   chain-binds (hop ∷ hops) part at t None fits opens thread opened checked step order = absurd (opens-some (length hops) t.step None opens)
   chain-binds (hop ∷ hops) part at t (Some o) fits opens thread opened checked step order =
       let more : ℕ = length hops in
-      let last : Thread = last_thread hop.entry.thread hops in
+      let last : Thread = last_hop_thread hop.entry.thread hops in
       let known : HopFits more hop = hop-fits more hop fits.0 in
       let own : List Check = hop_checks at t.step o.archive_root hop in
-      let onward : List Check = hops_checks (suc at) hop.entry.thread.step (root_of hop.opening) hops in
+      let onward : List Check = hops_checks (suc at) hop.entry.thread.step (opening_root hop.opening) hops in
       let parts = parted s own onward checked in
       let rest = parted s (bind_checks at hop) (opening_checks at hop.entry.thread hop.opening) parts.0.1.1 in
       and_then s.dig s.texts _ _ (opening-step s part t o (opening-sizes 0 t.step o (opens-some more t.step (Some o) opens)) thread opened.1.0)

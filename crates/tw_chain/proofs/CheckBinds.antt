@@ -34,11 +34,11 @@ use Rattle.tw_skipproof.specs.declared.existence.Part.{Part}
 use Rattle.tw_skipproof.specs.declared.opening.Opening.{Opening}
 use Rattle.tw_skipproof.specs.declared.path.Link.{Link}
 use Rattle.tw_skipproof.specs.Acceptance.{Reaches, part_texts}
-use Rattle.tw_skipproof.specs.Openings.{Binds, HasSizes as HasOpeningSizes, IsOpeningAt, opening_auth, opening_texts}
+use Rattle.tw_skipproof.specs.Openings.{Binds, HasOpeningSizes, IsOpeningAt, opening_auth, opening_texts}
 use Rattle.tw_skipproof.specs.Paths.{Climbs, HasLinkSizes, path_texts}
 use Rattle.tw_skipproof.proofs.OpeningBinding.{opening-binds_sound}
 use Rattle.tw_skipproof.proofs.PathBinding.{climb-binds}
-use Rattle.tw_treeproof.specs.Answers.{Checks, IsAnswer, Shows, ancestors_of, answer_of, proof_texts as tree_proof_texts}
+use Rattle.tw_treeproof.specs.Answers.{Checks, IsAnswer, Shows, ancestors_of, shown_answer, tree_proof_texts}
 use Rattle.tw_treeproof.specs.Sizes.{HasProofSizes}
 use Rattle.tw_treeproof.proofs.Binding.{check-binds}
 use Rattle.tw_chain.specs.declared.proof.LinkProof.{LinkProof}
@@ -49,7 +49,7 @@ use Rattle.tw_chain.specs.Checks.Upper.{AtAnchor}
 use Rattle.tw_chain.specs.Passing.{Passes, anchor_at, check_texts, held_by}
 use Rattle.tw_chain.proofs.PieceSizes.{PartSizes}
 
-shows-answer : (dig : List ℕ → List ℕ) (root : List ℕ) (asked : Ask) (proof : TreeProof) → Checks dig root asked proof → Shows dig root asked proof (answer_of asked (ancestors_of proof))
+shows-answer : (dig : List ℕ → List ℕ) (root : List ℕ) (asked : Ask) (proof : TreeProof) → Checks dig root asked proof → Shows dig root asked proof (shown_answer asked (ancestors_of proof))
 shows-answer dig root (ask.Present e) proof checks = (checks, refl)
 shows-answer dig root (ask.Absent key) proof checks = (checks, refl)
 shows-answer dig root (ask.Below key) proof checks = (checks, refl)
@@ -203,9 +203,9 @@ module _ (s : Setting) where
   -- the answer is that of the archive at the step
   pub answer-step : (part : ℕ) (service : List ℕ) (step : ℕ) (o : Opening) (asked : Ask) (proof : TreeProof) → HasProofSizes asked proof → (opened : Opened service step o)
       → Checked (AnswerOf part o.archive_root asked proof)
-      → OrTheyClash (IsAnswer (entries (tree opened.history step)) asked (answer_of asked (ancestors_of proof)))
+      → OrTheyClash (IsAnswer (entries (tree opened.history step)) asked (shown_answer asked (ancestors_of proof)))
   answer-step part service step o asked proof sizes opened checked =
       let h : History = opened.history in
       of_history service h (tree_texts s.dig (tree h step)) (tree_proof_texts s.dig asked proof) _ opened.has (tree_texts-within s.dig h step opened.within) checked.within
-      (check-binds s.dig s.size s.bytes o.archive_root asked proof (answer_of asked (ancestors_of proof)) (shows-answer s.dig o.archive_root asked proof checked.passes) (λ right. sizes)
+      (check-binds s.dig s.size s.bytes o.archive_root asked proof (shown_answer asked (ancestors_of proof)) (shows-answer s.dig o.archive_root asked proof checked.passes) (λ right. sizes)
       (tree h step) (tree-rising h (sound_of s.family service h s.sound opened.has) step) opened.binds.archive_root)

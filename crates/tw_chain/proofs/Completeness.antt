@@ -24,7 +24,7 @@ use Rattle.tw_base.proofs.lemmas.history.Trees.{tree-rises}
 use Rattle.tw_skipproof.specs.declared.existence.ExistenceProof.{ExistenceProof}
 use Rattle.tw_skipproof.specs.declared.existence.Part.{Part}
 use Rattle.tw_skipproof.specs.Acceptance.{Reaches}
-use Rattle.tw_skipproof.specs.HistoryProofs.{IsExistenceOf, IsPartOf, MakesExistence}
+use Rattle.tw_skipproof.specs.HistoryProofs.{IsExistenceOf, IsPartOfHistory, MakesExistence}
 use Rattle.tw_skipproof.specs.Existence.{existence_bytes}
 use Rattle.tw_skipproof.specs.Paths.{Climbs}
 use Rattle.tw_skipproof.proofs.ExistenceOf.{accepted-made, spelled-made}
@@ -56,7 +56,7 @@ from_1_of_entry h (suc i) e at = omega arith
 
 module _ (dig : List ℕ → List ℕ) (h : History) (step top : ℕ) (sound : IsSound h) where
   -- the tree's own proof checks under the opening's archive root
-  own_checks : (p : Part) (asked : Ask) (shown : TreeProof) → IsPartOf dig h step top p → IsSo (entries (tree h step)) asked → shown ≡ proof_of dig (tree h step) asked
+  own_checks : (p : Part) (asked : Ask) (shown : TreeProof) → IsPartOfHistory dig h step top p → IsSo (entries (tree h step)) asked → shown ≡ proof_of dig (tree h step) asked
       → Checks dig p.opening.archive_root asked shown
   own_checks p asked shown is so e =
       subst (Checks dig p.opening.archive_root asked) (sym e)
@@ -71,11 +71,11 @@ module _ (dig : List ℕ → List ℕ) (h : History) (step top : ℕ) (sound : I
 module _ (dig : List ℕ → List ℕ) (h : History) (step top : ℕ) (order : step ≤ top) (anchors : List Thread) (anchor : Thread)
     (held : anchor_of anchors h.name top ≡ Some anchor) (reached : anchor.auth ≡ auth dig h top) where
   -- a part of the history has the anchor's service and top
-  part_held : (p : Part) → IsPartOf dig h step top p → anchor_of anchors p.service p.top ≡ Some anchor
+  part_held : (p : Part) → IsPartOfHistory dig h step top p → anchor_of anchors p.service p.top ≡ Some anchor
   part_held p is = (λ k. anchor_of anchors (is.service k) (is.at_top k)) ∙ held
 
   -- and reaches the anchor
-  part_reaches : (p : Part) → IsPartOf dig h step top p → 0 < step → Reaches dig p anchor.auth
+  part_reaches : (p : Part) → IsPartOfHistory dig h step top p → 0 < step → Reaches dig p anchor.auth
   part_reaches p is from_1 = subst (Reaches dig p) (sym reached) (reaches-made dig h step top p is from_1 order)
 
   -- the check of the anchor passes, and so does one of a path that reaches the anchor's authenticator
@@ -85,7 +85,7 @@ module _ (dig : List ℕ → List ℕ) (h : History) (step top : ℕ) (order : s
   upper-passes : (key : Key) (P : List ℕ → Type 0) → anchor_of anchors key.from key.step ≡ Some anchor → P anchor.auth → IfSome (upper_auth anchors (AtAnchor key)) P
   upper-passes key P is at = subst (λ (o : Option Thread). IfSome (option_map (λ (t : Thread). t.auth) o) P) (sym is) at
 
-  under-passes : (p : Part) → IsPartOf dig h step top p → 0 < step → Each (Passes dig anchors) (under_anchor 0 p)
+  under-passes : (p : Part) → IsPartOfHistory dig h step top p → 0 < step → Each (Passes dig anchors) (under_anchor 0 p)
   under-passes p is from_1 =
       let at = part_held p is in (
         omega (arith, order, is.at_step, is.at_top),

@@ -24,7 +24,7 @@ use Rattle.tw_chain.specs.declared.verdict.Verdict.{Verdict}
 use Rattle.tw_chain.specs.declared.verdict.Verdict.TheVariants.{Yes, No}
 use Rattle.tw_chain.specs.Accepting.{Accepts, IsAccepted, claim_of, hops_of, proof_texts, report_of, seen_at}
 use Rattle.tw_chain.specs.Binding.{BindsHistories, BindsReport}
-use Rattle.tw_chain.specs.Checks.{Check, checks, end_of, head_checks, hops_checks, opening_checks, root_of, start_of, tail_at, tail_checks, under_anchor}
+use Rattle.tw_chain.specs.Checks.{Check, checks, end_of_order, head_checks, hops_checks, opening_checks, opening_root, start_of, tail_at, tail_checks, under_anchor}
 use Rattle.tw_chain.specs.Checks.Check.{AnswerOf, EventOf, InOrder}
 use Rattle.tw_chain.specs.Proofs.{absence_body, behind_codec, following, hop_bytes, hop_codec, hops_codec, kinds_codec, link_body, precedence_body, proof_codec, proof_layout, tail_codec, thread_body}
 use Rattle.tw_chain.specs.Reasons.{IsVerdict}
@@ -41,7 +41,7 @@ record ChainFits (p : PrecedenceProof) : Type 0 where
   second : AreBytes p.event.event × AllDigests p.event.path
   before : FitsOpening (length p.hops) (start_of p).step p.before
   hops : EachFits hop_bytes hop_codec (following (length p.hops)) p.hops
-  tail : PartSizes (tail_at (end_of p) p.tail)
+  tail : PartSizes (tail_at (end_of_order p) p.tail)
   first : AreBytes p.tail.event.event × AllDigests p.tail.event.path
 
 chain-fits : (p : PrecedenceProof) → precedence_body.Fits p → ChainFits p
@@ -99,11 +99,11 @@ module _ (s : Setting) where
   linked-binds p fits checked = link-step s 0 p fits.1.1.1.0.1 (path-sizes p.top p.step p.path.links fits.1.1.1.1) checked
 
   -- the first event, under the thread that the hops come to
-  tail-binds : (p : PrecedenceProof) → ChainFits p → HasThread s.dig s.family (end_of p) → AreChecked s (tail_checks (suc (length p.hops)) (end_of p) p.tail)
-      → OrTheyClash s (SeenStands s.family (seen_at (tail_at (end_of p) p.tail) p.tail.event))
+  tail-binds : (p : PrecedenceProof) → ChainFits p → HasThread s.dig s.family (end_of_order p) → AreChecked s (tail_checks (suc (length p.hops)) (end_of_order p) p.tail)
+      → OrTheyClash s (SeenStands s.family (seen_at (tail_at (end_of_order p) p.tail) p.tail.event))
   tail-binds p fits thread checked =
-      let at : Part = tail_at (end_of p) p.tail in
-      and_then s.dig s.texts _ _ (part-step s at (end_of p).auth fits.tail thread checked.0.passes checked.1.0.passes checked.1.0.within)
+      let at : Part = tail_at (end_of_order p) p.tail in
+      and_then s.dig s.texts _ _ (part-step s at (end_of_order p).auth fits.tail thread checked.0.passes checked.1.0.passes checked.1.0.within)
       (λ opened. event-step s (suc (length p.hops)) at p.tail.event fits.first opened checked.1.1.0)
 
   -- the step before the second event's, as that step's opening has it
@@ -111,10 +111,10 @@ module _ (s : Setting) where
   start-binds p opened = (opened.history, opened.has, omega (arith, opened.within), opened.binds.prev)
 
   precedes-binds : (p : PrecedenceProof) → ChainFits p → AreChecked s (checks (Precedes p))
-      → OrTheyClash s (Precedence s.dig s.family (hops_of (Precedes p)) (seen_at (tail_at (end_of p) p.tail) p.tail.event) (seen_at p.head p.event))
+      → OrTheyClash s (Precedence s.dig s.family (hops_of (Precedes p)) (seen_at (tail_at (end_of_order p) p.tail) p.tail.event) (seen_at p.head p.event))
   precedes-binds p fits checked =
-      let hops : List Check = hops_checks 1 (start_of p).step (root_of p.before) p.hops in
-      let tail : List Check = tail_checks (suc (length p.hops)) (end_of p) p.tail in
+      let hops : List Check = hops_checks 1 (start_of p).step (opening_root p.before) p.hops in
+      let tail : List Check = tail_checks (suc (length p.hops)) (end_of_order p) p.tail in
       let parts = parted s (head_checks p) (hops ++ tail) checked in
       let head = parted s (under_anchor 0 p.head) (EventOf 0 p.head.opening p.event ∷ opening_checks 0 (start_of p) p.before) parts.0 in
       let rest = parted s hops tail parts.1 in
@@ -130,7 +130,7 @@ module _ (s : Setting) where
   claim-binds (Exists p) fits checked = and_then s.dig s.texts _ _ (exists-binds p fits.1.1 checked) (λ fact. inl (fact, tt))
   claim-binds (Precedes p) fits checked =
       and_then s.dig s.texts _ _ (precedes-binds p (chain-fits p fits.1.1) checked)
-      (λ fact. inl (fact, times-rise s.dig s.family s.sound (hops_of (Precedes p)) (seen_at (tail_at (end_of p) p.tail) p.tail.event) (seen_at p.head p.event) fact))
+      (λ fact. inl (fact, times-rise s.dig s.family s.sound (hops_of (Precedes p)) (seen_at (tail_at (end_of_order p) p.tail) p.tail.event) (seen_at p.head p.event) fact))
   claim-binds (Archived p) fits checked = and_then s.dig s.texts _ _ (archived-binds p fits.1.1 checked) (λ fact. inl (fact, tt))
   claim-binds (Absent p) fits checked = and_then s.dig s.texts _ _ (absent-binds p fits.1.1 checked) (λ fact. inl (fact, tt))
   claim-binds (Linked p) fits checked = and_then s.dig s.texts _ _ (linked-binds p fits.1.1 checked) (λ fact. inl (fact, tt))

@@ -18,7 +18,7 @@ use Rattle.tw_chain.specs.declared.proof.PrecedenceProof.{PrecedenceProof}
 use Rattle.tw_chain.specs.declared.proof.Proof.{Proof}
 use Rattle.tw_chain.specs.declared.proof.Proof.TheVariants.{Exists, Precedes, Archived, Absent, Linked}
 use Rattle.tw_chain.specs.Accepting.{IsAccepted, claim_of, hop_from, hops_of, hops_to}
-use Rattle.tw_chain.specs.Checks.{Check, bind_checks, bind_of, checks, end_of, head_checks, hop_checks, hops_checks, last_thread, link_checks, link_top, opening_checks, root_of, start_of, tail_checks, top_of, under_anchor}
+use Rattle.tw_chain.specs.Checks.{Check, bind_checks, bind_of, checks, end_of_order, head_checks, hop_checks, hops_checks, last_hop_thread, link_checks, link_top, opening_checks, opening_root, start_of, tail_checks, top_of, under_anchor}
 use Rattle.tw_chain.specs.Checks.Check.{InOrder, NeedsAnchor, CarriesThread, PathOf, LinkOf, OpeningOf, EventOf, AnswerOf}
 use Rattle.tw_chain.specs.Checks.Upper.{AtAnchor}
 use Rattle.tw_chain.specs.Passing.{Passes, anchor_at, carried_by, held_by}
@@ -147,17 +147,17 @@ module _ (anchors : List Thread) where
     hops-held [] part step root pass = tt
     hops-held (hop ∷ hops) part step root pass =
         let one : List Check = hop_checks part step root hop in
-        let rest : List Check = hops_checks (suc part) hop.entry.thread.step (root_of hop.opening) hops in
+        let rest : List Check = hops_checks (suc part) hop.entry.thread.step (opening_root hop.opening) hops in
         let parts = parted one rest pass in (
           held-left one rest hop.entry.thread.from (hop-held part step root hop parts.0),
           Each-map (λ (h : HopPart). Held rest h.entry.thread.from) (λ (h : HopPart). Held (one ++ rest) h.entry.thread.from) hops
-              (λ h is. held-right one rest h.entry.thread.from is) (hops-held hops (suc part) hop.entry.thread.step (root_of hop.opening) parts.1),
+              (λ h is. held-right one rest h.entry.thread.from is) (hops-held hops (suc part) hop.entry.thread.step (opening_root hop.opening) parts.1),
         )
 
     -- ---- what holds of the services of hops, and of where they start
 
     module _ (P : List ℕ → Type 0) where
-      last-has : (t : Thread) (hops : List HopPart) → P t.from → Each (λ (hop : HopPart). P hop.entry.thread.from) hops → P (last_thread t hops).from
+      last-has : (t : Thread) (hops : List HopPart) → P t.from → Each (λ (hop : HopPart). P hop.entry.thread.from) hops → P (last_hop_thread t hops).from
       last-has t [] start all = start
       last-has t (hop ∷ hops) start all = last-has hop.entry.thread hops all.0 all.1
 
@@ -172,15 +172,15 @@ module _ (anchors : List Thread) where
     precedes-holds : (p : PrecedenceProof) → IsAccepted dig anchors (Precedes p) → Speaks (Precedes p)
     precedes-holds p pass =
         let events : List Check = EventOf 0 p.head.opening p.event ∷ opening_checks 0 (start_of p) p.before in
-        let hops : List Check = hops_checks 1 (start_of p).step (root_of p.before) p.hops in
-        let tail : List Check = tail_checks (suc (length p.hops)) (end_of p) p.tail in
+        let hops : List Check = hops_checks 1 (start_of p).step (opening_root p.before) p.hops in
+        let tail : List Check = tail_checks (suc (length p.hops)) (end_of_order p) p.tail in
         let parts = parted (head_checks p) (hops ++ tail) pass in
         let P : List ℕ → Type 0 = Held (checks (Precedes p)) in
         let head : P p.head.service = held-left (head_checks p) (hops ++ tail) p.head.service (under-held p.head events parts.0) in
         let all : Each (λ (hop : HopPart). P hop.entry.thread.from) p.hops =
         Each-map (λ (h : HopPart). Held hops h.entry.thread.from) (λ (h : HopPart). P h.entry.thread.from) p.hops
         (λ h is. held-right (head_checks p) (hops ++ tail) h.entry.thread.from (held-left hops tail h.entry.thread.from is))
-        (hops-held p.hops 1 (start_of p).step (root_of p.before) (parted hops tail parts.1).0) in
+        (hops-held p.hops 1 (start_of p).step (opening_root p.before) (parted hops tail parts.1).0) in
         record { claim = (last-has P (start_of p) p.hops head all, (head, tt)); hops = told-have P p.head.service p.hops head all }
 
     accepted-speaks : (p : Proof) → IsAccepted dig anchors p → Speaks p

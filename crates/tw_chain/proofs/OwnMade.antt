@@ -19,7 +19,7 @@ use Rattle.tw_base.proofs.lemmas.history.Trees.{entry_at-parts}
 use Rattle.tw_skipproof.specs.declared.existence.Part.{Part}
 use Rattle.tw_skipproof.specs.declared.opening.Opening.{Opening}
 use Rattle.tw_skipproof.specs.declared.path.Link.{Link}
-use Rattle.tw_skipproof.specs.HistoryProofs.{IsOpeningOf, IsPartOf, IsPathOf, labels_at}
+use Rattle.tw_skipproof.specs.HistoryProofs.{IsOpeningOf, IsPartOfHistory, IsPathOf, labels_at}
 use Rattle.tw_skipproof.specs.Paths.{hop, hop_level}
 use Rattle.tw_skipproof.proofs.Hops.{hop-below}
 use Rattle.tw_treeproof.specs.Making.{proof_of}
@@ -62,7 +62,7 @@ module _ (dig : List ℕ → List ℕ) (h : History) where
   path-made : (from to : ℕ) → to ≤ from → HasPath from to
   path-made from to order = path-within from from to (omega arith) order
 
-  part-made : (step top : ℕ) → step ≤ top → (p : Part) × IsPartOf dig h step top p
+  part-made : (step top : ℕ) → step ≤ top → (p : Part) × IsPartOfHistory dig h step top p
   part-made step top order =
       let path = path-made top step order in (
         record { service = h.name; step = step; top = top; path = record { links = path.0 }; opening = opening_of step },

@@ -22,7 +22,7 @@ use Rattle.tw_base.proofs.lemmas.history.Members.{in-with}
 use Rattle.tw_skipproof.specs.declared.existence.Part.{Part}
 use Rattle.tw_skipproof.specs.Codecs.{existence_codec, part_codec, path_codec}
 use Rattle.tw_skipproof.specs.Existence.{existence_bytes}
-use Rattle.tw_skipproof.specs.HistoryProofs.{IsPartOf}
+use Rattle.tw_skipproof.specs.HistoryProofs.{IsPartOfHistory}
 use Rattle.tw_skipproof.proofs.ExistenceOf.{spelled-made}
 use Rattle.tw_skipproof.proofs.LawfulCodecs.{existence-lawful}
 use Rattle.tw_skipproof.proofs.PartOf.{part-fits-made, part_in_range-made, part_shaped-made, path-fits-made}
@@ -45,7 +45,7 @@ use Rattle.tw_chain.proofs.ProofCodec.{proof-lawful, to_fits}
 
 module _ (dig : List ℕ → List ℕ) (h : History) (step top : ℕ) (size : (text : List ℕ) → length (dig text) ≡ 32) (are : (text : List ℕ) → AreBytes (dig text))
     (sound : IsSound h) (order : step ≤ top) (has : top ≤ length h.steps) where
-  part_fits : (p : Part) → IsPartOf dig h step top p → 0 < step → (part_codec 0).Fits p
+  part_fits : (p : Part) → IsPartOfHistory dig h step top p → 0 < step → (part_codec 0).Fits p
   part_fits p is from_1 =
       part-fits-made dig h size are step top p is sound 0 (omega arith) (part_in_range-made dig h step top p is sound order has) (part_shaped-made dig h step top p is from_1 order)
 

@@ -19,7 +19,7 @@ use Rattle.tw_base.proofs.lemmas.kinds.ListLemmas.{Each-append, Each-parts}
 use Rattle.tw_treeproof.specs.declared.limits.TheConstants.{MOST_ABOVE_ENTRY, MOST_ABOVE_PLACE}
 use Rattle.tw_treeproof.specs.Answers.{ancestors_of}
 use Rattle.tw_treeproof.specs.Codecs.{ancestor_codec, gap_codec, present_codec}
-use Rattle.tw_treeproof.specs.Making.{IsSo, ancestor, place_of, proof_at, proof_of, way_up}
+use Rattle.tw_treeproof.specs.Making.{IsSo, ancestor, place_of_ask, proof_at, proof_of, way_up}
 use Rattle.tw_treeproof.specs.Ways.{has_asked_key, is_left}
 use Rattle.tw_treeproof.proofs.Places.{IsAt, at-place}
 
@@ -74,9 +74,9 @@ module _ (dig : List ℕ → List ℕ) (size : (text : List ℕ) → length (dig
   pub own-present-fits : (t : Tree) (e : Entry) → IsRising (entries t) → IsSo (entries t) (ask.Present e) → Each entry_codec.Fits (entries t)
       → length (ancestors_of (proof_of dig t (ask.Present e))) ≤ MOST_ABOVE_ENTRY → present_codec.Fits (proof_of dig t (ask.Present e))
   own-present-fits t e rising so all few =
-      present-at e (place_of (ask.Present e) t) (way_up dig (ask.Present e) t) (at-place t (ask.Present e) rising so) few (way-fits (ask.Present e) t all)
+      present-at e (place_of_ask (ask.Present e) t) (way_up dig (ask.Present e) t) (at-place t (ask.Present e) rising so) few (way-fits (ask.Present e) t all)
 
   pub own-gap-fits : (t : Tree) (key : Key) → IsRising (entries t) → IsSo (entries t) (ask.Absent key) → Each entry_codec.Fits (entries t)
       → length (ancestors_of (proof_of dig t (ask.Absent key))) ≤ MOST_ABOVE_PLACE → gap_codec.Fits (proof_of dig t (ask.Absent key))
   own-gap-fits t key rising so all few =
-      gap-at key (place_of (ask.Absent key) t) (way_up dig (ask.Absent key) t) (at-place t (ask.Absent key) rising so) few (way-fits (ask.Absent key) t all)
+      gap-at key (place_of_ask (ask.Absent key) t) (way_up dig (ask.Absent key) t) (at-place t (ask.Absent key) rising so) few (way-fits (ask.Absent key) t all)

@@ -22,11 +22,11 @@ use Rattle.tw_skipproof.specs.Acceptance.{Reaches, ShowsEvent}
 use Rattle.tw_skipproof.specs.Openings.{IsOpeningAt, opening_auth}
 use Rattle.tw_skipproof.specs.Paths.{Climbs, HasShape, climbed as path_climbed, hop}
 use Rattle.tw_treeproof.specs.Answers.{Checks, ancestors_of, asks_entry, is_of_entry, place_text}
-use Rattle.tw_treeproof.specs.Ways.{IsNotAsked, climbed as tree_climbed, has_asked_key, is_left}
+use Rattle.tw_treeproof.specs.Ways.{IsNotAsked, climbed_tree, has_asked_key, is_left}
 use Rattle.tw_chain.specs.Checks.{Check, link_top}
 use Rattle.tw_chain.specs.Checks.Check.{InOrder, NeedsAnchor, CarriesThread, PathOf, LinkOf, OpeningOf, EventOf, AnswerOf}
 use Rattle.tw_chain.specs.Checks.Upper.{AtAnchor}
-use Rattle.tw_chain.specs.Finding.{answers, climbs, has_shape, is_free, is_opening_at, is_same_kind, opens, passes, reaches, shows}
+use Rattle.tw_chain.specs.Finding.{answers, climbs, has_shape, is_key_free, is_opening_at, is_same_kind, opens, passes, reaches, shows}
 use Rattle.tw_chain.specs.Passing.{Passes, upper_auth}
 
 Decides-three : {P Q R : Type 0} (x y z : Bool) → Decides x P → Decides y Q → Decides z R → Decides (x && (y && z)) (P × Q × R)
@@ -47,11 +47,11 @@ pub is_opening_at-is : (step : ℕ) (o : Opening) → Decides (is_opening_at ste
 is_opening_at-is step o =
     Decides-and (nat_lt 0 step) (length o.others == top_level step) (Decides-ltb 0 step) (Decides-eqb (length o.others) (top_level step))
 
-is_free-is : (ask : Ask) (up : List Ancestor) → Decides (is_free ask up) (Each (IsNotAsked ask) up)
+is_free-is : (ask : Ask) (up : List Ancestor) → Decides (is_key_free ask up) (Each (IsNotAsked ask) up)
 is_free-is ask [] = (λ is. tt, λ all. refl)
 is_free-is ask (a ∷ up) =
     let here : Bool = has_asked_key ask a.entry in
-    Decides-and (not here) (is_free ask up) (not-true here, not_from_false here) (is_free-is ask up)
+    Decides-and (not here) (is_key_free ask up) (not-true here, not_from_false here) (is_free-is ask up)
 
 is_same_kind-is : (one other : Bool) → Decides (is_same_kind one other) (one ≡ other)
 is_same_kind-is true true = (λ is. refl, λ same. refl)
@@ -92,8 +92,8 @@ module _ (dig : List ℕ → List ℕ) where
 
   pub answers-is : (root : List ℕ) (ask : Ask) (proof : TreeProof) → Decides (answers dig root ask proof) (Checks dig root ask proof)
   answers-is root ask proof =
-      let label : List ℕ = tree_climbed dig (is_left ask) (ancestors_of proof) (dig (place_text ask proof)) in
-      let all = Decides-three (is_same_kind (is_of_entry proof) (asks_entry ask)) (is_free ask (ancestors_of proof)) (bytes_eq label root)
+      let label : List ℕ = climbed_tree dig (is_left ask) (ancestors_of proof) (dig (place_text ask proof)) in
+      let all = Decides-three (is_same_kind (is_of_entry proof) (asks_entry ask)) (is_key_free ask (ancestors_of proof)) (bytes_eq label root)
       (is_same_kind-is (is_of_entry proof) (asks_entry ask)) (is_free-is ask (ancestors_of proof)) (bytes_eq-Decides label root) in
       (λ is. (let had = all.0 is in record { kind = had.0; free = had.1; label = had.2 }), λ had. all.1 (had.kind, had.free, had.label))
 

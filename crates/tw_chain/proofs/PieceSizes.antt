@@ -18,12 +18,12 @@ use Rattle.tw_base.proofs.lemmas.kinds.Naming.{IsName-bytes}
 use Rattle.tw_skipproof.specs.declared.existence.Part.{Part}
 use Rattle.tw_skipproof.specs.declared.opening.Opening.{Opening}
 use Rattle.tw_skipproof.specs.declared.path.Link.{Link}
-use Rattle.tw_skipproof.specs.Codecs.{count_codec, event_codec, link_bytes, link_codec, opening_codec, part_codec, path_codec}
-use Rattle.tw_skipproof.specs.Openings.{HasSizes as HasOpeningSizes}
+use Rattle.tw_skipproof.specs.Codecs.{count_codec, event_part_codec, link_bytes, link_codec, opening_codec, part_codec, path_codec}
+use Rattle.tw_skipproof.specs.Openings.{HasOpeningSizes}
 use Rattle.tw_skipproof.specs.Paths.{HasLinkSizes, greedy_steps}
 use Rattle.tw_base.specs.history.EntryCodec.{entry_codec}
 use Rattle.tw_treeproof.specs.Codecs.{ancestor_codec, gap_codec, present_codec}
-use Rattle.tw_treeproof.specs.Sizes.{HasProofSizes, HasSizes}
+use Rattle.tw_treeproof.specs.Sizes.{HasProofSizes, HaveSizes}
 
 time-size : (timed : Bool) (time : Option ℕ) → (optional timed time_codec).Fits time → IfSome time (λ t. t < 2 ^ 64)
 unfolding present nothing number_codec
@@ -65,8 +65,8 @@ part-sizes least at fits = record {
   opening = opening-sizes least at.step at.opening fits.1.1.1.1;
 }
 
-pub event-sizes : (count : ℕ) (e : EventPart) → (event_codec count).Fits e → AreBytes e.event × AllDigests e.path
-unfolding event_codec pair seen labels_codec many sized_codec by_kind bytes_codec
+pub event-sizes : (count : ℕ) (e : EventPart) → (event_part_codec count).Fits e → AreBytes e.event × AllDigests e.path
+unfolding event_part_codec pair seen labels_codec many sized_codec by_kind bytes_codec
 event-sizes count e fits = (fits.1.0.1.1, fits.1.1.1)
 
 -- ---- tree proofs
@@ -80,7 +80,7 @@ entry-sizes e fits = record {
   archived = omega (arith, fits.1.1);
 }
 
-ancestors-sizes : (up : List Ancestor) → Each (ancestor_codec.Fits) up → HasSizes up
+ancestors-sizes : (up : List Ancestor) → Each (ancestor_codec.Fits) up → HaveSizes up
 unfolding ancestor_codec seen pair bytes_codec
 ancestors-sizes [] fits = tt
 ancestors-sizes (a ∷ up) fits = ((fits.0.1, entry-sizes a.entry fits.0.0), ancestors-sizes up fits.1)

@@ -11,7 +11,7 @@ use Rattle.tw_base.proofs.lemmas.history.EntryCodecLaws.{entry-lawful}
 use Rattle.tw_base.proofs.lemmas.format.CodecLaws.{Lawful, lawful, lawful-by_kind, lawful-choose, lawful-each, lawful-optional, lawful-pair, lawful-seen, lawful-variant, spelled-fits, written-as}
 use Rattle.tw_skipproof.specs.declared.existence.ExistenceProof.{ExistenceProof}
 use Rattle.tw_skipproof.specs.declared.opening.Opening.{Opening}
-use Rattle.tw_skipproof.specs.Codecs.{event_codec, existence_body, existence_codec, opening_bytes, opening_codec, part_codec, path_bytes, path_codec, step_codec}
+use Rattle.tw_skipproof.specs.Codecs.{event_part_codec, existence_body, existence_codec, opening_bytes, opening_codec, part_codec, path_bytes, path_codec, step_number_codec}
 use Rattle.tw_skipproof.specs.Existence.{existence_layout}
 use Rattle.tw_skipproof.proofs.LawfulCodecs.{body-lawful, event-lawful, existence-lawful, opening-few, opening-lawful, part-counts, part-lawful, path-lawful}
 use Rattle.tw_treeproof.specs.Codecs.{gap_codec, present_codec}
@@ -20,7 +20,7 @@ use Rattle.tw_chain.specs.declared.proof.HopPart.{HopPart}
 use Rattle.tw_chain.specs.declared.proof.PrecedenceProof.{PrecedenceProof}
 use Rattle.tw_chain.specs.declared.proof.Proof.{Proof}
 use Rattle.tw_chain.specs.declared.proof.Proof.TheVariants.{Exists, Precedes, Archived, Absent, Linked}
-use Rattle.tw_chain.specs.Proofs.{absence_body, absence_of, behind_codec, body_of_kind, existence_of, following, hop_bytes, hop_codec, hops_codec, key_codec, kind_codec, kind_of, kinds_codec, last_step, link_body, link_of, precedence_body, precedence_of, proof_codec, proof_layout, tail_codec, thread_body, thread_of}
+use Rattle.tw_chain.specs.Proofs.{absence_body, absence_of, behind_codec, body_of_kind, existence_of, following, hop_bytes, hop_codec, hops_codec, key_codec, kind_codec, kinds_codec, last_step, link_body, link_of, precedence_body, precedence_of, proof_codec, proof_kind, proof_layout, tail_codec, thread_body, thread_proof_of}
 
 -- ---- what stands behind it
 
@@ -70,7 +70,7 @@ hop-written more p fits =
 pub tail-lawful : (upper : ℕ) → Lawful (tail_codec upper)
 unfolding tail_codec
 tail-lawful upper =
-    lawful-seen _ _ _ (λ t. refl) (λ p. refl) (lawful-pair step_codec _ (search lawful) (λ step _. lawful-pair (path_codec upper step) _ (path-lawful upper step) (λ links _.
+    lawful-seen _ _ _ (λ t. refl) (λ p. refl) (lawful-pair step_number_codec _ (search lawful) (λ step _. lawful-pair (path_codec upper step) _ (path-lawful upper step) (λ links _.
     lawful-pair (opening_codec 1 step) _ (opening-lawful 1 step (lit≤ tt)) (λ opening fits. event-lawful opening.count (opening-few 1 step opening fits)))))
 
 behind-lawful : (count step : ℕ) → Lawful (behind_codec count step)
@@ -83,7 +83,7 @@ hops-lawful : (count : ℕ) → Lawful (hops_codec count)
 unfolding hops_codec
 hops-lawful count =
     lawful-seen _ _ _ (λ t. refl) (λ p. refl) (lawful-pair (part_codec 1) _ (part-lawful 1 (lit≤ tt)) (λ head fits.
-    lawful-pair (event_codec head.opening.count) _ (event-lawful head.opening.count (part-counts 1 head fits).1) (λ event _. behind-lawful count head.step)))
+    lawful-pair (event_part_codec head.opening.count) _ (event-lawful head.opening.count (part-counts 1 head fits).1) (λ event _. behind-lawful count head.step)))
 
 -- there are as many hops as there are numbers of those that follow
 length-following : (count : ℕ) (hops : List HopPart) → EachFits hop_bytes hop_codec (following count) hops → length hops ≡ count
@@ -107,7 +107,7 @@ bodies-lawful : (kind : ℕ) → Lawful (body_of_kind kind)
 bodies-lawful kind =
     lawful-choose (kind == 1) _ _ (lawful-variant Exists existence_of existence_body (λ p. refl) body-lawful)
     (lawful-choose (kind == 2) _ _ (lawful-variant Precedes precedence_of precedence_body (λ p. refl) precedence-lawful)
-    (lawful-choose (kind == 3) _ _ (lawful-variant Archived thread_of thread_body (λ p. refl) thread-lawful)
+    (lawful-choose (kind == 3) _ _ (lawful-variant Archived thread_proof_of thread_body (λ p. refl) thread-lawful)
     (lawful-choose (kind == 4) _ _ (lawful-variant Absent absence_of absence_body (λ p. refl) absence-lawful)
     (lawful-variant Linked link_of link_body (λ p. refl) link-lawful))))
 
@@ -122,20 +122,20 @@ module _ {X : Type 0} (make : X → Proof) (fields : Proof → Option X) (c : Co
       by (Some x) f = (x, f.0)
 
 -- a proof of a kind has that kind
-pub kinds : (kind : ℕ) (p : Proof) → kind_codec.Fits kind → (body_of_kind kind).Fits p → kind_of p ≡ kind
+pub kinds : (kind : ℕ) (p : Proof) → kind_codec.Fits kind → (body_of_kind kind).Fits p → proof_kind p ≡ kind
 unfolding number_codec
 kinds zero p fits is = absurd (omega (arith, fits.0))
-kinds (suc zero) p fits is = sym (ap kind_of (made Exists existence_of existence_body p is).1)
-kinds (suc (suc zero)) p fits is = sym (ap kind_of (made Precedes precedence_of precedence_body p is).1)
-kinds (suc (suc (suc zero))) p fits is = sym (ap kind_of (made Archived thread_of thread_body p is).1)
-kinds (suc (suc (suc (suc zero)))) p fits is = sym (ap kind_of (made Absent absence_of absence_body p is).1)
-kinds (suc (suc (suc (suc (suc zero))))) p fits is = sym (ap kind_of (made Linked link_of link_body p is).1)
+kinds (suc zero) p fits is = sym (ap proof_kind (made Exists existence_of existence_body p is).1)
+kinds (suc (suc zero)) p fits is = sym (ap proof_kind (made Precedes precedence_of precedence_body p is).1)
+kinds (suc (suc (suc zero))) p fits is = sym (ap proof_kind (made Archived thread_proof_of thread_body p is).1)
+kinds (suc (suc (suc (suc zero)))) p fits is = sym (ap proof_kind (made Absent absence_of absence_body p is).1)
+kinds (suc (suc (suc (suc (suc zero))))) p fits is = sym (ap proof_kind (made Linked link_of link_body p is).1)
 kinds (suc (suc (suc (suc (suc (suc n)))))) p fits is = absurd (omega (arith, fits.1))
 
 pub proof-lawful : Lawful proof_codec
 unfolding proof_codec kinds_codec
 proof-lawful =
-    let each = lawful-by_kind kind_of kind_codec body_of_kind (search lawful) (λ kind _. bodies-lawful kind) kinds in
+    let each = lawful-by_kind proof_kind kind_codec body_of_kind (search lawful) (λ kind _. bodies-lawful kind) kinds in
     search (lawful, each)
 
 -- ---- a proof of kind 1

@@ -15,7 +15,7 @@ use Rattle.tw_treeproof.proofs.LawfulCodecs.{gap-most, present-most}
 use Rattle.tw_chain.specs.declared.proof.HopPart.{HopPart}
 use Rattle.tw_chain.specs.declared.proof.Proof.{Proof}
 use Rattle.tw_chain.specs.declared.proof.Proof.TheVariants.{Exists, Precedes, Archived, Absent, Linked}
-use Rattle.tw_chain.specs.Proofs.{absence_body, absence_of, behind_codec, body_of_kind, existence_of, following, hop_bytes, hop_codec, hops_codec, key_codec, kind_codec, kinds_codec, last_step, link_body, link_of, precedence_body, precedence_of, proof_codec, proof_layout, tail_codec, thread_body, thread_of}
+use Rattle.tw_chain.specs.Proofs.{absence_body, absence_of, behind_codec, body_of_kind, existence_of, following, hop_bytes, hop_codec, hops_codec, key_codec, kind_codec, kinds_codec, last_step, link_body, link_of, precedence_body, precedence_of, proof_codec, proof_layout, tail_codec, thread_body, thread_proof_of}
 use Rattle.tw_chain.proofs.ChainShapes.{HopsFit, last_step-all}
 use Rattle.tw_chain.proofs.ProofCodec.{hop-written, proof-lawful}
 
@@ -92,7 +92,7 @@ bodies-most : (kind : ℕ) → AtMost (body_of_kind kind) 4430813
 bodies-most kind =
     at_most-choose (kind == 1) _ _ 4430813 (at_most-wider (variant Exists existence_of existence_body) 56500 4430813 (omega arith) (at_most-variant Exists existence_of existence_body 56500 body-most))
     (at_most-choose (kind == 2) _ _ 4430813 (at_most-variant Precedes precedence_of precedence_body 4430813 precedence-most)
-    (at_most-choose (kind == 3) _ _ 4430813 (at_most-wider (variant Archived thread_of thread_body) 67469 4430813 (omega arith) (at_most-variant Archived thread_of thread_body 67469 thread_body-most))
+    (at_most-choose (kind == 3) _ _ 4430813 (at_most-wider (variant Archived thread_proof_of thread_body) 67469 4430813 (omega arith) (at_most-variant Archived thread_proof_of thread_body 67469 thread_body-most))
     (at_most-choose (kind == 4) _ _ 4430813 (at_most-wider (variant Absent absence_of absence_body) 67461 4430813 (omega arith) (at_most-variant Absent absence_of absence_body 67461 absence_body-most))
     (at_most-wider (variant Linked link_of link_body) 53824 4430813 (omega arith) (at_most-variant Linked link_of link_body 53824 link_body-most)))))
 

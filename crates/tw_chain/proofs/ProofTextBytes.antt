@@ -23,7 +23,7 @@ use Rattle.tw_skipproof.specs.declared.existence.Part.{Part}
 use Rattle.tw_skipproof.specs.declared.opening.Opening.{Opening}
 use Rattle.tw_skipproof.specs.declared.path.Link.{Link}
 use Rattle.tw_skipproof.specs.Acceptance.{part_texts}
-use Rattle.tw_skipproof.specs.Codecs.{event_codec, existence_body, opening_codec, part_codec, path_codec}
+use Rattle.tw_skipproof.specs.Codecs.{event_part_codec, existence_body, opening_codec, part_codec, path_codec}
 use Rattle.tw_skipproof.specs.Openings.{opening_auth, opening_texts}
 use Rattle.tw_skipproof.specs.Paths.{path_texts}
 use Rattle.tw_skipproof.proofs.OpeningBinding.{opening_texts-bytes}
@@ -38,7 +38,7 @@ use Rattle.tw_chain.specs.declared.proof.Proof.{Proof}
 use Rattle.tw_chain.specs.declared.proof.Proof.TheVariants.{Exists, Precedes, Archived, Absent, Linked}
 use Rattle.tw_chain.specs.declared.proof.ThreadProof.{ThreadProof}
 use Rattle.tw_chain.specs.Accepting.{proof_texts}
-use Rattle.tw_chain.specs.Checks.{Check, bind_checks, bind_of, checks, end_of, head_checks, hop_checks, hops_checks, last_thread, link_checks, opening_checks, root_of, start_of, tail_at, tail_checks, under_anchor}
+use Rattle.tw_chain.specs.Checks.{Check, bind_checks, bind_of, checks, end_of_order, head_checks, hop_checks, hops_checks, last_hop_thread, link_checks, opening_checks, opening_root, start_of, tail_at, tail_checks, under_anchor}
 use Rattle.tw_chain.specs.Checks.Check.{AnswerOf, CarriesThread, EventOf, InOrder}
 use Rattle.tw_chain.specs.Passing.{check_texts}
 use Rattle.tw_chain.specs.Proofs.{absence_body, behind_codec, following, hop_bytes, hop_codec, hops_codec, kinds_codec, last_step, link_body, precedence_body, proof_codec, proof_layout, tail_codec, thread_body}
@@ -47,7 +47,7 @@ use Rattle.tw_chain.proofs.PieceSizes.{event-sizes, gap-sizes, opening-sizes, pa
 use Rattle.tw_chain.proofs.ProofCodec.{proof-lawful}
 
 -- the step that the hops come to, as the format and as the checks have it
-last-is : (t : Thread) (hops : List HopPart) → last_step t.step hops ≡ (last_thread t hops).step
+last-is : (t : Thread) (hops : List HopPart) → last_step t.step hops ≡ (last_hop_thread t hops).step
 last-is t [] = λ i. t.step
 last-is t (hop ∷ hops) = last-is hop.entry.thread hops
 
@@ -75,7 +75,7 @@ module _ (dig : List ℕ → List ℕ) (size : (text : List ℕ) → length (dig
       let top : top_level step < 40 = top_level-below step (omega (arith, small)) in
       opening_texts-bytes dig size are step o (opening-sizes least step o fits) (omega (arith, top, fits.1.1.1.1.0))
 
-  event-fine : (part count : ℕ) (o : Opening) (e : EventPart) → (event_codec count).Fits e → AreFine (EventOf part o e)
+  event-fine : (part count : ℕ) (o : Opening) (e : EventPart) → (event_part_codec count).Fits e → AreFine (EventOf part o e)
   event-fine part count o e fits =
       let sizes = event-sizes count e fits in
       audit_texts-bytes dig size are o.count e.index e.event e.path sizes.0 (Each-map (HasBytes 32) AreBytes e.path (λ label has. has.1) sizes.1)
@@ -123,7 +123,7 @@ module _ (dig : List ℕ → List ℕ) (size : (text : List ℕ) → length (dig
   hops-fine (hop ∷ hops) part step root [] fits = cc
   hops-fine (hop ∷ hops) part step root (f ∷ fs) fits =
       Each-append AreFine (hop_checks part step root hop) _ (hop-fine f part step root hop fits.0)
-      (hops-fine hops (suc part) hop.entry.thread.step (root_of hop.opening) fs fits.1)
+      (hops-fine hops (suc part) hop.entry.thread.step (opening_root hop.opening) fs fits.1)
 
   precedes-fine : (p : PrecedenceProof) → precedence_body.Fits p → Each AreFine (checks (Precedes p))
   unfolding precedence_body hops_codec behind_codec tail_codec part_codec by_kind pair seen number_codec each
@@ -132,17 +132,17 @@ module _ (dig : List ℕ → List ℕ) (size : (text : List ℕ) → length (dig
       let behind = fits.1.1.1 in
       let tail = behind.1.1 in
       let start : (start_of p).step ≤ LAST_STEP = omega (arith, head.1.0.1) in
-      let last : last_step (start_of p).step p.hops ≡ (end_of p).step = last-is (start_of p) p.hops in
-      let small : (end_of p).step ≤ LAST_STEP = subst (λ n. n ≤ LAST_STEP) last (last_step-all (start_of p).step (length p.hops) p.hops start behind.1.0) in
+      let last : last_step (start_of p).step p.hops ≡ (end_of_order p).step = last-is (start_of p) p.hops in
+      let small : (end_of_order p).step ≤ LAST_STEP = subst (λ n. n ≤ LAST_STEP) last (last_step-all (start_of p).step (length p.hops) p.hops start behind.1.0) in
       let path = let P : ℕ → Type 0 = λ n. (path_codec n p.tail.step).Fits p.tail.path.links in subst P last tail.1.0 in
-      let hops : List Check = hops_checks 1 (start_of p).step (root_of p.before) p.hops in
-      let ends : List Check = tail_checks (suc (length p.hops)) (end_of p) p.tail in
+      let hops : List Check = hops_checks 1 (start_of p).step (opening_root p.before) p.hops in
+      let ends : List Check = tail_checks (suc (length p.hops)) (end_of_order p) p.tail in
       Each-append AreFine (head_checks p) (hops ++ ends)
       (Each-append AreFine (under_anchor 0 p.head) (EventOf 0 p.head.opening p.event ∷ opening_checks 0 (start_of p) p.before) (under-fine 1 0 p.head head)
       (event-fine 0 p.head.opening.count p.head.opening p.event fits.1.1.0, opened-fine (nat_lt 0 (length p.hops)) 0 (start_of p) p.before start behind.0))
       (Each-append AreFine hops ends
-      (hops-fine p.hops 1 (start_of p).step (root_of p.before) (following (length p.hops)) behind.1.0)
-      (tt, (part-fine 1 (tail_at (end_of p) p.tail) small tail.0.1 path tail.1.1.0, (event-fine (suc (length p.hops)) p.tail.opening.count p.tail.opening p.tail.event tail.1.1.1, tt))))
+      (hops-fine p.hops 1 (start_of p).step (opening_root p.before) (following (length p.hops)) behind.1.0)
+      (tt, (part-fine 1 (tail_at (end_of_order p) p.tail) small tail.0.1 path tail.1.1.0, (event-fine (suc (length p.hops)) p.tail.opening.count p.tail.opening p.tail.event tail.1.1.1, tt))))
 
   exists-fine : (p : ExistenceProof) → existence_body.Fits p → Each AreFine (checks (Exists p))
   unfolding existence_body pair seen

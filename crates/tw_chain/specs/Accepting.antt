@@ -15,7 +15,7 @@ use Rattle.tw_skipproof.specs.declared.existence.Part.{Part}
 use Rattle.tw_chain.specs.declared.proof.HopPart.{HopPart}
 use Rattle.tw_chain.specs.declared.proof.Proof.{Proof}
 use Rattle.tw_chain.specs.declared.proof.Proof.TheVariants.{Exists, Precedes, Archived, Absent, Linked}
-use Rattle.tw_chain.specs.Checks.{checks, end_of, tail_at}
+use Rattle.tw_chain.specs.Checks.{checks, end_of_order, tail_at}
 use Rattle.tw_chain.specs.Proofs.{proof_layout}
 use Rattle.tw_chain.specs.Passing.{Passes, carried_by, check_texts, held_by, needed_by}
 
@@ -57,7 +57,7 @@ seen_at at e = record {
 -- has the authenticator
 abbrev pub claim_of : Proof → Claim
 claim_of (Exists p) = claims.Exists (seen_at p.at p.event)
-claim_of (Precedes p) = claims.Precedes (seen_at (tail_at (end_of p) p.tail) p.tail.event) (seen_at p.head p.event)
+claim_of (Precedes p) = claims.Precedes (seen_at (tail_at (end_of_order p) p.tail) p.tail.event) (seen_at p.head p.event)
 claim_of (Archived p) = claims.Archived p.at.service p.at.step p.entry
 claim_of (Absent p) = claims.Absent p.at.service p.at.step p.key
 claim_of (Linked p) = claims.Linked p.service p.step p.top p.auth

@@ -81,27 +81,27 @@ hop_checks part step root hop =
     InOrder hop.entry.archived step ∷ AnswerOf part root (Present hop.entry) hop.shown
     ∷ (bind_checks part hop ++ opening_checks part hop.entry.thread hop.opening)
 
-abbrev pub root_of : Option Opening → List ℕ
-root_of opening = option_map_or (λ o. o.archive_root) opening []
+abbrev pub opening_root : Option Opening → List ℕ
+opening_root opening = option_map_or (λ o. o.archive_root) opening []
 
 -- hops one after another, the first of which has this part; each one's thread has the step whose archive shows the next
 abbrev pub hops_checks : (part step : ℕ) → (root : List ℕ) → List HopPart → List Check
 hops_checks part step root [] = []
 hops_checks part step root (hop ∷ hops) =
-    hop_checks part step root hop ++ hops_checks (suc part) hop.entry.thread.step (root_of hop.opening) hops
+    hop_checks part step root hop ++ hops_checks (suc part) hop.entry.thread.step (opening_root hop.opening) hops
 
 -- the thread that the hops come to from this one on
-abbrev pub last_thread : Thread → List HopPart → Thread
-last_thread t [] = t
-last_thread t (hop ∷ hops) = last_thread hop.entry.thread hops
+abbrev pub last_hop_thread : Thread → List HopPart → Thread
+last_hop_thread t [] = t
+last_hop_thread t (hop ∷ hops) = last_hop_thread hop.entry.thread hops
 
 -- the step before the second event's, with the authenticator that the opening of that event's step has of it
 abbrev pub start_of : PrecedenceProof → Thread
 start_of p = record { from = p.head.service; step = p.head.step - 1; auth = p.head.opening.prev }
 
 -- the thread under which the first event stands: the last hop's, or the start where there is no hop
-abbrev pub end_of : PrecedenceProof → Thread
-end_of p = last_thread (start_of p) p.hops
+abbrev pub end_of_order : PrecedenceProof → Thread
+end_of_order p = last_hop_thread (start_of p) p.hops
 
 -- the first event's step under that thread's
 abbrev pub tail_at : Thread → Tail → Part
@@ -117,7 +117,7 @@ head_checks p = under_anchor 0 p.head ++ EventOf 0 p.head.opening p.event ∷ op
 
 abbrev pub precedence_checks : PrecedenceProof → List Check
 precedence_checks p =
-    head_checks p ++ (hops_checks 1 (start_of p).step (root_of p.before) p.hops ++ tail_checks (suc (length p.hops)) (end_of p) p.tail)
+    head_checks p ++ (hops_checks 1 (start_of p).step (opening_root p.before) p.hops ++ tail_checks (suc (length p.hops)) (end_of_order p) p.tail)
 
 -- what is checked of a proof
 abbrev pub checks : Proof → List Check

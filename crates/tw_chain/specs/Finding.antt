@@ -19,7 +19,7 @@ use Rattle.tw_skipproof.specs.declared.path.Link.{Link}
 use Rattle.tw_skipproof.specs.Openings.{opening_auth}
 use Rattle.tw_skipproof.specs.Paths.{climbed as path_climbed, hop}
 use Rattle.tw_treeproof.specs.Answers.{ancestors_of, asks_entry, is_of_entry, place_text}
-use Rattle.tw_treeproof.specs.Ways.{climbed as tree_climbed, has_asked_key, is_left}
+use Rattle.tw_treeproof.specs.Ways.{climbed_tree, has_asked_key, is_left}
 use Rattle.tw_chain.specs.Checks.{Check, link_top}
 use Rattle.tw_chain.specs.Checks.Check.{InOrder, NeedsAnchor, CarriesThread, PathOf, LinkOf, OpeningOf, EventOf, AnswerOf}
 use Rattle.tw_chain.specs.Checks.Upper.{AtAnchor}
@@ -34,9 +34,9 @@ has_shape (link ∷ links) from to = nat_lt to from && (length link.others == to
 abbrev pub is_opening_at : ℕ → Opening → Bool
 is_opening_at step o = nat_lt 0 step && length o.others == top_level step
 
-abbrev pub is_free : Ask → List Ancestor → Bool
-is_free ask [] = true
-is_free ask (a ∷ up) = not (has_asked_key ask a.entry) && is_free ask up
+abbrev pub is_key_free : Ask → List Ancestor → Bool
+is_key_free ask [] = true
+is_key_free ask (a ∷ up) = not (has_asked_key ask a.entry) && is_key_free ask up
 
 abbrev pub is_same_kind : Bool → Bool → Bool
 is_same_kind one other = if one then other else not other
@@ -60,8 +60,8 @@ module _ (dig : List ℕ → List ℕ) where
 
   abbrev pub answers : (root : List ℕ) → Ask → TreeProof → Bool
   answers root ask proof =
-      is_same_kind (is_of_entry proof) (asks_entry ask) && (is_free ask (ancestors_of proof)
-      && bytes_eq (tree_climbed dig (is_left ask) (ancestors_of proof) (dig (place_text ask proof))) root)
+      is_same_kind (is_of_entry proof) (asks_entry ask) && (is_key_free ask (ancestors_of proof)
+      && bytes_eq (climbed_tree dig (is_left ask) (ancestors_of proof) (dig (place_text ask proof))) root)
 
   module _ (anchors : List Thread) where
     abbrev pub passes : Check → Bool
@@ -94,5 +94,5 @@ module _ (dig : List ℕ → List ℕ) (anchors : List Thread) where
   found_in (c ∷ cs) = lower_of (if passes dig anchors c then None else Some (reason_of c)) (found_in cs)
 
   -- the lowest reason so far, with those of more checks
-  abbrev pub found_with : Option Reason → List Check → Option Reason
-  found_with found more = lower_of found (found_in more)
+  abbrev pub reason_with : Option Reason → List Check → Option Reason
+  reason_with found more = lower_of found (found_in more)

@@ -11,7 +11,7 @@ use Rattle.tw_base.specs.kinds.Lists.{Each}
 use Rattle.tw_base.specs.kinds.Names.{IsName}
 use Rattle.tw_base.specs.history.Tree.{tree}
 use Rattle.tw_skipproof.specs.declared.existence.ExistenceProof.{ExistenceProof}
-use Rattle.tw_skipproof.specs.HistoryProofs.{IsExistenceOf, IsPartOf, IsPathOf}
+use Rattle.tw_skipproof.specs.HistoryProofs.{IsExistenceOf, IsPartOfHistory, IsPathOf}
 use Rattle.tw_treeproof.specs.declared.limits.TheConstants.{MOST_ABOVE_ENTRY, MOST_ABOVE_PLACE}
 use Rattle.tw_treeproof.specs.Answers.{ancestors_of}
 use Rattle.tw_treeproof.specs.Making.{proof_of}
@@ -31,7 +31,7 @@ module _ (dig : List ℕ → List ℕ) (h : History) (step top : ℕ) where
   -- the proof of a thread that was received up to the step, under this top: the history's part, and the own proof of the tree
   -- of the step's archive
   pub record IsThreadProofOf (p : ThreadProof) : Type 0 where
-    pub at : IsPartOf dig h step top p.at
+    pub at : IsPartOfHistory dig h step top p.at
     pub received : entry_at h p.entry.archived ≡ Some p.entry
     pub before : p.entry.archived ≤ step
     pub shown : p.shown ≡ proof_of dig (tree h step) (ask.Present p.entry)
@@ -39,7 +39,7 @@ module _ (dig : List ℕ → List ℕ) (h : History) (step top : ℕ) where
   -- the proof that no thread of a key was received up to the step, which is from 1 on
   pub record IsAbsenceProofOf (p : AbsenceProof) : Type 0 where
     pub from_1 : 0 < step
-    pub at : IsPartOf dig h step top p.at
+    pub at : IsPartOfHistory dig h step top p.at
     pub name : IsName p.key.from
     pub key : (0 < p.key.step) × (p.key.step ≤ LAST_STEP)
     pub none : Each (λ entry. key_of entry ≢ p.key) (received h step)

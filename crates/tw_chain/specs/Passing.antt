@@ -10,7 +10,7 @@ use Rattle.tw_base.specs.events.AuditPath.{audit_texts}
 use Rattle.tw_skipproof.specs.Acceptance.{Reaches, ShowsEvent, part_texts}
 use Rattle.tw_skipproof.specs.Openings.{IsOpeningAt, opening_auth, opening_texts}
 use Rattle.tw_skipproof.specs.Paths.{Climbs, path_texts}
-use Rattle.tw_treeproof.specs.Answers.{Checks, proof_texts as tree_proof_texts}
+use Rattle.tw_treeproof.specs.Answers.{Checks, tree_proof_texts}
 use Rattle.tw_chain.specs.Checks.{Check, Upper, link_top}
 use Rattle.tw_chain.specs.Checks.Check.{InOrder, NeedsAnchor, CarriesThread, PathOf, LinkOf, OpeningOf, EventOf, AnswerOf}
 use Rattle.tw_chain.specs.Checks.Upper.{AtAnchor, Known}

@@ -9,7 +9,7 @@ use Rattle.tw_base.specs.format.Formats.{Format}
 use Rattle.tw_base.specs.history.EntryCodec.{entry_codec}
 use Rattle.tw_skipproof.specs.declared.existence.ExistenceProof.{ExistenceProof}
 use Rattle.tw_skipproof.specs.declared.opening.Opening.{Opening}
-use Rattle.tw_skipproof.specs.Codecs.{event_codec, existence_body, opening_bytes, opening_codec, part_codec, path_bytes, path_codec, proof_magic, step_codec}
+use Rattle.tw_skipproof.specs.Codecs.{event_part_codec, existence_body, opening_bytes, opening_codec, part_codec, path_bytes, path_codec, proof_magic, step_number_codec}
 use Rattle.tw_treeproof.specs.Codecs.{gap_codec, present_codec}
 use Rattle.tw_chain.specs.declared.proof.AbsenceProof.{AbsenceProof}
 use Rattle.tw_chain.specs.declared.proof.HopPart.{HopPart}
@@ -20,12 +20,12 @@ use Rattle.tw_chain.specs.declared.proof.Proof.TheVariants.{Exists, Precedes, Ar
 use Rattle.tw_chain.specs.declared.proof.Tail.{Tail}
 use Rattle.tw_chain.specs.declared.proof.ThreadProof.{ThreadProof}
 
-abbrev pub kind_of : Proof → ℕ
-kind_of (Exists p) = 1
-kind_of (Precedes p) = 2
-kind_of (Archived p) = 3
-kind_of (Absent p) = 4
-kind_of (Linked p) = 5
+abbrev pub proof_kind : Proof → ℕ
+proof_kind (Exists p) = 1
+proof_kind (Precedes p) = 2
+proof_kind (Archived p) = 3
+proof_kind (Absent p) = 4
+proof_kind (Linked p) = 5
 
 -- the kind in one byte
 abbrev pub kind_codec : Codec ℕ
@@ -61,13 +61,13 @@ unfoldable pub tail_codec : (upper : ℕ) → Codec Tail
 tail_codec upper =
     seen (λ t. record { step = t.0; path = record { links = t.1.0 }; opening = t.1.1.0; event = t.1.1.1 })
     (λ p. (p.step, (p.path.links, (p.opening, p.event))))
-    (pair step_codec (λ step. pair (path_codec upper step) (λ links. pair (opening_codec 1 step) (λ opening. event_codec opening.count))))
+    (pair step_number_codec (λ step. pair (path_codec upper step) (λ links. pair (opening_codec 1 step) (λ opening. event_part_codec opening.count))))
 
 -- behind the second event: the opening of the step before it where there is a hop, the hops, and the first event
-abbrev pub Behind : Type 0
-Behind = Option Opening × (List HopPart × Tail)
+abbrev pub BehindSecond : Type 0
+BehindSecond = Option Opening × (List HopPart × Tail)
 
-unfoldable pub behind_codec : (count step : ℕ) → Codec Behind
+unfoldable pub behind_codec : (count step : ℕ) → Codec BehindSecond
 behind_codec count step =
     pair (optional (nat_lt 0 count) (opening_codec 0 (step - 1))) (λ before.
     pair (each hop_bytes hop_codec (following count)) (λ hops. tail_codec (last_step (step - 1) hops)))
@@ -77,7 +77,7 @@ unfoldable pub hops_codec : (count : ℕ) → Codec PrecedenceProof
 hops_codec count =
     seen (λ t. record { head = t.0; event = t.1.0; before = t.1.1.0; hops = t.1.1.1.0; tail = t.1.1.1.1 })
     (λ p. (p.head, (p.event, (p.before, (p.hops, p.tail)))))
-    (pair (part_codec 1) (λ head. pair (event_codec head.opening.count) (λ event. behind_codec count head.step)))
+    (pair (part_codec 1) (λ head. pair (event_part_codec head.opening.count) (λ event. behind_codec count head.step)))
 
 -- kind 2: the number of the hops, and the rest
 unfoldable pub precedence_body : Codec PrecedenceProof
@@ -93,7 +93,7 @@ thread_body =
 
 -- a key: a service, and one of its steps from 1 on
 unfoldable pub key_codec : Codec Key
-key_codec = seen (λ t. record { from = t.0; step = t.1 }) (λ k. (k.from, k.step)) (pair name_codec (λ from. step_codec))
+key_codec = seen (λ t. record { from = t.0; step = t.1 }) (λ k. (k.from, k.step)) (pair name_codec (λ from. step_number_codec))
 
 -- kind 4: a step under a top, the asked key, and the tree proof of the empty place where it would stand
 unfoldable pub absence_body : Codec AbsenceProof
@@ -106,7 +106,7 @@ unfoldable pub link_body : Codec LinkProof
 link_body =
     seen (λ t. record { service = t.0; step = t.1.0; top = t.1.1.0; auth = t.1.1.1.0; path = record { links = t.1.1.1.1 } })
     (λ p. (p.service, (p.step, (p.top, (p.auth, p.path.links)))))
-    (pair name_codec (λ service. pair (number_codec 8 0 LAST_STEP) (λ step. pair step_codec (λ top. pair digest_codec (λ auth. path_codec top step)))))
+    (pair name_codec (λ service. pair (number_codec 8 0 LAST_STEP) (λ step. pair step_number_codec (λ top. pair digest_codec (λ auth. path_codec top step)))))
 
 -- the fields of a proof that is of this kind
 abbrev pub existence_of : Proof → Option ExistenceProof
@@ -117,9 +117,9 @@ abbrev pub precedence_of : Proof → Option PrecedenceProof
 precedence_of (Precedes p) = Some p
 precedence_of _ = None
 
-abbrev pub thread_of : Proof → Option ThreadProof
-thread_of (Archived p) = Some p
-thread_of _ = None
+abbrev pub thread_proof_of : Proof → Option ThreadProof
+thread_proof_of (Archived p) = Some p
+thread_proof_of _ = None
 
 abbrev pub absence_of : Proof → Option AbsenceProof
 absence_of (Absent p) = Some p
@@ -134,12 +134,12 @@ abbrev pub body_of_kind : (kind : ℕ) → Codec Proof
 body_of_kind kind =
     choose (kind == 1) (variant Exists existence_of existence_body)
     (choose (kind == 2) (variant Precedes precedence_of precedence_body)
-    (choose (kind == 3) (variant Archived thread_of thread_body)
+    (choose (kind == 3) (variant Archived thread_proof_of thread_body)
     (choose (kind == 4) (variant Absent absence_of absence_body) (variant Linked link_of link_body))))
 
 -- the kind in one byte, and what the kind has
 unfoldable pub kinds_codec : Codec Proof
-kinds_codec = by_kind kind_of kind_codec body_of_kind
+kinds_codec = by_kind proof_kind kind_codec body_of_kind
 
 -- TWP1, and a proof of some kind
 unfoldable pub proof_codec : Codec Proof

@@ -1,7 +1,7 @@
 -- The codecs that readers and writers look into, in groups, with those that they are made of.
 use Rattle.tw_base.specs.format.Seen.{codecs, records}
-use Rattle.tw_skipproof.specs.Codecs.{event_codec}
-use Rattle.tw_skipproof.specs.Seen.{parts, paths}
+use Rattle.tw_skipproof.specs.Codecs.{event_part_codec}
+use Rattle.tw_skipproof.specs.Seen.{parts, paths_seen}
 use Rattle.tw_chain.specs.Proofs.{absence_body, behind_codec, hop_codec, hops_codec, key_codec, link_body, tail_codec, thread_body}
 
 -- proofs without hops, but for their first words
@@ -21,5 +21,5 @@ hops = tt
 
 -- what stands behind the hops, as it is written
 unfoldable pub tails : Unit {0}
-unfolding event_codec paths tail_codec
+unfolding event_part_codec paths_seen tail_codec
 tails = tt

@@ -4,7 +4,7 @@ ghost use Rattle.std.specs.Prelude.{◌≡◌, ℕ, ◌≤◌, List, [], ◌∷�
 ghost use Rattle.tw_base.specs.declared.kinds.limits.TheConstants.{LAST_STEP, MOST_EVENTS, MOST_EVENT_BYTES};
 ghost use Rattle.tw_base.specs.declared.history.report.Reason.TheVariants.{BadTree};
 ghost use Rattle.tw_base.specs.declared.history.thread.Thread.{Thread as Anchor};
-ghost use Rattle.tw_chain.specs.Finding.{found_in, found_with, is_lower as is_lower_of, lower_of};
+ghost use Rattle.tw_chain.specs.Finding.{found_in, is_lower as is_lower_of, lower_of, reason_with};
 ghost use Rattle.tw_chain.specs.Checks.{link_checks, opening_checks, under_anchor as under_anchor_of};
 ghost use Rattle.tw_chain.specs.Checks.Check.{AnswerOf, EventOf, InOrder, PathOf};
 ghost use Rattle.tw_chain.specs.Checks.Upper.{Known};
@@ -40,7 +40,7 @@ fn unless(passes: bool, found: Option<Reason>, reason: Reason) -> Option<Reason>
 /// What is found with the check that the lower step isn't above the upper one.
 pub fn with_order(found: Option<Reason>, lower: u64, upper: u64) -> Option<Reason>
     // The lowest of what was found and of what the order of the two steps gives.
-    ensures { (dig : List ℕ → List ℕ) (anchors : List Anchor) → result ≡ found_with dig anchors found (InOrder lower upper ∷ []) }
+    ensures { (dig : List ℕ → List ℕ) (anchors : List Anchor) → result ≡ reason_with dig anchors found (InOrder lower upper ∷ []) }
 {
     unless(lower <= upper, found, Reason::BadOrder)
 }
@@ -80,7 +80,7 @@ pub fn with_link<H: Hasher>(
 ) -> Option<Reason>
     requires { top ≤ LAST_STEP }
     // The lowest of what was found and of what the checks of the thread under its anchor give.
-    ensures { result ≡ found_with H.dig anchors.now found
+    ensures { result ≡ reason_with H.dig anchors.now found
         (link_checks part (record { service = thread.now.from; step = thread.now.step; top = top; auth = thread.now.auth; path = path.now })) }
 {
     let found = with_order(found, thread.step, top);
@@ -110,7 +110,7 @@ pub fn with_path<H: Hasher>(
     requires step { at.now.step ≤ LAST_STEP }
     requires top { at.now.top ≤ LAST_STEP }
     // The lowest of what was found and of what the path to the known authenticator gives.
-    ensures { (anchors : List Anchor) → result ≡ found_with H.dig anchors found (PathOf part at.now (Known upper.now) ∷ []) }
+    ensures { (anchors : List Anchor) → result ≡ reason_with H.dig anchors found (PathOf part at.now (Known upper.now) ∷ []) }
 {
     unless(reaches::<H>(at, upper), found, Reason::BadPath { part })
 }
@@ -124,7 +124,7 @@ pub fn with_opening<H: Hasher>(
 ) -> Option<Reason>
     requires { thread.now.step ≤ LAST_STEP }
     // The lowest of what was found and of what the checks of the opening give; without an opening, what was found.
-    ensures { (anchors : List Anchor) → result ≡ found_with H.dig anchors found (opening_checks part thread.now opening.now) }
+    ensures { (anchors : List Anchor) → result ≡ reason_with H.dig anchors found (opening_checks part thread.now opening.now) }
 {
     match opening {
         None => found,
@@ -149,7 +149,7 @@ pub fn with_event<H: Hasher>(
     requires few { opening.now.count ≤ MOST_EVENTS }
     requires small { length event.now.event ≤ MOST_EVENT_BYTES }
     // The lowest of what was found and of what the event under the opening's root gives.
-    ensures { (anchors : List Anchor) → result ≡ found_with H.dig anchors found (EventOf part opening.now event.now ∷ []) }
+    ensures { (anchors : List Anchor) → result ≡ reason_with H.dig anchors found (EventOf part opening.now event.now ∷ []) }
 {
     unless(shows::<H>(opening, event), found, Reason::BadEvent { part })
 }
@@ -163,7 +163,7 @@ pub fn with_answer<H: Hasher>(
     shown: &TreeProof,
 ) -> Option<Reason>
     // The lowest of what was found and of what the tree proof's answer under the root gives.
-    ensures { (anchors : List Anchor) → result ≡ found_with H.dig anchors found (AnswerOf part root.now ask.now shown.now ∷ []) }
+    ensures { (anchors : List Anchor) → result ≡ reason_with H.dig anchors found (AnswerOf part root.now ask.now shown.now ∷ []) }
 {
     unless(
         answers::<H>(root, ask, shown),

@@ -3,7 +3,7 @@
 
 ghost use Rattle.std.specs.Prelude.{◌≡◌, [], ◌∷◌, ◌++◌, IfOk, OnOk};
 ghost use Rattle.tw_base.specs.format.Formats.{Spells};
-ghost use Rattle.tw_chain.specs.Proofs.{absence_body, body_of_kind, key_codec, kind_of as kind_of_proof, link_body, proof_bytes, proof_codec, proof_layout, thread_body};
+ghost use Rattle.tw_chain.specs.Proofs.{absence_body, body_of_kind, key_codec, link_body, proof_bytes, proof_codec, proof_kind, proof_layout, thread_body};
 
 use crate::chain_writing::put_precedence_body;
 use crate::proof::{AbsenceProof, LinkProof, Proof, ThreadProof};
@@ -56,7 +56,7 @@ fn put_link_body(into: &mut Bytes, proof: &LinkProof) -> Result<(), NoMemory>
 /// The kind of the proof.
 #[tactic(auto)]
 fn kind_of(proof: &Proof) -> u8
-    ensures { result ≡ kind_of_proof proof.now }
+    ensures { result ≡ proof_kind proof.now }
 {
     match proof {
         Proof::Exists(_) => 1,
@@ -70,7 +70,7 @@ fn kind_of(proof: &Proof) -> u8
 /// Appends what the proof has behind its kind.
 #[tactic(auto, unfolding(tw_base::specs::format::Codecs::variant))]
 fn put_body(into: &mut Bytes, proof: &Proof) -> Result<(), NoMemory>
-    ensures { OnOk result (into.new ≡ into.old ++ (body_of_kind (kind_of_proof proof.now)).write proof.now) }
+    ensures { OnOk result (into.new ≡ into.old ++ (body_of_kind (proof_kind proof.now)).write proof.now) }
 {
     match proof {
         Proof::Exists(existence) => put_existence_body(into, existence),

@@ -11,36 +11,36 @@ use Rattle.lru.specs.LruCache.{LruCache, lru_cache, promoted, put_entries}
 use Rattle.lru.proofs.CallerLemmas.{Contains-lookup, Contains-promoted, Contains-put_entries}
 use Rattle.tw_disk.specs.Image.{Page, Image, page_at}
 use Rattle.tw_disk.specs.declared.limits.TheConstants.{FIRST_PAGE}
-use Rattle.tw_disk.specs.Keeping.{IsPageOf, AreOf, AddsAtMost}
+use Rattle.tw_disk.specs.Keeping.{IsKeptPageOf, ArePagesOf, AddsAtMost}
 
 -- what holds of each element of a list holds of those of any list within it
 All-within : {X : Type 0} (P : X → Type 0) (more less : List X) → ((x : X) → Contains less x → Contains more x) → All P more → All P less
 All-within P more less within all k d lt = All-contains P more _ all (within _ (All-contains_itself less k d lt))
 
 -- a look-up changes the order of use alone
-pub AreOf-used : (list : Option Image) (kept used : LruCache ℕ (Box Page)) (test : ℕ → Bool) → AreOf list kept.entries
-    → used ≡ lru_cache (promoted test kept.entries) kept.cap → AreOf list used.entries
-AreOf-used list kept used test are order = rw order (λ pages told. All-within (IsPageOf pages) kept.entries (promoted test kept.entries) (Contains-promoted test kept.entries) (are pages told))
+pub AreOf-used : (list : Option Image) (kept used : LruCache ℕ (Box Page)) (test : ℕ → Bool) → ArePagesOf list kept.entries
+    → used ≡ lru_cache (promoted test kept.entries) kept.cap → ArePagesOf list used.entries
+AreOf-used list kept used test are order = rw order (λ pages told. All-within (IsKeptPageOf pages) kept.entries (promoted test kept.entries) (Contains-promoted test kept.entries) (are pages told))
 
 -- a page that is found is the one of its number
-pub AreOf-lookup : (list : Option Image) (kept : List (ℕ × Box Page)) (number : ℕ) (page : Box Page) → AreOf list kept
+pub AreOf-lookup : (list : Option Image) (kept : List (ℕ × Box Page)) (number : ℕ) (page : Box Page) → ArePagesOf list kept
     → lookup (nat_eq number) kept ≡ Some page → (pages : Image) → list ≡ Some pages → page.value ≡ page_at pages (number - FIRST_PAGE)
 AreOf-lookup list kept number page are found pages told =
     let entry = Contains-lookup (nat_eq number) kept page found in
-    let is : slice_get pages (entry.0 - FIRST_PAGE) ≡ Some page.value = All-contains (IsPageOf pages) kept (entry.0, page) (are pages told) entry.1 in
+    let is : slice_get pages (entry.0 - FIRST_PAGE) ≡ Some page.value = All-contains (IsKeptPageOf pages) kept (entry.0, page) (are pages told) entry.1 in
     let same : number ≡ entry.0 = eqb-true number entry.0 entry.2 in
     sym (get_or_from_slice_get pages (number - FIRST_PAGE) page.value [] (rw same is))
 
 -- with one page more, which is that of its number
-pub AreOf-added : (list : Option Image) (old new : List (ℕ × Box Page)) (number : ℕ) (page : Page) → AreOf list old → AddsAtMost old new number page
-    → ((pages : Image) → list ≡ Some pages → (number - FIRST_PAGE < length pages) × (page ≡ page_at pages (number - FIRST_PAGE))) → AreOf list new
+pub AreOf-added : (list : Option Image) (old new : List (ℕ × Box Page)) (number : ℕ) (page : Page) → ArePagesOf list old → AddsAtMost old new number page
+    → ((pages : Image) → list ≡ Some pages → (number - FIRST_PAGE < length pages) × (page ≡ page_at pages (number - FIRST_PAGE))) → ArePagesOf list new
 AreOf-added list old new number page are adds is pages told k d lt = elim (adds k d lt) [
-  | inl was ↦ All-contains (IsPageOf pages) old _ (are pages told) was
+  | inl was ↦ All-contains (IsKeptPageOf pages) old _ (are pages told) was
   | inr one ↦ rw one.0 (rw one.1 (slice_get-get_or pages (number - FIRST_PAGE) [] (is pages told).0 ∙ ap (λ p. Some p) (sym (is pages told).1)))
 ]
 
 -- a page that is staged is behind all others
-IsPageOf-staged : (pages : Image) (page : Page) (e : ℕ × Box Page) → IsPageOf pages e → IsPageOf (pages ++ page ∷ []) e
+IsPageOf-staged : (pages : Image) (page : Page) (e : ℕ × Box Page) → IsKeptPageOf pages e → IsKeptPageOf (pages ++ page ∷ []) e
 IsPageOf-staged pages page e is =
     let at = e.0 - FIRST_PAGE in
     let within : at < length pages = slice_get_within pages at e.1.value is in
@@ -48,15 +48,15 @@ IsPageOf-staged pages page e is =
     ∙ ap (λ p. Some p) (get_or_append_left pages (page ∷ []) [] at within ∙ get_or_from_slice_get pages at e.1.value [] is)
 
 -- so all that are kept are right still
-AreOf-staged : (list : Option Image) (kept : List (ℕ × Box Page)) (page : Page) → AreOf list kept → AreOf (option_map (λ pages. pages ++ page ∷ []) list) kept
+AreOf-staged : (list : Option Image) (kept : List (ℕ × Box Page)) (page : Page) → ArePagesOf list kept → ArePagesOf (option_map (λ pages. pages ++ page ∷ []) list) kept
 AreOf-staged None kept page are pages told = absurd cc
 AreOf-staged (Some below) kept page are pages told =
     let more : below ++ page ∷ [] ≡ pages = cc in
-    λ k d lt. subst (λ all. IsPageOf all (get_or kept k d)) more (IsPageOf-staged below page (get_or kept k d) (are below refl k d lt))
+    λ k d lt. subst (λ all. IsKeptPageOf all (get_or kept k d)) more (IsPageOf-staged below page (get_or kept k d) (are below refl k d lt))
 
 -- whether it is staged or there is no memory, those that are kept are right
 pub AreOf-after_stage : {V E : Type 0} (old new : Option Image) (kept : List (ℕ × Box Page)) (page : Page) (result : Result V E)
-    → OnOk result (new ≡ option_map (λ pages. pages ++ page ∷ []) old) → OnErr result (new ≡ old) → AreOf old kept → AreOf new kept
+    → OnOk result (new ≡ option_map (λ pages. pages ++ page ∷ []) old) → OnErr result (new ≡ old) → ArePagesOf old kept → ArePagesOf new kept
 AreOf-after_stage old new kept page (Ok number) staged as_before are = rw staged (AreOf-staged old kept page are)
 AreOf-after_stage old new kept page (Err refused) staged as_before are = rw as_before are
 

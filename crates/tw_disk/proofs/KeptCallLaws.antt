@@ -4,8 +4,8 @@ use Rattle.std.proofs.Common.{◌-◌, arith, subst, sym, ap, ◌∙◌, length-
 use Rattle.std.proofs.lemmas.List.{get_or-append_right}
 use Rattle.std.proofs.Math.Seq.{take-append_seam}
 use Rattle.tw_disk.specs.Image.{Image, Torn, put, page_at}
-use Rattle.tw_disk.specs.Disk.{Only, Follows}
-use Rattle.tw_disk.specs.Model.{DeviceCall, Write, Written, at_rest, step, after, IsImage, Since}
+use Rattle.tw_disk.specs.Disk.{Only, FollowsByStep}
+use Rattle.tw_disk.specs.Model.{DeviceCall, Write, WrittenPage, at_rest, step, after, IsImage, Since}
 use Rattle.tw_disk.specs.Model.{Barrier as BarrierCall}
 use Rattle.tw_disk.specs.KeptCalls.{undone, earlier, with_bytes, calls_of, written_of, Fits, AllFit, Gains}
 use Rattle.tw_disk.specs.declared.call.Call.{Call}
@@ -65,7 +65,7 @@ module _ (old_calls : List Call) (old : Image) (new_calls : List Call) (new : Im
       subst (λ (b : Image). P b (calls_of new_calls new)) (sym gains.base) (subst (λ (l : List DeviceCall). P base l) (sym gains.calls) (keeps_push base calls call t c))
 
   stepped : (c : Image) → IsImage (written_of new_calls new) c → IsImage (step (written_of old_calls old) call) c
-  stepped c image = subst (λ (s : Written). IsImage s c) state image
+  stepped c image = subst (λ (s : WrittenPage). IsImage s c) state image
 
   pub one_more : length (calls_of new_calls new) ≡ suc (length (calls_of old_calls old))
   one_more = ap length gains.calls ∙ omega (arith, length-append (calls_of old_calls old) (call ∷ []))
@@ -77,7 +77,7 @@ module _ (old_calls : List Call) (old : Image) (new_calls : List Call) (new : Im
   shorter : length (written_of old_calls old).settled ≤ length (written_of old_calls old).now
   shorter = (grown_after (earlier old_calls old) (calls_of old_calls old)).no_shorter
 
-  pub write_crash : (page : ℕ) (bytes : List ℕ) → Gains (Write page bytes) old_calls old new_calls new → page ≤ length old → Follows (Torn page) (IsImage (written_of old_calls old)) (IsImage (written_of new_calls new))
+  pub write_crash : (page : ℕ) (bytes : List ℕ) → Gains (Write page bytes) old_calls old new_calls new → page ≤ length old → FollowsByStep (Torn page) (IsImage (written_of old_calls old)) (IsImage (written_of new_calls new))
   write_crash page bytes gains le c image =
       let s = written_of old_calls old in
       let fits : page ≤ length s.now = omega (arith, ap length (now_is old_calls old all)) in

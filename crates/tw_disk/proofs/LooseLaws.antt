@@ -3,13 +3,13 @@ use Rattle.std.specs.Prelude.{◌≡◌, ℕ, ◌≤◌, List, [], ◌∷◌, �
 use Rattle.std.proofs.Common.{arith}
 use Rattle.std.proofs.lemmas.List.{length-set, length-take}
 use Rattle.tw_disk.specs.Image.{Image}
-use Rattle.tw_disk.specs.Model.{Written, step, after}
+use Rattle.tw_disk.specs.Model.{WrittenPage, step, after}
 use Rattle.tw_disk.specs.KeptCalls.{earlier, with_bytes, calls_of, AllFit}
 use Rattle.tw_disk.specs.declared.call.Call.{Call}
 use Rattle.tw_disk.specs.declared.call.Call.TheVariants.{Overwrite, Append, Barrier}
 use Rattle.tw_disk.specs.LooseSteps.{loose_of, AllBelow}
 
-pub loose_is : (s : Written) (calls : List Call) (image : Image) → (after s (calls_of calls image)).loose ≡ loose_of s.loose calls
+pub loose_is : (s : WrittenPage) (calls : List Call) (image : Image) → (after s (calls_of calls image)).loose ≡ loose_of s.loose calls
 loose_is s [] image = refl
 loose_is s (Overwrite page before ∷ calls) image = loose_is (step s (with_bytes (Overwrite page before) (earlier calls image))) calls image
 loose_is s (Append page ∷ calls) image = loose_is (step s (with_bytes (Append page) (earlier calls image))) calls image

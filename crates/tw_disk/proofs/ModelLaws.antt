@@ -5,15 +5,15 @@ use Rattle.std.proofs.Math.ListN.{set}
 use Rattle.std.proofs.lemmas.Bool.{cases_eq}
 use Rattle.std.proofs.lemmas.List.{length-take, length-set, get_or-take, get_or-set_same, get_or-set_other, ext_get_or, take-append-le, take_all}
 use Rattle.tw_disk.specs.Image.{Image, Torn, page_at}
-use Rattle.tw_disk.specs.Model.{DeviceCall, Barrier, Written, IsUntouched, at_rest, step, after, IsImage, Since, spoilt, outcome}
+use Rattle.tw_disk.specs.Model.{DeviceCall, Barrier, WrittenPage, IsUntouched, at_rest, step, after, IsImage, Since, spoilt, outcome}
 use Rattle.tw_disk.specs.MemDiskSteps.{IsGrown, grown_after, image_now}
 
-pub after-push : (s : Written) (calls : List DeviceCall) (call : DeviceCall) → after s (calls ++ call ∷ []) ≡ step (after s calls) call
+pub after-push : (s : WrittenPage) (calls : List DeviceCall) (call : DeviceCall) → after s (calls ++ call ∷ []) ≡ step (after s calls) call
 after-push s [] call = refl
 after-push s (c ∷ calls) call = after-push (step s c) calls call
 
 -- and so is what it held at the last good barrier
-pub image_settled : (s : Written) → IsGrown s → IsImage s s.settled
+pub image_settled : (s : WrittenPage) → IsGrown s → IsImage s s.settled
 image_settled s is = record { at_least = omega arith; at_most = is.no_shorter; others = is.others }
 
 pub length-spoilt : (bytes : List ℕ) (pages : List ℕ) (image : Image) → length (spoilt bytes pages image) ≡ length image
@@ -25,7 +25,7 @@ page_at-spoilt_other bytes [] image k untouched = refl
 page_at-spoilt_other bytes (page ∷ pages) image k untouched = page_at-spoilt_other bytes pages (set image page bytes) k untouched.1 ∙ get_or-set_other image page k bytes [] untouched.0
 
 -- any bytes in the pages written since the last good barrier make an image
-image_spoilt : (s : Written) (bytes : List ℕ) → IsGrown s → IsImage s (spoilt bytes s.loose s.now)
+image_spoilt : (s : WrittenPage) (bytes : List ℕ) → IsGrown s → IsImage s (spoilt bytes s.loose s.now)
 image_spoilt s bytes is = record {
   at_least = omega (arith, length-spoilt bytes s.loose s.now, is.no_shorter);
   at_most = omega (arith, length-spoilt bytes s.loose s.now);
@@ -33,13 +33,13 @@ image_spoilt s bytes is = record {
 }
 
 -- each outcome of a crash is one of the images that the model allows
-pub outcome_image : (choice : ℕ) (s : Written) → IsGrown s → IsImage s (outcome choice s)
+pub outcome_image : (choice : ℕ) (s : WrittenPage) → IsGrown s → IsImage s (outcome choice s)
 outcome_image zero s is = image_settled s is
 outcome_image (suc zero) s is = image_now s is
 outcome_image (suc (suc zero)) s is = image_spoilt s (replicate 4096 0) is
 outcome_image (suc (suc (suc more))) s is = image_spoilt s (replicate 4096 1) is
 
-module _ (s : Written) (page : ℕ) (now : Image) (c : Image) (firm : length s.settled ≤ length s.now) (torn : Torn page s.now now) (image : IsImage (record { now = now; settled = s.settled; loose = page ∷ s.loose }) c) where
+module _ (s : WrittenPage) (page : ℕ) (now : Image) (c : Image) (firm : length s.settled ≤ length s.now) (torn : Torn page s.now now) (image : IsImage (record { now = now; settled = s.settled; loose = page ∷ s.loose }) c) where
   before : Image
   before = take (length s.now) (set c page (page_at s.now page))
 
@@ -68,11 +68,11 @@ module _ (s : Written) (page : ℕ) (now : Image) (c : Image) (firm : length s.s
   )
 
 -- after a good barrier a crash leaves what a read gives
-pub barrier_only : (s : Written) (c : Image) → IsImage (step s Barrier) c → c ≡ s.now
+pub barrier_only : (s : WrittenPage) (c : Image) → IsImage (step s Barrier) c → c ≡ s.now
 barrier_only s c image = ext_get_or [] c s.now (omega (arith, image.at_least, image.at_most)) (λ k lt. image.others k lt tt)
 
 -- and nothing that it might not have left before
-pub barrier_image : (s : Written) (c : Image) → length s.settled ≤ length s.now → IsImage (step s Barrier) c → IsImage s c
+pub barrier_image : (s : WrittenPage) (c : Image) → length s.settled ≤ length s.now → IsImage (step s Barrier) c → IsImage s c
 barrier_image s c firm image = record { at_least = omega (arith, image.at_least); at_most = image.at_most; others = λ k lt untouched. image.others k lt tt }
 
 -- one call more, which ends at this moment

@@ -1,7 +1,7 @@
 -- The kept calls taken off one after another, the last one first.
 use Rattle.std.proofs.Common.{◌≡◌, ℕ, List, [], ◌∷◌, ◌++◌, ap, sym, subst, ◌∙◌, refl}
 use Rattle.tw_disk.specs.Image.{Image}
-use Rattle.tw_disk.specs.Model.{DeviceCall, Write, Written, step}
+use Rattle.tw_disk.specs.Model.{DeviceCall, Write, WrittenPage, step}
 use Rattle.tw_disk.specs.Model.{Barrier as BarrierCall}
 use Rattle.tw_disk.specs.KeptCalls.{undone, with_bytes, written_of, Fits, AllFit}
 use Rattle.tw_disk.proofs.KeptCallLaws.{fits_before, fits_last, gains_call, state}
@@ -23,14 +23,14 @@ module _ (all calls : List Call) (call : Call) (image : Image) (popped : all ≡
 
   -- a write leaves what is settled
   pub settled-write : (page : ℕ) (bytes : List ℕ) → with_bytes call image ≡ Write page bytes → (written_of calls (undone call image)).settled ≡ (written_of all image).settled
-  settled-write page bytes is = sym (ap (λ (s : Written). s.settled) written-pop ∙ ap (λ (d : DeviceCall). (step (written_of calls (undone call image)) d).settled) is)
+  settled-write page bytes is = sym (ap (λ (s : WrittenPage). s.settled) written-pop ∙ ap (λ (d : DeviceCall). (step (written_of calls (undone call image)) d).settled) is)
 
   -- after a barrier all is settled
   pub settled-barrier : call ≡ Barrier → image ≡ (written_of all image).settled
   settled-barrier is =
       let at : with_bytes call image ≡ BarrierCall = ap (λ (k : Call). with_bytes k image) is in
       let back : undone call image ≡ image = ap (λ (k : Call). undone k image) is in
-      sym (ap (λ (s : Written). s.settled) written-pop ∙ ap (λ (d : DeviceCall). (step (written_of calls (undone call image)) d).settled) at ∙ now_is calls (undone call image) fits_rest ∙ back)
+      sym (ap (λ (s : WrittenPage). s.settled) written-pop ∙ ap (λ (d : DeviceCall). (step (written_of calls (undone call image)) d).settled) at ∙ now_is calls (undone call image) fits_rest ∙ back)
 
 -- the same for the pages written since the last good barrier
 module _ (all calls : List Call) (call : Call) (popped : all ≡ calls ++ call ∷ []) where

@@ -43,9 +43,9 @@ module _ {F : Type 0} (sort : F → FaultSort) where
 
   module _ {T : Type 0} where
     -- this answer tells of a failed read
-    abbrev pub has_failed : Result T F → Bool
-    has_failed (Ok x) = false
-    has_failed (Err fault) = is_of_disk (sort fault)
+    abbrev pub is_failed : Result T F → Bool
+    is_failed (Ok x) = false
+    is_failed (Err fault) = is_of_disk (sort fault)
 
     -- no refusal of the call's own
     abbrev pub NeverRefuses : Result T F → Type 0
@@ -72,7 +72,7 @@ module _ {F : Type 0} (sort : F → FaultSort) where
       -- the count of faults hasn't fallen, and rose where a read failed
       pub record FaultsRise (result : Result T F) : Type 0 where
         pub later : (view old).faults ≤ (view new).faults
-        pub rose : has_failed result ≡ true → Rose (view old).faults (view new).faults
+        pub rose : is_failed result ≡ true → Rose (view old).faults (view new).faults
 
       -- `Own` is what holds of refusals of the call's own, over any pages
       module _ {X : Type 0} (result : Result T F) (Own : Type 0) (Answers : Result T F → Found X → Type 0) (found : Image → Found X) where
@@ -81,14 +81,14 @@ module _ {F : Type 0} (sort : F → FaultSort) where
         pub record ReadsBy : Type 0 where
           pub answer : (ps : Image) → (view old).list ≡ Some ps → Answers result (found ps)
           pub own : Own
-          pub kept : OnlyReads view same old new (has_failed result ≡ false)
+          pub kept : OnlyReads view same old new (is_failed result ≡ false)
           pub faults : FaultsRise result
 
         -- a call that reads and adds pages behind those that were told
         pub record AddsBy : Type 0 where
           pub answer : (ps : Image) → (view old).list ≡ Some ps → Answers result (found ps)
           pub own : Own
-          pub kept : OnlyAdds view same old new (has_failed result ≡ false)
+          pub kept : OnlyAdds view same old new (is_failed result ≡ false)
           pub faults : FaultsRise result
 
       module _ {X : Type 0} (value : T → X) (result : Result T F) where

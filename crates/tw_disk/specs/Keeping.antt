@@ -5,12 +5,12 @@ use Rattle.tw_disk.specs.Image.{Page, Image}
 use Rattle.tw_disk.specs.declared.limits.TheConstants.{FIRST_PAGE}
 
 -- the pages have this one at this number
-abbrev pub IsPageOf : Image → ℕ × Box Page → Type 0
-IsPageOf pages kept = slice_get pages (kept.0 - FIRST_PAGE) ≡ Some kept.1.value
+abbrev pub IsKeptPageOf : Image → ℕ × Box Page → Type 0
+IsKeptPageOf pages kept = slice_get pages (kept.0 - FIRST_PAGE) ≡ Some kept.1.value
 
 -- where the list is told, it has each page that is kept at its number
-abbrev pub AreOf : Option Image → List (ℕ × Box Page) → Type 0
-AreOf list kept = (pages : Image) → list ≡ Some pages → All (IsPageOf pages) kept
+abbrev pub ArePagesOf : Option Image → List (ℕ × Box Page) → Type 0
+ArePagesOf list kept = (pages : Image) → list ≡ Some pages → All (IsKeptPageOf pages) kept
 
 -- each page that is kept was kept before, or is this one under this number
 abbrev pub AddsAtMost : List (ℕ × Box Page) → List (ℕ × Box Page) → ℕ → Page → Type 0

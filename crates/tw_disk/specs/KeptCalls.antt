@@ -1,7 +1,7 @@
 -- What a disk in memory keeps of its calls: for each what undoes it, so that every earlier image follows from what reads give now.
 use Rattle.std.specs.Prelude.{◌≡◌, suc, ◌<◌, List, [], ◌∷◌, length, take, slice_set, ◌++◌}
 use Rattle.tw_disk.specs.Image.{Image, page_at}
-use Rattle.tw_disk.specs.Model.{DeviceCall, Write, Written, at_rest, after}
+use Rattle.tw_disk.specs.Model.{DeviceCall, Write, WrittenPage, at_rest, after}
 use Rattle.tw_disk.specs.Model.{Barrier as BarrierCall}
 use Rattle.tw_disk.specs.declared.call.Call.{Call}
 use Rattle.tw_disk.specs.declared.call.Call.TheVariants.{Overwrite, Append, Barrier}
@@ -29,7 +29,7 @@ calls_of [] image = []
 calls_of (call ∷ calls) image = with_bytes call (earlier calls image) ∷ calls_of calls image
 
 -- the disk after its calls, from what it held before them
-abbrev pub written_of : List Call → Image → Written
+abbrev pub written_of : List Call → Image → WrittenPage
 written_of calls image = after (at_rest (earlier calls image)) (calls_of calls image)
 
 -- the page of the call is there after it

@@ -2,7 +2,7 @@
 use Rattle.std.specs.Prelude.{◌≡◌, ◌+◌, ◌-◌, ℕ, List, Option, Some, Bool, length}
 use Rattle.tw_disk.specs.Image.{Image}
 use Rattle.tw_disk.specs.Disk.{DiskView}
-use Rattle.tw_disk.specs.Model.{DeviceCall, Written, IsImage, Since}
+use Rattle.tw_disk.specs.Model.{DeviceCall, WrittenPage, IsImage, Since}
 use Rattle.tw_disk.specs.KeptCalls.{earlier, calls_of, written_of}
 use Rattle.tw_disk.specs.declared.memory_disk.MemDisk.{MemDisk}
 
@@ -15,13 +15,13 @@ abbrev pub device_calls_of : MemDisk → List DeviceCall
 device_calls_of disk = calls_of disk.calls.items disk.pages.items
 
 -- where it stands after them
-abbrev pub state_of : MemDisk → Written
+abbrev pub state_of : MemDisk → WrittenPage
 state_of disk = written_of disk.calls.items disk.pages.items
 
 -- All that it tells of itself. It always tells its content. The moment is the number of the writes and barriers that it ever kept, those up
 -- to the last crash and those that it keeps; of the time before the last crash it tells no more than what that crash left.
-abbrev pub view_of : MemDisk → DiskView
-view_of disk = record {
+abbrev pub mem_disk_view : MemDisk → DiskView
+mem_disk_view disk = record {
   content = Some disk.pages.items;
   count = Some (length disk.pages.items);
   may_leave = λ c. IsImage (written_of disk.calls.items disk.pages.items) c;
@@ -35,12 +35,12 @@ abbrev pub made_of : MemDisk → ℕ
 made_of disk = disk.made
 
 -- how many calls of read it has had since it was made
-abbrev pub reads_of : MemDisk → ℕ
-reads_of disk = disk.reads
+abbrev pub disk_reads : MemDisk → ℕ
+disk_reads disk = disk.reads
 
 -- the writes and barriers that are to fail, counted from now
-abbrev pub failing_of : MemDisk → List ℕ
-failing_of disk = disk.failing
+abbrev pub failing_calls : MemDisk → List ℕ
+failing_calls disk = disk.failing
 
 -- the calls of pages and read that are to fail, counted from now
 abbrev pub failing_reads_of : MemDisk → List ℕ

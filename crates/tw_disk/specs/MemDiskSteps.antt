@@ -7,7 +7,7 @@ use Rattle.std.proofs.Math.Seq.{take-length}
 use Rattle.std.proofs.lemmas.List.{get_or-take, get_or-set_other, length-set, length-take, take_all}
 use Rattle.tw_disk.specs.Image.{Image, page_at, put}
 use Rattle.tw_disk.specs.PutSteps.{length-put_le, page_at-put_below, put-back}
-use Rattle.tw_disk.specs.Model.{DeviceCall, Write, Barrier as BarrierCall, Written, IsUntouched, at_rest, step, after, IsImage, Since}
+use Rattle.tw_disk.specs.Model.{DeviceCall, Write, Barrier as BarrierCall, WrittenPage, IsUntouched, at_rest, step, after, IsImage, Since}
 use Rattle.tw_disk.specs.KeptCalls.{undone, earlier, with_bytes, calls_of, written_of, Fits, AllFit}
 use Rattle.tw_disk.specs.declared.call.Call.{Call}
 use Rattle.tw_disk.specs.declared.call.Call.TheVariants.{Overwrite, Append, Barrier}
@@ -22,18 +22,18 @@ all_fit-prop [] image = Unit-prop
 all_fit-prop (call ∷ calls) image = ×_prop (fits-prop call (earlier calls image)) (all_fit-prop calls image)
 
 -- what reads give is the settled image but for the pages written since, and no shorter
-pub record IsGrown (s : Written) : Type 0 where
+pub record IsGrown (s : WrittenPage) : Type 0 where
   pub no_shorter : length s.settled ≤ length s.now
   pub others : (k : ℕ) → k < length s.settled → IsUntouched s.loose k → page_at s.settled k ≡ page_at s.now k
 
-grown_step : (s : Written) (call : DeviceCall) → IsGrown s → IsGrown (step s call)
+grown_step : (s : WrittenPage) (call : DeviceCall) → IsGrown s → IsGrown (step s call)
 grown_step s (Write page bytes) is = record {
   no_shorter = omega (arith, is.no_shorter, length-put_le page bytes s.now);
   others = λ k lt untouched. is.others k lt untouched.1 ∙ sym (page_at-put_below page bytes s.now k (omega (arith, lt, is.no_shorter)) untouched.0);
 }
 grown_step s BarrierCall is = record { no_shorter = omega arith; others = λ k lt untouched. refl }
 
-grown_from : (s : Written) (calls : List DeviceCall) → IsGrown s → IsGrown (after s calls)
+grown_from : (s : WrittenPage) (calls : List DeviceCall) → IsGrown s → IsGrown (after s calls)
 grown_from s [] is = is
 grown_from s (call ∷ calls) is = grown_from (step s call) calls (grown_step s call is)
 
@@ -41,7 +41,7 @@ pub grown_after : (base : Image) (calls : List DeviceCall) → IsGrown (after (a
 grown_after base calls = grown_from (at_rest base) calls (record { no_shorter = omega arith; others = λ k lt untouched. refl })
 
 -- a disk as it reads is one of its images
-pub image_now : (s : Written) → IsGrown s → IsImage s s.now
+pub image_now : (s : WrittenPage) → IsGrown s → IsImage s s.now
 image_now s is = record { at_least = is.no_shorter; at_most = omega arith; others = λ k lt untouched. refl }
 
 -- this moment is one of those since an earlier one
@@ -58,7 +58,7 @@ pub only_now : (crashed_at : ℕ) (base : Image) (calls : List DeviceCall) (c : 
 only_now crashed_at base calls c since = subst (λ (l : List DeviceCall). IsImage (after (at_rest base) l) c) (take_all since.at calls (omega (arith, since.from))) since.image
 
 -- a call that fits leads from what was before it to what is after it
-call_now : (s : Written) (call : Call) (image : Image) → s.now ≡ undone call image → Fits call image → (step s (with_bytes call image)).now ≡ image
+call_now : (s : WrittenPage) (call : Call) (image : Image) → s.now ≡ undone call image → Fits call image → (step s (with_bytes call image)).now ≡ image
 call_now s (Overwrite page before) image is fits =
     ap (λ (i : Image). put page (page_at image page) i) is
     ∙ put-back page (slice_set image page before) image (omega (arith, length-set image page before, fits)) (omega (arith, length-set image page before, fits)) (λ k lt ne. get_or-set_other image page k before [] ne)
@@ -67,7 +67,7 @@ call_now s (Append page) image is fits =
     ∙ put-back page (undone (Append page) image) image (omega (arith, length-take page image, fits)) (omega (arith, length-take page image, fits)) (λ k lt ne. get_or-take page image k [] (omega (arith, lt, fits, ne)))
 call_now s Barrier image is fits = is
 
-now_from : (s : Written) (calls : List Call) (image : Image) → s.now ≡ earlier calls image → AllFit calls image → (after s (calls_of calls image)).now ≡ image
+now_from : (s : WrittenPage) (calls : List Call) (image : Image) → s.now ≡ earlier calls image → AllFit calls image → (after s (calls_of calls image)).now ≡ image
 now_from s [] image is all = is
 now_from s (call ∷ calls) image is all = now_from (step s (with_bytes call (earlier calls image))) calls image (call_now s call (earlier calls image) is all.0) all.1
 

@@ -3,7 +3,7 @@ ghost use Rattle.std.specs.Prelude.{◌≡◌, ◌⊎◌, ◌<◌, ◌≤◌, �
 ghost use Rattle.std.specs.Option.{option_map, IsSomeAnd};
 ghost use Rattle.tw_disk.specs.Image.{Image, Torn, put, page_at};
 ghost use Rattle.tw_base.specs.kinds.Faults.{HasCause};
-ghost use Rattle.tw_disk.specs.Disk.{grown, KeepsRoom, Follows, Only, DiskView, IsSameDisk, TimeGoesOn};
+ghost use Rattle.tw_disk.specs.Disk.{grown, KeepsRoom, FollowsByStep, Only, DiskView, IsSameDisk, TimeGoesOn};
 
 use tw_base::{Failed, Page};
 
@@ -59,7 +59,7 @@ pub trait Disk {
 
         // Whatever a crash may leave after a write is something that it might have left before, with any bytes in that
         // page and perhaps one page more.
-        ensures crash { Follows (Torn page) (view self.old).may_leave (view self.new).may_leave }
+        ensures crash { FollowsByStep (Torn page) (view self.old).may_leave (view self.new).may_leave }
         // A crash since an earlier moment might have left what it might have left before the write, or what it may
         // leave now.
         ensures time { TimeGoesOn (view self.old) (view self.new) }

@@ -171,17 +171,17 @@ fn answer(faults: &mut u64, is_to_fail: bool) -> Result<(), Failed>
 impl MemDisk {
     ghost use Rattle.tw_disk.specs.Image.{Image};
     ghost use Rattle.tw_disk.specs.Disk.{IsAtRest, LeavesOnly};
-    ghost use Rattle.tw_disk.specs.MemDisk.{pages_of, device_calls_of, state_of, view_of, made_of, reads_of, failing_of, failing_reads_of, stop_of, is_stopped, IsPlanned, IsSameMemDisk};
+    ghost use Rattle.tw_disk.specs.MemDisk.{pages_of, device_calls_of, state_of, mem_disk_view, made_of, disk_reads, failing_calls, failing_reads_of, stop_of, is_stopped, IsPlanned, IsSameMemDisk};
     ghost use Rattle.tw_disk.specs.Model.{outcome};
 
     /// A disk without a page. It takes no memory yet.
     pub fn new(alloc: Global) -> Self
         ensures pages { pages_of result ≡ [] }
         ensures calls { device_calls_of result ≡ [] }
-        ensures moment { (view_of result).moment ≡ 0 }
-        ensures faults { (view_of result).faults ≡ 0 }
+        ensures moment { (mem_disk_view result).moment ≡ 0 }
+        ensures faults { (mem_disk_view result).faults ≡ 0 }
         ensures made { made_of result ≡ 0 }
-        ensures reads { reads_of result ≡ 0 }
+        ensures reads { disk_reads result ≡ 0 }
         ensures plans { IsPlanned result [] [] None }
         ensures runs { is_stopped result ≡ false }
     {
@@ -210,7 +210,7 @@ impl MemDisk {
 
     /// The number of calls of `read` since it was made, failed ones among them. It stands still at 2^64 - 1.
     pub fn reads(&self) -> u64
-        ensures { result ≡ reads_of self.now }
+        ensures { result ≡ disk_reads self.now }
     {
         self.reads
     }
@@ -225,8 +225,8 @@ impl MemDisk {
     /// Makes the k-th write or barrier from now on fail, beside those that are to fail already; 1 is the next, and 0 is none.
     /// A write that fails so may be found done all the same.
     pub fn fail(&mut self, k: u64) -> Result<(), NoMemory>
-        ensures planned { OnOk result (IsPlanned self.new (failing_of self.old ++ k ∷ []) (failing_reads_of self.old) (stop_of self.old)) }
-        ensures err { OnErr result (IsPlanned self.new (failing_of self.old) (failing_reads_of self.old) (stop_of self.old)) }
+        ensures planned { OnOk result (IsPlanned self.new (failing_calls self.old ++ k ∷ []) (failing_reads_of self.old) (stop_of self.old)) }
+        ensures err { OnErr result (IsPlanned self.new (failing_calls self.old) (failing_reads_of self.old) (stop_of self.old)) }
         ensures same { IsSameMemDisk self.old self.new }
     {
         self.failing.add(k)
@@ -235,8 +235,8 @@ impl MemDisk {
     /// Makes the k-th call of `pages` and `read`, counted together, from now on fail, beside those that are to fail already; 1 is the
     /// next, and 0 is none.
     pub fn fail_read(&mut self, k: u64) -> Result<(), NoMemory>
-        ensures planned { OnOk result (IsPlanned self.new (failing_of self.old) (failing_reads_of self.old ++ k ∷ []) (stop_of self.old)) }
-        ensures err { OnErr result (IsPlanned self.new (failing_of self.old) (failing_reads_of self.old) (stop_of self.old)) }
+        ensures planned { OnOk result (IsPlanned self.new (failing_calls self.old) (failing_reads_of self.old ++ k ∷ []) (stop_of self.old)) }
+        ensures err { OnErr result (IsPlanned self.new (failing_calls self.old) (failing_reads_of self.old) (stop_of self.old)) }
         ensures same { IsSameMemDisk self.old self.new }
     {
         self.failing_reads.add(k)
@@ -248,7 +248,7 @@ impl MemDisk {
     /// No clause says so, since one that finds no memory counts for nothing; scripts with `crash` lines show it.
     pub fn stop_at(&mut self, k: u64)
         requires { 1 ≤ k }
-        ensures stop { IsPlanned self.new (failing_of self.old) (failing_reads_of self.old) (Some (min (made_of self.old + k) (2 ^ 64 - 1))) }
+        ensures stop { IsPlanned self.new (failing_calls self.old) (failing_reads_of self.old) (Some (min (made_of self.old + k) (2 ^ 64 - 1))) }
         ensures same { IsSameMemDisk self.old self.new }
     {
         self.stop = Some(self.made.saturating_add(k));
@@ -268,20 +268,20 @@ impl MemDisk {
         // A crash of the disk in memory leaves one of the images that the model allows.
         ensures image { IsImage (state_of self.old) (pages_of self.new) }
         // The disk is then at rest, over an image that a crash might have left before.
-        ensures rests { IsAtRest (view_of self.new) (view_of self.old).may_leave }
+        ensures rests { IsAtRest (mem_disk_view self.new) (mem_disk_view self.old).may_leave }
         // The clock of the disk in memory goes on through a crash.
-        ensures moment { (view_of self.new).moment ≡ (view_of self.old).moment }
+        ensures moment { (mem_disk_view self.new).moment ≡ (mem_disk_view self.old).moment }
         // Since each moment up to the crash, a crash may have left only what this one left.
-        ensures since { (t : ℕ) (c : Image) → t ≤ (view_of self.new).moment → (view_of self.new).left_since t c ↔ (c ≡ pages_of self.new) }
+        ensures since { (t : ℕ) (c : Image) → t ≤ (mem_disk_view self.new).moment → (mem_disk_view self.new).left_since t c ↔ (c ≡ pages_of self.new) }
         // A crash leaves only images that a crash might have left before it.
-        ensures leaves { LeavesOnly (view_of self.old) (view_of self.new) (view_of self.old).may_leave }
+        ensures leaves { LeavesOnly (mem_disk_view self.old) (mem_disk_view self.new) (mem_disk_view self.old).may_leave }
         // Which one it leaves, the choice that is handed in tells.
         ensures outcome { pages_of self.new ≡ outcome choice (state_of self.old) }
         ensures stable { device_calls_of self.new ≡ [] }
         ensures runs { is_stopped self.new ≡ false }
-        ensures plans { IsPlanned self.new (failing_of self.old) (failing_reads_of self.old) None }
-        ensures counts { ((view_of self.new).faults ≡ (view_of self.old).faults) × (made_of self.new ≡ made_of self.old)
-            × (reads_of self.new ≡ reads_of self.old) }
+        ensures plans { IsPlanned self.new (failing_calls self.old) (failing_reads_of self.old) None }
+        ensures counts { ((mem_disk_view self.new).faults ≡ (mem_disk_view self.old).faults) × (made_of self.new ≡ made_of self.old)
+            × (disk_reads self.new ≡ disk_reads self.old) }
     {
         self.crashed_at += self.calls.len() as u64;
         leave(&mut self.pages, &mut self.calls, self.alloc, choice);
@@ -296,10 +296,10 @@ impl Disk for MemDisk {
     ghost use Rattle.std.specs.Prelude.{IfOk, IfSome, MatchOption};
     ghost use Rattle.std.specs.Option.{option_map, IsSomeAnd};
     ghost use Rattle.tw_disk.specs.Image.{Image, Torn};
-    ghost use Rattle.tw_disk.specs.Disk.{grown, KeepsRoom, Follows, IsSameDisk, Only, TimeGoesOn};
-    ghost use Rattle.tw_disk.specs.MemDisk.{view_of, made_of, reads_of, failing_of, failing_reads_of, stop_of, is_stopped, IsPlanned};
+    ghost use Rattle.tw_disk.specs.Disk.{grown, KeepsRoom, FollowsByStep, IsSameDisk, Only, TimeGoesOn};
+    ghost use Rattle.tw_disk.specs.MemDisk.{mem_disk_view, made_of, disk_reads, failing_calls, failing_reads_of, stop_of, is_stopped, IsPlanned};
 
-    ghost view = { view_of };
+    ghost view = { mem_disk_view };
 
     ghost count_is_told = { λ disk c is. told_count disk.pages.items c is };
 
@@ -310,19 +310,19 @@ impl Disk for MemDisk {
     ghost only_now = { λ disk c since. only_now disk.crashed_at (earlier disk.calls.items disk.pages.items) (calls_of disk.calls.items disk.pages.items) c since };
 
     fn pages(&mut self) -> Result<u64, Failed>
-        ensures told { IfOk result (λ n. (view_of self.new).count ≡ Some n) }
-        ensures kept { IfSome (view_of self.old).count (λ n. (view_of self.new).count ≡ Some n) }
-        ensures same { IsSameDisk (view_of self.old) (view_of self.new) }
+        ensures told { IfOk result (λ n. (mem_disk_view self.new).count ≡ Some n) }
+        ensures kept { IfSome (mem_disk_view self.old).count (λ n. (mem_disk_view self.new).count ≡ Some n) }
+        ensures same { IsSameDisk (mem_disk_view self.old) (mem_disk_view self.new) }
         // A failed call is counted as a fault, as the disk model asks of each call.
-        ensures cause { HasCause (view_of self.old).faults (view_of self.new).faults result }
+        ensures cause { HasCause (mem_disk_view self.old).faults (mem_disk_view self.new).faults result }
 
         // A page count fails where that is planned and where the disk is stopped, and nowhere else.
         ensures fails { IsErr result ↔ (IsTrue (fails_next (failing_reads_of self.old)) ⊎ IsTrue (is_stopped self.old)) }
         // Counting pages counts as no read.
-        ensures reads { reads_of self.new ≡ reads_of self.old }
+        ensures reads { disk_reads self.new ≡ disk_reads self.old }
         ensures calls { (made_of self.new ≡ made_of self.old) × (is_stopped self.new ≡ is_stopped self.old) }
         // The calls that are planned to fail are counted on by one.
-        ensures plans { IsPlanned self.new (failing_of self.old) (after_call (failing_reads_of self.old)) (stop_of self.old) }
+        ensures plans { IsPlanned self.new (failing_calls self.old) (after_call (failing_reads_of self.old)) (stop_of self.old) }
     {
         if self.failing_reads.count_call() || self.is_stopped {
             return Err(count_fault(&mut self.faults));
@@ -331,20 +331,20 @@ impl Disk for MemDisk {
     }
 
     fn read(&mut self, page: u64, into: &mut Page) -> Result<(), Failed>
-        requires { IsSomeAnd (view_of self.old).count (λ n. page < n) }
+        requires { IsSomeAnd (mem_disk_view self.old).count (λ n. page < n) }
         // A read gives the page of the content, as the disk model asks.
-        ensures bytes { OnOk result (IfSome (view_of self.old).content (λ c. into.new ≡ page_at c page)) }
-        ensures count { (view_of self.new).count ≡ (view_of self.old).count }
-        ensures same { IsSameDisk (view_of self.old) (view_of self.new) }
-        ensures cause { HasCause (view_of self.old).faults (view_of self.new).faults result }
+        ensures bytes { OnOk result (IfSome (mem_disk_view self.old).content (λ c. into.new ≡ page_at c page)) }
+        ensures count { (mem_disk_view self.new).count ≡ (mem_disk_view self.old).count }
+        ensures same { IsSameDisk (mem_disk_view self.old) (mem_disk_view self.new) }
+        ensures cause { HasCause (mem_disk_view self.old).faults (mem_disk_view self.new).faults result }
 
         // A read fails where that is planned and where the disk is stopped, and nowhere else.
         ensures fails { IsErr result ↔ (IsTrue (fails_next (failing_reads_of self.old)) ⊎ IsTrue (is_stopped self.old)) }
         // Each read is counted.
-        ensures reads { reads_of self.new ≡ min (reads_of self.old + 1) (2 ^ 64 - 1) }
+        ensures reads { disk_reads self.new ≡ min (disk_reads self.old + 1) (2 ^ 64 - 1) }
         ensures calls { (made_of self.new ≡ made_of self.old) × (is_stopped self.new ≡ is_stopped self.old) }
         // The calls that are planned to fail are counted on by one.
-        ensures plans { IsPlanned self.new (failing_of self.old) (after_call (failing_reads_of self.old)) (stop_of self.old) }
+        ensures plans { IsPlanned self.new (failing_calls self.old) (after_call (failing_reads_of self.old)) (stop_of self.old) }
     {
         self.reads = self.reads.saturating_add(1);
         if self.failing_reads.count_call() || self.is_stopped {
@@ -355,27 +355,27 @@ impl Disk for MemDisk {
     }
 
     fn write(&mut self, page: u64, from: &Page) -> Result<(), Failed>
-        requires { IsSomeAnd (view_of self.old).count (λ n. page ≤ n) }
+        requires { IsSomeAnd (mem_disk_view self.old).count (λ n. page ≤ n) }
         // A write puts the page, as the disk model asks.
-        ensures written { OnOk result ((view_of self.new).content ≡ option_map (put page from.now) (view_of self.old).content) }
-        ensures torn { MatchOption (view_of self.old).content ((view_of self.new).content ≡ None) (λ c. IsSomeAnd (view_of self.new).content (Torn page c)) }
-        ensures grown { OnOk result ((view_of self.new).count ≡ grown page (view_of self.old).count) }
-        ensures count { ((view_of self.new).count ≡ (view_of self.old).count) ⊎ ((view_of self.new).count ≡ grown page (view_of self.old).count) }
-        ensures room { KeepsRoom (view_of self.old).count (view_of self.new).count }
+        ensures written { OnOk result ((mem_disk_view self.new).content ≡ option_map (put page from.now) (mem_disk_view self.old).content) }
+        ensures torn { MatchOption (mem_disk_view self.old).content ((mem_disk_view self.new).content ≡ None) (λ c. IsSomeAnd (mem_disk_view self.new).content (Torn page c)) }
+        ensures grown { OnOk result ((mem_disk_view self.new).count ≡ grown page (mem_disk_view self.old).count) }
+        ensures count { ((mem_disk_view self.new).count ≡ (mem_disk_view self.old).count) ⊎ ((mem_disk_view self.new).count ≡ grown page (mem_disk_view self.old).count) }
+        ensures room { KeepsRoom (mem_disk_view self.old).count (mem_disk_view self.new).count }
         // What a crash may leave after it is as the disk model has it.
-        ensures crash { Follows (Torn page) (view_of self.old).may_leave (view_of self.new).may_leave }
-        ensures time { TimeGoesOn (view_of self.old) (view_of self.new) }
-        ensures cause { HasCause (view_of self.old).faults (view_of self.new).faults result }
+        ensures crash { FollowsByStep (Torn page) (mem_disk_view self.old).may_leave (mem_disk_view self.new).may_leave }
+        ensures time { TimeGoesOn (mem_disk_view self.old) (mem_disk_view self.new) }
+        ensures cause { HasCause (mem_disk_view self.old).faults (mem_disk_view self.new).faults result }
 
         // A write fails where that is planned and where the disk is stopped; want of memory makes it fail too.
-        ensures fails { (IsTrue (fails_next (failing_of self.old)) ⊎ IsTrue (is_stopped self.new)) → IsErr result }
+        ensures fails { (IsTrue (fails_next (failing_calls self.old)) ⊎ IsTrue (is_stopped self.new)) → IsErr result }
         // The disk stops at the call that it was planned to stop at, and stays stopped.
         ensures stopped { IsTrue (is_stopped self.new) ↔ (IsTrue (is_stopped self.old) ⊎ (stop_of self.old ≡ Some (made_of self.new))) }
         // Each call is counted.
         ensures counted { made_of self.new ≡ min (made_of self.old + 1) (2 ^ 64 - 1) }
-        ensures reads { reads_of self.new ≡ reads_of self.old }
+        ensures reads { disk_reads self.new ≡ disk_reads self.old }
         // The calls that are planned to fail are counted on by one.
-        ensures plans { IsPlanned self.new (after_call (failing_of self.old)) (failing_reads_of self.old) (stop_of self.old) }
+        ensures plans { IsPlanned self.new (after_call (failing_calls self.old)) (failing_reads_of self.old) (stop_of self.old) }
     {
         let was_stopped = self.is_stopped;
         let fails = is_to_fail(
@@ -402,23 +402,23 @@ impl Disk for MemDisk {
 
     fn barrier(&mut self) -> Result<(), Failed>
         // After a good barrier a crash leaves nothing but what reads give, as the disk model asks.
-        ensures durable { OnOk result (IfSome (view_of self.old).content (λ c. Only c (view_of self.new).may_leave)) }
-        ensures count { (view_of self.new).count ≡ (view_of self.old).count }
-        ensures content { (view_of self.new).content ≡ (view_of self.old).content }
-        ensures crash { (c : Image) → (view_of self.new).may_leave c → (view_of self.old).may_leave c }
-        ensures nothing_stable { OnErr result ((c : Image) → (view_of self.old).may_leave c → (view_of self.new).may_leave c) }
-        ensures time { TimeGoesOn (view_of self.old) (view_of self.new) }
-        ensures cause { HasCause (view_of self.old).faults (view_of self.new).faults result }
+        ensures durable { OnOk result (IfSome (mem_disk_view self.old).content (λ c. Only c (mem_disk_view self.new).may_leave)) }
+        ensures count { (mem_disk_view self.new).count ≡ (mem_disk_view self.old).count }
+        ensures content { (mem_disk_view self.new).content ≡ (mem_disk_view self.old).content }
+        ensures crash { (c : Image) → (mem_disk_view self.new).may_leave c → (mem_disk_view self.old).may_leave c }
+        ensures nothing_stable { OnErr result ((c : Image) → (mem_disk_view self.old).may_leave c → (mem_disk_view self.new).may_leave c) }
+        ensures time { TimeGoesOn (mem_disk_view self.old) (mem_disk_view self.new) }
+        ensures cause { HasCause (mem_disk_view self.old).faults (mem_disk_view self.new).faults result }
 
         // A barrier fails where that is planned and where the disk is stopped; want of memory makes it fail too.
-        ensures fails { (IsTrue (fails_next (failing_of self.old)) ⊎ IsTrue (is_stopped self.new)) → IsErr result }
+        ensures fails { (IsTrue (fails_next (failing_calls self.old)) ⊎ IsTrue (is_stopped self.new)) → IsErr result }
         // The disk stops at the call that it was planned to stop at, and stays stopped.
         ensures stopped { IsTrue (is_stopped self.new) ↔ (IsTrue (is_stopped self.old) ⊎ (stop_of self.old ≡ Some (made_of self.new))) }
         // Each call is counted.
         ensures counted { made_of self.new ≡ min (made_of self.old + 1) (2 ^ 64 - 1) }
-        ensures reads { reads_of self.new ≡ reads_of self.old }
+        ensures reads { disk_reads self.new ≡ disk_reads self.old }
         // The calls that are planned to fail are counted on by one.
-        ensures plans { IsPlanned self.new (after_call (failing_of self.old)) (failing_reads_of self.old) (stop_of self.old) }
+        ensures plans { IsPlanned self.new (after_call (failing_calls self.old)) (failing_reads_of self.old) (stop_of self.old) }
     {
         let fails = is_to_fail(
             &mut self.failing,

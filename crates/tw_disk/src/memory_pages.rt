@@ -21,14 +21,14 @@ pub struct MemPages {
 }
 
 impl MemPages {
-    ghost use Rattle.tw_disk.specs.MemPages.{all_pages_of, reads_of, failing_of, faults_of};
+    ghost use Rattle.tw_disk.specs.MemPages.{all_pages_of, page_reads, failing_pages, faults_of};
 
     /// Four pages of zeros.
     pub fn new(alloc: Global) -> Result<MemPages, NoMemory>
         ensures pages { IfOk result (λ p. all_pages_of p ≡ replicate FIRST_PAGE (replicate PAGE_SIZE 0)) }
-        ensures reads { IfOk result (λ p. reads_of p ≡ 0) }
+        ensures reads { IfOk result (λ p. page_reads p ≡ 0) }
         ensures faults { IfOk result (λ p. faults_of p ≡ 0) }
-        ensures failing { IfOk result (λ p. failing_of p ≡ []) }
+        ensures failing { IfOk result (λ p. failing_pages p ≡ []) }
     {
         let pages = Vec::from_slice(alloc, &[[0; PAGE_SIZE]; FIRST_PAGE as usize])?;
         Ok(MemPages {
@@ -41,17 +41,17 @@ impl MemPages {
 
     /// The number of calls of `read` since it was made, failed ones among them. It stands still at 2^64 - 1.
     pub fn reads(&self) -> u64
-        ensures { result ≡ reads_of self.now }
+        ensures { result ≡ page_reads self.now }
     {
         self.reads
     }
 
     /// Makes the k-th read from now on fail, beside those that are to fail already; 1 is the next, and 0 is none.
     pub fn fail(&mut self, k: u64) -> Result<(), NoMemory>
-        ensures planned { OnOk result (failing_of self.new ≡ failing_of self.old ++ k ∷ []) }
-        ensures err { OnErr result (failing_of self.new ≡ failing_of self.old) }
+        ensures planned { OnOk result (failing_pages self.new ≡ failing_pages self.old ++ k ∷ []) }
+        ensures err { OnErr result (failing_pages self.new ≡ failing_pages self.old) }
         ensures same { (all_pages_of self.new ≡ all_pages_of self.old)
-            × (faults_of self.new ≡ faults_of self.old) × (reads_of self.new ≡ reads_of self.old) }
+            × (faults_of self.new ≡ faults_of self.old) × (page_reads self.new ≡ page_reads self.old) }
     {
         self.failing.add(k)
     }
@@ -62,10 +62,10 @@ impl Pages for MemPages {
     ghost use Rattle.tw_disk.specs.Image.{Image, page_at};
     ghost use Rattle.tw_base.specs.kinds.Faults.{HasCause};
     ghost use Rattle.tw_disk.specs.Pages.{OnlyReads};
-    ghost use Rattle.tw_disk.specs.MemPages.{list_of, count_of, reads_of, failing_of, faults_of, view_of, IsSame, IsUnbroken};
+    ghost use Rattle.tw_disk.specs.MemPages.{mem_list, mem_count, page_reads, failing_pages, faults_of, mem_pages_view, IsSame, ArePagesUnbroken};
     ghost use Rattle.tw_disk.specs.MemPagesSteps.{told_used};
 
-    ghost view = { view_of };
+    ghost view = { mem_pages_view };
 
     ghost same = { IsSame };
 
@@ -83,19 +83,19 @@ impl Pages for MemPages {
 
     fn read(&mut self, page: u64, into: &mut Page) -> Result<(), Failed>
         requires low { FIRST_PAGE ≤ page }
-        requires below { page < count_of self.old }
+        requires below { page < mem_count self.old }
         // Reads of pages in memory give the pages.
-        ensures page { OnOk result ((pages : Image) → list_of self.old ≡ Some pages
+        ensures page { OnOk result ((pages : Image) → mem_list self.old ≡ Some pages
             → into.new ≡ page_at pages (page - FIRST_PAGE)) }
-        ensures kept { OnlyReads view_of IsSame self.old self.new (IsOk result) }
+        ensures kept { OnlyReads mem_pages_view IsSame self.old self.new (IsOk result) }
         ensures cause { HasCause (faults_of self.old) (faults_of self.new) result }
 
         // A read of pages in memory fails where that is planned, and nowhere else.
-        ensures fails { IsErr result ↔ IsTrue (fails_next (failing_of self.old)) }
+        ensures fails { IsErr result ↔ IsTrue (fails_next (failing_pages self.old)) }
         // Each read is counted.
-        ensures reads { reads_of self.new ≡ min (reads_of self.old + 1) (2 ^ 64 - 1) }
+        ensures reads { page_reads self.new ≡ min (page_reads self.old + 1) (2 ^ 64 - 1) }
         // The calls that are planned to fail are counted on by one.
-        ensures plans { failing_of self.new ≡ after_call (failing_of self.old) }
+        ensures plans { failing_pages self.new ≡ after_call (failing_pages self.old) }
     {
         self.reads = self.reads.saturating_add(1);
         if self.failing.count_call() {
@@ -107,16 +107,16 @@ impl Pages for MemPages {
     }
 
     fn stage(&mut self, page: &Page) -> Result<u64, NoMemory>
-        requires { count_of self.old < NUMBER_LIMIT - FIRST_PAGE }
-        ensures number { IfOk result (λ n. n ≡ count_of self.old) }
-        ensures list { OnOk result (list_of self.new ≡ option_map (λ pages. pages ++ page.now ∷ []) (list_of self.old)) }
+        requires { mem_count self.old < NUMBER_LIMIT - FIRST_PAGE }
+        ensures number { IfOk result (λ n. n ≡ mem_count self.old) }
+        ensures list { OnOk result (mem_list self.new ≡ option_map (λ pages. pages ++ page.now ∷ []) (mem_list self.old)) }
         ensures used { OnOk result (count_of self.new ≡ count_of self.old + 1) }
-        ensures list_err { OnErr result (list_of self.new ≡ list_of self.old) }
+        ensures list_err { OnErr result (mem_list self.new ≡ mem_list self.old) }
         ensures used_err { OnErr result (count_of self.new ≡ count_of self.old) }
         ensures same { IsSame self.old self.new }
-        ensures unbroken { IsUnbroken self.old → IsUnbroken self.new }
+        ensures unbroken { ArePagesUnbroken self.old → ArePagesUnbroken self.new }
         ensures faults { faults_of self.new ≡ faults_of self.old }
-        ensures kept { (failing_of self.new ≡ failing_of self.old) × (reads_of self.new ≡ reads_of self.old) }
+        ensures kept { (failing_pages self.new ≡ failing_pages self.old) × (page_reads self.new ≡ page_reads self.old) }
     {
         let number = self.pages.len() as u64;
         self.pages.push(*page)?;

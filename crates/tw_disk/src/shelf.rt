@@ -1,6 +1,6 @@
 // Pages that are kept by their numbers.
 ghost use Rattle.std.specs.Prelude.{◌≡◌, ◌-◌, [], ℕ, IsTrue, Option, Some};
-ghost use Rattle.tw_disk.specs.Keeping.{AddsAtMost, AreOf};
+ghost use Rattle.tw_disk.specs.Keeping.{AddsAtMost, ArePagesOf};
 ghost use Rattle.tw_disk.specs.Image.{Image, page_at};
 ghost use Rattle.tw_disk.specs.declared.limits.TheConstants.{FIRST_PAGE};
 
@@ -21,7 +21,7 @@ pub struct Shelf {
 }
 
 impl Shelf {
-    ghost use Rattle.tw_disk.specs.Shelves.{Holds, kept_on};
+    ghost use Rattle.tw_disk.specs.Shelves.{HoldsPage, kept_on};
 
     /// A shelf with no page on it, whatever memory there is.
     pub fn new(alloc: Global) -> Shelf
@@ -47,9 +47,9 @@ impl Shelf {
 
     /// Gives the page of this number, where it is kept, and tells whether it is.
     pub(crate) fn find(&mut self, page: u64, into: &mut Page) -> bool
-        ensures page { IsTrue result → (list : Option Image) (pages : Image) → AreOf list (kept_on self.old) → list ≡ Some pages → into.new ≡ page_at pages (page - FIRST_PAGE) }
-        ensures right { (list : Option Image) → AreOf list (kept_on self.old) → AreOf list (kept_on self.new) }
-        ensures found { Holds self.old page → IsTrue result }
+        ensures page { IsTrue result → (list : Option Image) (pages : Image) → ArePagesOf list (kept_on self.old) → list ≡ Some pages → into.new ≡ page_at pages (page - FIRST_PAGE) }
+        ensures right { (list : Option Image) → ArePagesOf list (kept_on self.old) → ArePagesOf list (kept_on self.new) }
+        ensures found { HoldsPage self.old page → IsTrue result }
     {
         match &mut self.kept {
             None => false,

@@ -3,8 +3,8 @@ ghost use Rattle.std.specs.Prelude.{◌≡◌, ◌-◌, ◌<◌, ◌≤◌, ℕ,
 ghost use Rattle.std.proofs.Common.{refl, ◌∙◌};
 ghost use Rattle.std.proofs.Props.{props};
 ghost use Rattle.tw_base.specs.kinds.Faults.{HasCause};
-ghost use Rattle.tw_disk.specs.Keeping.{AreOf};
-ghost use Rattle.tw_disk.specs.Shelves.{Holds, kept_on};
+ghost use Rattle.tw_disk.specs.Keeping.{ArePagesOf};
+ghost use Rattle.tw_disk.specs.Shelves.{HoldsPage, kept_on};
 ghost use Rattle.tw_disk.specs.Image.{Image, page_at};
 ghost use Rattle.tw_disk.specs.Pages.{OnlyReads};
 ghost use Rattle.tw_disk.specs.declared.limits.TheConstants.{FIRST_PAGE};
@@ -20,13 +20,13 @@ use tw_base::{Failed, NoMemory, Page};
 pub struct Shelved<'a, P: Pages> {
     pub(crate) pages: &'a mut P,
     pub(crate) shelf: &'a mut Shelf,
-    ghost right: { AreOf (P.view pages.now).list (kept_on shelf.now) } by { Prim.hlevel props },
+    ghost right: { ArePagesOf (P.view pages.now).list (kept_on shelf.now) } by { Prim.hlevel props },
 }
 
 impl<'a, P: Pages> Shelved<'a, P> {
     /// Over these pages and a shelf of them.
     pub fn over(pages: &'a mut P, shelf: &'a mut Shelf) -> Shelved<'a, P>
-        requires { AreOf (P.view pages.old).list (kept_on shelf.old) }
+        requires { ArePagesOf (P.view pages.old).list (kept_on shelf.old) }
         // The pages are those that were lent.
         ensures pages { (result.pages.ghost_name ≡ pages.entry.ghost_name) × (result.pages.now ≡ pages.old) }
         // So is the shelf.
@@ -67,7 +67,7 @@ impl<'a, P: Pages> Pages for Shelved<'a, P> {
         ensures cause { HasCause (P.view self.old.pages.now).faults (P.view self.new.pages.now).faults result }
 
         // A page on the shelf is answered, and the lent pages aren't asked.
-        ensures without_reading { Holds self.old.shelf.now page → IsOk result × (self.new.pages.now ≡ self.old.pages.now) }
+        ensures without_reading { HoldsPage self.old.shelf.now page → IsOk result × (self.new.pages.now ≡ self.old.pages.now) }
     {
         if self.shelf.find(page, into) {
             return Ok(());

@@ -7,13 +7,13 @@ use Rattle.tw_base.proofs.lemmas.format.FormatLaws.{one_value}
 use Rattle.tw_disk.specs.Image.{Image}
 use Rattle.tw_msg.specs.EventsFile.{events_file}
 use Rattle.tw_outside.specs.Asked.{Asked}
-use Rattle.tw_outside.specs.Files.{Tells}
+use Rattle.tw_outside.specs.Files.{TellsBytes}
 use Rattle.tw_text.specs.declared.refusal.BadInput.TheVariants.{BadByte}
 use Rattle.tw_text.specs.declared.fault.CommandFault.{CommandFault}
 use Rattle.tw_text.specs.declared.fault.CommandFault.TheVariants as fault
 use Rattle.tw_diskcmd.specs.Comes.{FoundDisk, TellsContent, found_disk}
 use Rattle.tw_diskcmd.specs.Files.{OfFile}
-use Rattle.tw_diskcmd.specs.Appending.{AppendComes, AreEventsOf, IsBadEventsByte, MachineAdds, StepComes, TableAdds, TellsOfFile, added}
+use Rattle.tw_diskcmd.specs.Appending.{AppendComes, AreEventsOf, IsBadEventsByte, MachineAdds, StepComes, TableAdds, TellsOfFile, append_found}
 use Rattle.tw_diskcmd.proofs.Results.{one_answer}
 
 same_place : (bytes : List ℕ) (one other : ℕ) → IsPlace events_file bytes one → IsPlace events_file bytes other → one ≡ other
@@ -33,7 +33,7 @@ content : (r : Result Thread CommandFault) → TellsOfFile r → TellsContent r
 content (Err fault.InputFault) told = absurd told
 content r told = told
 
-module _ (a : Asked) (file bytes : List ℕ) (tells : Tells a.told file bytes) where
+module _ (a : Asked) (file bytes : List ℕ) (tells : TellsBytes a.told file bytes) where
   abbrev bad : ℕ → Result Thread CommandFault
   bad place = Err (fault.Unreadable (BadByte file place))
 
@@ -63,7 +63,7 @@ module _ (a : Asked) (file bytes : List ℕ) (tells : Tells a.told file bytes) w
     one_of one other told told' (inr p) (inl q) = absurd (no_events q.0 p.0 q.2 p.1)
     one_of one other told told' (inr p) (inr q) =
         let same : q.0 ≡ p.0 = one_value events_file bytes q.0 p.0 (q.1.spelled bytes tells) (p.1.spelled bytes tells) in
-        one_answer (added p.0 time) (TableAdds p.0 time) (MachineAdds p.0 time) image before after one other told told' p.2 (subst (λ (events : List (List ℕ)). StepComes t events time other) same q.2)
+        one_answer (append_found p.0 time) (TableAdds p.0 time) (MachineAdds p.0 time) image before after one other told told' p.2 (subst (λ (events : List (List ℕ)). StepComes t events time other) same q.2)
 
     pub append_once : (one other : Result Thread CommandFault) → TellsOfFile one → TellsOfFile other → AppendComes a t file time one → AppendComes a t file time other → one ≡ other
     append_once one other told told' comes comes' = one_of one other (content one told) (content other told') (of_file one told comes) (of_file other told' comes')

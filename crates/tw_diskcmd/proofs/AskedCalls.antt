@@ -11,13 +11,13 @@ use Rattle.tw_disk.specs.Image.{Image}
 use Rattle.tw_answers.specs.declared.refusal.Refusal.{Refusal}
 use Rattle.tw_answers.specs.declared.refusal.Refusal.TheVariants as service
 use Rattle.tw_answers.specs.declared.root.RootRecord.{RootRecord}
-use Rattle.tw_answers.specs.Finds.{IsRefusalOf}
-use Rattle.tw_service.specs.Machine.{Answers, Call, Reply}
+use Rattle.tw_answers.specs.Finds.{IsRefusalFound}
+use Rattle.tw_service.specs.Machine.{AnswersByMachine, Call, Reply}
 use Rattle.tw_answers.specs.Refusals.{IsFault}
 use Rattle.tw_answers.proofs.TableAnswers.{Of}
 use Rattle.tw_text.specs.declared.fault.CommandFault.{CommandFault}
 use Rattle.tw_diskcmd.specs.Answers.{ComesTo, IsOpened, MachineAnswers, TableAnswersOr}
-use Rattle.tw_diskcmd.specs.Disks.{FoundDisk, ReadsAs}
+use Rattle.tw_diskcmd.specs.Disks.{FoundDisk, ReadsAsHeads}
 use Rattle.tw_diskcmd.specs.Faults.{fault_of_service}
 use Rattle.tw_diskcmd.proofs.Results.{CanCome, IsByTable, by_table_or, done, fault_can, machine_refuses, no_never, refused, same_err}
 
@@ -31,12 +31,12 @@ module _ {X : Type 0} (finds : RootRecord → Image → Found (Result X Refusal)
     abbrev Else : Refusal → Type 0
     Else q = IsFault q ⊎ Further q
 
-    pub further_done : (x : X) → table root.head.step ≡ None → ((ps : Image) → pages ≡ Some ps → finds root ps ≡ Is (Ok x)) → ((h : History) → ReadsAs t.found h → Makes x h) → ComesOr (Ok x)
+    pub further_done : (x : X) → table root.head.step ≡ None → ((ps : Image) → pages ≡ Some ps → finds root ps ≡ Is (Ok x)) → ((h : History) → ReadsAsHeads t.found h → Makes x h) → ComesOr (Ok x)
     further_done x allows is makes = done finds (TableAnswersOr Further table) (MachineAnswers call Makes) t root pages opens x is (root.head.step, allows) makes
 
     pub further_refused : (T : Type 0) (reply : T → Reply) (NewServes : History → Type 0) (r : Refusal) (came : CommandFault) → came ≡ fault_of_service r → Of CanCome (table root.head.step)
-        → IsByTable {X = T} Else (table root.head.step) (Err r) → ((h : History) → ReadsAs t.found h → Answers sha256 h (call h) reply (Err r) NewServes)
-        → (r ≡ service.DiskFault → Rose t.before t.after) → ((ps : Image) → pages ≡ Some ps → IsRefusalOf r (finds root ps)) → ComesOr (Err came)
+        → IsByTable {X = T} Else (table root.head.step) (Err r) → ((h : History) → ReadsAsHeads t.found h → AnswersByMachine sha256 h (call h) reply (Err r) NewServes)
+        → (r ≡ service.DiskFault → Rose t.before t.after) → ((ps : Image) → pages ≡ Some ps → IsRefusalFound r (finds root ps)) → ComesOr (Err came)
     further_refused T reply NewServes r came is can by machine rose found =
         refused finds (TableAnswersOr Further table) (MachineAnswers call Makes) t root pages opens r came is
         (no_never T Else (table root.head.step) can (λ q. ⊎_elim (λ fault. fault_can q fault) (λ further. further_can q further)) r by)

@@ -17,7 +17,7 @@ use Rattle.tw_text.specs.declared.fault.CommandFault.TheVariants.{Refused, Unser
 use Rattle.tw_diskcmd.specs.Comes.{DiskComes, FoundDisk, MakeComes, TellsContent, found_disk}
 use Rattle.tw_diskcmd.specs.StoreFaults.{fault_of_store}
 use Rattle.tw_diskcmd.specs.Files.{FileComes, StopsAt}
-use Rattle.tw_diskcmd.specs.Leaves.{MakeLeaves, MakeSafe, ReadLeaves, Settles, SparesOther, WriteLeaves, WritesNothing}
+use Rattle.tw_diskcmd.specs.Leaves.{MakeLeaves, MakeSafe, ReadLeaves, SettlesStore, SparesOtherStore, WriteLeaves, WritesNothing}
 use Rattle.tw_diskcmd.specs.Steps.{AddsTo}
 
 -- ---- what it comes to
@@ -59,7 +59,7 @@ unmade t new f came is (inr failed) has fault = subst (λ (c : CommandFault). Ma
 module _ {R S D : Type 0} (kind : RecordKind R) (IsOf : S → Image → Type 0) (view : D → DiskView) where
   module _ (old new : D) where
     -- a command that only reads leaves a disk that settles, or that wasn't opened
-    pub leaves_of_reading : {X : Type 0} → (came : Result X CommandFault) → IsLeft view old new → Settles kind IsOf view old new → ReadLeaves kind IsOf view old new came
+    pub leaves_of_reading : {X : Type 0} → (came : Result X CommandFault) → IsLeft view old new → SettlesStore kind IsOf view old new → ReadLeaves kind IsOf view old new came
     leaves_of_reading (Ok value) left settles = (left, settles)
     leaves_of_reading (Err (Refused refusal)) left settles = (left, settles)
     leaves_of_reading _ left settles = left
@@ -90,7 +90,7 @@ module _ {R S D : Type 0} (kind : RecordKind R) (IsOf : S → Image → Type 0) 
     -- the work with what the file holds
     pub leaves_of_file : (old new : D) (before after : ℕ) (x : T) (came : Result X CommandFault) → Has x → DiskComes (Is x) (found_disk (view old).content before after) came
         → AddsTo IsOf view old new (Next x) (Answers x) came → AddsTo (IsWritten kind) view old new (NextRecord x) (AnswersRecord x) came
-        → (WritesNothing came → IsLeft view old new) → SparesOther kind IsOf view old new → Leaves old new came
+        → (WritesNothing came → IsLeft view old new) → SparesOtherStore kind IsOf view old new → Leaves old new came
     leaves_of_file old new before after x (Ok value) has comes adds writes nothing spares = ((x, has, (comes, adds, writes)), spares)
     leaves_of_file old new before after x (Err DiskFault) has comes adds writes nothing spares = ((x, has, (adds, writes)), spares)
     leaves_of_file old new before after x (Err (Refused refusal)) has comes adds writes nothing spares = (nothing tt, (adds, writes))

@@ -14,7 +14,7 @@ use Rattle.tw_follow.specs.declared.refusal.FollowRefusal.TheVariants as followe
 use Rattle.tw_follow.specs.declared.root.RootRecord.{RootRecord}
 use Rattle.tw_follow.specs.HeadLists.{Kept, RiseTo}
 use Rattle.tw_follow.specs.HeadPages.{found_heads}
-use Rattle.tw_follow.specs.Refusals.{IsFault, refusals}
+use Rattle.tw_follow.specs.Refusals.{IsFollowerFault, follower_refusals}
 use Rattle.tw_follow.specs.Stands.{IsNotOpenedFor, OpensWith}
 use Rattle.tw_follow.specs.Stands.Served.{Opened, Unopened}
 use Rattle.tw_follow.proofs.Answering.{not_both}
@@ -25,7 +25,7 @@ use Rattle.tw_text.specs.declared.refusal.StoreCause.TheVariants.{BadPage, Blank
 use Rattle.tw_diskcmd.specs.StoreFaults.{fault_of_store}
 use Rattle.tw_diskcmd.specs.FollowerDisks.{ReadsAs, found_disk}
 use Rattle.tw_diskcmd.specs.FollowerFaults.{fault_of_follower}
-use Rattle.tw_diskcmd.specs.Listing.{HeadsComes, IsListed, ListsTo, TableLists, as_lines, lines_of}
+use Rattle.tw_diskcmd.specs.Listing.{HeadsComes, IsListed, ListsTo, TableLists, as_lines, head_lines}
 use Rattle.tw_diskcmd.proofs.Offered.{not_opened}
 
 -- a follower that was just opened hasn't to be opened anew
@@ -33,7 +33,7 @@ pub never_reopened : (is_broken : Bool) → is_broken ≡ false → (r : FollowR
 never_reopened is_broken whole r reopen is = not_both is_broken whole (reopen.0 (ap (λ (x : FollowRefusal). Err x) is))
 
 -- the lines that were written of heads that rise
-pub lists-to : (head : Thread) (heads : List Thread) (lines : Result (List ℕ) CommandFault) → RiseTo head heads → IfOk lines (λ text. text ≡ lines_of heads)
+pub lists-to : (head : Thread) (heads : List Thread) (lines : Result (List ℕ) CommandFault) → RiseTo head heads → IfOk lines (λ text. text ≡ head_lines heads)
     → IfOk lines (λ text. ListsTo head text)
 lists-to head heads (Ok text) rises is = (heads, rises, is)
 lists-to head heads (Err why) rises is = tt
@@ -51,12 +51,12 @@ module _ (found : Option Image) (before after : ℕ) where
     }
 
     -- its lines, or want of memory for them
-    pub listed : (heads : List Thread) (lines : Result (List ℕ) CommandFault) → RiseTo root.head heads → ((ps : Image) → pages ≡ Some ps → AnswersAs refusals (λ (hs : List Thread). hs) (Ok heads) (found_heads ps root))
-        → IfOk lines (λ text. text ≡ lines_of heads) → IfErr lines (λ why. why ≡ fault.NoMemory) → HeadsComes (found_disk found before after) lines
+    pub listed : (heads : List Thread) (lines : Result (List ℕ) CommandFault) → RiseTo root.head heads → ((ps : Image) → pages ≡ Some ps → AnswersAs follower_refusals (λ (hs : List Thread). hs) (Ok heads) (found_heads ps root))
+        → IfOk lines (λ text. text ≡ head_lines heads) → IfErr lines (λ why. why ≡ fault.NoMemory) → HeadsComes (found_disk found before after) lines
     listed heads (Ok text) rises answer is memory = is_listed (Ok text) (root.head, (heads, rises, is)) (λ ps told. ap (λ (x : List ℕ). Ok x) is ∙ sym (ap as_lines (answer ps told)))
     listed heads (Err why) rises answer is memory = subst (λ (x : CommandFault). HeadsComes (found_disk found before after) (Err x)) (sym memory) tt
 
-    pub unlisted : (r : FollowRefusal) → ((ps : Image) → pages ≡ Some ps → AnswersAs refusals (λ (hs : List Thread). hs) (Err r) (found_heads ps root)) → (r ≡ follower.Reopen) ⊎ IsFault r
+    pub unlisted : (r : FollowRefusal) → ((ps : Image) → pages ≡ Some ps → AnswersAs follower_refusals (λ (hs : List Thread). hs) (Err r) (found_heads ps root)) → (r ≡ follower.Reopen) ⊎ IsFollowerFault r
         → r ≢ follower.Reopen → (r ≡ follower.DiskFault → Rose before after) → HeadsComes (found_disk found before after) (Err (fault_of_follower r))
     unlisted (follower.BadPage page) answer faults fresh rose = is_listed (Err (fault.Unserved (BadPage page))) tt (λ ps told. sym (ap as_lines (answer ps told)))
     unlisted follower.DiskFault answer faults fresh rose = rose refl

@@ -10,7 +10,7 @@ use Rattle.tw_follow.proofs.Standing.{served_once}
 use Rattle.tw_text.specs.declared.fault.CommandFault.{CommandFault}
 use Rattle.tw_text.specs.declared.fault.CommandFault.TheVariants as fault
 use Rattle.tw_diskcmd.specs.Listing.{HeadsComes, IsListed, lines_over}
-use Rattle.tw_diskcmd.specs.Offering.{IsOffered, MessageComes, offered_over}
+use Rattle.tw_diskcmd.specs.Offering.{IsOffered, OfferedMessageComes, offered_over}
 use Rattle.tw_diskcmd.specs.Comes.{TellsContent, found_disk}
 use Rattle.tw_diskcmd.proofs.Landings.{told_result}
 
@@ -22,8 +22,8 @@ module _ (image : Image) (before after : ℕ) where
   listed (Err fault.NoMemory) tells comes = absurd tells
   listed _ tells comes = absurd comes
 
-pub one_offering : (image : Image) (m : Message) (before after : ℕ) (one other : Result Thread CommandFault) → TellsContent one → TellsContent other → MessageComes (found_disk (Some image) before after) m one
-    → MessageComes (found_disk (Some image) before after) m other → one ≡ other
+pub one_offering : (image : Image) (m : Message) (before after : ℕ) (one other : Result Thread CommandFault) → TellsContent one → TellsContent other → OfferedMessageComes (found_disk (Some image) before after) m one
+    → OfferedMessageComes (found_disk (Some image) before after) m other → one ≡ other
 one_offering image m before after one other tells also comes goes =
     let first = (told_result (λ found r. IsOffered found m r) (found_disk (Some image) before after) one tells comes).answer image refl in
     let second = (told_result (λ found r. IsOffered found m r) (found_disk (Some image) before after) other also goes).answer image refl in

@@ -13,28 +13,28 @@ use Rattle.tw_answers.specs.declared.refusal.Refusal.{Refusal}
 use Rattle.tw_answers.specs.declared.refusal.Refusal.TheVariants as service
 use Rattle.tw_answers.specs.declared.root.RootRecord.{RootRecord}
 use Rattle.tw_answers.specs.Limits.{own_refusal}
-use Rattle.tw_answers.specs.Refusals.{IsBadPage, IsFault}
+use Rattle.tw_answers.specs.Refusals.{IsBadPageRefusal, IsFault}
 use Rattle.tw_service.specs.Archiving.{ReceivesAs}
 use Rattle.tw_service.specs.Finds.{found_reception}
-use Rattle.tw_service.specs.Machine.{Answers, IsStepOf}
+use Rattle.tw_service.specs.Machine.{AnswersByMachine, IsStepOf}
 use Rattle.tw_service.specs.Machine.Call.{Receive}
 use Rattle.tw_service.specs.Machine.Reply.{OfReceipt}
-use Rattle.tw_service.specs.Receiving.{TellsOf}
+use Rattle.tw_service.specs.Receiving.{TellsOfMessage}
 use Rattle.tw_text.specs.declared.fault.CommandFault.{CommandFault}
 use Rattle.tw_diskcmd.specs.Answers.{IsOpened}
-use Rattle.tw_diskcmd.specs.Disks.{FoundDisk, ReadsAs}
+use Rattle.tw_diskcmd.specs.Disks.{FoundDisk, ReadsAsHeads}
 use Rattle.tw_diskcmd.specs.Faults.{fault_of_service}
-use Rattle.tw_diskcmd.specs.Receiving.{AnswersMessage, IsReceivedOver, MachineReceives, MessageComes, RefusesMessage, TableReceives}
+use Rattle.tw_diskcmd.specs.Receiving.{AnswersMessage, IsReceivedOver, MachineReceives, ReceivedMessageComes, RefusesMessage, TableReceives}
 use Rattle.tw_diskcmd.proofs.Results.{CanCome, IsByTable, TellsOfDisk, allowed, fault_can, machine_refuses, no_never, opened_refusal, opened_result, same_err}
 use Rattle.tw_diskcmd.proofs.Tables.{own_can}
 
 module _ (m : Message) (time : Option ℕ) (t : FoundDisk) (is_broken : Bool) (root : RootRecord) (pages : Option Image) (opens : IsOpened t.found root pages) (whole : is_broken ≡ false)
-    (OldServes NewServes : History → Type 0) (serves : (h : History) → ReadsAs t.found h → OldServes h) (head : Head) (archive : Root) where
+    (OldServes NewServes : History → Type 0) (serves : (h : History) → ReadsAsHeads t.found h → OldServes h) (head : Head) (archive : Root) where
   abbrev own : Bool → Option Refusal
   own b = own_refusal b root.name m.thread.from
 
   abbrev Tells : Refusal → Type 0
-  Tells r = TellsOf sha256 root.head.step root.time time m r
+  Tells r = TellsOfMessage sha256 root.head.step root.time time m r
 
   abbrev Else : Refusal → Type 0
   Else r = IsFault r ⊎ Tells r
@@ -62,13 +62,13 @@ module _ (m : Message) (time : Option ℕ) (t : FoundDisk) (is_broken : Bool) (r
 
   -- ---- what the table says
 
-  bad_page : (r : Refusal) → TellsOfDisk r → IsFault r → IsBadPage r
+  bad_page : (r : Refusal) → TellsOfDisk r → IsFault r → IsBadPageRefusal r
   bad_page (service.BadPage page) tells fault = tt
   bad_page service.DiskFault tells fault = absurd tells
   bad_page service.NoMemory tells fault = absurd tells
   bad_page _ tells fault = absurd fault
 
-  of_page : (r : Refusal) → IsBadPage r → TableReceives m time (Err (fault_of_service r))
+  of_page : (r : Refusal) → IsBadPageRefusal r → TableReceives m time (Err (fault_of_service r))
   of_page (service.BadPage page) is = tt
   of_page _ is = absurd is
 
@@ -91,7 +91,7 @@ module _ (m : Message) (time : Option ℕ) (t : FoundDisk) (is_broken : Bool) (r
 
   pub received_done : (receipt : Receipt) → Table (own is_broken) (Ok receipt) → Found (Ok receipt) → (receipt.thread ≡ m.thread) × (receipt.by.from ≡ root.name)
       → (0 < receipt.by.step) × (receipt.by.step ≤ root.head.step + 1)
-      → ((h : History) → OldServes h → (next : History) × IsStepOf sha256 h (Receive m time) (OfReceipt receipt) next) → MessageComes m time t (Ok receipt)
+      → ((h : History) → OldServes h → (next : History) × IsStepOf sha256 h (Receive m time) (OfReceipt receipt) next) → ReceivedMessageComes m time t (Ok receipt)
   received_done receipt table found of step moves =
       opened_result (IsReceivedOver m time) (TableReceives m time) (MachineReceives m time) t root pages opens (Ok receipt)
       (λ ps told. (Ok receipt, answers (Ok receipt) table found ps told, refl))
@@ -99,8 +99,8 @@ module _ (m : Message) (time : Option ℕ) (t : FoundDisk) (is_broken : Bool) (r
       (λ h reads. moves h (serves h reads))
 
   pub received_refused : (r : Refusal) (came : CommandFault) → came ≡ fault_of_service r → Table (own is_broken) (Err r) → Found (Err r)
-      → ((h : History) → OldServes h → Answers sha256 h (Receive m time) (λ x. OfReceipt x) (Err r) NewServes)
-      → (◌≡◌ {A = Result Receipt Refusal} (Err r) (Err service.DiskFault) → Rose t.before t.after) → MessageComes m time t (Err came)
+      → ((h : History) → OldServes h → AnswersByMachine sha256 h (Receive m time) (λ x. OfReceipt x) (Err r) NewServes)
+      → (◌≡◌ {A = Result Receipt Refusal} (Err r) (Err service.DiskFault) → Rose t.before t.after) → ReceivedMessageComes m time t (Err came)
   received_refused r came is table found machine rose =
       opened_refusal (IsReceivedOver m time) (TableReceives m time) (MachineReceives m time) t root pages opens r came is
       (no_never Receipt Else (own false) (own_can root.name m.thread.from) else_can r (whole_table (Err r) table)) rose (λ tells.

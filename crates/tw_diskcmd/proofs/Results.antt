@@ -9,8 +9,8 @@ use Rattle.tw_pages.specs.declared.open.StoreFault.{StoreFault}
 use Rattle.tw_pages.specs.declared.open.StoreFault.TheVariants as store
 use Rattle.tw_disk.specs.Found.{Found}
 use Rattle.tw_disk.specs.Found.Found.{Is}
-use Rattle.tw_answers.specs.Finds.{IsRefusalOf}
-use Rattle.tw_service.specs.Machine.{Answers, Call, Reply}
+use Rattle.tw_answers.specs.Finds.{IsRefusalFound}
+use Rattle.tw_service.specs.Machine.{AnswersByMachine, Call, Reply}
 use Rattle.tw_answers.specs.Refusals.{IsFault}
 use Rattle.tw_service.specs.Stands.{IsNotOpenedFor, Served}
 use Rattle.tw_service.specs.Stands.Served.{Opened, Unopened}
@@ -24,7 +24,7 @@ use Rattle.tw_text.specs.declared.refusal.StoreCause.TheVariants.{Blank, NotASto
 use Rattle.tw_text.specs.declared.fault.CommandFault.{CommandFault}
 use Rattle.tw_text.specs.declared.fault.CommandFault.TheVariants as fault
 use Rattle.tw_diskcmd.specs.Answers.{ComesOver, ComesTo, IsOpened, IsResult, IsResultOver, IsTheAnswer, MachineRefuses, TableAnswersOr, TableRefuses, answer_over, result_of}
-use Rattle.tw_diskcmd.specs.Disks.{FoundDisk, ReadsAs, found_disk}
+use Rattle.tw_diskcmd.specs.Disks.{FoundDisk, ReadsAsHeads, found_disk}
 use Rattle.tw_diskcmd.specs.Comes.{TellsContent}
 use Rattle.tw_diskcmd.specs.StoreFaults.{fault_of_store}
 use Rattle.tw_diskcmd.proofs.Landings.{told_result}
@@ -56,7 +56,7 @@ fault_can _ fault never = never
 
 module _ {X : Type 0} where
   -- one that is found is the answer
-  found_result : (r : Refusal) (f : Found (Result X Refusal)) → TellsOfDisk r → IsRefusalOf r f → ◌≡◌ {A = Result X CommandFault} (Err (fault_of_service r)) (result_of f)
+  found_result : (r : Refusal) (f : Found (Result X Refusal)) → TellsOfDisk r → IsRefusalFound r f → ◌≡◌ {A = Result X CommandFault} (Err (fault_of_service r)) (result_of f)
   found_result service.DiskFault f tells is = absurd tells
   found_result service.NoMemory f tells is = absurd tells
   found_result service.Reopen f tells is = absurd tells
@@ -109,7 +109,7 @@ pub by_table : {S : Type 0} (X : Type 0) (table : S → Option Refusal) (at : S)
 by_table X table at None none r tells is = page_free table r tells is
 by_table X table at (Some q) some r tells is = table_refuses table at r (some ∙ ap (λ (x : Refusal). Some x) (same_err {X = X} r q is))
 
-pub machine_refuses : {T : Type 0} (h : History) (call : Call) (reply : T → Reply) (Serves : History → Type 0) (r : Refusal) → TellsOfDisk r → Answers sha256 h call reply (Err r) Serves → MachineRefuses h call (fault_of_service r)
+pub machine_refuses : {T : Type 0} (h : History) (call : Call) (reply : T → Reply) (Serves : History → Type 0) (r : Refusal) → TellsOfDisk r → AnswersByMachine sha256 h call reply (Err r) Serves → MachineRefuses h call (fault_of_service r)
 machine_refuses h call reply Serves service.DiskFault tells is = absurd tells
 machine_refuses h call reply Serves service.NoMemory tells is = absurd tells
 machine_refuses h call reply Serves service.Reopen tells is = absurd tells
@@ -153,7 +153,7 @@ module _ {X : Type 0} (Over : Served → Result X CommandFault → Type 0) (ByTa
 
   -- of a service that was opened
   module _ (t : FoundDisk) (root : RootRecord) (pages : Option Image) (opens : IsOpened t.found root pages) where
-    pub opened_result : (r : Result X CommandFault) → ((ps : Image) → pages ≡ Some ps → Over (Opened root ps) r) → ByTable r → ((h : History) → ReadsAs t.found h → ByMachine h r) → IsOneOver t.found r
+    pub opened_result : (r : Result X CommandFault) → ((ps : Image) → pages ≡ Some ps → Over (Opened root ps) r) → ByTable r → ((h : History) → ReadsAsHeads t.found h → ByMachine h r) → IsOneOver t.found r
     opened_result r is table machine = record {
       answer = λ image told. let o = opens image told in (Opened root o.0, o.1, is o.0 o.2);
       table = table;
@@ -207,12 +207,12 @@ module _ {X : Type 0} (finds : RootRecord → Image → Found (Result X Refusal)
 
   -- of a service that was opened, and what it found
   module _ (t : FoundDisk) (root : RootRecord) (pages : Option Image) (opens : IsOpened t.found root pages) where
-    pub done : (x : X) → ((ps : Image) → pages ≡ Some ps → finds root ps ≡ Is (Ok x)) → ByTable (Ok x) → ((h : History) → ReadsAs t.found h → ByMachine h (Ok x)) → Comes t (Ok x)
+    pub done : (x : X) → ((ps : Image) → pages ≡ Some ps → finds root ps ≡ Is (Ok x)) → ByTable (Ok x) → ((h : History) → ReadsAsHeads t.found h → ByMachine h (Ok x)) → Comes t (Ok x)
     done x is table machine = opened_result (IsTheAnswer finds) ByTable ByMachine t root pages opens (Ok x) (λ ps told. sym (ap result_of (is ps told))) table machine
 
     pub refused : (r : Refusal) (came : CommandFault) → came ≡ fault_of_service r → CanCome r → (failed {X = X} r ≡ Err service.DiskFault → Rose t.before t.after)
-        → ((ps : Image) → pages ≡ Some ps → IsRefusalOf r (finds root ps)) → (TellsOfDisk r → ByTable (Err (fault_of_service r)))
-        → (TellsOfDisk r → (h : History) → ReadsAs t.found h → ByMachine h (Err (fault_of_service r))) → Comes t (Err came)
+        → ((ps : Image) → pages ≡ Some ps → IsRefusalFound r (finds root ps)) → (TellsOfDisk r → ByTable (Err (fault_of_service r)))
+        → (TellsOfDisk r → (h : History) → ReadsAsHeads t.found h → ByMachine h (Err (fault_of_service r))) → Comes t (Err came)
     refused r came same other rose is table machine =
         opened_refusal (IsTheAnswer finds) ByTable ByMachine t root pages opens r came same other rose (λ tells.
         opened_result (IsTheAnswer finds) ByTable ByMachine t root pages opens (Err (fault_of_service r)) (λ ps told. found_result r (finds root ps) tells (is ps told)) (table tells) (machine tells))

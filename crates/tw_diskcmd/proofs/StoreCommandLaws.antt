@@ -5,7 +5,7 @@ use Rattle.tw_base.specs.declared.history.thread.Thread.{Thread}
 use Rattle.tw_base.specs.kinds.Faults.{Rose}
 use Rattle.tw_disk.specs.Disk.{DiskView}
 use Rattle.tw_disk.specs.Image.{Image}
-use Rattle.tw_pages.specs.Disks.{IsLeft, ReadsAs}
+use Rattle.tw_pages.specs.Disks.{IsLeft, ReadsAsState}
 use Rattle.tw_pages.specs.Records.{IsWritten, RecordKind, Written}
 use Rattle.tw_pages.proofs.AtRest.{adds_safe, keeps_or_adds_safe, left_adds, left_begins, untouched_left}
 use Rattle.tw_outside.specs.Asked.{Asked}
@@ -25,7 +25,7 @@ use Rattle.tw_diskcmd.proofs.StoreSteps.{adds_weaker}
 pub record HasCauses {S X : Type 0} (IsOf : S → Image → Type 0) (a : Asked) (t : FoundDisk) (NamesFile UsesDisk : Type 0) (Comes : Result X CommandFault → Type 0) : Type 0 where
   pub input : Comes (Err InputFault) → NamesFile × Rose a.before a.after
   pub disk : Comes (Err DiskFault) → UsesDisk × Rose t.before t.after
-  pub serves : (s : S) → ReadsAs IsOf t.found s → (why : StoreCause) → Comes (Err (Unserved why)) → ⊥
+  pub serves : (s : S) → ReadsAsState IsOf t.found s → (why : StoreCause) → Comes (Err (Unserved why)) → ⊥
   pub memory : Comes (Err NoMemory)
 
 module _ {S : Type 0} (IsOf : S → Image → Type 0) (a : Asked) (t : FoundDisk) where
@@ -33,7 +33,7 @@ module _ {S : Type 0} (IsOf : S → Image → Type 0) (a : Asked) (t : FoundDisk
   make_causes new = record { input = λ came. absurd came; disk = λ rose. (tt, rose); serves = λ s reads why came. came; memory = tt }
 
   pub file_causes : {T X : Type 0} (file : List ℕ) (IsBadByte : (bytes : List ℕ) (place : ℕ) → Type 0) (Has : T → Type 0) (Is : T → Option Image → Result X CommandFault → Type 0)
-      → ((x : T) (s : S) → ReadsAs IsOf t.found s → (why : StoreCause) → Is x t.found (Err (Unserved why)) → ⊥)
+      → ((x : T) (s : S) → ReadsAsState IsOf t.found s → (why : StoreCause) → Is x t.found (Err (Unserved why)) → ⊥)
       → HasCauses IsOf a t (Unit {0}) (Unit {0}) (FileComes a file IsBadByte Has Is t)
   file_causes file IsBadByte Has Is serves = record {
     input = λ rose. (tt, rose);

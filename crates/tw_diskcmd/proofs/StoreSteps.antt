@@ -4,12 +4,12 @@ use Rattle.std.specs.Prelude.{◌≢◌, Result, Ok, Err}
 use Rattle.tw_disk.specs.Disk.{DiskView, LeavesOnly, Reads}
 use Rattle.tw_disk.specs.Image.{Image}
 use Rattle.tw_pages.specs.Commits.{Commits}
-use Rattle.tw_pages.specs.Disks.{Adds, LeavesOneOf, OneOf, ReadsAs, Rests}
-use Rattle.tw_pages.specs.Records.{IsWritten, RecordKind, Written, written}
+use Rattle.tw_pages.specs.Disks.{Adds, LeavesOneOf, OneOf, ReadsAsState, RestsAtState}
+use Rattle.tw_pages.specs.Records.{IsWritten, RecordKind, Written, written_record}
 use Rattle.tw_pages.specs.Rests.{RestsWith}
 use Rattle.tw_pages.proofs.AtRest.{both_of, joined, old_or_one, one_or_old, own_rest}
 use Rattle.tw_pages.proofs.Written.{rest_for_good}
-use Rattle.tw_pages.specs.StoreValue.{disk_of}
+use Rattle.tw_pages.specs.StoreValue.{store_disk}
 use Rattle.tw_pages.specs.declared.open.StoreFault.{StoreFault}
 use Rattle.tw_pages.specs.declared.open.StoreFault.TheVariants as store
 use Rattle.tw_pages.specs.declared.store.Store.{Store}
@@ -30,7 +30,7 @@ module _ {D S : Type 0} (IsOf : S → Image → Type 0) (view : D → DiskView) 
   module _ {X : Type 0} (Next : S → S → Type 0) (Answers : X → S → S → Type 0) where
     -- a refusal, by what the call told of the disk
     pub refused_adds : {E : Type 0} (disk_fault : E) (fault_of : E → CommandFault) → fault_of disk_fault ≡ DiskFault → (old new : D) (s next : S) → Next s next
-        → LeavesOnly (view old) (view new) (OneOf IsOf s next) → Reads (view new) (OneOf IsOf s next) → (e : E) (came : CommandFault) → came ≡ fault_of e → (e ≡ disk_fault) ⊎ Rests IsOf view new s
+        → LeavesOnly (view old) (view new) (OneOf IsOf s next) → Reads (view new) (OneOf IsOf s next) → (e : E) (came : CommandFault) → came ≡ fault_of e → (e ≡ disk_fault) ⊎ RestsAtState IsOf view new s
         → AddsFrom IsOf view old new Next Answers s (Err came)
     refused_adds disk_fault fault_of told_so old new s next is_next any_moment told e came is which = by came is
       where
@@ -44,7 +44,7 @@ module _ {D S : Type 0} (IsOf : S → Image → Type 0) (view : D → DiskView) 
 
     -- from the disk that was opened to the one that was handed in
     pub adds_on : (disk mid new : D) (came : Result X CommandFault) → LeavesOnly (view disk) (view mid) (view disk).may_leave
-        → ((s : S) → ReadsAs IsOf (view disk).content s → AddsFrom IsOf view mid new Next Answers s came) → AddsTo IsOf view disk new Next Answers came
+        → ((s : S) → ReadsAsState IsOf (view disk).content s → AddsFrom IsOf view mid new Next Answers s came) → AddsTo IsOf view disk new Next Answers came
     adds_on disk mid new (Ok x) run from = λ s reads. let it = from s reads in (it.0, it.1, (it.2, since disk mid new s it.0 run it.3))
     adds_on disk mid new (Err DiskFault) run from = λ s reads. let it = from s reads in (it.0, it.1, (it.2, since disk mid new s it.0 run it.3))
     adds_on disk mid new (Err (Refused refusal)) run from = λ s reads. from s reads
@@ -68,23 +68,23 @@ module _ {D S : Type 0} (IsOf : S → Image → Type 0) (view : D → DiskView) 
         by store.NoMemory never = tt
 
 -- a store at rest with a record and pages is over a disk that rests with them
-pub rests_as : {D R : Type 0} {g : _} (view : D → DiskView) (kind : RecordKind R) (store : Store D g) (w : Written R) → RestsWith view kind store w → Rests (IsWritten kind) view (disk_of store) w
-rests_as view kind store w rest = own_rest (IsWritten kind) view (disk_of store) w (rest_for_good view kind store w rest)
+pub rests_as : {D R : Type 0} {g : _} (view : D → DiskView) (kind : RecordKind R) (store : Store D g) (w : Written R) → RestsWith view kind store w → RestsAtState (IsWritten kind) view (store_disk store) w
+rests_as view kind store w rest = own_rest (IsWritten kind) view (store_disk store) w (rest_for_good view kind store w rest)
 
 -- of record and pages, by what the store committed
 module _ {D R X E : Type 0} {g : _} (view : D → DiskView) (kind : RecordKind R) (disk_fault : E) (IsNext : (w next : Written R) → Type 0) (IsAnswer : X → (w next : Written R) → Type 0)
     (old new : Store D g) (before after : R) (ps : Image) where
   abbrev w : Written R
-  w = written before ps
+  w = written_record before ps
 
   pub answered_commits : (x : X) → Commits view kind disk_fault IsNext IsAnswer old new before after (Ok x) ps
-      → AddsFrom (IsWritten kind) view (disk_of old) (disk_of new) (StaysOr IsNext) IsAnswer w (Ok x)
+      → AddsFrom (IsWritten kind) view (store_disk old) (store_disk new) (StaysOr IsNext) IsAnswer w (Ok x)
   answered_commits x c = (c.next, c.done.0, rests_as view kind new c.next c.done.2, c.any_moment)
 
   pub refused_commits : (fault_of : E → CommandFault) → fault_of disk_fault ≡ DiskFault → (e : E) (came : CommandFault) → came ≡ fault_of e
-      → Commits view kind disk_fault IsNext IsAnswer old new before after (Err e) ps → AddsFrom (IsWritten kind) view (disk_of old) (disk_of new) (StaysOr IsNext) IsAnswer w (Err came)
+      → Commits view kind disk_fault IsNext IsAnswer old new before after (Err e) ps → AddsFrom (IsWritten kind) view (store_disk old) (store_disk new) (StaysOr IsNext) IsAnswer w (Err came)
   refused_commits fault_of told_so e came is c =
-      refused_adds (IsWritten kind) view (StaysOr IsNext) IsAnswer disk_fault fault_of told_so (disk_of old) (disk_of new) w c.next c.is_next c.any_moment c.told e came is
+      refused_adds (IsWritten kind) view (StaysOr IsNext) IsAnswer disk_fault fault_of told_so (store_disk old) (store_disk new) w c.next c.is_next c.any_moment c.told e came is
       (⊎_elim (λ same. inl same) (λ kept. inr (rests_as view kind new w kept.0)) c.refused)
 
 -- a refusal that isn't told as a disk fault is none

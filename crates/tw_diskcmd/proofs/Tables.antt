@@ -5,7 +5,7 @@ use Rattle.std.specs.Str.{bytes_eq}
 use Rattle.tw_base.specs.declared.kinds.limits.TheConstants.{LAST_STEP, MOST_EVENTS, MOST_STEP_BYTES}
 use Rattle.tw_answers.specs.declared.refusal.Refusal.{Refusal}
 use Rattle.tw_answers.specs.declared.refusal.Refusal.TheVariants.{NoStep, NoThread, HasThread, TooMany, TooLong, Full, ClockBack, Own}
-use Rattle.tw_answers.specs.Limits.{append_refusal, bytes_of, clock_refusal, first_long, full_refusal, is_in_order, length_refusal, limits_refusal, link_refusal, or_else, order_refusal, own_refusal, thread_refusal, top_refusal}
+use Rattle.tw_answers.specs.Limits.{append_refusal, clock_refusal, events_size, first_long, full_refusal, is_in_order, length_refusal, limits_refusal, link_refusal, or_else, order_refusal, own_refusal, thread_refusal, top_refusal}
 use Rattle.tw_answers.specs.Refusals.{IsHasThread, IsNoThread, IsTooLong}
 use Rattle.tw_answers.proofs.TableAnswers.{Of}
 use Rattle.tw_diskcmd.proofs.Results.{CanCome}
@@ -32,7 +32,7 @@ unfolding append_refusal limits_refusal
 append_can steps clock events time =
     can_or (full_refusal steps) _ (can_if (nat_le LAST_STEP steps) (Some Full) None (λ never. never) tt)
     (can_or (limits_refusal events) _
-    (can_if (nat_lt MOST_EVENTS (length events)) (Some (TooMany (length events))) (length_refusal (first_long events) (bytes_of events)) (λ never. never) (lengths_can (first_long events) (bytes_of events)))
+    (can_if (nat_lt MOST_EVENTS (length events)) (Some (TooMany (length events))) (length_refusal (first_long events) (events_size events)) (λ never. never) (lengths_can (first_long events) (events_size events)))
     (clock_can clock time))
 
 pub order_can : (last step top : ℕ) → Of CanCome (order_refusal false last step top)

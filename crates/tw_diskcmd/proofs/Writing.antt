@@ -7,8 +7,8 @@ use Rattle.tw_base.specs.format.Formats.{Spells}
 use Rattle.tw_disk.specs.Disk.{DiskView, LeavesOnly}
 use Rattle.tw_disk.specs.Image.{Image}
 use Rattle.tw_disk.proofs.Moments.{leaves_weaker}
-use Rattle.tw_pages.specs.Disks.{OneOf, Rests as RestsAs}
-use Rattle.tw_pages.specs.Records.{Written, written}
+use Rattle.tw_pages.specs.Disks.{OneOf, RestsAtState}
+use Rattle.tw_pages.specs.Records.{Written, written_record}
 use Rattle.tw_pages.proofs.AtRest.{own_rest}
 use Rattle.tw_pages.proofs.States.{serves_for_good}
 use Rattle.tw_msg.specs.declared.message.Message.{Message}
@@ -18,10 +18,10 @@ use Rattle.tw_follow.specs.declared.judging.Offered.TheVariants.{Moves}
 use Rattle.tw_follow.specs.declared.refusal.FollowRefusal.{FollowRefusal}
 use Rattle.tw_follow.specs.declared.refusal.FollowRefusal.TheVariants as follower
 use Rattle.tw_follow.specs.declared.root.RootRecord.{RootRecord}
-use Rattle.tw_follow.specs.Calls.{Offers, Steps}
+use Rattle.tw_follow.specs.Calls.{OfferSteps, Offers}
 use Rattle.tw_follow.specs.Follows.{Follows, IsOver, disk_of, record_of}
 use Rattle.tw_follow.specs.HeadLists.{Kept}
-use Rattle.tw_follow.specs.Runs.{Goes}
+use Rattle.tw_follow.specs.Runs.{GoesByMove}
 use Rattle.tw_follow.specs.Runs.Move.{Stopped}
 use Rattle.tw_follow.specs.Stands.{KeepsList, root_kind}
 use Rattle.tw_follow.specs.Writing.{IsMovedBy, record_after}
@@ -30,7 +30,7 @@ use Rattle.tw_diskcmd.proofs.StoreSteps.{refused_adds, rests_as}
 use Rattle.tw_text.specs.declared.fault.CommandFault.{CommandFault}
 use Rattle.tw_diskcmd.specs.FollowerDisks.{IsFollower, IsOf, Rests}
 use Rattle.tw_diskcmd.specs.FollowerFaults.{fault_of_follower}
-use Rattle.tw_diskcmd.specs.Offering.{IsNextBy, IsNextListBy, next_list, next_record}
+use Rattle.tw_diskcmd.specs.Offering.{IsNextBy, IsNextListBy, next_follower_record, next_list}
 use Rattle.tw_diskcmd.proofs.Offered.{answered_next, judged-ok, widen as widen_list}
 
 module _ {D H : Type 0} {g : _} {k : _} (view : D → DiskView) (f new : Follower D H g k) (bytes : List ℕ) (m : Message) (spells : Spells message_layout bytes m) where
@@ -40,7 +40,7 @@ module _ {D H : Type 0} {g : _} {k : _} (view : D → DiskView) (f new : Followe
     rests_list : (s : Kept) → Follows sha256 view new s → Rests view (disk_of new) s
     rests_list s follows = own_rest IsOf view (disk_of new) s (serves_for_good (root_kind sha256) KeepsList view new.recorded.store (record_of new) s follows)
 
-    any_list : (next : Kept) → Goes sha256 kept (Stopped bytes) next → LeavesOnly (view (disk_of f)) (view (disk_of new)) (OneOf IsOf kept next)
+    any_list : (next : Kept) → GoesByMove sha256 kept (Stopped bytes) next → LeavesOnly (view (disk_of f)) (view (disk_of new)) (OneOf IsOf kept next)
         → LeavesOnly (view (disk_of f)) (view (disk_of new)) (OneOf IsOf kept (next_list kept m))
     any_list next goes left =
         leaves_weaker (view (disk_of f)) (view (disk_of new)) (OneOf IsOf kept next) (OneOf IsOf kept (next_list kept m)) (widen_list bytes m spells kept next goes) left
@@ -48,12 +48,12 @@ module _ {D H : Type 0} {g : _} {k : _} (view : D → DiskView) (f new : Followe
     abbrev Adds : Result Thread CommandFault → Type 0
     Adds came = AddsFrom IsOf view (disk_of f) (disk_of new) (IsNextListBy m) (λ thread. IsNextListBy m) kept came
 
-    pub answered_list : (thread : Thread) → Steps sha256 view bytes f new (Ok thread) kept → Adds (Ok thread)
+    pub answered_list : (thread : Thread) → OfferSteps sha256 view bytes f new (Ok thread) kept → Adds (Ok thread)
     answered_list thread made =
         let is = answered_next bytes m spells kept made.next thread made.done.0 in
         (next_list kept m, refl, rests_list (next_list kept m) (subst (λ (n : Kept). Follows sha256 view new n) is made.done.1), any_list made.next made.goes made.any_moment)
 
-    pub refused_list : (r : FollowRefusal) (came : CommandFault) → came ≡ fault_of_follower r → Steps sha256 view bytes f new (Err r) kept → Adds (Err came)
+    pub refused_list : (r : FollowRefusal) (came : CommandFault) → came ≡ fault_of_follower r → OfferSteps sha256 view bytes f new (Err r) kept → Adds (Err came)
     refused_list r came is made =
         refused_adds IsOf view (IsNextListBy m) (λ (thread : Thread). IsNextListBy m) follower.DiskFault fault_of_follower refl (disk_of f) (disk_of new) kept (next_list kept m) refl
         (any_list made.next made.goes made.any_moment)
@@ -64,10 +64,10 @@ module _ {D H : Type 0} {g : _} {k : _} (view : D → DiskView) (f new : Followe
 
   module _ (ps : Image) (over : IsOver sha256 view f ps) where
     abbrev w : Written RootRecord
-    w = written (record_of f) ps
+    w = written_record (record_of f) ps
 
     abbrev after : Written RootRecord
-    after = next_record w m
+    after = next_follower_record w m
 
     -- what was committed next is what the message makes of the record
     widen : (next : Written RootRecord) → (next ≡ w) ⊎ IsMovedBy sha256 bytes w next → (i : Image) → OneOf IsFollower w next i → OneOf IsFollower w after i
@@ -89,7 +89,7 @@ module _ {D H : Type 0} {g : _} {k : _} (view : D → DiskView) (f new : Followe
         let is : c.next ≡ after = c.done.0.3 ∙ ap (record_after w) (sym (judged-ok bytes m spells w.root.head c.done.0.0 c.done.0.1)) in (
           after,
           refl,
-          subst (λ (v : Written RootRecord). RestsAs IsFollower view (disk_of new) v) is (rests_as view (root_kind sha256) new.recorded.store c.next c.done.2),
+          subst (λ (v : Written RootRecord). RestsAtState IsFollower view (disk_of new) v) is (rests_as view (root_kind sha256) new.recorded.store c.next c.done.2),
           any_moment c.next c.is_next c.any_moment,
         )
 

@@ -4,20 +4,20 @@ use Rattle.sha2.specs.Sha256.{sha256}
 use Rattle.tw_base.specs.history.History.{History}
 use Rattle.tw_disk.specs.Disk.{DiskView}
 use Rattle.tw_disk.specs.Image.{Image}
-use Rattle.tw_pages.specs.Disks.{ReadsAs as ReadsAsThis, Rests as RestsAs, Stands as StandsAs}
+use Rattle.tw_pages.specs.Disks.{ReadsAsState, RestsAtState, StandsAtState}
 pub use Rattle.tw_pages.specs.Disks.{IsLeft}
 use Rattle.tw_pages.specs.Records.{IsWritten, Written}
 use Rattle.tw_answers.specs.declared.root.RootRecord.{RootRecord}
 use Rattle.tw_answers.specs.Roots.{root_kind}
 use Rattle.tw_service.specs.Machine.{Call, IsStepOf, NextOf, Reply}
 use Rattle.tw_service.specs.Stands.{StandsFor}
-use Rattle.tw_diskcmd.specs.Leaves.{Keeps as KeepsBoth, ReadLeaves as ReadLeavesOf, SparesOther as SparesOthers}
+use Rattle.tw_diskcmd.specs.Leaves.{KeepsStore, ReadLeaves as ReadLeavesOf, SparesOtherStore}
 use Rattle.tw_text.specs.declared.fault.CommandFault.{CommandFault}
 pub use Rattle.tw_diskcmd.specs.Comes.{FoundDisk, found_disk}
 
 -- the image stands for the history, under its name
-abbrev pub IsOf : History → Image → Type 0
-IsOf h image = StandsFor sha256 image h.name h
+abbrev pub IsImageOfHeads : History → Image → Type 0
+IsImageOfHeads h image = StandsFor sha256 image h.name h
 
 -- the image opens as a service's store with this record and these pages, whatever they keep
 abbrev pub IsService : Written RootRecord → Image → Type 0
@@ -30,23 +30,23 @@ NextBy call h next = NextOf sha256 call h next
 abbrev pub StepsBy : Call → Reply → (h next : History) → Type 0
 StepsBy call reply h next = NextOf sha256 call h next × IsStepOf sha256 h call reply next
 
-abbrev pub ReadsAs : (found : Option Image) → History → Type 0
-ReadsAs found h = ReadsAsThis IsOf found h
+abbrev pub ReadsAsHeads : (found : Option Image) → History → Type 0
+ReadsAsHeads found h = ReadsAsState IsImageOfHeads found h
 
 module _ {D : Type 0} (view : D → DiskView) where
-  abbrev pub Stands : (disk : D) → History → Type 0
-  Stands disk h = StandsAs IsOf view disk h
+  abbrev pub StandsAtHistory : (disk : D) → History → Type 0
+  StandsAtHistory disk h = StandsAtState IsImageOfHeads view disk h
 
-  abbrev pub Rests : (disk : D) → History → Type 0
-  Rests disk h = RestsAs IsOf view disk h
+  abbrev pub RestsAtHeads : (disk : D) → History → Type 0
+  RestsAtHeads disk h = RestsAtState IsImageOfHeads view disk h
 
   -- the history that the disk stood for stands; and so do the record and pages that it opened with, whatever they keep
-  abbrev pub Keeps : (old new : D) → Type 0
-  Keeps old new = KeepsBoth root_kind IsOf view old new
+  abbrev pub KeepsFollowerDisk : (old new : D) → Type 0
+  KeepsFollowerDisk old new = KeepsStore root_kind IsImageOfHeads view old new
 
-  abbrev pub ReadLeaves : {X : Type 0} → (old new : D) → Result X CommandFault → Type 0
-  ReadLeaves old new result = ReadLeavesOf root_kind IsOf view old new result
+  abbrev pub ReadLeavesHistory : {X : Type 0} → (old new : D) → Result X CommandFault → Type 0
+  ReadLeavesHistory old new result = ReadLeavesOf root_kind IsImageOfHeads view old new result
 
   -- what is opened as no service, a follower's store among it, is left so, with writes pending or not
-  abbrev pub SparesOther : (old new : D) → Type 0
-  SparesOther old new = SparesOthers root_kind IsOf view old new
+  abbrev pub SparesOtherThanFollower : (old new : D) → Type 0
+  SparesOtherThanFollower old new = SparesOtherStore root_kind IsImageOfHeads view old new

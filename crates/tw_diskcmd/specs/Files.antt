@@ -6,7 +6,7 @@ use Rattle.tw_disk.specs.Image.{Image}
 use Rattle.tw_msg.specs.declared.message.Message.{Message}
 use Rattle.tw_msg.specs.Messages.{message_layout}
 use Rattle.tw_outside.specs.Asked.{Asked}
-use Rattle.tw_outside.specs.Files.{Files, IsThere, Tells}
+use Rattle.tw_outside.specs.Files.{Files, IsThere, TellsBytes}
 use Rattle.tw_text.specs.declared.refusal.BadInput.TheVariants.{BadByte}
 use Rattle.tw_text.specs.declared.fault.CommandFault.{CommandFault}
 use Rattle.tw_text.specs.declared.fault.CommandFault.TheVariants.{Unreadable, InputFault, NoMemory}
@@ -17,7 +17,7 @@ pub record IsMessageIn (told : Option Files) (file : List ℕ) (m : Message) : T
   pub there : IsThere told file
   pub bytes : List ℕ
   pub spelled : Spells message_layout bytes m
-  pub same : (others : List ℕ) → Tells told file others → others ≡ bytes
+  pub same : (others : List ℕ) → TellsBytes told file others → others ≡ bytes
 
 -- the bytes spell no message, and this is the place of the first one at which none goes on
 abbrev pub IsBadMessageByte : (bytes : List ℕ) (place : ℕ) → Type 0
@@ -31,7 +31,7 @@ module _ (a : Asked) (file : List ℕ) (IsBadByte : (bytes : List ℕ) (place : 
   -- why the command stops before the disk is touched: the file isn't what it reads, the inputs failed, or there was no memory, want of
   -- which may come later too
   abbrev pub StopsAt : CommandFault → Type 0
-  StopsAt (Unreadable (BadByte named place)) = (named ≡ file) × IsThere a.told file × ((bytes : List ℕ) → Tells a.told file bytes → IsBadByte bytes place)
+  StopsAt (Unreadable (BadByte named place)) = (named ≡ file) × IsThere a.told file × ((bytes : List ℕ) → TellsBytes a.told file bytes → IsBadByte bytes place)
   StopsAt InputFault = Rose a.before a.after
   StopsAt NoMemory = Unit {0}
   StopsAt _ = ⊥

@@ -3,14 +3,14 @@ use Rattle.std.specs.Prelude.{Option}
 use Rattle.sha2.specs.Sha256.{sha256}
 use Rattle.tw_disk.specs.Disk.{DiskView}
 use Rattle.tw_disk.specs.Image.{Image}
-use Rattle.tw_pages.specs.Disks.{ReadsAs as ReadsAsThis, Rests as RestsAs}
+use Rattle.tw_pages.specs.Disks.{ReadsAsState, RestsAtState}
 pub use Rattle.tw_pages.specs.Disks.{IsLeft}
 use Rattle.tw_pages.specs.Records.{IsWritten, Written}
 use Rattle.tw_follow.specs.declared.root.RootRecord.{RootRecord}
 use Rattle.tw_follow.specs.HeadLists.{Kept}
 use Rattle.tw_follow.specs.Stands.{StandsFor, root_kind}
 pub use Rattle.tw_diskcmd.specs.Comes.{FoundDisk, found_disk}
-use Rattle.tw_diskcmd.specs.Leaves.{Keeps as KeepsBoth, SparesOther as SparesOthers}
+use Rattle.tw_diskcmd.specs.Leaves.{KeepsStore, SparesOtherStore}
 
 -- the image stands for the list
 abbrev pub IsOf : Kept → Image → Type 0
@@ -21,16 +21,16 @@ abbrev pub IsFollower : Written RootRecord → Image → Type 0
 IsFollower w image = IsWritten (root_kind sha256) w image
 
 abbrev pub ReadsAs : (found : Option Image) (kept : Kept) → Type 0
-ReadsAs found kept = ReadsAsThis IsOf found kept
+ReadsAs found kept = ReadsAsState IsOf found kept
 
 module _ {D : Type 0} (view : D → DiskView) where
   abbrev pub Rests : (disk : D) (kept : Kept) → Type 0
-  Rests disk kept = RestsAs IsOf view disk kept
+  Rests disk kept = RestsAtState IsOf view disk kept
 
   -- the list that the disk stood for stands; and so do the record and pages that it opened with, whatever they keep
-  abbrev pub Keeps : (old new : D) → Type 0
-  Keeps old new = KeepsBoth (root_kind sha256) IsOf view old new
+  abbrev pub KeepsPage : (old new : D) → Type 0
+  KeepsPage old new = KeepsStore (root_kind sha256) IsOf view old new
 
   -- what is opened as no follower, a service's store among it, is left so, with writes pending or not
   abbrev pub SparesOther : (old new : D) → Type 0
-  SparesOther old new = SparesOthers (root_kind sha256) IsOf view old new
+  SparesOther old new = SparesOtherStore (root_kind sha256) IsOf view old new

@@ -20,12 +20,12 @@ use Rattle.tw_diskcmd.specs.Leaves.{ReadLeaves, ReadSafe}
 use Rattle.tw_diskcmd.specs.FollowerDisks.{FoundDisk, IsOf, ReadsAs}
 
 -- the anchor line of each
-abbrev pub lines_of : List Thread → List ℕ
-lines_of heads = flat_map (λ head. anchor_text head) heads
+abbrev pub head_lines : List Thread → List ℕ
+head_lines heads = flat_map (λ head. anchor_text head) heads
 
 -- what is found in the pages, as the command's result
 abbrev pub as_lines : Found (List Thread) → Result (List ℕ) CommandFault
-as_lines (Is heads) = Ok (lines_of heads)
+as_lines (Is heads) = Ok (head_lines heads)
 as_lines (Bad page) = Err (fault.Unserved (BadPage page))
 
 -- of the follower that the disk is served as, or why there is none
@@ -35,7 +35,7 @@ lines_over (Unopened why) = Err (fault_of_store why)
 
 -- the lines are those of heads that rise to this one
 abbrev pub ListsTo : (head : Thread) → (lines : List ℕ) → Type 0
-ListsTo head lines = (heads : List Thread) × RiseTo head heads × (lines ≡ lines_of heads)
+ListsTo head lines = (heads : List Thread) × RiseTo head heads × (lines ≡ head_lines heads)
 
 -- over whatever disk, also one that contradicts itself: the lines are those of heads that rise to one
 abbrev pub TableLists : Result (List ℕ) CommandFault → Type 0
@@ -47,7 +47,7 @@ TableLists _ = Unit {0}
 pub record IsListed (found : Option Image) (result : Result (List ℕ) CommandFault) : Type 0 where
   pub answer : (image : Image) → found ≡ Some image → (served : Served) × IsServed sha256 image served × (result ≡ lines_over served)
   pub table : TableLists result
-  pub list : (kept : Kept) → ReadsAs found kept → result ≡ Ok (lines_of kept.heads)
+  pub list : (kept : Kept) → ReadsAs found kept → result ≡ Ok (head_lines kept.heads)
 
 -- what it comes to; want of memory is free
 abbrev pub HeadsComes : FoundDisk → Result (List ℕ) CommandFault → Type 0

@@ -12,8 +12,8 @@ use Rattle.tw_follow.specs.declared.judging.Offered.{Offered}
 use Rattle.tw_follow.specs.declared.judging.Offered.TheVariants.{Moves}
 use Rattle.tw_follow.specs.declared.refusal.FollowRefusal.{FollowRefusal}
 use Rattle.tw_follow.specs.declared.root.RootRecord.{RootRecord}
-use Rattle.tw_follow.specs.HeadLists.{Kept, head_of, with_head}
-use Rattle.tw_follow.specs.Offers.{answer_to, judged}
+use Rattle.tw_follow.specs.HeadLists.{Kept, last_head, with_head}
+use Rattle.tw_follow.specs.Offers.{answer_to, judged_offer}
 use Rattle.tw_follow.specs.Stands.{IsServed, Served, root_kind}
 use Rattle.tw_follow.specs.Writing.{record_after}
 use Rattle.tw_follow.specs.Stands.Served.{Opened, Unopened}
@@ -29,13 +29,13 @@ use Rattle.tw_diskcmd.specs.FollowerFaults.{fault_of_follower}
 -- ---- the message
 
 -- what the table says, as the command's result
-abbrev pub as_told : (head : Thread) → Result Offered FollowRefusal → Result Thread CommandFault
-as_told head (Ok offered) = Ok (answer_to head offered)
-as_told head (Err refusal) = Err (fault_of_follower refusal)
+abbrev pub offer_as_told : (head : Thread) → Result Offered FollowRefusal → Result Thread CommandFault
+offer_as_told head (Ok offered) = Ok (answer_to head offered)
+offer_as_told head (Err refusal) = Err (fault_of_follower refusal)
 
 -- the result of the message, where this is the head
 abbrev pub offered_to : (head : Thread) → Message → Result Thread CommandFault
-offered_to head m = as_told head (judged sha256 head m)
+offered_to head m = offer_as_told head (judged_offer sha256 head m)
 
 -- of the follower that the disk is served as, or why there is none
 abbrev pub offered_over : Message → Served → Result Thread CommandFault
@@ -52,11 +52,11 @@ TableOffers m result = (head : Thread) × (result ≡ offered_to head m)
 pub record IsOffered (found : Option Image) (m : Message) (result : Result Thread CommandFault) : Type 0 where
   pub answer : (image : Image) → found ≡ Some image → (served : Served) × IsServed sha256 image served × (result ≡ offered_over m served)
   pub table : TableOffers m result
-  pub list : (kept : Kept) → ReadsAs found kept → result ≡ offered_to (head_of sha256 kept) m
+  pub list : (kept : Kept) → ReadsAs found kept → result ≡ offered_to (last_head sha256 kept) m
 
 -- what the message comes to
-abbrev pub MessageComes : FoundDisk → Message → Result Thread CommandFault → Type 0
-MessageComes t m result = DiskComes (λ found came. IsOffered found m came) t result
+abbrev pub OfferedMessageComes : FoundDisk → Message → Result Thread CommandFault → Type 0
+OfferedMessageComes t m result = DiskComes (λ found came. IsOffered found m came) t result
 
 -- what the command comes to: its file isn't read or is none, or its message comes to it
 abbrev pub OfferComes : Asked → FoundDisk → (file : List ℕ) → Result Thread CommandFault → Type 0
@@ -65,11 +65,11 @@ OfferComes a t file result = FileComes a file IsBadMessageByte (IsMessageIn a.to
 -- ---- the store, whatever its pages keep
 
 -- the record and pages with the message's thread, where it moves the record's head, and else the same
-abbrev pub next_record : Written RootRecord → Message → Written RootRecord
-next_record w m = record_after w (judged sha256 w.root.head m)
+abbrev pub next_follower_record : Written RootRecord → Message → Written RootRecord
+next_follower_record w m = record_after w (judged_offer sha256 w.root.head m)
 
 abbrev pub IsNextBy : Message → (w next : Written RootRecord) → Type 0
-IsNextBy m w next = next ≡ next_record w m
+IsNextBy m w next = next ≡ next_follower_record w m
 
 -- ---- the disk
 
@@ -79,7 +79,7 @@ list_after kept (Ok (Moves thread)) = with_head kept thread
 list_after kept _ = kept
 
 abbrev pub next_list : Kept → Message → Kept
-next_list kept m = list_after kept (judged sha256 (head_of sha256 kept) m)
+next_list kept m = list_after kept (judged_offer sha256 (last_head sha256 kept) m)
 
 abbrev pub IsNextListBy : Message → (kept next : Kept) → Type 0
 IsNextListBy m kept next = next ≡ next_list kept m

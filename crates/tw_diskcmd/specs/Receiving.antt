@@ -19,27 +19,27 @@ use Rattle.tw_service.specs.Finds.{found_reception}
 use Rattle.tw_service.specs.Machine.{IsStepOf}
 use Rattle.tw_service.specs.Machine.Call.{Receive}
 use Rattle.tw_service.specs.Machine.Reply.{OfReceipt}
-use Rattle.tw_service.specs.Receiving.{TellsOf}
+use Rattle.tw_service.specs.Receiving.{TellsOfMessage}
 use Rattle.tw_service.specs.Stands.{Served}
 use Rattle.tw_service.specs.Stands.Served.{Opened, Unopened}
 use Rattle.tw_text.specs.declared.fault.CommandFault.{CommandFault}
 use Rattle.tw_text.specs.declared.fault.CommandFault.TheVariants as fault
 use Rattle.tw_answers.specs.Roots.{root_kind}
-use Rattle.tw_service.specs.Writing.{ArchivesTo, IsReceiptOf}
+use Rattle.tw_service.specs.Writing.{ArchivesTo, IsReceiptOfRecord}
 use Rattle.tw_diskcmd.specs.Comes.{FoundDisk}
 use Rattle.tw_diskcmd.specs.StoreFaults.{fault_of_store}
 use Rattle.tw_diskcmd.specs.Files.{FileComes, IsBadMessageByte, IsMessageIn}
 use Rattle.tw_diskcmd.specs.Leaves.{StaysOr, WriteLeaves, WriteSafe}
 use Rattle.tw_diskcmd.specs.Answers.{ComesOver, IsRefusal, IsResultOver, MachineRefuses}
-use Rattle.tw_diskcmd.specs.Disks.{IsOf, NextBy, StepsBy}
+use Rattle.tw_diskcmd.specs.Disks.{IsImageOfHeads, NextBy, StepsBy}
 use Rattle.tw_diskcmd.specs.Faults.{fault_of_service}
 
 -- ---- the message
 
 -- an answer of the service, as the command's result
-abbrev pub as_told : Result Receipt ServiceRefusal → Result Receipt CommandFault
-as_told (Ok receipt) = Ok receipt
-as_told (Err refusal) = Err (fault_of_service refusal)
+abbrev pub receipt_as_told : Result Receipt ServiceRefusal → Result Receipt CommandFault
+receipt_as_told (Ok receipt) = Ok receipt
+receipt_as_told (Err refusal) = Err (fault_of_service refusal)
 
 module _ (m : Message) (time : Option ℕ) where
   -- a service with this root record and these pages answers the message so: its own one by refusing it, and another by what becomes of it
@@ -53,13 +53,13 @@ module _ (m : Message) (time : Option ℕ) where
 
   -- the result is such an answer of the service that the disk is served as, or tells why there is none
   abbrev pub IsReceivedOver : Served → Result Receipt CommandFault → Type 0
-  IsReceivedOver (Opened root pages) result = (answer : Result Receipt ServiceRefusal) × AnswersMessage root pages answer × (result ≡ as_told answer)
+  IsReceivedOver (Opened root pages) result = (answer : Result Receipt ServiceRefusal) × AnswersMessage root pages answer × (result ≡ receipt_as_told answer)
   IsReceivedOver (Unopened why) result = result ≡ Err (fault_of_store why)
 
   -- a service with this root record refuses the message so, by the record, or with what it tells of the message
   abbrev pub RefusesMessage : RootRecord → ServiceRefusal → Type 0
   RefusesMessage root refusal =
-      MatchOption (own_refusal false root.name m.thread.from) (TellsOf sha256 root.head.step root.time time m refusal) (λ own. refusal ≡ own)
+      MatchOption (own_refusal false root.name m.thread.from) (TellsOfMessage sha256 root.head.step root.time time m refusal) (λ own. refusal ≡ own)
 
   -- the receipt is by a service with this root record, and of the message: by one of its steps, or by the next one
   pub record ReceiptsMessage (root : RootRecord) (receipt : Receipt) : Type 0 where
@@ -83,8 +83,8 @@ module _ (m : Message) (time : Option ℕ) where
   abbrev pub IsReceived : (found : Option Image) → Result Receipt CommandFault → Type 0
   IsReceived found result = IsResultOver IsReceivedOver TableReceives MachineReceives found result
 
-  abbrev pub MessageComes : FoundDisk → Result Receipt CommandFault → Type 0
-  MessageComes t result = ComesOver IsReceivedOver TableReceives MachineReceives t result
+  abbrev pub ReceivedMessageComes : FoundDisk → Result Receipt CommandFault → Type 0
+  ReceivedMessageComes t result = ComesOver IsReceivedOver TableReceives MachineReceives t result
 
 -- ---- the command
 
@@ -98,10 +98,10 @@ module _ {D : Type 0} (view : D → DiskView) (old new : D) (told : Option Files
   -- the next history is one by the machine's receiving of the file's message, and the next record and pages those of a step that archives it
   abbrev pub ReceiveSafe : Type 0
   ReceiveSafe =
-      WriteSafe root_kind IsOf view old new (IsMessageIn told file) (λ m. NextBy (Receive m time)) (λ m. StaysOr (ArchivesTo sha256 m time))
+      WriteSafe root_kind IsImageOfHeads view old new (IsMessageIn told file) (λ m. NextBy (Receive m time)) (λ m. StaysOr (ArchivesTo sha256 m time))
 
   -- the answer is the machine's, and the receipt of that record, or of an earlier step that received the thread
   abbrev pub ReceiveLeaves : Result Receipt CommandFault → Type 0
   ReceiveLeaves result =
-      WriteLeaves root_kind IsOf view old new (IsMessageIn told file) (λ m. NextBy (Receive m time)) (λ m. StaysOr (ArchivesTo sha256 m time))
-      (λ m found came. IsReceived m time found came) (λ m receipt. StepsBy (Receive m time) (OfReceipt receipt)) (λ m receipt. IsReceiptOf sha256 m time receipt) result
+      WriteLeaves root_kind IsImageOfHeads view old new (IsMessageIn told file) (λ m. NextBy (Receive m time)) (λ m. StaysOr (ArchivesTo sha256 m time))
+      (λ m found came. IsReceived m time found came) (λ m receipt. StepsBy (Receive m time) (OfReceipt receipt)) (λ m receipt. IsReceiptOfRecord sha256 m time receipt) result

@@ -2,7 +2,7 @@
 use Rattle.std.specs.Prelude.{Result, Ok, Err}
 use Rattle.tw_disk.specs.Disk.{DiskView, LeavesOnly}
 use Rattle.tw_disk.specs.Image.{Image}
-use Rattle.tw_pages.specs.Disks.{Adds, KeepsOrAdds, OneOf, ReadsAsOneOf, Rests, Settles}
+use Rattle.tw_pages.specs.Disks.{Adds, KeepsOrAdds, OneOf, ReadsAsOneOf, RestsAtState, Settles}
 use Rattle.tw_text.specs.declared.fault.CommandFault.{CommandFault}
 use Rattle.tw_text.specs.declared.fault.CommandFault.TheVariants.{DiskFault, Refused}
 
@@ -10,9 +10,9 @@ use Rattle.tw_text.specs.declared.fault.CommandFault.TheVariants.{DiskFault, Ref
 module _ {D S X : Type 0} (IsOf : S → Image → Type 0) (view : D → DiskView) (old new : D) (Next : (s next : S) → Type 0) (Answers : X → (s next : S) → Type 0) where
   -- what it makes of a disk at rest
   abbrev pub AddsFrom : S → Result X CommandFault → Type 0
-  AddsFrom s (Ok x) = (next : S) × Answers x s next × Rests IsOf view new next × LeavesOnly (view old) (view new) (OneOf IsOf s next)
+  AddsFrom s (Ok x) = (next : S) × Answers x s next × RestsAtState IsOf view new next × LeavesOnly (view old) (view new) (OneOf IsOf s next)
   AddsFrom s (Err DiskFault) = (next : S) × Next s next × ReadsAsOneOf IsOf view new s next × LeavesOnly (view old) (view new) (OneOf IsOf s next)
-  AddsFrom s (Err (Refused refusal)) = Rests IsOf view new s
+  AddsFrom s (Err (Refused refusal)) = RestsAtState IsOf view new s
   AddsFrom s _ = Unit {0}
 
   -- of one that reads so, with writes pending or not

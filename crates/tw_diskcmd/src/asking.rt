@@ -8,9 +8,9 @@ ghost use Rattle.tw_base.specs.history.Questions.{MayAsk};
 ghost use Rattle.tw_service.specs.Serves.{IsOver, Serves, disk_of, has_failed, pages_of, record_of};
 ghost use Rattle.tw_diskcmd.specs.Answers.{IsOpened};
 ghost use Rattle.tw_diskcmd.specs.Asking.{AskComes, came_of};
-ghost use Rattle.tw_pages.specs.Disks.{Rests as RestsAs};
-ghost use Rattle.tw_pages.specs.Records.{written};
-ghost use Rattle.tw_diskcmd.specs.Disks.{IsLeft, IsService, ReadLeaves, ReadsAs, Rests, found_disk};
+ghost use Rattle.tw_pages.specs.Disks.{RestsAtState};
+ghost use Rattle.tw_pages.specs.Records.{written_record};
+ghost use Rattle.tw_diskcmd.specs.Disks.{IsLeft, IsService, ReadLeavesHistory, ReadsAsHeads, RestsAtHeads, found_disk};
 
 use crate::faults::fault_of_service;
 use crate::store_faults::fault_of_store;
@@ -28,7 +28,7 @@ pub fn ask<D: Disk>(alloc: Global, disk: D, question: &Question) -> Worked<D, By
     ensures comes { AskComes (found_disk (D.view disk).content (D.view disk).faults (D.view result.disk).faults) question.now result.outcome }
     // It writes nothing. Where it answered or was refused, the disk stands for the history that it read as, at rest, and rests
     // with whatever record and pages it opened with.
-    ensures leaves { ReadLeaves D.view disk result.disk result.outcome }
+    ensures leaves { ReadLeavesHistory D.view disk result.disk result.outcome }
 {
     match Service::<D, Sha>::open(alloc, disk) {
         Ok(service) => ask_by(service, question),
@@ -54,11 +54,11 @@ fn ask_by<D: Disk>(service: Service<D, Sha>, question: &Question) -> Worked<D, B
     requires whole { has_failed service ≡ false }
     requires may { MayAsk question.now }
     ensures comes { (found : Option Image) (before : ℕ) → IsOpened found (record_of service) (pages_of D.view service)
-        → ((h : History) → ReadsAs found h → Serves sha256 D.view service h) → before ≤ (D.view (disk_of service)).faults
+        → ((h : History) → ReadsAsHeads found h → Serves sha256 D.view service h) → before ≤ (D.view (disk_of service)).faults
         → AskComes (found_disk found before (D.view result.disk).faults) question.now result.outcome }
     ensures leaves { IsLeft D.view (disk_of service) result.disk }
-    ensures rests { (h : History) → Serves sha256 D.view service h → Rests D.view result.disk h }
-    ensures over { (ps : Image) → IsOver D.view service ps → RestsAs IsService D.view result.disk (written (record_of service) ps) }
+    ensures rests { (h : History) → Serves sha256 D.view service h → RestsAtHeads D.view result.disk h }
+    ensures over { (ps : Image) → IsOver D.view service ps → RestsAtState IsService D.view result.disk (written_record (record_of service) ps) }
 {
     let mut service = service;
     let outcome = came(service.ask(question));

@@ -5,9 +5,9 @@ ghost use Rattle.tw_base.specs.declared.history.thread.Thread.{Thread};
 ghost use Rattle.tw_disk.specs.Image.{Image};
 ghost use Rattle.tw_msg.specs.declared.message.Message.{Message};
 ghost use Rattle.tw_text.specs.declared.fault.CommandFault.{CommandFault};
-ghost use Rattle.tw_diskcmd.specs.FollowerDisks.{IsLeft, Keeps, found_disk};
+ghost use Rattle.tw_diskcmd.specs.FollowerDisks.{IsLeft, KeepsPage, found_disk};
 ghost use Rattle.tw_diskcmd.specs.Listing.{HeadsComes};
-ghost use Rattle.tw_diskcmd.specs.Offering.{MessageComes};
+ghost use Rattle.tw_diskcmd.specs.Offering.{OfferedMessageComes};
 ghost use Rattle.tw_diskcmd.specs.Comes.{TellsContent};
 
 use tw_disk::Disk;
@@ -20,7 +20,7 @@ pub fn told_follower_laws()
     // with its fields, or one reason of status 8 with its slot. So each of these comes exactly where it stands, but for a
     // disk fault, want of memory and status 4.
     ensures offering { (image : Image) (m : Message) (before after : ℕ) (one other : Result Thread CommandFault) → TellsContent one → TellsContent other →
-        MessageComes (found_disk (Some image) before after) m one → MessageComes (found_disk (Some image) before after) m other → one ≡ other }
+        OfferedMessageComes (found_disk (Some image) before after) m one → OfferedMessageComes (found_disk (Some image) before after) m other → one ≡ other }
     // So is what `heads` comes to: the same lines, or one reason of status 8 with its slot or page.
     ensures listing { (image : Image) (before after : ℕ) (one other : Result (List ℕ) CommandFault) → TellsContent one → TellsContent other →
         HeadsComes (found_disk (Some image) before after) one → HeadsComes (found_disk (Some image) before after) other → one ≡ other }
@@ -30,5 +30,5 @@ pub fn told_follower_laws()
 pub fn idle_follower_laws<D: Disk>()
     // A run that leaves a disk as it was keeps the list of heads that the disk stood for: it stands for it still, for good,
     // and one at rest is still at rest. So it keeps the record and pages that the disk opened with, whatever they keep.
-    ensures kept { (old new : D) → IsLeft D.view old new → Keeps D.view old new }
+    ensures kept { (old new : D) → IsLeft D.view old new → KeepsPage D.view old new }
 {}

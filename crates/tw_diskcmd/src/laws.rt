@@ -4,13 +4,13 @@ ghost use Rattle.std.specs.Prelude.{◌≡◌, ℕ, List, Option, Some, Result};
 ghost use Rattle.tw_base.specs.declared.history.thread.Thread.{Thread};
 ghost use Rattle.tw_disk.specs.Image.{Image};
 ghost use Rattle.tw_outside.specs.Asked.{Asked};
-ghost use Rattle.tw_outside.specs.Files.{Tells};
+ghost use Rattle.tw_outside.specs.Files.{TellsBytes};
 ghost use Rattle.tw_base.specs.declared.history.question.Question.{Question};
 ghost use Rattle.tw_text.specs.declared.fault.CommandFault.{CommandFault};
 ghost use Rattle.tw_diskcmd.specs.Comes.{TellsContent};
 ghost use Rattle.tw_diskcmd.specs.Appending.{AppendComes, StepComes, TellsOfFile};
 ghost use Rattle.tw_diskcmd.specs.Asking.{AskComes};
-ghost use Rattle.tw_diskcmd.specs.Disks.{IsLeft, Keeps, found_disk};
+ghost use Rattle.tw_diskcmd.specs.Disks.{IsLeft, KeepsFollowerDisk, found_disk};
 
 use tw_disk::Disk;
 
@@ -27,7 +27,7 @@ pub fn told_laws()
     // Over inputs and a disk that tell what they hold, what `append` comes to is one thing, where neither failed and there
     // was memory: that of its file's events, or the first bad byte of its file.
     ensures appending { (a : Asked) (file bytes : List ℕ) (time : Option ℕ) (image : Image) (before after : ℕ)
-        (one other : Result Thread CommandFault) → Tells a.told file bytes → TellsOfFile one → TellsOfFile other →
+        (one other : Result Thread CommandFault) → TellsBytes a.told file bytes → TellsOfFile one → TellsOfFile other →
         AppendComes a (found_disk (Some image) before after) file time one
         → AppendComes a (found_disk (Some image) before after) file time other → one ≡ other }
     // Over a disk that tells its content, what asking a question comes to is one thing: the same bytes, one refusal with its
@@ -41,5 +41,5 @@ pub fn told_laws()
 pub fn idle_laws<D: Disk>()
     // A run that leaves a disk as it was keeps the history that the disk stood for: it stands for it still, for good,
     // and one at rest is still at rest. So at every other status than 0, 4 and 5, by `unwritten` of `run`.
-    ensures kept { (old new : D) → IsLeft D.view old new → Keeps D.view old new }
+    ensures kept { (old new : D) → IsLeft D.view old new → KeepsFollowerDisk D.view old new }
 {}

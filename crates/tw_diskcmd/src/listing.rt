@@ -6,12 +6,12 @@ ghost use Rattle.tw_disk.specs.Image.{Image};
 ghost use Rattle.tw_follow.specs.Follows.{Follows, IsOver, disk_of, has_failed, head_of, pages_of, record_of};
 ghost use Rattle.tw_follow.specs.HeadLists.{Kept};
 ghost use Rattle.tw_follow.specs.Stands.{OpensWith};
-ghost use Rattle.tw_pages.specs.Disks.{Rests as RestsAs};
-ghost use Rattle.tw_pages.specs.Records.{written};
+ghost use Rattle.tw_pages.specs.Disks.{RestsAtState};
+ghost use Rattle.tw_pages.specs.Records.{written_record};
 ghost use Rattle.tw_text.specs.Lines.{anchor_text};
 ghost use Rattle.tw_text.specs.declared.fault.CommandFault.TheVariants.{NoMemory as WantedMemory};
 ghost use Rattle.tw_diskcmd.specs.FollowerDisks.{IsFollower, IsLeft, ReadsAs, Rests, found_disk};
-ghost use Rattle.tw_diskcmd.specs.Listing.{HeadsComes, HeadsLeaves, ListsTo, lines_of};
+ghost use Rattle.tw_diskcmd.specs.Listing.{HeadsComes, HeadsLeaves, ListsTo, head_lines};
 
 use crate::follower_faults::fault_of_follower;
 use crate::store_faults::fault_of_store;
@@ -53,7 +53,7 @@ fn list_by<D: Disk>(alloc: Global, follower: Follower<D, Sha>) -> Worked<D, Byte
     ensures leaves { IsLeft D.view (disk_of follower) result.disk }
     ensures rests { (k : Kept) → Follows sha256 D.view follower k → Rests D.view result.disk k }
     ensures over { (ps : Image) → IsOver sha256 D.view follower ps
-        → RestsAs IsFollower D.view result.disk (written (record_of follower) ps) }
+        → RestsAtState IsFollower D.view result.disk (written_record (record_of follower) ps) }
 {
     let mut follower = follower;
     match follower.heads() {
@@ -70,7 +70,7 @@ fn list_by<D: Disk>(alloc: Global, follower: Follower<D, Sha>) -> Worked<D, Byte
 
 /// The anchor lines of the heads.
 fn print_heads(alloc: Global, heads: &[Thread]) -> Result<Bytes, CommandFault>
-    ensures lines { IfOk result (λ lines. lines ≡ lines_of heads.now) }
+    ensures lines { IfOk result (λ lines. lines ≡ head_lines heads.now) }
     ensures memory { IfErr result (λ fault. fault ≡ WantedMemory) }
 {
     let mut lines = Bytes::new(alloc);

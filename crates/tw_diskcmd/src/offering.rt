@@ -11,8 +11,8 @@ ghost use Rattle.tw_follow.specs.Stands.{OpensWith};
 ghost use Rattle.tw_msg.specs.Messages.{IsLinked, message_layout};
 ghost use Rattle.tw_outside.specs.Asked.{asked};
 ghost use Rattle.tw_diskcmd.specs.FollowerDisks.{IsFollower, IsLeft, IsOf, ReadsAs, SparesOther, found_disk};
-ghost use Rattle.tw_diskcmd.specs.Offering.{IsNextBy, IsNextListBy, MessageComes, OfferComes, OfferLeaves};
-ghost use Rattle.tw_pages.specs.Records.{written};
+ghost use Rattle.tw_diskcmd.specs.Offering.{IsNextBy, IsNextListBy, OfferComes, OfferLeaves, OfferedMessageComes};
+ghost use Rattle.tw_pages.specs.Records.{written_record};
 ghost use Rattle.tw_diskcmd.specs.Files.{IsBadMessageByte, IsMessageIn, StopsAt};
 ghost use Rattle.tw_diskcmd.specs.Leaves.{WritesNothing};
 ghost use Rattle.tw_diskcmd.specs.Steps.{AddsFrom, AddsTo};
@@ -77,7 +77,7 @@ fn offer_message<D: Disk>(alloc: Global, disk: D, message: &Message) -> Worked<D
     requires linked { IsLinked message.now }
     requires thread { IsThread message.now.thread }
     ensures comes { (bytes : List ℕ) → Spells message_layout bytes message.now
-        → MessageComes (found_disk (D.view disk).content (D.view disk).faults (D.view result.disk).faults) message.now result.outcome }
+        → OfferedMessageComes (found_disk (D.view disk).content (D.view disk).faults (D.view result.disk).faults) message.now result.outcome }
     ensures leaves { (bytes : List ℕ) → Spells message_layout bytes message.now
         → AddsTo IsOf D.view disk result.disk (IsNextListBy message.now) (λ thread. IsNextListBy message.now) result.outcome }
     ensures unwritten { (bytes : List ℕ) → Spells message_layout bytes message.now → WritesNothing result.outcome → IsLeft D.view disk result.disk }
@@ -102,14 +102,14 @@ fn offer_to<D: Disk>(follower: Follower<D, Sha>, message: &Message) -> Worked<D,
     ensures comes { (bytes : List ℕ) → Spells message_layout bytes message.now → (found : Option Image) (before : ℕ)
         → ((image : Image) → found ≡ Some image → OpensWith sha256 image (record_of follower) (λ ps. pages_of D.view follower ≡ Some ps))
         → ((k : Kept) → ReadsAs found k → Follows sha256 D.view follower k) → before ≤ (D.view (disk_of follower)).faults
-        → MessageComes (found_disk found before (D.view result.disk).faults) message.now result.outcome }
+        → OfferedMessageComes (found_disk found before (D.view result.disk).faults) message.now result.outcome }
     ensures leaves { (bytes : List ℕ) → Spells message_layout bytes message.now → (k : Kept) → Follows sha256 D.view follower k
         → AddsFrom IsOf D.view (disk_of follower) result.disk (IsNextListBy message.now) (λ thread. IsNextListBy message.now) k result.outcome }
     ensures unwritten { (bytes : List ℕ) → Spells message_layout bytes message.now → WritesNothing result.outcome
         → IsLeft D.view (disk_of follower) result.disk }
     ensures writes { (bytes : List ℕ) → Spells message_layout bytes message.now → (ps : Image) → IsOver sha256 D.view follower ps
         → AddsFrom IsFollower D.view (disk_of follower) result.disk (IsNextBy message.now) (λ thread. IsNextBy message.now)
-        (written (record_of follower) ps) result.outcome }
+        (written_record (record_of follower) ps) result.outcome }
 {
     let mut follower = follower;
     match follower.take(message) {

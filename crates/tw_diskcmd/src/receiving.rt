@@ -11,13 +11,13 @@ ghost use Rattle.tw_service.specs.Serves.{IsOver, Serves, disk_of, has_failed, p
 ghost use Rattle.tw_service.specs.Machine.Call.{Receive};
 ghost use Rattle.tw_service.specs.Machine.Reply.{OfReceipt};
 ghost use Rattle.tw_diskcmd.specs.Answers.{IsOpened};
-ghost use Rattle.tw_diskcmd.specs.Disks.{IsLeft, IsOf, IsService, NextBy, ReadsAs, SparesOther, StepsBy, found_disk};
-ghost use Rattle.tw_diskcmd.specs.Receiving.{MessageComes, ReceiveComes, ReceiveLeaves};
-ghost use Rattle.tw_pages.specs.Records.{written};
+ghost use Rattle.tw_diskcmd.specs.Disks.{IsImageOfHeads, IsLeft, IsService, NextBy, ReadsAsHeads, SparesOtherThanFollower, StepsBy, found_disk};
+ghost use Rattle.tw_diskcmd.specs.Receiving.{ReceiveComes, ReceiveLeaves, ReceivedMessageComes};
+ghost use Rattle.tw_pages.specs.Records.{written_record};
 ghost use Rattle.tw_diskcmd.specs.Files.{IsBadMessageByte, IsMessageIn, StopsAt};
 ghost use Rattle.tw_diskcmd.specs.Leaves.{StaysOr, WritesNothing};
 ghost use Rattle.tw_diskcmd.specs.Steps.{AddsFrom, AddsTo};
-ghost use Rattle.tw_service.specs.Writing.{ArchivesTo, IsReceiptOf};
+ghost use Rattle.tw_service.specs.Writing.{ArchivesTo, IsReceiptOfRecord};
 
 use crate::faults::fault_of_service;
 use crate::store_faults::{bad_byte, fault_of_store};
@@ -92,13 +92,13 @@ fn receive_message<D: Disk>(
 ) -> Worked<D, Receipt>
     requires linked { IsLinked message.now }
     requires thread { IsThread message.now.thread }
-    ensures comes { MessageComes message.now time (found_disk (D.view disk).content (D.view disk).faults (D.view result.disk).faults) result.outcome }
-    ensures leaves { AddsTo IsOf D.view disk result.disk (NextBy (Receive message.now time))
+    ensures comes { ReceivedMessageComes message.now time (found_disk (D.view disk).content (D.view disk).faults (D.view result.disk).faults) result.outcome }
+    ensures leaves { AddsTo IsImageOfHeads D.view disk result.disk (NextBy (Receive message.now time))
         (λ receipt. StepsBy (Receive message.now time) (OfReceipt receipt)) result.outcome }
     ensures unwritten { WritesNothing result.outcome → IsLeft D.view disk result.disk }
-    ensures spares { SparesOther D.view disk result.disk }
+    ensures spares { SparesOtherThanFollower D.view disk result.disk }
     ensures writes { AddsTo IsService D.view disk result.disk (StaysOr (ArchivesTo sha256 message.now time))
-        (IsReceiptOf sha256 message.now time) result.outcome }
+        (IsReceiptOfRecord sha256 message.now time) result.outcome }
 {
     match Service::<D, Sha>::open(alloc, disk) {
         Ok(service) => receive_by(service, message, time),
@@ -130,13 +130,13 @@ fn receive_by<D: Disk>(
     requires linked { IsLinked message.now }
     requires thread { IsThread message.now.thread }
     ensures comes { (found : Option Image) (before : ℕ) → IsOpened found (record_of service) (pages_of D.view service)
-        → ((h : History) → ReadsAs found h → Serves sha256 D.view service h) → before ≤ (D.view (disk_of service)).faults
-        → MessageComes message.now time (found_disk found before (D.view result.disk).faults) result.outcome }
-    ensures leaves { (h : History) → Serves sha256 D.view service h → AddsFrom IsOf D.view (disk_of service) result.disk
+        → ((h : History) → ReadsAsHeads found h → Serves sha256 D.view service h) → before ≤ (D.view (disk_of service)).faults
+        → ReceivedMessageComes message.now time (found_disk found before (D.view result.disk).faults) result.outcome }
+    ensures leaves { (h : History) → Serves sha256 D.view service h → AddsFrom IsImageOfHeads D.view (disk_of service) result.disk
         (NextBy (Receive message.now time)) (λ receipt. StepsBy (Receive message.now time) (OfReceipt receipt)) h result.outcome }
     ensures unwritten { WritesNothing result.outcome → IsLeft D.view (disk_of service) result.disk }
     ensures writes { (ps : Image) → IsOver D.view service ps → AddsFrom IsService D.view (disk_of service) result.disk
-        (StaysOr (ArchivesTo sha256 message.now time)) (IsReceiptOf sha256 message.now time) (written (record_of service) ps) result.outcome }
+        (StaysOr (ArchivesTo sha256 message.now time)) (IsReceiptOfRecord sha256 message.now time) (written_record (record_of service) ps) result.outcome }
 {
     let mut service = service;
     match service.take(message, seconds_of(time)) {

@@ -23,7 +23,7 @@ use Rattle.tw_chain.specs.Proofs.{link_body, proof_layout}
 use Rattle.tw_join.specs.declared.joining.JoinFault.{JoinFault}
 use Rattle.tw_evidence.specs.declared.evidence.Evidence.{Evidence}
 use Rattle.tw_evidence.specs.declared.fork.ForkVerdict.TheVariants.{Yes}
-use Rattle.tw_evidence.specs.Accusing.{Accuses, AreSpelled, IsComplete, accused, evidence_with, is_link_between, linked}
+use Rattle.tw_evidence.specs.Accusing.{Accuses, AreSpelled, IsComplete, accused, evidence_with, is_link_between, linked_fork}
 use Rattle.tw_evidence.specs.Evidence.{evidence_bytes, link_proof_codec, thread_proof_codec, thread_proof_layout}
 use Rattle.tw_evidence.specs.Forks.{IsForkVerdict, ShowsFork, are_in_order, fork_of}
 use Rattle.tw_evidence.proofs.EvidenceCodec.{EvidenceFits, evidence-lawful, evidence-of_parts, thread-is-proof, thread-parts, thread_proof-lawful}
@@ -65,7 +65,7 @@ module _ (first second : ThreadProof) where
   abbrev with_link : LinkProof → Bool → Result (List ℕ × Path) ℕ
   with_link link b = if b then Ok (link.auth, link.path) else Err 3
 
-  linked-fits : (link : Option LinkProof) (l : List ℕ × Path) → AreSpelled first second link → linked one other link ≡ Ok l → LinkedFits l
+  linked-fits : (link : Option LinkProof) (l : List ℕ × Path) → AreSpelled first second link → linked_fork one other link ≡ Ok l → LinkedFits l
   linked-fits None l spelled is = by (one.step == other.step) refl is
     where
       by : (b : Bool) → (one.step == other.step) ≡ b → without_link b ≡ Ok l → LinkedFits l
@@ -97,11 +97,11 @@ module _ (first second : ThreadProof) where
 
   -- where evidence is made, the threads are in order, and it is made of the bottom and the path
   made-from : (link : Option LinkProof) (e : Evidence) → accused first second link ≡ Ok e
-      → (are_in_order one other ≡ true) × ((l : List ℕ × Path) × (linked one other link ≡ Ok l) × (made_of l ≡ e))
-  made-from link e is = by (are_in_order one other) (linked one other link) refl refl is
+      → (are_in_order one other ≡ true) × ((l : List ℕ × Path) × (linked_fork one other link ≡ Ok l) × (made_of l ≡ e))
+  made-from link e is = by (are_in_order one other) (linked_fork one other link) refl refl is
     where
-      by : (b : Bool) (r : Result (List ℕ × Path) ℕ) → are_in_order one other ≡ b → linked one other link ≡ r → in_order_with b r ≡ Ok e
-          → (are_in_order one other ≡ true) × ((l : List ℕ × Path) × (linked one other link ≡ Ok l) × (made_of l ≡ e))
+      by : (b : Bool) (r : Result (List ℕ × Path) ℕ) → are_in_order one other ≡ b → linked_fork one other link ≡ r → in_order_with b r ≡ Ok e
+          → (are_in_order one other ≡ true) × ((l : List ℕ × Path) × (linked_fork one other link ≡ Ok l) × (made_of l ≡ e))
       by false r order of is = absurd (cc)
       by true (Err place) order of is = absurd (cc)
       by true (Ok l) order of is = (order, (l, of, cc))

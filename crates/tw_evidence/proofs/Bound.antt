@@ -31,7 +31,7 @@ use Rattle.tw_evidence.specs.declared.evidence.Evidence.{Evidence}
 use Rattle.tw_evidence.specs.declared.fork.Fork.{Fork}
 use Rattle.tw_evidence.specs.declared.fork.ForkVerdict.{ForkVerdict}
 use Rattle.tw_evidence.specs.declared.fork.ForkVerdict.TheVariants.{Yes, No}
-use Rattle.tw_evidence.specs.Binding.{AreReceived, BindsFork, HasBoth, IsForked}
+use Rattle.tw_evidence.specs.Binding.{AreSidesReceived, BindsFork, HasBoth, IsForked}
 use Rattle.tw_evidence.specs.Evidence.{evidence_codec, evidence_layout, thread_proof_codec}
 use Rattle.tw_evidence.specs.Forks.{ShowsFork, conflicts, evidence_texts, fork_of, fork_verdict, link_climbs, lower, upper}
 use Rattle.tw_evidence.proofs.EvidenceCodec.{evidence-lawful, evidence-parts, thread-spells}
@@ -127,7 +127,7 @@ module _ (dig : List ℕ → List ℕ) (size : (text : List ℕ) → length (dig
       (headline dig size are anchors (proof_bytes (Archived t)) (Archived t) (thread-spells t fits) accepted family sound has)
       (λ fact. inl (at_archived family t.at.service t.at.step t.entry fact.0))
 
-  pub received : (e : Evidence) → evidence_codec.Fits e → ShowsFork dig anchors e → AreReceived dig anchors e (fork_of e)
+  pub received : (e : Evidence) → evidence_codec.Fits e → ShowsFork dig anchors e → AreSidesReceived dig anchors e (fork_of e)
   received e fits shows family sound has =
       let parts = evidence-parts e fits in
       let both = Each-parts (HasThread dig family) (held anchors (Archived e.first)) (held anchors (Archived e.second)) has in
@@ -151,6 +151,6 @@ module _ (dig : List ℕ → List ℕ) (size : (text : List ℕ) → length (dig
   verdict-binds bytes e (Yes f) spells is forks = λ other also.
       let same : e ≡ other = (unambiguous evidence_codec evidence-lawful).one_value bytes e other spells also in
       let yes = yes-shows dig anchors e f (sym is) in
-      let got : AreReceived dig anchors e f = subst (AreReceived dig anchors e) (sym yes.1) (received e (spelled-fits evidence_codec evidence-lawful bytes e spells) yes.0) in
-      let P : Evidence → Type 0 = λ e. AreReceived dig anchors e f × IsForked dig e f in
+      let got : AreSidesReceived dig anchors e f = subst (AreSidesReceived dig anchors e) (sym yes.1) (received e (spelled-fits evidence_codec evidence-lawful bytes e spells) yes.0) in
+      let P : Evidence → Type 0 = λ e. AreSidesReceived dig anchors e f × IsForked dig e f in
       subst P same (got, forks f refl)

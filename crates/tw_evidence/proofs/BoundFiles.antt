@@ -16,7 +16,7 @@ use Rattle.tw_chain.specs.Checks.{Check, top_of, under_anchor}
 use Rattle.tw_chain.specs.Checks.Check.{AnswerOf}
 use Rattle.tw_chain.specs.Passing.{anchor_at, held_by}
 use Rattle.tw_chain.proofs.CheckBinds.{AreChecked, Opened, OrTheyClash, Setting, anchored-part, answer-step, each-checked, parted}
-use Rattle.tw_evidence.specs.ArchiveFiles.{archive_checks, archive_texts, line_of, order_checks}
+use Rattle.tw_evidence.specs.ArchiveFiles.{archive_checks, archive_texts, line_of_archive, order_checks}
 use Rattle.tw_evidence.specs.Facts.{facts_of}
 use Rattle.tw_evidence.specs.Verdicts.{Says}
 use Rattle.tw_evidence.specs.declared.archive_proof.ArchiveProof.{ArchiveProof}
@@ -32,7 +32,7 @@ pub record FactsStand (family : List History) (facts : Facts) : Type 0 where
   pub lack : LackStands history facts.lack
 
 -- the family has what is held for the checks, where it has the line
-held-line : (dig : List ℕ → List ℕ) (family : List History) (anchors : List Thread) (a : ArchiveProof) (line : Thread) → line_of anchors a ≡ Some line
+held-line : (dig : List ℕ → List ℕ) (family : List History) (anchors : List Thread) (a : ArchiveProof) (line : Thread) → line_of_archive anchors a ≡ Some line
     → HasThread dig family line → HasThreads dig family (flat_map (held_by anchors) (archive_checks a))
 held-line dig family anchors a line is has = by a.ask
   where

@@ -28,8 +28,8 @@ use Rattle.tw_chain.proofs.PassesLaws.{climbs-is}
 use Rattle.tw_chain.proofs.PieceSizes.{path-sizes}
 use Rattle.tw_chain.proofs.ProofCodec.{proof-lawful}
 use Rattle.tw_evidence.specs.ArchiveFiles.{archive_texts}
-use Rattle.tw_evidence.specs.Facts.{conflict_of, earlier, is_same_line, later}
-use Rattle.tw_evidence.specs.Verdicts.{IsLink, NoneHas, Says, joins, leads, leads_down, lines_of, link_texts}
+use Rattle.tw_evidence.specs.Facts.{conflict_of, earlier_thread, is_same_line, later}
+use Rattle.tw_evidence.specs.Verdicts.{IsLink, NoneHas, Says, held_lines, joins, leads_down, link_leads, link_proof_texts}
 use Rattle.tw_evidence.specs.declared.facts.Conflict.{Conflict}
 use Rattle.tw_evidence.specs.declared.facts.Facts.{Facts}
 use Rattle.tw_evidence.proofs.Conflicts.{both-none}
@@ -49,14 +49,14 @@ link-sizes bytes l spells =
 
 -- ---- which line is which
 
-either-line : (P : Thread → Thread → Type 0) (one other : Thread) → P (earlier one other) (later one other) → ((a b : Thread) → P a b → P b a) → P one other
+either-line : (P : Thread → Thread → Type 0) (one other : Thread) → P (earlier_thread one other) (later one other) → ((a b : Thread) → P a b → P b a) → P one other
 either-line P one other is turn = by (nat_le one.step other.step) is
   where
     by : (b : Bool) → P (if b then one else other) (if b then other else one) → P one other
     by true is = is
     by false is = turn other one is
 
-in_order : (one other : Thread) → (earlier one other).step ≤ (later one other).step
+in_order : (one other : Thread) → (earlier_thread one other).step ≤ (later one other).step
 in_order one other = by (nat_le one.step other.step) refl
   where
     by : (b : Bool) → nat_le one.step other.step ≡ b → (if b then one else other).step ≤ (if b then other else one).step
@@ -67,7 +67,7 @@ module _ (dig : List ℕ → List ℕ) (family : List History) where
   abbrev Has : Thread → Type 0
   Has t = HasThread dig family t
 
-  has-lines : (one other : Thread) → Has (earlier one other) → Has (later one other) → HasThreads dig family (one ∷ other ∷ [])
+  has-lines : (one other : Thread) → Has (earlier_thread one other) → Has (later one other) → HasThreads dig family (one ∷ other ∷ [])
   has-lines one other low high =
       either-line (λ a b. HasThreads dig family (a ∷ b ∷ [])) one other (low, (high, tt)) (λ a b is. (is.1.0, (is.0, tt)))
 
@@ -128,7 +128,7 @@ module _ (dig : List ℕ → List ℕ) (family : List History) where
 module _ (dig : List ℕ → List ℕ) (size : (text : List ℕ) → length (dig text) ≡ 32) (are : (text : List ℕ) → AreBytes (dig text)) (anchors others : List Thread)
     (first second : List ℕ) (one other : Facts) (c : Conflict) (said : Says dig anchors first one) (also : Says dig others second other) (is : conflict_of one other ≡ Some c) where
   abbrev files_texts : Option LinkProof → List (List ℕ)
-  files_texts link = archive_texts dig said.proof ++ (archive_texts dig also.proof ++ link_texts dig link)
+  files_texts link = archive_texts dig said.proof ++ (archive_texts dig also.proof ++ link_proof_texts dig link)
 
   pub joined-none : (link : List ℕ) (between : Option LinkProof) → IsLink link between → joins dig one.line other.line between ≡ true
       → NoneHas dig (later one.line other.line ∷ []) (files_texts between)
@@ -138,11 +138,11 @@ module _ (dig : List ℕ → List ℕ) (size : (text : List ℕ) → length (dig
       let path : List (List ℕ) = path_texts dig l.path.links l.top l.step l.auth in
       let texts : List (List ℕ) = files_texts (Some l) in
       and_then dig (family_texts dig family ++ texts) _ _
-      (led dig family size are sound texts (earlier one.line other.line) (later one.line other.line) l (link-sizes link l is_link) (in_order one.line other.line) joined
+      (led dig family size are sound texts (earlier_thread one.line other.line) (later one.line other.line) l (link-sizes link l is_link) (in_order one.line other.line) joined
       (λ t a. Among-right t (archive_texts dig said.proof) (archive_texts dig also.proof ++ path) (Among-right t (archive_texts dig also.proof) path a)) has.0)
       (λ low. both-none dig size are anchors others first second one other c path said also is family sound (has-lines dig family one.line other.line low has.0))
 
   pub lines-none : (is_joined : Bool) (link : List ℕ) (between : Option LinkProof) → IsLink link between → joins dig one.line other.line between ≡ is_joined
-      → NoneHas dig (lines_of is_joined one.line other.line) (files_texts between)
+      → NoneHas dig (held_lines is_joined one.line other.line) (files_texts between)
   lines-none true link between is_link joined = joined-none link between is_link joined
-  lines-none false link between is_link joined = both-none dig size are anchors others first second one other c (link_texts dig between) said also is
+  lines-none false link between is_link joined = both-none dig size are anchors others first second one other c (link_proof_texts dig between) said also is

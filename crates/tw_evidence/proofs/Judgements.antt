@@ -30,10 +30,10 @@ use Rattle.tw_chain.specs.Checks.Check.{AnswerOf}
 use Rattle.tw_chain.specs.Passing.{Passes}
 use Rattle.tw_chain.specs.Proofs.{proof_layout}
 use Rattle.tw_chain.proofs.Headline.{headline}
-use Rattle.tw_evidence.specs.ArchiveFiles.{IsFileOf, archive_checks, archive_texts, line_of, order_checks}
+use Rattle.tw_evidence.specs.ArchiveFiles.{IsFileOf, archive_checks, archive_texts, line_of_archive, order_checks}
 use Rattle.tw_evidence.specs.Facts.{conflict_of, facts_of}
-use Rattle.tw_evidence.specs.Linking.{IsJoining, IsVerdictOn, joining_by, link_in}
-use Rattle.tw_evidence.specs.Verdicts.{IsVerdict, NoneHas, Says, leads}
+use Rattle.tw_evidence.specs.Linking.{IsJoining, IsVerdictOn, joining_by, link_in_proof}
+use Rattle.tw_evidence.specs.Verdicts.{IsContradictVerdict, NoneHas, Says, link_leads}
 use Rattle.tw_evidence.specs.declared.archive_proof.ArchiveProof.{ArchiveProof}
 use Rattle.tw_evidence.specs.declared.facts.Conflict.{Conflict}
 use Rattle.tw_evidence.specs.declared.facts.Facts.{Facts}
@@ -56,10 +56,10 @@ module _ (dig : List ℕ → List ℕ) (anchors : List Thread) (a : ArchiveProof
       (Each-parts P (order_checks a.ask a.at.step) (answer ∷ []) rest.1).1.0
 
   -- and the line of the top is held
-  pub line-held : line_of anchors a ≡ None → ⊥
+  pub line-held : line_of_archive anchors a ≡ None → ⊥
   line-held none = let some = subst IsSome none passes.1.0 in absurd (cc)
 
-  pub says-of : (bytes : List ℕ) (line : Thread) → IsFileOf bytes a → line_of anchors a ≡ Some line → Says dig anchors bytes (facts_of line a)
+  pub says-of : (bytes : List ℕ) (line : Thread) → IsFileOf bytes a → line_of_archive anchors a ≡ Some line → Says dig anchors bytes (facts_of line a)
   says-of bytes line is_file is = record { proof = a; is_file = is_file; accepted = passes; line = is; facts_are = refl }
 
 -- ---- the link
@@ -68,7 +68,7 @@ pub not-empty : (xs : List ℕ) → (length xs == 0) ≡ false → xs ≢ []
 not-empty [] is e = absurd (cc)
 not-empty (x ∷ xs) is e = cc
 
-pub read-small : (link : List ℕ) (p : Proof) → Spells proof_layout link p → IfSome (link_in p) (λ l. l.top ≤ LAST_STEP)
+pub read-small : (link : List ℕ) (p : Proof) → Spells proof_layout link p → IfSome (link_in_proof p) (λ l. l.top ≤ LAST_STEP)
 read-small link (Exists p) spells = tt
 read-small link (Precedes p) spells = tt
 read-small link (Archived p) spells = tt
@@ -79,20 +79,20 @@ module _ (dig : List ℕ → List ℕ) (one other : Thread) (link : List ℕ) (s
   other-kind : (p : Proof) → Spells proof_layout link p → ((l : LinkProof) → p ≡ Linked l → ⊥) → IsJoining dig one other link joining.BadLink
   other-kind p spells other = (some, λ l also. absurd (other l (one_value proof_layout link p (Linked l) spells also)))
 
-  pub read-joining : (p : Proof) → Spells proof_layout link p → IsJoining dig one other link (joining_by dig one other (link_in p))
+  pub read-joining : (p : Proof) → Spells proof_layout link p → IsJoining dig one other link (joining_by dig one other (link_in_proof p))
   read-joining (Exists p) spells = other-kind (Exists p) spells (λ l is. cc)
   read-joining (Precedes p) spells = other-kind (Precedes p) spells (λ l is. cc)
   read-joining (Archived p) spells = other-kind (Archived p) spells (λ l is. cc)
   read-joining (Absent p) spells = other-kind (Absent p) spells (λ l is. cc)
-  read-joining (Linked l) spells = by (leads dig one other l) refl
+  read-joining (Linked l) spells = by (link_leads dig one other l) refl
     where
-      by : (b : Bool) → leads dig one other l ≡ b → IsJoining dig one other link (if b then joining.Joined else joining.BadLink)
+      by : (b : Bool) → link_leads dig one other l ≡ b → IsJoining dig one other link (if b then joining.Joined else joining.BadLink)
       by true is = (Some l, spells, is)
       by false is = (
         some,
         λ m also. (
             let whole : Linked l ≡ Linked m = one_value proof_layout link (Linked l) (Linked m) spells also in
-            let same : l ≡ m = cc in subst (λ (k : LinkProof). leads dig one other k ≡ false) same is),
+            let same : l ≡ m = cc in subst (λ (k : LinkProof). link_leads dig one other k ≡ false) same is),
       )
 
 -- ---- the verdict on what both say
@@ -110,7 +110,7 @@ module _ (dig : List ℕ → List ℕ) (one other : Facts) (link : List ℕ) (c 
 module _ (dig : List ℕ → List ℕ) (size : (text : List ℕ) → length (dig text) ≡ 32) (are : (text : List ℕ) → AreBytes (dig text)) (anchors others : List Thread)
     (first second : List ℕ) where
   pub verdict-of : (link : List ℕ) (one other : Facts) (v : ContradictVerdict) → Says dig anchors first one → Says dig others second other → IsVerdictOn dig one other link v
-      → IsVerdict dig anchors others first second link v
+      → IsContradictVerdict dig anchors others first second link v
   verdict-of link one other (Yes c is_joined) said also (is, (between, is_link, joined, no_bad)) = record {
     one = one;
     other = other;

@@ -31,7 +31,7 @@ use Rattle.tw_evidence.specs.declared.fork.ForkReason.TheVariants.{Malformed as 
 use Rattle.tw_evidence.specs.declared.fork.ForkVerdict.{ForkVerdict}
 use Rattle.tw_evidence.specs.declared.fork.ForkVerdict.TheVariants.{Yes, No}
 use Rattle.tw_evidence.specs.Evidence.{thread_proof_codec}
-use Rattle.tw_evidence.specs.Forks.{AreAccepted, HasNoConflict, IsTold, are_in_order, conflict_verdict, conflicts, fork_of, fork_verdict, link_climbs, lower, upper}
+use Rattle.tw_evidence.specs.Forks.{HasNoConflict, IsEvidenceAccepted, IsReasonTold, are_in_order, conflict_verdict, conflicts, fork_of, fork_verdict, link_climbs, lower, upper}
 use Rattle.tw_evidence.proofs.EvidenceCodec.{thread-spells}
 use Rattle.tw_evidence.proofs.Verdicts.{conflicts-is, passing-found}
 
@@ -159,7 +159,7 @@ module _ (dig : List ℕ → List ℕ) (anchors : List Thread) (e : Evidence) (f
       option_map_or (λ reason. No (Part 1 reason)) first (option_map_or (λ reason. No (Part 2 reason)) second
       (if not conflict then No NoConflict else (if climbs then Yes (fork_of e) else No BadLink)))
 
-  accepted : one ≡ None → two ≡ None → AreAccepted dig anchors e
+  accepted : one ≡ None → two ≡ None → IsEvidenceAccepted dig anchors e
   accepted a b = (found-none dig anchors false (checks (Archived e.first)) a, found-none dig anchors false (checks (Archived e.second)) b)
 
   -- where the threads don't conflict, one of the three is so
@@ -186,32 +186,32 @@ module _ (dig : List ℕ → List ℕ) (anchors : List Thread) (e : Evidence) (f
   climbs_as = climbs-is dig e.link.links (upper e).step (lower e).step e.bottom (Some (upper e).auth)
 
   told : (reason : ForkReason) (first second : Option Reason) (conflict climbs : Bool) → one ≡ first → two ≡ second → conflicts e ≡ conflict → link_climbs dig e ≡ climbs
-      → with_found first second conflict climbs ≡ No reason → IsTold dig anchors e reason
+      → with_found first second conflict climbs ≡ No reason → IsReasonTold dig anchors e reason
   told reason (Some r) second conflict climbs a b c d is =
       let same : Part 1 r ≡ reason = cc in
-      subst (IsTold dig anchors e) same (inl (refl, found-verdict dig anchors e.first first_fits r a))
+      subst (IsReasonTold dig anchors e) same (inl (refl, found-verdict dig anchors e.first first_fits r a))
   told reason None (Some r) conflict climbs a b c d is =
       let same : Part 2 r ≡ reason = cc in
-      subst (IsTold dig anchors e) same
+      subst (IsReasonTold dig anchors e) same
       (inr (refl, found-none dig anchors false (checks (Archived e.first)) a, found-verdict dig anchors e.second second_fits r b))
   told reason None None false climbs a b c d is =
       let same : NoConflict ≡ reason = cc in
-      subst (IsTold dig anchors e) same (accepted a b, no_conflict c)
+      subst (IsReasonTold dig anchors e) same (accepted a b, no_conflict c)
   told reason None None true false a b c d is =
       let same : BadLink ≡ reason = cc in
-      subst (IsTold dig anchors e) same (accepted a b, conflict_none c, not_from_Decides (link_climbs dig e) climbs_as d)
+      subst (IsReasonTold dig anchors e) same (accepted a b, conflict_none c, not_from_Decides (link_climbs dig e) climbs_as d)
   told reason None None true true a b c d is = absurd (cc)
 
-  pub no-told : (reason : ForkReason) → fork_verdict dig anchors e ≡ No reason → IsTold dig anchors e reason
+  pub no-told : (reason : ForkReason) → fork_verdict dig anchors e ≡ No reason → IsReasonTold dig anchors e reason
   no-told reason is = told reason one two (conflicts e) (link_climbs dig e) refl refl refl refl is
 
   -- the verdict where both proofs are accepted
-  both_none : AreAccepted dig anchors e → fork_verdict dig anchors e ≡ conflict_verdict dig e
+  both_none : IsEvidenceAccepted dig anchors e → fork_verdict dig anchors e ≡ conflict_verdict dig e
   both_none are =
       ap (λ (o : Option Reason). with_found o two (conflicts e) (link_climbs dig e)) (passing-found dig anchors (checks (Archived e.first)) are.0)
       ∙ ap (λ (o : Option Reason). with_found None o (conflicts e) (link_climbs dig e)) (passing-found dig anchors (checks (Archived e.second)) are.1)
 
-  pub told-no : (reason : ForkReason) → IsTold dig anchors e reason → fork_verdict dig anchors e ≡ No reason
+  pub told-no : (reason : ForkReason) → IsReasonTold dig anchors e reason → fork_verdict dig anchors e ≡ No reason
   told-no (NoWord place) is = absurd is
   told-no (Part number reason) (inl is) =
       ap (λ (o : Option Reason). with_found o two (conflicts e) (link_climbs dig e)) (verdict-found dig anchors e.first first_fits reason is.1)

@@ -20,13 +20,13 @@ use Rattle.tw_base.proofs.lemmas.history.Archives.{received-has, tree-has_receiv
 use Rattle.tw_base.proofs.lemmas.history.AskedLists.{first-above, last-below, none-above, none-below}
 use Rattle.tw_base.proofs.lemmas.history.Trees.{IsArchived, entry_at-parts, tree-archived, tree-rises}
 use Rattle.tw_base.proofs.lemmas.kinds.ListLemmas.{Each-in, In-right}
-use Rattle.tw_treeproof.specs.Answers.{IsAnswer, answer_of}
+use Rattle.tw_treeproof.specs.Answers.{IsAnswer, shown_answer}
 use Rattle.tw_treeproof.specs.Ways.{is_left, nearest_left, nearest_right}
 use Rattle.tw_chain.proofs.ArchiveAnswers.{has-received, lacks-received}
 use Rattle.tw_tmap.specs.Checking.{nearest_in, step_if_of}
 use Rattle.tw_tmap.proofs.KeyNames.{below-step, between, key, step-below}
 use Rattle.tw_tmap.proofs.Risen.{Rises, received-rises}
-use Rattle.tw_evidence.specs.Facts.{before_received, entry_if_of, entry_of, lack_of}
+use Rattle.tw_evidence.specs.Facts.{asked_entry, before_received, entry_if_of, lack_of}
 use Rattle.tw_evidence.specs.declared.facts.Lack.{Lack}
 
 -- the entry was received at its archived step
@@ -173,9 +173,9 @@ module _ (h : History) (sound : IsSound h) where
 
     -- what a tree proof that checks says of the archive
     abbrev pub Stands : Ask → Option Entry → Type 0
-    Stands asked nearest = EntryStands h (entry_of asked nearest) × LackStands h (lack_of i asked nearest)
+    Stands asked nearest = EntryStands h (asked_entry asked nearest) × LackStands h (lack_of i asked nearest)
 
-    pub answer-stands : (asked : Ask) (up : List Ancestor) → IsAnswer archive asked (answer_of asked up) → Stands asked (nearest_in (answer_of asked up))
+    pub answer-stands : (asked : Ask) (up : List Ancestor) → IsAnswer archive asked (shown_answer asked up) → Stands asked (nearest_in (shown_answer asked up))
     answer-stands (Present e) up is = (has-received h i e is, tt)
     answer-stands (Absent k) up is = (
       tt,

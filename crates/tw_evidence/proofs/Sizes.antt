@@ -22,7 +22,7 @@ use Rattle.tw_chain.proofs.ProofCodec.{proof-lawful}
 use Rattle.tw_tmap.specs.declared.map_file.HighFile.{HighFile}
 use Rattle.tw_tmap.specs.declared.map_file.LowFile.{LowFile}
 use Rattle.tw_tmap.specs.declared.map_file.LowPart.{LowPart}
-use Rattle.tw_tmap.specs.Checking.{low_ask, low_part}
+use Rattle.tw_tmap.specs.Checking.{low_ask, low_file_part}
 use Rattle.tw_tmap.specs.MapFiles.{high_codec, high_layout, low_codec, low_layout}
 use Rattle.tw_tmap.proofs.MapCodec.{BeforeFits, HighFits, LowFits, high-fields, high-lawful, low-fields, low-lawful}
 use Rattle.tw_evidence.specs.ArchiveFiles.{IsFileOf, of_high, of_low, of_proof}
@@ -69,7 +69,7 @@ low-sizes : (f : LowFile) (a : ArchiveProof) → LowFits f → of_low f ≡ Some
 low-sizes f a fits is = by f.shown fits.before is
   where
     shown_of : LowPart → ArchiveProof
-    shown_of p = record { at = low_part f p; ask = low_ask f; shown = p.shown }
+    shown_of p = record { at = low_file_part f p; ask = low_ask f; shown = p.shown }
 
     by : (o : Option LowPart) → BeforeFits f.top f.step o → option_map shown_of o ≡ Some a → ArchiveSizes a
     by None before is = absurd (cc)

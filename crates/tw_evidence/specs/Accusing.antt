@@ -20,9 +20,9 @@ is_link_between lower upper l = bytes_eq l.service lower.from && (l.step == lowe
 
 -- the bottom and the path from the second thread's step down to the first's: those of the link, which has to be of the threads; or,
 -- where there is none, the second thread's authenticator and no links, where both are of one step
-abbrev pub linked : (lower upper : Thread) → Option LinkProof → Result (List ℕ × Path) ℕ
-linked lower upper None = if lower.step == upper.step then Ok (upper.auth, record { links = [] }) else Err 2
-linked lower upper (Some l) = if is_link_between lower upper l then Ok (l.auth, l.path) else Err 3
+abbrev pub linked_fork : (lower upper : Thread) → Option LinkProof → Result (List ℕ × Path) ℕ
+linked_fork lower upper None = if lower.step == upper.step then Ok (upper.auth, record { links = [] }) else Err 2
+linked_fork lower upper (Some l) = if is_link_between lower upper l then Ok (l.auth, l.path) else Err 3
 
 abbrev pub evidence_with : (first second : ThreadProof) → Result (List ℕ × Path) ℕ → Result Evidence ℕ
 evidence_with first second (Ok l) = Ok (record { first = first; second = second; bottom = l.0; link = l.1 })
@@ -34,7 +34,7 @@ evidence_with first second (Err place) = Err place
 abbrev pub accused : (first second : ThreadProof) → Option LinkProof → Result Evidence ℕ
 accused first second link =
     if are_in_order first.entry.thread second.entry.thread
-    then evidence_with first second (linked first.entry.thread second.entry.thread link) else Err 2
+    then evidence_with first second (linked_fork first.entry.thread second.entry.thread link) else Err 2
 
 -- what accusing answers; it takes no memory, so that it never tells the want of it
 abbrev pub Accuses : (first second : ThreadProof) → Option LinkProof → Result Evidence JoinFault → Type 0

@@ -16,7 +16,7 @@ use Rattle.tw_chain.specs.Proofs.{proof_layout}
 use Rattle.tw_tmap.specs.declared.map_file.HighFile.{HighFile}
 use Rattle.tw_tmap.specs.declared.map_file.LowFile.{LowFile}
 use Rattle.tw_tmap.specs.declared.map_file.LowPart.{LowPart}
-use Rattle.tw_tmap.specs.Checking.{high_ask, high_part, low_ask, low_part}
+use Rattle.tw_tmap.specs.Checking.{high_ask, high_part, low_ask, low_file_part}
 use Rattle.tw_tmap.specs.MapFiles.{high_layout, low_layout}
 use Rattle.tw_evidence.specs.declared.archive_proof.ArchiveProof.{ArchiveProof}
 
@@ -30,7 +30,7 @@ of_proof _ = None
 
 -- a low map file asks for the peer's last thread at the step before its own; of step 1 it shows no archive
 abbrev pub of_low : LowFile → Option ArchiveProof
-of_low f = option_map (λ (p : LowPart). record { at = low_part f p; ask = low_ask f; shown = p.shown }) f.shown
+of_low f = option_map (λ (p : LowPart). record { at = low_file_part f p; ask = low_ask f; shown = p.shown }) f.shown
 
 -- a high map file asks for the first thread of its step or of a later one, at its top
 abbrev pub of_high : HighFile → ArchiveProof
@@ -51,9 +51,9 @@ IsNoFile bytes =
     ⊎ (SpellsNothing proof_layout bytes × SpellsNothing low_layout bytes × SpellsNothing high_layout bytes)
 
 -- the file of the bytes, or that there is none
-abbrev pub IsRead : List ℕ → Option ArchiveProof → Type 0
-IsRead bytes None = IsNoFile bytes
-IsRead bytes (Some a) = IsFileOf bytes a
+abbrev pub IsArchiveRead : List ℕ → Option ArchiveProof → Type 0
+IsArchiveRead bytes None = IsNoFile bytes
+IsArchiveRead bytes (Some a) = IsFileOf bytes a
 
 -- ---- what is checked
 
@@ -73,5 +73,5 @@ abbrev pub archive_texts : (dig : List ℕ → List ℕ) → ArchiveProof → Li
 archive_texts dig a = flat_map (check_texts dig) (archive_checks a)
 
 -- the line of the service and the top, of those that are held
-abbrev pub line_of : List Thread → ArchiveProof → Option Thread
-line_of anchors a = anchor_at anchors (top_of a.at)
+abbrev pub line_of_archive : List Thread → ArchiveProof → Option Thread
+line_of_archive anchors a = anchor_at anchors (top_of a.at)

@@ -27,8 +27,8 @@ module _ (dig : List ℕ → List ℕ) where
 
   -- in every family of sound histories that has the threads held of both proofs, both entries were received, each by the service
   -- that is told and at its archived step; or two texts of these histories and of the evidence clash
-  abbrev pub AreReceived : (anchors : List Thread) → Evidence → Fork → Type 0
-  AreReceived anchors e f =
+  abbrev pub AreSidesReceived : (anchors : List Thread) → Evidence → Fork → Type 0
+  AreSidesReceived anchors e f =
       (family : List History) → AllSound family
       → HasThreads dig family (held anchors (Archived e.first) ++ held anchors (Archived e.second))
       → OrClash dig (family_texts dig family ++ evidence_texts dig e)
@@ -44,5 +44,5 @@ module _ (dig : List ℕ → List ℕ) where
 
   -- where the verdict is Yes, both is so of the fork that it tells and of the evidence that the bytes spell
   abbrev pub BindsFork : (anchors : List Thread) (bytes : List ℕ) → ForkVerdict → Type 0
-  BindsFork anchors bytes (Yes f) = (e : Evidence) → Spells evidence_layout bytes e → AreReceived anchors e f × IsForked e f
+  BindsFork anchors bytes (Yes f) = (e : Evidence) → Spells evidence_layout bytes e → AreSidesReceived anchors e f × IsForked e f
   BindsFork anchors bytes (No reason) = Unit {0}

@@ -7,7 +7,7 @@ use Rattle.tw_base.specs.declared.history.thread.Thread.{Thread}
 use Rattle.tw_base.specs.declared.history.tree_proof.Ask.{Ask}
 use Rattle.tw_base.specs.declared.history.tree_proof.Ask.TheVariants.{Present, Absent, Below, Above}
 use Rattle.tw_base.specs.declared.kinds.limits.TheConstants.{LAST_STEP}
-use Rattle.tw_treeproof.specs.Answers.{ancestors_of, answer_of}
+use Rattle.tw_treeproof.specs.Answers.{ancestors_of, shown_answer}
 use Rattle.tw_tmap.specs.Checking.{nearest_in, step_if_of}
 use Rattle.tw_evidence.specs.declared.archive_proof.ArchiveProof.{ArchiveProof}
 use Rattle.tw_evidence.specs.declared.facts.Conflict.{Conflict}
@@ -18,7 +18,7 @@ use Rattle.tw_evidence.specs.declared.facts.Lack.{Lack}
 
 -- the entry that the tree proof shows next to the asked key
 abbrev pub nearest_of : ArchiveProof → Option Entry
-nearest_of a = nearest_in (answer_of a.ask (ancestors_of a.shown))
+nearest_of a = nearest_in (shown_answer a.ask (ancestors_of a.shown))
 
 -- the entry, where it is of this service
 abbrev pub entry_if_of : (service : List ℕ) → Option Entry → Option Entry
@@ -26,11 +26,11 @@ entry_if_of service None = None
 entry_if_of service (Some e) = if bytes_eq e.thread.from service then Some e else None
 
 -- the entry that the archive has: the one that is asked for, or the one next to the asked key, where it is of the key's service
-abbrev pub entry_of : Ask → (nearest : Option Entry) → Option Entry
-entry_of (Present e) nearest = Some e
-entry_of (Absent key) nearest = None
-entry_of (Below key) nearest = entry_if_of key.from nearest
-entry_of (Above key) nearest = entry_if_of key.from nearest
+abbrev pub asked_entry : Ask → (nearest : Option Entry) → Option Entry
+asked_entry (Present e) nearest = Some e
+asked_entry (Absent key) nearest = None
+asked_entry (Below key) nearest = entry_if_of key.from nearest
+asked_entry (Above key) nearest = entry_if_of key.from nearest
 
 -- the step before the one that received the entry next above a key; without one of the service the step itself
 abbrev pub before_received : (step : ℕ) → Option Entry → ℕ
@@ -52,7 +52,7 @@ facts_of line a = record {
   line = line;
   service = a.at.service;
   step = a.at.step;
-  entry = entry_of a.ask (nearest_of a);
+  entry = asked_entry a.ask (nearest_of a);
   lack = lack_of a.at.step a.ask (nearest_of a);
 }
 
@@ -83,8 +83,8 @@ abbrev pub is_same_line : (one other : Thread) → Bool
 is_same_line one other = bytes_eq one.from other.from && (one.step == other.step && bytes_eq one.auth other.auth)
 
 -- the one of the lower step, and the other one; of two of one step the first is the earlier
-abbrev pub earlier : (one other : Thread) → Thread
-earlier one other = if nat_le one.step other.step then one else other
+abbrev pub earlier_thread : (one other : Thread) → Thread
+earlier_thread one other = if nat_le one.step other.step then one else other
 
 abbrev pub later : (one other : Thread) → Thread
 later one other = if nat_le one.step other.step then other else one

@@ -95,17 +95,17 @@ HasNoConflict e = ((lower e).from ≢ (upper e).from) ⊎ (((upper e).step < (lo
 
 module _ (dig : List ℕ → List ℕ) (anchors : List Thread) where
   -- both proofs are accepted
-  abbrev pub AreAccepted : Evidence → Type 0
-  AreAccepted e = IsAccepted dig anchors (Archived e.first) × IsAccepted dig anchors (Archived e.second)
+  abbrev pub IsEvidenceAccepted : Evidence → Type 0
+  IsEvidenceAccepted e = IsAccepted dig anchors (Archived e.first) × IsAccepted dig anchors (Archived e.second)
 
   -- when each reason is the one that is told: the reason against a proof is that of the verdict on the proof by itself
-  abbrev pub IsTold : Evidence → ForkReason → Type 0
-  IsTold e (Malformed place) = ⊥
-  IsTold e (Part number reason) =
+  abbrev pub IsReasonTold : Evidence → ForkReason → Type 0
+  IsReasonTold e (Malformed place) = ⊥
+  IsReasonTold e (Part number reason) =
       ((number ≡ 1) × IsVerdict dig anchors false (proof_bytes (Archived e.first)) (Rejected reason))
       ⊎ ((number ≡ 2) × IsAccepted dig anchors (Archived e.first)
       × IsVerdict dig anchors false (proof_bytes (Archived e.second)) (Rejected reason))
-  IsTold e NoConflict = AreAccepted e × HasNoConflict e
-  IsTold e BadLink =
-      AreAccepted e × (HasNoConflict e → ⊥)
+  IsReasonTold e NoConflict = IsEvidenceAccepted e × HasNoConflict e
+  IsReasonTold e BadLink =
+      IsEvidenceAccepted e × (HasNoConflict e → ⊥)
       × (Climbs dig e.link.links (upper e).step (lower e).step e.bottom (upper e).auth → ⊥)

@@ -5,6 +5,6 @@ use Rattle.tw_evidence.specs.declared.judging.Judged.{Judged}
 use Rattle.tw_evidence.specs.declared.judging.Judged.TheVariants.{Accepted, Rejected}
 use Rattle.tw_evidence.specs.Verdicts.{IsAgainst, Says}
 
-abbrev pub IsJudged : (dig : List ℕ → List ℕ) → (anchors : List Thread) (bytes : List ℕ) → Judged → Type 0
-IsJudged dig anchors bytes (Accepted facts) = Says dig anchors bytes facts
-IsJudged dig anchors bytes (Rejected reason) = IsAgainst dig anchors bytes reason
+abbrev pub IsContradictJudged : (dig : List ℕ → List ℕ) → (anchors : List Thread) (bytes : List ℕ) → Judged → Type 0
+IsContradictJudged dig anchors bytes (Accepted facts) = Says dig anchors bytes facts
+IsContradictJudged dig anchors bytes (Rejected reason) = IsAgainst dig anchors bytes reason

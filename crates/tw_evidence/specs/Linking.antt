@@ -14,22 +14,22 @@ use Rattle.tw_evidence.specs.declared.verdict.ContradictReason.TheVariants as re
 use Rattle.tw_evidence.specs.declared.verdict.ContradictVerdict.{ContradictVerdict}
 use Rattle.tw_evidence.specs.declared.verdict.ContradictVerdict.TheVariants.{Yes, No}
 use Rattle.tw_evidence.specs.Facts.{conflict_of, is_same_line}
-use Rattle.tw_evidence.specs.Verdicts.{IsLink, joins, leads}
+use Rattle.tw_evidence.specs.Verdicts.{IsLink, joins, link_leads}
 
 -- the lines are joined, by the link or since they are one; or apart, without a link; or the link leads between other ones
 abbrev pub IsJoining : (dig : List ℕ → List ℕ) → (one other : Thread) (link : List ℕ) → Joining → Type 0
 IsJoining dig one other link Joined = (l : Option LinkProof) × IsLink link l × (joins dig one other l ≡ true)
 IsJoining dig one other link Apart = (link ≡ []) × (is_same_line one other ≡ false)
-IsJoining dig one other link BadLink = (link ≢ []) × ((l : LinkProof) → Spells proof_layout link (Linked l) → leads dig one other l ≡ false)
+IsJoining dig one other link BadLink = (link ≢ []) × ((l : LinkProof) → Spells proof_layout link (Linked l) → link_leads dig one other l ≡ false)
 
 -- the link that a proof is
-abbrev pub link_in : Proof → Option LinkProof
-link_in (Linked l) = Some l
-link_in _ = None
+abbrev pub link_in_proof : Proof → Option LinkProof
+link_in_proof (Linked l) = Some l
+link_in_proof _ = None
 
 -- what is told of a proof that was read as a link
 abbrev pub joining_by : (dig : List ℕ → List ℕ) → (one other : Thread) → Option LinkProof → Joining
-joining_by dig one other link = option_map_or (λ l. if leads dig one other l then Joined else BadLink) link BadLink
+joining_by dig one other link = option_map_or (λ l. if link_leads dig one other l then Joined else BadLink) link BadLink
 
 -- the verdict on two files that say this
 abbrev pub IsVerdictOn : (dig : List ℕ → List ℕ) → (one other : Facts) (link : List ℕ) → ContradictVerdict → Type 0
@@ -38,5 +38,5 @@ IsVerdictOn dig one other link (Yes conflict is_joined) =
     × ((between : Option LinkProof) × IsLink link between × (joins dig one.line other.line between ≡ is_joined) × (is_some between ≡ true → is_joined ≡ true))
 IsVerdictOn dig one other link (No reasons.NoConflict) = conflict_of one other ≡ None
 IsVerdictOn dig one other link (No reasons.BadLink) =
-    (conflict_of one other ≢ None) × ((link ≢ []) × ((l : LinkProof) → Spells proof_layout link (Linked l) → leads dig one.line other.line l ≡ false))
+    (conflict_of one other ≢ None) × ((link ≢ []) × ((l : LinkProof) → Spells proof_layout link (Linked l) → link_leads dig one.line other.line l ≡ false))
 IsVerdictOn dig one other link (No (reasons.Part number reason)) = ⊥

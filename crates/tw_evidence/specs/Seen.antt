@@ -4,10 +4,10 @@ use Rattle.tw_chain.specs.Proofs.{link_body, thread_body}
 use Rattle.tw_skipproof.specs.Seen.{parts}
 use Rattle.tw_evidence.specs.Evidence.{evidence_codec, link_proof_codec, thread_proof_codec}
 
-unfoldable pub reading : Unit {0}
+unfoldable pub evidence_reading : Unit {0}
 unfolding evidence_codec link_body link_proof_codec records thread_body thread_proof_codec
-reading = tt
+evidence_reading = tt
 
-unfoldable pub writing : Unit {0}
+unfoldable pub evidence_writing : Unit {0}
 unfolding evidence_codec parts thread_body thread_proof_codec
-writing = tt
+evidence_writing = tt

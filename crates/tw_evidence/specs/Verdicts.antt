@@ -22,8 +22,8 @@ use Rattle.tw_evidence.specs.declared.facts.Facts.{Facts}
 use Rattle.tw_evidence.specs.declared.verdict.ContradictReason.TheVariants.{Part, NoConflict, BadLink}
 use Rattle.tw_evidence.specs.declared.verdict.ContradictVerdict.{ContradictVerdict}
 use Rattle.tw_evidence.specs.declared.verdict.ContradictVerdict.TheVariants.{Yes, No}
-use Rattle.tw_evidence.specs.ArchiveFiles.{IsFileOf, IsNoFile, archive_checks, archive_texts, line_of}
-use Rattle.tw_evidence.specs.Facts.{conflict_of, earlier, facts_of, is_same_line, later}
+use Rattle.tw_evidence.specs.ArchiveFiles.{IsFileOf, IsNoFile, archive_checks, archive_texts, line_of_archive}
+use Rattle.tw_evidence.specs.Facts.{conflict_of, earlier_thread, facts_of, is_same_line, later}
 
 -- the bytes of a link: none, or those of a proof of a step's authenticator
 abbrev pub IsLink : List ℕ → Option LinkProof → Type 0
@@ -31,9 +31,9 @@ IsLink bytes None = bytes ≡ []
 IsLink bytes (Some l) = Spells proof_layout bytes (Linked l)
 
 -- the lines that no sound history has: the later one where they are joined, and else both together
-abbrev pub lines_of : (is_joined : Bool) (one other : Thread) → List Thread
-lines_of true one other = later one other ∷ []
-lines_of false one other = one ∷ other ∷ []
+abbrev pub held_lines : (is_joined : Bool) (one other : Thread) → List Thread
+held_lines true one other = later one other ∷ []
+held_lines false one other = one ∷ other ∷ []
 
 module _ (dig : List ℕ → List ℕ) where
   -- no family of sound histories has these lines; or two of the histories' texts and of these clash
@@ -48,7 +48,7 @@ module _ (dig : List ℕ → List ℕ) where
     pub proof : ArchiveProof
     pub is_file : IsFileOf bytes proof
     pub accepted : Each (Passes dig anchors) (archive_checks proof)
-    pub line : line_of anchors proof ≡ Some facts.line
+    pub line : line_of_archive anchors proof ≡ Some facts.line
     pub facts_are : facts ≡ facts_of facts.line proof
 
   -- the lowest reason against it; Malformed, with any place, where the bytes are no such file
@@ -65,17 +65,17 @@ module _ (dig : List ℕ → List ℕ) where
       bytes_eq l.service lower.from && (bytes_eq l.service upper.from && (l.step == lower.step && (l.top == upper.step
       && (bytes_eq l.auth lower.auth && climbs dig l.path.links l.top l.step l.auth (Some upper.auth)))))
 
-  abbrev pub leads : (one other : Thread) → LinkProof → Bool
-  leads one other l = leads_down (earlier one other) (later one other) l
+  abbrev pub link_leads : (one other : Thread) → LinkProof → Bool
+  link_leads one other l = leads_down (earlier_thread one other) (later one other) l
 
   -- lines are joined that are one, where there is no link; and else those that the link leads between
   abbrev pub joins : (one other : Thread) → Option LinkProof → Bool
   joins one other None = is_same_line one other
-  joins one other (Some l) = leads one other l
+  joins one other (Some l) = link_leads one other l
 
   -- what checking the path of a link hashes
-  abbrev pub link_texts : Option LinkProof → List (List ℕ)
-  link_texts link = option_map_or (λ (l : LinkProof). path_texts dig l.path.links l.top l.step l.auth) link []
+  abbrev pub link_proof_texts : Option LinkProof → List (List ℕ)
+  link_proof_texts link = option_map_or (λ (l : LinkProof). path_texts dig l.path.links l.top l.step l.auth) link []
 
   -- ---- both files
 
@@ -93,8 +93,8 @@ module _ (dig : List ℕ → List ℕ) where
       pub joined_is : joins one.line other.line between ≡ is_joined
       pub no_bad_link : is_some between ≡ true → is_joined ≡ true
       pub none :
-          NoneHas (lines_of is_joined one.line other.line)
-          (archive_texts dig first_says.proof ++ (archive_texts dig second_says.proof ++ link_texts between))
+          NoneHas (held_lines is_joined one.line other.line)
+          (archive_texts dig first_says.proof ++ (archive_texts dig second_says.proof ++ link_proof_texts between))
 
     -- both are accepted
     pub record SayBoth (one other : Facts) : Type 0 where
@@ -102,12 +102,12 @@ module _ (dig : List ℕ → List ℕ) where
       pub second_says : Says others second other
 
     -- the verdict: that they contradict each other, or the first reason that stands
-    abbrev pub IsVerdict : ContradictVerdict → Type 0
-    IsVerdict (Yes conflict is_joined) = Contradict conflict is_joined
-    IsVerdict (No (Part number reason)) =
+    abbrev pub IsContradictVerdict : ContradictVerdict → Type 0
+    IsContradictVerdict (Yes conflict is_joined) = Contradict conflict is_joined
+    IsContradictVerdict (No (Part number reason)) =
         ((number ≡ 1) × IsAgainst anchors first reason)
         ⊎ ((number ≡ 2) × ((one : Facts) × Says anchors first one) × IsAgainst others second reason)
-    IsVerdict (No NoConflict) = (one : Facts) × (other : Facts) × SayBoth one other × (conflict_of one other ≡ None)
-    IsVerdict (No BadLink) =
+    IsContradictVerdict (No NoConflict) = (one : Facts) × (other : Facts) × SayBoth one other × (conflict_of one other ≡ None)
+    IsContradictVerdict (No BadLink) =
         (one : Facts) × (other : Facts) × SayBoth one other × (conflict_of one other ≢ None)
-        × ((link ≢ []) × ((l : LinkProof) → Spells proof_layout link (Linked l) → leads one.line other.line l ≡ false))
+        × ((link ≢ []) × ((l : LinkProof) → Spells proof_layout link (Linked l) → link_leads one.line other.line l ≡ false))

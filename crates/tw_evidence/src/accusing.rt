@@ -2,7 +2,7 @@
 
 ghost use Rattle.std.specs.Prelude.{◌≡◌, ℕ, Ok, Err, IfErr, IfOk};
 ghost use Rattle.tw_join.specs.declared.joining.JoinFault.TheVariants.{Gap};
-ghost use Rattle.tw_evidence.specs.Accusing.{Accuses, IsComplete, is_link_between as is_link_of_both, linked as linked_of};
+ghost use Rattle.tw_evidence.specs.Accusing.{Accuses, IsComplete, is_link_between as is_link_of_both, linked_fork};
 
 use crate::checking::in_order;
 use crate::evidence::Evidence;
@@ -27,8 +27,8 @@ fn linked(
     upper: &Thread,
     link: Option<LinkProof>,
 ) -> Result<(Digest, Path), JoinFault>
-    ensures ok { IfOk result (λ all. linked_of lower.now upper.now link ≡ Ok (all.0, all.1)) }
-    ensures err { IfErr result (λ fault. (place : ℕ) × (fault ≡ Gap place) × (linked_of lower.now upper.now link ≡ Err place)) }
+    ensures ok { IfOk result (λ all. linked_fork lower.now upper.now link ≡ Ok (all.0, all.1)) }
+    ensures err { IfErr result (λ fault. (place : ℕ) × (fault ≡ Gap place) × (linked_fork lower.now upper.now link ≡ Err place)) }
 {
     match link {
         None if lower.step == upper.step => {

@@ -1,7 +1,7 @@
 // Reading the files that show what an archive has.
 
 ghost use Rattle.std.specs.Prelude.{◌≡◌, ◌<◌, [], IfOk, IfSome};
-ghost use Rattle.tw_evidence.specs.ArchiveFiles.{IsRead, of_high as shown_by_high, of_low as shown_by_low, of_proof as shown_by_proof};
+ghost use Rattle.tw_evidence.specs.ArchiveFiles.{IsArchiveRead, of_high as shown_by_high, of_low as shown_by_low, of_proof as shown_by_proof};
 ghost use Rattle.tw_evidence.specs.Fitting.{IsSmall};
 
 use crate::archive_proof::ArchiveProof;
@@ -84,7 +84,7 @@ fn of_high(file: HighFile, path: Path) -> ArchiveProof
 /// What the bytes show of an archive: those of a proof of kind 3 or 4, of a low map file of a step from 2 on,
 /// or of a high map file. None of other bytes.
 pub(crate) fn read_file(alloc: Global, bytes: &[u8]) -> Result<Option<ArchiveProof>, NoMemory>
-    ensures read { IfOk result (IsRead bytes.now) }
+    ensures read { IfOk result (IsArchiveRead bytes.now) }
     ensures small { IfOk result (λ file. IfSome file IsSmall) }
 {
     match read_proof(alloc, bytes) {

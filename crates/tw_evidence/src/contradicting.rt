@@ -3,7 +3,7 @@
 ghost use Rattle.std.specs.Prelude.{◌≡◌, IfOk};
 ghost use Rattle.tw_evidence.specs.Facts.{conflict_between as conflict_between_of, conflict_of as conflict_in, lacks_entry as lacks};
 ghost use Rattle.tw_evidence.specs.Linking.{IsVerdictOn};
-ghost use Rattle.tw_evidence.specs.Verdicts.{IsVerdict};
+ghost use Rattle.tw_evidence.specs.Verdicts.{IsContradictVerdict};
 
 use crate::facts::{Conflict, Facts, Lack};
 use crate::judging::{Judged, judge_file};
@@ -99,7 +99,7 @@ pub fn contradict<H: Hasher>(
     // the entry, and whether the lines are joined. In every list of sound histories that has the later line, where they are joined,
     // and else both, two different texts of the histories, of the files and of the link, all of bytes, have one digest: so no sound
     // history has these lines, or texts clash. Else it tells the first reason that stands.
-    ensures { IfOk result (IsVerdict H.dig anchors.now others.now first.now second.now link.now) }
+    ensures { IfOk result (IsContradictVerdict H.dig anchors.now others.now first.now second.now link.now) }
 {
     let one = match judge_file::<H>(alloc, first, anchors)? {
         Judged::Accepted(facts) => facts,

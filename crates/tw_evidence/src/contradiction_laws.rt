@@ -15,7 +15,7 @@ ghost use Rattle.tw_evidence.specs.declared.facts.Conflict.{Conflict};
 ghost use Rattle.tw_evidence.specs.declared.facts.Facts.{Facts};
 ghost use Rattle.tw_evidence.specs.ArchiveFiles.{archive_texts};
 ghost use Rattle.tw_evidence.specs.Facts.{conflict_of, later};
-ghost use Rattle.tw_evidence.specs.Verdicts.{IsLink, NoneHas, Says, joins, link_texts};
+ghost use Rattle.tw_evidence.specs.Verdicts.{IsLink, NoneHas, Says, joins, link_proof_texts};
 
 use tw_base::Hasher;
 
@@ -39,5 +39,5 @@ pub fn contradiction_laws<H: Hasher>()
     ensures joined { (anchors others : List Thread) (first second link : List ℕ) (one other : Facts) (conflict : Conflict) (between : Option LinkProof) →
         (said : Says H.dig anchors first one) → (also : Says H.dig others second other) → conflict_of one other ≡ Some conflict →
         IsLink link between → joins H.dig one.line other.line between ≡ true →
-        NoneHas H.dig (later one.line other.line ∷ []) (archive_texts H.dig said.proof ++ (archive_texts H.dig also.proof ++ link_texts H.dig between)) }
+        NoneHas H.dig (later one.line other.line ∷ []) (archive_texts H.dig said.proof ++ (archive_texts H.dig also.proof ++ link_proof_texts H.dig between)) }
 {}

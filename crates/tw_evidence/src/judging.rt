@@ -3,12 +3,12 @@
 ghost use Rattle.std.specs.Prelude.{◌≡◌, ℕ, List, IfOk};
 ghost use Rattle.tw_base.specs.declared.history.thread.Thread.{Thread as Anchor};
 ghost use Rattle.tw_base.specs.kinds.Lists.{Each};
-ghost use Rattle.tw_chain.specs.Finding.{found_in, found_with};
+ghost use Rattle.tw_chain.specs.Finding.{found_in, reason_with};
 ghost use Rattle.tw_chain.specs.Passing.{Passes};
 ghost use Rattle.tw_evidence.specs.ArchiveFiles.{IsFileOf, archive_checks, order_checks};
-ghost use Rattle.tw_evidence.specs.Facts.{before_received as before_received_of, entry_if_of as entry_if, entry_of, facts_of as facts_under, lack_of, nearest_of};
+ghost use Rattle.tw_evidence.specs.Facts.{asked_entry, before_received as before_received_of, entry_if_of as entry_if, facts_of as facts_under, lack_of, nearest_of};
 ghost use Rattle.tw_evidence.specs.Fitting.{IsSmall};
-ghost use Rattle.tw_evidence.specs.Judged.{IsJudged};
+ghost use Rattle.tw_evidence.specs.Judged.{IsContradictJudged};
 ghost use Rattle.tw_tmap.specs.Checking.{step_if_of as step_if};
 ghost use Rattle.tw_treeproof.specs.Answers.{Checks};
 
@@ -32,7 +32,7 @@ pub(crate) enum Judged {
 
 /// What is found with the check of the order of a received thread's steps.
 fn with_own_order(found: Option<Reason>, ask: &Ask, step: u64) -> Option<Reason>
-    ensures { (dig : List ℕ → List ℕ) (anchors : List Anchor) → result ≡ found_with dig anchors found (order_checks ask.now step) }
+    ensures { (dig : List ℕ → List ℕ) (anchors : List Anchor) → result ≡ reason_with dig anchors found (order_checks ask.now step) }
 {
     match ask {
         Ask::Present(entry) => with_order(found, entry.archived, step),
@@ -98,7 +98,7 @@ fn before_received(step: u64, entry: &Option<Entry>) -> u64
 
 /// The entry that the archive has by the file.
 fn entry_by(ask: &Ask, nearest: &Option<Entry>) -> Option<Entry>
-    ensures { result ≡ entry_of ask.now nearest.now }
+    ensures { result ≡ asked_entry ask.now nearest.now }
 {
     match ask {
         Ask::Present(entry) => Some(*entry),
@@ -151,7 +151,7 @@ fn facts_of<H: Hasher>(proof: &ArchiveProof, line: Thread) -> Facts
 /// What is told of what a file shows.
 fn judge_proof<H: Hasher>(proof: &ArchiveProof, anchors: &[Thread]) -> Judged
     requires { IsSmall proof.now }
-    ensures { (bytes : List ℕ) → IsFileOf bytes proof.now → IsJudged H.dig anchors.now bytes result }
+    ensures { (bytes : List ℕ) → IsFileOf bytes proof.now → IsContradictJudged H.dig anchors.now bytes result }
 {
     match found_of::<H>(proof, anchors) {
         Some(reason) => Judged::Rejected(reason),
@@ -162,7 +162,7 @@ fn judge_proof<H: Hasher>(proof: &ArchiveProof, anchors: &[Thread]) -> Judged
 /// What is told of what a file shows whose checks pass.
 fn judge_passing<H: Hasher>(proof: &ArchiveProof, anchors: &[Thread]) -> Judged
     requires { Each (Passes H.dig anchors.now) (archive_checks proof.now) }
-    ensures { (bytes : List ℕ) → IsFileOf bytes proof.now → IsJudged H.dig anchors.now bytes result }
+    ensures { (bytes : List ℕ) → IsFileOf bytes proof.now → IsContradictJudged H.dig anchors.now bytes result }
 {
     match find_anchor(anchors, &proof.at.service, proof.at.top) {
         Some(line) => Judged::Accepted(facts_of::<H>(proof, line)),
@@ -176,7 +176,7 @@ pub(crate) fn judge_file<H: Hasher>(
     bytes: &[u8],
     anchors: &[Thread],
 ) -> Result<Judged, NoMemory>
-    ensures { IfOk result (IsJudged H.dig anchors.now bytes.now) }
+    ensures { IfOk result (IsContradictJudged H.dig anchors.now bytes.now) }
 {
     match read_file(alloc, bytes)? {
         Some(proof) => {

@@ -16,7 +16,7 @@ ghost use Rattle.tw_evidence.specs.declared.fork.ForkReason.{ForkReason};
 ghost use Rattle.tw_evidence.specs.declared.fork.ForkVerdict.TheVariants.{No, Yes};
 ghost use Rattle.tw_evidence.specs.Accusing.{accused};
 ghost use Rattle.tw_evidence.specs.Evidence.{evidence_bytes, evidence_codec, evidence_layout, link_proof_codec, link_proof_layout, thread_proof_codec, thread_proof_layout};
-ghost use Rattle.tw_evidence.specs.Forks.{IsForkVerdict, IsTold, ShowsFork, fork_of, fork_verdict};
+ghost use Rattle.tw_evidence.specs.Forks.{IsForkVerdict, IsReasonTold, ShowsFork, fork_of, fork_verdict};
 
 use tw_base::Hasher;
 
@@ -51,7 +51,7 @@ pub fn fork_laws<H: Hasher>()
     // accepted, that the threads are of two services, the first is of the later step, or it has the bottom for its
     // authenticator; and where they are not and it has not, that the path doesn't climb.
     ensures no { (anchors : List Thread) (bytes : List ℕ) (e : Evidence) (reason : ForkReason) → Spells evidence_layout bytes e →
-        fork_verdict H.dig anchors e ≡ No reason ↔ IsTold H.dig anchors e reason }
+        fork_verdict H.dig anchors e ≡ No reason ↔ IsReasonTold H.dig anchors e reason }
     // Evidence that is made of two proofs whose bytes are accepted under some anchors, and of a link or of none, is accepted
     // under them, where the bottom isn't the first thread's authenticator and the path climbs to the second thread's.
     ensures complete { (anchors : List Thread) (one other : List ℕ) (first second : ThreadProof) (link : Option LinkProof) (e : Evidence) →

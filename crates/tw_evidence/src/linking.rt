@@ -2,8 +2,8 @@
 
 ghost use Rattle.std.specs.Prelude.{◌≡◌, ◌≤◌, Some, IfOk, IfSome};
 ghost use Rattle.tw_base.specs.declared.kinds.limits.TheConstants.{LAST_STEP};
-ghost use Rattle.tw_evidence.specs.Facts.{earlier as earlier_of, is_same_line as is_same, later as later_of};
-ghost use Rattle.tw_evidence.specs.Linking.{IsJoining, joining_by, link_in};
+ghost use Rattle.tw_evidence.specs.Facts.{earlier_thread, is_same_line as is_same, later as later_of};
+ghost use Rattle.tw_evidence.specs.Linking.{IsJoining, joining_by, link_in_proof};
 ghost use Rattle.tw_evidence.specs.Verdicts.{leads_down as leads_between};
 ghost use Rattle.tw_chain.specs.Finding.{climbs as path_climbs};
 
@@ -21,7 +21,7 @@ fn is_same_line(one: &Thread, other: &Thread) -> bool
 
 /// The line of the lower step.
 fn earlier(one: &Thread, other: &Thread) -> Thread
-    ensures { result ≡ earlier_of one.now other.now }
+    ensures { result ≡ earlier_thread one.now other.now }
 {
     if one.step <= other.step { *one } else { *other }
 }
@@ -80,7 +80,7 @@ pub(crate) fn joining_of<H: Hasher>(
 
 /// The link, where the proof is one.
 fn link_of(proof: Proof) -> Option<LinkProof>
-    ensures { result ≡ link_in proof }
+    ensures { result ≡ link_in_proof proof }
 {
     match proof {
         Proof::Linked(link) => Some(link),

@@ -1,5 +1,5 @@
 // Reading evidence of a fork, and the proofs of which it is made.
-#![tactic(auto, unfolding(crate::specs::Seen::reading))]
+#![tactic(auto, unfolding(crate::specs::Seen::evidence_reading))]
 
 ghost use Rattle.std.specs.Prelude.{◌≡◌, ◌≤◌, length};
 ghost use Rattle.tw_base.specs.format.Formats.{ReadsAs};

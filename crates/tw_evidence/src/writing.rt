@@ -1,5 +1,5 @@
 // Writing evidence of a fork.
-#![tactic(auto, unfolding(crate::specs::Seen::writing))]
+#![tactic(auto, unfolding(crate::specs::Seen::evidence_writing))]
 
 ghost use Rattle.std.specs.Prelude.{◌≡◌, ◌++◌, IfOk, OnOk};
 ghost use Rattle.tw_base.specs.format.Formats.{Spells};

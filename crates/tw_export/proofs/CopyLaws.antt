@@ -15,7 +15,7 @@ use Rattle.tw_skiplist.specs.Events.{events_from}
 use Rattle.tw_skiplist.specs.StepRecords.{content_by, content_of, events_of_record}
 use Rattle.tw_skiplist.proofs.Copying.{none-counted}
 use Rattle.tw_export.specs.Copied.{copied_step, events_end, events_front, file_before}
-use Rattle.tw_export.specs.Exporting.{SoFar, may_be_told, new_nodes, step_on, with_step}
+use Rattle.tw_export.specs.Exporting.{SoFar, exported_with_step, found_new_nodes, may_be_told, step_on}
 use Rattle.tw_export.specs.Files.{with_text}
 
 -- the step of these events
@@ -66,14 +66,14 @@ module _ (dig : List ℕ → List ℕ) (ps : Image) (s : SoFar) (r : StepRecord)
   content-none = ap (content_by ps r) none
 
   -- the step that is found
-  pub step-events : step_on dig ps s r ≡ (found >>= (λ events. Is (with_step s r (Events events) [])))
+  pub step-events : step_on dig ps s r ≡ (found >>= (λ events. Is (exported_with_step s r (Events events) [])))
   unfolding step_on
   step-events =
-      ap (λ (f : _). f >>= (λ c. new_nodes dig ps s.archive.since r c >>= (λ nodes. when (may_be_told s.archive r c nodes) r.page (with_step s r c nodes)))) content-none ∙ by found
+      ap (λ (f : _). f >>= (λ c. found_new_nodes dig ps s.archive.since r c >>= (λ nodes. when (may_be_told s.archive r c nodes) r.page (exported_with_step s r c nodes)))) content-none ∙ by found
     where
       by : (f : Found (List (List ℕ)))
-          → ((f >>= (λ events. Is (Events events))) >>= (λ c. new_nodes dig ps s.archive.since r c >>= (λ nodes. when (may_be_told s.archive r c nodes) r.page (with_step s r c nodes))))
-          ≡ (f >>= (λ events. Is (with_step s r (Events events) [])))
+          → ((f >>= (λ events. Is (Events events))) >>= (λ c. found_new_nodes dig ps s.archive.since r c >>= (λ nodes. when (may_be_told s.archive r c nodes) r.page (exported_with_step s r c nodes))))
+          ≡ (f >>= (λ events. Is (exported_with_step s r (Events events) [])))
       by (Bad page) = refl
       by (Is events) = refl
 
@@ -107,14 +107,14 @@ module _ (dig : List ℕ → List ℕ) (ps : Image) (s : SoFar) (r : StepRecord)
   drop-front [] ys = refl
   drop-front (x ∷ xs) ys = drop-front xs ys
 
-  taken-is : (events : List (List ℕ)) → taken (s.file.bytes ++ text events) ≡ with_step s r (Events events) []
+  taken-is : (events : List (List ℕ)) → taken (s.file.bytes ++ text events) ≡ exported_with_step s r (Events events) []
   taken-is events = λ i. record {
     file = with_text (record { bytes = take-front s.file.bytes (text events) i; size = s.file.size; is_short = s.file.is_short }) (drop-front s.file.bytes (text events) i) true;
     archive = record { count = s.archive.count; numbers = s.archive.numbers; root = s.archive.root; since = r.page + 1 };
   }
 
   pub copied-bad : (page : ℕ) → copied_step ps r s.archive.root s.file.bytes ≡ Bad page → step_on dig ps s r ≡ Bad page
-  copied-bad page e = step-events ∙ bad-of (λ events. s.file.bytes ++ text events) (λ events. with_step s r (Events events) []) found page (sym copied-on ∙ e)
+  copied-bad page e = step-events ∙ bad-of (λ events. s.file.bytes ++ text events) (λ events. exported_with_step s r (Events events) []) found page (sym copied-on ∙ e)
 
   pub copied-is : (now : List ℕ) → copied_step ps r s.archive.root s.file.bytes ≡ Is now → step_on dig ps s r ≡ Is (taken now)
   copied-is now e = step-events ∙ by found (sym copied-on ∙ e)
@@ -123,9 +123,9 @@ module _ (dig : List ℕ → List ℕ) (ps : Image) (s : SoFar) (r : StepRecord)
       bytes-of (Bad page) = []
       bytes-of (Is bytes) = bytes
 
-      by : (f : Found (List (List ℕ))) → (f >>= (λ events. Is (s.file.bytes ++ text events))) ≡ Is now → (f >>= (λ events. Is (with_step s r (Events events) []))) ≡ Is (taken now)
+      by : (f : Found (List (List ℕ))) → (f >>= (λ events. Is (s.file.bytes ++ text events))) ≡ Is now → (f >>= (λ events. Is (exported_with_step s r (Events events) []))) ≡ Is (taken now)
       by (Bad page) is = cc
       by (Is events) is = ap (λ (x : SoFar). Is x) (sym (taken-is events) ∙ ap taken (ap bytes-of is))
 
   pub lacks-bad : r.fields.stream.size ≡ 0 → 0 < r.fields.count → step_on dig ps s r ≡ Bad r.page
-  lacks-bad empty some = step-events ∙ ap (λ (f : Found (List (List ℕ))). f >>= (λ events. Is (with_step s r (Events events) []))) (none-counted ps (events_of_record r) empty some)
+  lacks-bad empty some = step-events ∙ ap (λ (f : Found (List (List ℕ))). f >>= (λ events. Is (exported_with_step s r (Events events) []))) (none-counted ps (events_of_record r) empty some)

@@ -13,7 +13,7 @@ use Rattle.tw_skiplist.specs.declared.head.Head.{Head}
 use Rattle.tw_skiplist.specs.declared.step_records.StepRecord.{StepRecord}
 use Rattle.tw_skiplist.specs.StepRecords.{content_of, found_records}
 use Rattle.tw_export.specs.Files.{File, begun, told_file, with_text}
-use Rattle.tw_export.specs.NodeNumbers.{Archive, are_known, no_archive, node_of, with_nodes}
+use Rattle.tw_export.specs.NodeNumbers.{Archive, are_known, no_archive, numbered_node, with_nodes}
 
 -- the steps so far: their file, and what is numbered of their archives
 pub record SoFar : Type 0 where
@@ -39,10 +39,10 @@ may_be_told a r (Received t) nodes = nat_le 1 t.step && are_known a nodes r.fiel
 
 -- the step as the history has it, with the number of the archive's root after it
 abbrev pub step_with : Archive → StepRecord → Content → List NewNode → (root : ℕ) → Step
-step_with a r c nodes root = record { content = c; time = r.fields.time; fresh = map (node_of a.numbers a.count) nodes; root = root }
+step_with a r c nodes root = record { content = c; time = r.fields.time; fresh = map (numbered_node a.numbers a.count) nodes; root = root }
 
-abbrev pub with_step : SoFar → StepRecord → Content → List NewNode → SoFar
-with_step s r c nodes = record {
+abbrev pub exported_with_step : SoFar → StepRecord → Content → List NewNode → SoFar
+exported_with_step s r c nodes = record {
   file = with_text s.file (step_codec.write (step_with s.archive r c nodes (archive_after s.archive r c nodes).root)) (nat_le (length nodes) 65535);
   archive = archive_after s.archive r c nodes;
 }
@@ -51,16 +51,16 @@ with_step s r c nodes = record {
 
 module _ (dig : List ℕ → List ℕ) (pages : Image) where
   -- the new nodes of a step: none of events; of a thread those that are listed since the page of the step before
-  abbrev pub new_nodes : (since : ℕ) → StepRecord → Content → Found (List NewNode)
-  new_nodes since r (Events events) = Is []
-  new_nodes since r (Received t) = listed dig pages since r.fields.archive
+  abbrev pub found_new_nodes : (since : ℕ) → StepRecord → Content → Found (List NewNode)
+  found_new_nodes since r (Events events) = Is []
+  found_new_nodes since r (Received t) = listed dig pages since r.fields.archive
 
   -- one step more: what it recorded, and then its new nodes; a step that no history file has is told by its page, which the call reads once
   -- more before, of which nothing is said here
   unfoldable pub step_on : SoFar → StepRecord → Found SoFar
   step_on s r =
       content_of pages r
-      >>= (λ c. new_nodes s.archive.since r c >>= (λ nodes. when (may_be_told s.archive r c nodes) r.page (with_step s r c nodes)))
+      >>= (λ c. found_new_nodes s.archive.since r c >>= (λ nodes. when (may_be_told s.archive r c nodes) r.page (exported_with_step s r c nodes)))
 
   -- these steps more, one after another
   unfoldable pub steps_on : SoFar → List StepRecord → Found SoFar

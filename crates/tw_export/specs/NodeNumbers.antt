@@ -13,8 +13,8 @@ abbrev pub Numbers : Type 0
 Numbers = ℕ → Option ℕ
 
 -- the number of a page's root; 0 where it has none, as page 0 has
-abbrev pub number_at : Numbers → (page : ℕ) → ℕ
-number_at numbers page = unwrap_or (numbers page) 0
+abbrev pub node_number_at : Numbers → (page : ℕ) → ℕ
+node_number_at numbers page = unwrap_or (numbers page) 0
 
 -- what stands on a side of a listed node has a number: older pages have one where they were numbered
 abbrev pub is_numbered : Numbers → Side → Bool
@@ -27,14 +27,14 @@ is_known numbers n = is_numbered numbers n.left && is_numbered numbers n.right
 
 -- `before` many nodes were numbered before those that are listed
 module _ (numbers : Numbers) (before : ℕ) where
-  abbrev pub side_number : Side → ℕ
-  side_number NoTree = 0
-  side_number (New place) = before + place
-  side_number (Old page) = number_at numbers page
+  abbrev pub new_side_number : Side → ℕ
+  new_side_number NoTree = 0
+  new_side_number (New place) = before + place
+  new_side_number (Old page) = node_number_at numbers page
 
   -- a listed node, as the history has it
-  abbrev pub node_of : NewNode → Node
-  node_of n = record { left = side_number n.left; entry = n.entry.archived; right = side_number n.right }
+  abbrev pub numbered_node : NewNode → Node
+  numbered_node n = record { left = new_side_number n.left; entry = n.entry.archived; right = new_side_number n.right }
 
 -- the numbers with those of the pages whose roots these nodes are; of two nodes that are told to be one page's root the first counts
 abbrev pub with_pages : Numbers → (before : ℕ) → List NewNode → Numbers
@@ -60,7 +60,7 @@ abbrev pub with_nodes : Archive → List NewNode → (root step : ℕ) → Archi
 with_nodes a nodes root step = record {
   count = a.count + length nodes;
   numbers = with_pages a.numbers a.count nodes;
-  root = number_at (with_pages a.numbers a.count nodes) root;
+  root = node_number_at (with_pages a.numbers a.count nodes) root;
   since = step + 1;
 }
 

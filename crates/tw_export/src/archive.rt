@@ -1,8 +1,8 @@
 // What is numbered of an archive, step by step.
 
 ghost use Rattle.std.specs.Prelude.{◌≡◌, ℕ, ◌+◌, ◌<◌, ◌^◌, MatchOption, OnOk, false, length, true};
-ghost use Rattle.tw_export.specs.NodeNumbers.{are_known, no_archive, number_at, with_nodes, with_pages};
-ghost use Rattle.tw_export.specs.Told.{archive_of, numbers_in};
+ghost use Rattle.tw_export.specs.NodeNumbers.{are_known, no_archive, node_number_at, with_nodes, with_pages};
+ghost use Rattle.tw_export.specs.Told.{archive_so_far, numbers_in};
 
 use crate::nodes::are_numbered;
 use crate::numbers::PageNumbers;
@@ -23,7 +23,7 @@ pub(crate) struct ArchiveSoFar {
 
 /// Before the first step. Takes no memory.
 pub(crate) fn empty_archive(alloc: Global) -> ArchiveSoFar
-    ensures { archive_of result ≡ no_archive }
+    ensures { archive_so_far result ≡ no_archive }
 {
     ArchiveSoFar {
         pages: PageNumbers::new(alloc),
@@ -52,8 +52,8 @@ fn number_with(numbers: &PageNumbers, before: u64, nodes: &[NewNode], page: u64)
 /// sides, or the root's page, has no number.
 pub(crate) fn root_number(archive: &ArchiveSoFar, nodes: &[NewNode], page: u64) -> Option<u64>
     requires { archive.now.count + length nodes.now < 2 ^ 64 }
-    ensures { MatchOption result (are_known (archive_of archive.now) nodes.now page ≡ false)
-        (λ root. (are_known (archive_of archive.now) nodes.now page ≡ true) × (root ≡ number_at (with_pages (numbers_in archive.now.pages) archive.now.count nodes.now) page)) }
+    ensures { MatchOption result (are_known (archive_so_far archive.now) nodes.now page ≡ false)
+        (λ root. (are_known (archive_so_far archive.now) nodes.now page ≡ true) × (root ≡ node_number_at (with_pages (numbers_in archive.now.pages) archive.now.count nodes.now) page)) }
 {
     if !are_numbered(&archive.pages, nodes) {
         return None;
@@ -92,8 +92,8 @@ pub(crate) fn add_nodes(
 ) -> Result<(), NoMemory>
     requires count { archive.old.count + length nodes.now < 2 ^ 64 }
     requires step { step + 1 < 2 ^ 64 }
-    requires root { root ≡ number_at (with_pages (numbers_in archive.old.pages) archive.old.count nodes.now) page }
-    ensures { OnOk result (archive_of archive.new ≡ with_nodes (archive_of archive.old) nodes.now page step) }
+    requires root { root ≡ node_number_at (with_pages (numbers_in archive.old.pages) archive.old.count nodes.now) page }
+    ensures { OnOk result (archive_so_far archive.new ≡ with_nodes (archive_so_far archive.old) nodes.now page step) }
 {
     put_pages(&mut archive.pages, archive.count, nodes)?;
     archive.count += nodes.len() as u64;

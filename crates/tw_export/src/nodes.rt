@@ -4,7 +4,7 @@
 ghost use Rattle.std.specs.Prelude.{◌≡◌, ◌++◌, flat_map, map, IfOk, OnOk};
 ghost use Rattle.std.specs.List.{list_all};
 ghost use Rattle.tw_base.specs.history.HistoryCodec.{node_codec};
-ghost use Rattle.tw_export.specs.NodeNumbers.{is_known as is_known_of, is_numbered as is_numbered_of, node_of, side_number as side_number_of};
+ghost use Rattle.tw_export.specs.NodeNumbers.{is_known as is_known_of, is_numbered as is_numbered_of, new_side_number, numbered_node};
 ghost use Rattle.tw_export.specs.Told.{numbers_in};
 
 use crate::numbers::PageNumbers;
@@ -39,7 +39,7 @@ pub(crate) fn are_numbered(numbers: &PageNumbers, nodes: &[NewNode]) -> bool
 /// The number of a listed node's side, where so many nodes were numbered before those that are listed; 0 of
 /// an older page that has none. A number beyond 64 bits is as want of memory.
 fn side_number(numbers: &PageNumbers, before: u64, side: &Side) -> Result<u64, NoMemory>
-    ensures { IfOk result (λ n. n ≡ side_number_of (numbers_in numbers.now) before side.now) }
+    ensures { IfOk result (λ n. n ≡ new_side_number (numbers_in numbers.now) before side.now) }
 {
     match *side {
         Side::Empty => Ok(0),
@@ -55,7 +55,7 @@ fn put_node(
     before: u64,
     node: &NewNode,
 ) -> Result<(), NoMemory>
-    ensures { OnOk result (into.new ≡ into.old ++ node_codec.write (node_of (numbers_in numbers.now) before node.now)) }
+    ensures { OnOk result (into.new ≡ into.old ++ node_codec.write (numbered_node (numbers_in numbers.now) before node.now)) }
 {
     let left = side_number(numbers, before, &node.left)?;
     let right = side_number(numbers, before, &node.right)?;
@@ -73,7 +73,7 @@ pub(crate) fn put_nodes(
     before: u64,
     nodes: &[NewNode],
 ) -> Result<(), NoMemory>
-    ensures { OnOk result (into.new ≡ into.old ++ flat_map node_codec.write (map (node_of (numbers_in numbers.now) before) nodes.now)) }
+    ensures { OnOk result (into.new ≡ into.old ++ flat_map node_codec.write (map (numbered_node (numbers_in numbers.now) before) nodes.now)) }
 {
     for node in nodes {
         put_node(into, numbers, before, node)?;

@@ -2,7 +2,7 @@
 
 ghost use Rattle.std.specs.Prelude.{◌≡◌, ℕ, is_some, nat_eq, None, OnOk, Some};
 ghost use Rattle.std.specs.Map.{update};
-ghost use Rattle.tw_export.specs.NodeNumbers.{number_at};
+ghost use Rattle.tw_export.specs.NodeNumbers.{node_number_at};
 ghost use Rattle.tw_export.specs.Told.{numbers_in};
 
 use std::alloc::Global;

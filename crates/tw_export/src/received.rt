@@ -11,10 +11,10 @@ ghost use Rattle.tw_rbtree.specs.FaultWords.{tree_faults};
 ghost use Rattle.tw_rbtree.specs.Listing.{listed};
 ghost use Rattle.tw_steppage.specs.StepPages.{HasRanges};
 ghost use Rattle.tw_skiplist.specs.ListFaults.{list_faults};
-ghost use Rattle.tw_export.specs.Exporting.{archive_after, may_be_told, step_with, with_step};
+ghost use Rattle.tw_export.specs.Exporting.{archive_after, exported_with_step, may_be_told, step_with};
 ghost use Rattle.tw_export.specs.Faults.{list_fault_of};
 ghost use Rattle.tw_export.specs.Received.{received_on};
-ghost use Rattle.tw_export.specs.Told.{archive_of, so_far_of};
+ghost use Rattle.tw_export.specs.Told.{archive_so_far, so_far_of};
 
 use crate::archive::{ArchiveSoFar, add_nodes, root_number};
 use crate::file::add_text;
@@ -81,9 +81,9 @@ fn told_root(
     nodes: &[NewNode],
 ) -> Option<u64>
     requires { archive.now.count + length nodes.now < 2 ^ 64 }
-    ensures { MatchOption result (may_be_told (archive_of archive.now) recorded.now (Received thread.now) nodes.now ≡ false)
-        (λ root. (may_be_told (archive_of archive.now) recorded.now (Received thread.now) nodes.now ≡ true)
-        × (root ≡ (archive_after (archive_of archive.now) recorded.now (Received thread.now) nodes.now).root)) }
+    ensures { MatchOption result (may_be_told (archive_so_far archive.now) recorded.now (Received thread.now) nodes.now ≡ false)
+        (λ root. (may_be_told (archive_so_far archive.now) recorded.now (Received thread.now) nodes.now ≡ true)
+        × (root ≡ (archive_after (archive_so_far archive.now) recorded.now (Received thread.now) nodes.now).root)) }
 {
     if thread.step == 0 {
         return None;
@@ -102,7 +102,7 @@ fn put_step(
 ) -> Result<(), NoMemory>
     requires content { IsInRange content.now }
     requires time { IsTimeWithinLimits recorded.now.fields.time }
-    ensures { OnOk result (text.new ≡ text.old ++ step_codec.write (step_with (archive_of archive.now) recorded.now content.now nodes.now root)) }
+    ensures { OnOk result (text.new ≡ text.old ++ step_codec.write (step_with (archive_so_far archive.now) recorded.now content.now nodes.now root)) }
 {
     put_recorded(text, recorded.fields.time, content)?;
     put_last_bytes(text, nodes.len() as u64, 2)?;
@@ -128,8 +128,8 @@ fn take_in(
 ) -> Result<bool, NoMemory>
     requires received { recorded.now.fields.received ≡ Some thread }
     requires ranges { HasRanges recorded.now.fields }
-    ensures { IfOk result (λ is_told. (is_told ≡ may_be_told (archive_of so_far.old.archive) recorded.now (Received thread) nodes.now)
-        × (IsTrue is_told → so_far_of so_far.new ≡ with_step (so_far_of so_far.old) recorded.now (Received thread) nodes.now)) }
+    ensures { IfOk result (λ is_told. (is_told ≡ may_be_told (archive_so_far so_far.old.archive) recorded.now (Received thread) nodes.now)
+        × (IsTrue is_told → so_far_of so_far.new ≡ exported_with_step (so_far_of so_far.old) recorded.now (Received thread) nodes.now)) }
 {
     if !are_small(&so_far.archive, recorded, nodes) {
         return Err(NoMemory);

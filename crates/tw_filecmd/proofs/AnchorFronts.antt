@@ -12,7 +12,7 @@ use Rattle.std.proofs.lemmas.Bool.Decides.{nat_tests}
 use Rattle.tw_base.specs.declared.history.thread.Thread.{Thread}
 use Rattle.tw_base.specs.kinds.Names.{is_name_text, is_name_byte}
 use Rattle.tw_text.specs.Words.{is_digest, is_number, word_number}
-use Rattle.tw_msg.specs.AnchorsFile.{AllGood, IsFirstBadLine, anchor, digest_word, is_anchor, is_blank, is_good, is_line_feed, is_of, line_at, lines, line_may_follow, name_word, step_word}
+use Rattle.tw_msg.specs.AnchorsFile.{AllGood, IsFirstBadLine, anchor_on, digest_word, is_anchor, is_blank, is_good, is_line_feed, is_of, line_at, lines, line_may_follow, name_word, step_word}
 use Rattle.tw_msg.proofs.LineLaws.{lines-first}
 use Rattle.tw_msg.proofs.Reading.{anchor-words, both, not_true, number-pos}
 
@@ -97,19 +97,19 @@ anchor-short line holds =
 
 is_anchor-line_may_follow : (anchors : List Thread) (line : List ℕ) → line_may_follow anchors line ≡ true → is_anchor line ≡ true
 is_anchor-line_may_follow anchors line follows =
-    (both (leb (suc (length anchors)) 64) (is_anchor line) (both (leb (suc (length anchors)) 64 && is_anchor line) (not (list_any (is_of (anchor line).from) anchors)) follows).0).1
+    (both (leb (suc (length anchors)) 64) (is_anchor line) (both (leb (suc (length anchors)) 64 && is_anchor line) (not (list_any (is_of (anchor_on line).from) anchors)) follows).0).1
 
 few-line_may_follow : (anchors : List Thread) (line : List ℕ) → line_may_follow anchors line ≡ true → length anchors < 64
 few-line_may_follow anchors line follows =
     leb-true (suc (length anchors)) 64
-    (both (leb (suc (length anchors)) 64) (is_anchor line) (both (leb (suc (length anchors)) 64 && is_anchor line) (not (list_any (is_of (anchor line).from) anchors)) follows).0).0
+    (both (leb (suc (length anchors)) 64) (is_anchor line) (both (leb (suc (length anchors)) 64 && is_anchor line) (not (list_any (is_of (anchor_on line).from) anchors)) follows).0).0
 
 good-short : (all : List (List ℕ)) (i : ℕ) → is_good all i ≡ true → length (line_at all i) ≤ 127
-good-short all i good = anchor-short (line_at all i) (is_anchor-line_may_follow (map anchor (take i all)) (line_at all i) good)
+good-short all i good = anchor-short (line_at all i) (is_anchor-line_may_follow (map anchor_on (take i all)) (line_at all i) good)
 
 good-few : (all : List (List ℕ)) (i : ℕ) → i < length all → is_good all i ≡ true → i < 64
 good-few all i inside good =
-    omega (arith, few-line_may_follow (map anchor (take i all)) (line_at all i) good, length-map (take i all) anchor, length-take-le i all (omega (arith, inside)))
+    omega (arith, few-line_may_follow (map anchor_on (take i all)) (line_at all i) good, length-map (take i all) anchor_on, length-take-le i all (omega (arith, inside)))
 
 long-bad : (anchors : List Thread) (line : List ℕ) → 127 < length line → line_may_follow anchors line ≡ false
 long-bad anchors line long =
@@ -213,14 +213,14 @@ good_part xs ys k i same below =
     let front : List (List ℕ) = lines xs in
     let taken : take i whole ≡ take i front = sym (take-take i k whole (omega (arith, below))) ∙ ap (take i) same.taken ∙ take-take i k front (omega (arith, below)) in
     let line : line_at whole i ≡ line_at front i = sym (get_or-take k whole i [] below) ∙ ap (λ ls. line_at ls i) same.taken ∙ get_or-take k front i [] below in
-    sym (λ j. line_may_follow (map anchor (taken j)) (line j))
+    sym (λ j. line_may_follow (map anchor_on (taken j)) (line j))
 
 bad_part : (xs ys : List ℕ) (k : ℕ) → SameLines xs ys k → is_good (lines xs) k ≡ false → is_good (lines (xs ++ ys)) k ≡ false
 bad_part xs ys k same bad = by same.here
   where
     by : IsHere (lines (xs ++ ys)) (lines xs) k → is_good (lines (xs ++ ys)) k ≡ false
-    by (inl line) = (λ j. line_may_follow (map anchor (same.taken j)) (line j)) ∙ bad
-    by (inr long) = long-bad (map anchor (take k (lines (xs ++ ys)))) (line_at (lines (xs ++ ys)) k) long.1
+    by (inl line) = (λ j. line_may_follow (map anchor_on (same.taken j)) (line j)) ∙ bad
+    by (inr long) = long-bad (map anchor_on (take k (lines (xs ++ ys)))) (line_at (lines (xs ++ ys)) k) long.1
 
 -- the bytes up to the limit, and the others
 front_size : (bytes : List ℕ) → file_limit < length bytes → length (take file_limit bytes) ≡ file_limit

@@ -8,7 +8,7 @@ use Rattle.tw_base.specs.declared.kinds.hasher.Sha.{Sha}
 use Rattle.tw_base.specs.declared.history.thread.Thread.{Thread}
 use Rattle.tw_pieces.specs.Feeding.{IsSpent}
 use Rattle.tw_base.specs.format.Formats.{IsFront}
-use Rattle.tw_outside.specs.Files.{Came, Files, Tells}
+use Rattle.tw_outside.specs.Files.{Came, Files, TellsBytes}
 use Rattle.tw_outside.proofs.Fronts.{front_grows}
 use Rattle.tw_verifier.specs.declared.verifier.Verifier.{Verifier}
 use Rattle.tw_chain.specs.Proofs.{proof_layout}
@@ -32,7 +32,7 @@ module _ (told : Option Files) (file : List ℕ) (anchors : List Thread) (strict
   pub fed_more : (old new : Verifier Sha) (at came : ℕ) (piece read : List ℕ)
       → ((pieces : List ℕ) → IsFed sha256 anchors strict old pieces → IsFed sha256 anchors strict new (pieces ++ piece))
       → (IsSpent new.fed → ⊥) → came ≤ length read → piece ≡ take came read
-      → ((bytes : List ℕ) → Tells told file bytes → Came bytes at read came)
+      → ((bytes : List ℕ) → TellsBytes told file bytes → Came bytes at read came)
       → IsFedFront told file anchors strict old at → IsFedFront told file anchors strict new (at + came)
   fed_more old new at came piece read feeds unspent fits is given before = record {
     front = before.front ++ piece;
@@ -47,7 +47,7 @@ module _ (told : Option Files) (file : List ℕ) (anchors : List Thread) (strict
 
   module _ (v : Verifier Sha) (count : ℕ) (front : IsFedFront told file anchors strict v count) where
     -- the file has no more
-    pub fed_all : ((bytes : List ℕ) → Tells told file bytes → length bytes ≤ count) → IsFedFar told file anchors strict v
+    pub fed_all : ((bytes : List ℕ) → TellsBytes told file bytes → length bytes ≤ count) → IsFedFar told file anchors strict v
     fed_all none = record {
       front = front.front;
       fed = front.fed;

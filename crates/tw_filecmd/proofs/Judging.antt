@@ -6,7 +6,7 @@ use Rattle.sha2.specs.Sha256.{sha256}
 use Rattle.tw_base.specs.declared.kinds.hasher.Sha.{Sha}
 use Rattle.tw_base.specs.declared.history.thread.Thread.{Thread}
 use Rattle.tw_outside.specs.Files.{Files, IsReadTo, IsThere}
-use Rattle.tw_msg.specs.AnchorsFile.{AllGood, IsFirstBadLine, anchor, lines}
+use Rattle.tw_msg.specs.AnchorsFile.{AllGood, IsFirstBadLine, anchor_on, lines}
 use Rattle.tw_chain.specs.declared.verdict.Verdict.{Verdict}
 use Rattle.tw_verifier.specs.declared.verifier.Verifier.{Verifier}
 use Rattle.tw_chain.specs.Binding.{BindsHistories}
@@ -17,7 +17,7 @@ use Rattle.tw_text.specs.declared.refusal.BadInput.TheVariants.{BadLine}
 use Rattle.tw_text.specs.declared.fault.CommandFault.{CommandFault}
 use Rattle.tw_text.specs.declared.fault.CommandFault.TheVariants.{DiskFault, InputFault, NoMemory, Refused, Unreadable, Unserved}
 use Rattle.tw_filecmd.specs.Feeding.{IsFedFar}
-use Rattle.tw_filecmd.specs.Verifying.{HasAnchors, IsJudged, JudgingComes, VerifyFileComes}
+use Rattle.tw_filecmd.specs.Verifying.{HasAnchors, IsFileJudged, JudgingComes, VerifyFileComes}
 use Rattle.tw_filecmd.proofs.AnchorFronts.{file_limit, first_bad_of_front, good_is_whole}
 use Rattle.tw_filecmd.proofs.ProofFronts.{binds_behind, verdict_behind}
 
@@ -28,7 +28,7 @@ behind front bytes is = ap (λ first. first ++ drop (length front) bytes) is ∙
 module _ (told : Option Files) (file : List ℕ) (anchors : List Thread) (strict : Bool) where
   -- the verdict on what a verifier was fed of the file is that on all of it
   pub judged_by : (v : Verifier Sha) (verdict : Verdict) → IsThere told file → (far : IsFedFar told file anchors strict v)
-      → IsVerdict sha256 anchors strict far.front verdict → BindsHistories sha256 anchors far.front verdict → IsJudged told file anchors strict verdict
+      → IsVerdict sha256 anchors strict far.front verdict → BindsHistories sha256 anchors far.front verdict → IsFileJudged told file anchors strict verdict
   judged_by v verdict there far is holds = record {
     there = there;
     is_verdict = λ bytes tells. elim (far.far bytes tells) [
@@ -47,11 +47,11 @@ module _ (told : Option Files) (file : List ℕ) (anchors : List Thread) (strict
 
 -- the anchors of what was read of their file are the anchors of the file
 pub has_anchors : (told : Option Files) (file : List ℕ) (anchors : List Thread) (all : List ℕ) → IsThere told file → IsReadTo told file file_limit all
-    → anchors ≡ map anchor (lines all) → AllGood (lines all) → HasAnchors told file anchors
+    → anchors ≡ map anchor_on (lines all) → AllGood (lines all) → HasAnchors told file anchors
 has_anchors told file anchors all there read are good = record {
   there = there;
   good = λ bytes tells. subst (λ b. AllGood (lines b)) (good_is_whole all bytes (read bytes tells) good) good;
-  same = λ bytes tells. subst (λ b. anchors ≡ map anchor (lines b)) (good_is_whole all bytes (read bytes tells) good) are;
+  same = λ bytes tells. subst (λ b. anchors ≡ map anchor_on (lines b)) (good_is_whole all bytes (read bytes tells) good) are;
 }
 
 -- what judging comes to since an earlier moment, of inputs that tell the same

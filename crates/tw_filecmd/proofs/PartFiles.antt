@@ -23,8 +23,8 @@ use Rattle.tw_join.proofs.JoinedFronts.{joins-front}
 use Rattle.tw_chain.specs.Proofs.{proof_bytes, proof_layout}
 use Rattle.tw_join.proofs.JoinedSpelling.{joined-spelled}
 use Rattle.tw_chain.proofs.ProofSizes.{proof-size}
-use Rattle.tw_filecmd.specs.Joining.{AreProofsOf, HasBadPart, IsNoProof, IsProofOf, JoinComes}
-use Rattle.tw_filecmd.specs.Parts.{AreFirstOf, AreRead, PartsCome}
+use Rattle.tw_filecmd.specs.Joining.{AreProofsOfFiles, HasBadPartFile, IsNoProof, IsProofOf, JoinComes}
+use Rattle.tw_filecmd.specs.Parts.{AreFirstOf, ArePartsRead, PartsCome}
 use Rattle.tw_filecmd.specs.declared.parts.TheConstants.{MOST_KEPT}
 use Rattle.tw_filecmd.specs.declared.joining.Joined.TheVariants.{Whole, Unfit}
 use Rattle.tw_filecmd.proofs.AnchorFronts.{file_limit}
@@ -33,7 +33,7 @@ use Rattle.tw_filecmd.proofs.FormatFronts.{none_is_none, word_is_whole}
 module _ (told : Option Files) where
   -- one file more, which holds a proof
   pub proofs-snoc : (files : List (List ℕ)) (parts : List Proof) (file : List ℕ) (p : Proof)
-      → AreProofsOf told files parts → IsProofOf told file p → AreProofsOf told (files ++ file ∷ []) (parts ++ p ∷ [])
+      → AreProofsOfFiles told files parts → IsProofOf told file p → AreProofsOfFiles told (files ++ file ∷ []) (parts ++ p ∷ [])
   proofs-snoc [] [] file p are is = (is, tt)
   proofs-snoc [] (q ∷ parts) file p are is = absurd are
   proofs-snoc (first ∷ files) [] file p are is = absurd are
@@ -41,14 +41,14 @@ module _ (told : Option Files) where
 
   -- one that is the first to hold none
   pub bad-snoc : (files : List (List ℕ)) (parts : List Proof) (file : List ℕ) (place : ℕ)
-      → AreProofsOf told files parts → IsNoProof told file place → HasBadPart told (files ++ file ∷ []) file place
+      → AreProofsOfFiles told files parts → IsNoProof told file place → HasBadPartFile told (files ++ file ∷ []) file place
   bad-snoc [] parts file place are none = inl (refl, none, tt)
   bad-snoc (first ∷ files) [] file place are none = absurd are
   bad-snoc (first ∷ files) (p ∷ parts) file place are none = inr ((p, are.0), bad-snoc files parts file place are.1 none)
 
   -- one behind it
   pub bad-more : (files : List (List ℕ)) (file named : List ℕ) (place : ℕ)
-      → HasBadPart told files named place → IsThere told file → HasBadPart told (files ++ file ∷ []) named place
+      → HasBadPartFile told files named place → IsThere told file → HasBadPartFile told (files ++ file ∷ []) named place
   bad-more [] file named place bad there = absurd bad
   bad-more (first ∷ files) file named place (inl here) there = inl (here.0, here.1, Each-append (IsThere told) files (file ∷ []) here.2 (there, tt))
   bad-more (first ∷ files) file named place (inr later) there = inr (later.0, bad-more files file named place later.1 there)
@@ -75,7 +75,7 @@ module _ (told : Option Files) where
 
   -- one file more, behind one that holds no proof
   pub read-told : (files : List (List ℕ)) (kept : List Proof) (bad : Option BadInput) (file : List ℕ) → is_some bad ≡ true → IsThere told file
-      → AreRead told files kept bad → AreRead told (files ++ file ∷ []) kept bad
+      → ArePartsRead told files kept bad → ArePartsRead told (files ++ file ∷ []) kept bad
   read-told files kept None file is there are = cc
   read-told files kept (Some (BadByte named place)) file is there are = bad-more files file named place are there
   read-told files kept (Some (BadLine named number)) file is there are = absurd are
@@ -100,21 +100,21 @@ module _ (told : Option Files) where
 
   -- one that holds a proof, behind others that do: it is kept where there is room, and else not
   pub read-kept : (files : List (List ℕ)) (kept : List Proof) (bad : Option BadInput) (file : List ℕ) (p : Proof) → is_some bad ≡ false
-      → length kept < MOST_KEPT → IsProofOf told file p → AreRead told files kept bad → AreRead told (files ++ file ∷ []) (kept ++ p ∷ []) bad
+      → length kept < MOST_KEPT → IsProofOf told file p → ArePartsRead told files kept bad → ArePartsRead told (files ++ file ∷ []) (kept ++ p ∷ []) bad
   read-kept files kept None file p is few holds are = kept-more files kept file p few holds are
   read-kept files kept (Some bad) file p is few holds are = cc
 
   pub read-full : (files : List (List ℕ)) (kept : List Proof) (bad : Option BadInput) (file : List ℕ) (p : Proof) → is_some bad ≡ false
-      → MOST_KEPT ≤ length kept → IsProofOf told file p → AreRead told files kept bad → AreRead told (files ++ file ∷ []) kept bad
+      → MOST_KEPT ≤ length kept → IsProofOf told file p → ArePartsRead told files kept bad → ArePartsRead told (files ++ file ∷ []) kept bad
   read-full files kept None file p is full holds are = kept-full files kept file p full holds are
   read-full files kept (Some bad) file p is full holds are = cc
 
   -- the first that holds none
   pub read-none : (files : List (List ℕ)) (kept : List Proof) (bad : Option BadInput) (file : List ℕ) (place : ℕ) (came : BadInput)
-      → is_some bad ≡ false → IsNoProof told file place → came ≡ BadByte file place → AreRead told files kept bad
-      → AreRead told (files ++ file ∷ []) kept (Some came)
+      → is_some bad ≡ false → IsNoProof told file place → came ≡ BadByte file place → ArePartsRead told files kept bad
+      → ArePartsRead told (files ++ file ∷ []) kept (Some came)
   read-none files kept None file place came is none told_as are =
-      subst (λ (b : BadInput). AreRead told (files ++ file ∷ []) kept (Some b)) (sym told_as) (bad-snoc files are.0 file place are.1 none)
+      subst (λ (b : BadInput). ArePartsRead told (files ++ file ∷ []) kept (Some b)) (sym told_as) (bad-snoc files are.0 file place are.1 none)
   read-none files kept (Some bad) file place came is none told_as are = cc
 
 -- ---- from the files to what joining them comes to
@@ -127,13 +127,13 @@ module _ (a : Asked) where
   refuses_input files NoMemory came some rose is = subst (λ (f : CommandFault). PartsCome a files (Err f)) (sym is) tt
 
   -- one that holds no proof
-  pub refuses_part : (files : List (List ℕ)) (kept : List Proof) (bad : BadInput) → AreRead a.told files kept (Some bad)
+  pub refuses_part : (files : List (List ℕ)) (kept : List Proof) (bad : BadInput) → ArePartsRead a.told files kept (Some bad)
       → PartsCome a files (Err (Unreadable bad))
   refuses_part files kept (BadByte named place) read = read
   refuses_part files kept (BadLine named number) read = absurd read
   refuses_part files kept (Unsound named step rule) read = absurd read
 
-  spelled_parts : (files : List (List ℕ)) (parts : List Proof) → AreProofsOf a.told files parts
+  spelled_parts : (files : List (List ℕ)) (parts : List Proof) → AreProofsOfFiles a.told files parts
       → Each (λ part. (bytes : List ℕ) × Spells proof_layout bytes part) parts
   spelled_parts [] [] are = tt
   spelled_parts [] (p ∷ parts) are = absurd are

@@ -5,7 +5,7 @@ use Rattle.tw_base.specs.declared.kinds.hasher.Sha.{Sha}
 use Rattle.tw_base.specs.declared.history.thread.Thread.{Thread}
 use Rattle.tw_pieces.specs.Feeding.{IsSpent}
 use Rattle.tw_base.specs.format.Formats.{IsFront}
-use Rattle.tw_outside.specs.Files.{Files, IsFrontOfFile, Tells}
+use Rattle.tw_outside.specs.Files.{Files, IsFrontOfFile, TellsBytes}
 use Rattle.tw_verifier.specs.declared.verifier.Verifier.{Verifier}
 use Rattle.tw_chain.specs.Proofs.{proof_layout}
 use Rattle.tw_verifier.specs.Verifying.{IsFed}
@@ -24,4 +24,4 @@ module _ (told : Option Files) (file : List ℕ) (anchors : List Thread) (strict
     pub front : List ℕ
     pub fed : IsFed sha256 anchors strict v front
     pub of_file : IsFrontOfFile told file front
-    pub far : (bytes : List ℕ) → Tells told file bytes → (front ≡ bytes) ⊎ (IsFront proof_layout front → ⊥)
+    pub far : (bytes : List ℕ) → TellsBytes told file bytes → (front ≡ bytes) ⊎ (IsFront proof_layout front → ⊥)

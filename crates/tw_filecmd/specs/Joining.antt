@@ -4,7 +4,7 @@ use Rattle.tw_base.specs.kinds.Faults.{Rose}
 use Rattle.tw_base.specs.format.Formats.{IsPlace, Spells, SpellsNothing}
 use Rattle.tw_base.specs.kinds.Lists.{Each}
 use Rattle.tw_outside.specs.Asked.{Asked}
-use Rattle.tw_outside.specs.Files.{Files, IsThere, Tells}
+use Rattle.tw_outside.specs.Files.{Files, IsThere, TellsBytes}
 use Rattle.tw_text.specs.declared.refusal.BadInput.TheVariants.{BadByte}
 use Rattle.tw_text.specs.declared.fault.CommandFault.{CommandFault}
 use Rattle.tw_text.specs.declared.fault.CommandFault.TheVariants.{Unreadable, InputFault, NoMemory}
@@ -21,33 +21,33 @@ module _ (told : Option Files) where
     pub there : IsThere told file
     pub bytes : List ℕ
     pub spelled : Spells proof_layout bytes p
-    pub same : (others : List ℕ) → Tells told file others → others ≡ bytes
+    pub same : (others : List ℕ) → TellsBytes told file others → others ≡ bytes
 
   -- the file is there; where the inputs tell its bytes, they spell no proof, and this is the place of the first one at which none goes on
   pub record IsNoProof (file : List ℕ) (place : ℕ) : Type 0 where
     pub there : IsThere told file
-    pub nothing : (bytes : List ℕ) → Tells told file bytes → SpellsNothing proof_layout bytes × IsPlace proof_layout bytes place
+    pub nothing : (bytes : List ℕ) → TellsBytes told file bytes → SpellsNothing proof_layout bytes × IsPlace proof_layout bytes place
 
   -- each of the files holds one of the proofs, in their order
-  abbrev pub AreProofsOf : (files : List (List ℕ)) → List Proof → Type 0
-  AreProofsOf [] [] = Unit {0}
-  AreProofsOf (file ∷ files) (p ∷ ps) = IsProofOf file p × AreProofsOf files ps
-  AreProofsOf _ _ = ⊥
+  abbrev pub AreProofsOfFiles : (files : List (List ℕ)) → List Proof → Type 0
+  AreProofsOfFiles [] [] = Unit {0}
+  AreProofsOfFiles (file ∷ files) (p ∷ ps) = IsProofOf file p × AreProofsOfFiles files ps
+  AreProofsOfFiles _ _ = ⊥
 
   -- all files are there, and the first one that holds no proof is of this name and no proof at this place
-  abbrev pub HasBadPart : (files : List (List ℕ)) → (named : List ℕ) (place : ℕ) → Type 0
-  HasBadPart [] named place = ⊥
-  HasBadPart (file ∷ files) named place =
+  abbrev pub HasBadPartFile : (files : List (List ℕ)) → (named : List ℕ) (place : ℕ) → Type 0
+  HasBadPartFile [] named place = ⊥
+  HasBadPartFile (file ∷ files) named place =
       ((named ≡ file) × IsNoProof file place × Each (IsThere told) files)
-      ⊎ (((p : Proof) × IsProofOf file p) × HasBadPart files named place)
+      ⊎ (((p : Proof) × IsProofOf file p) × HasBadPartFile files named place)
 
 -- what joining the proofs of the files comes to: bytes that spell the proof that they join to; the number of the first one that
 -- doesn't fit; or the first file that holds none, once all are read. Want of memory is free
 abbrev pub JoinComes : Asked → (files : List (List ℕ)) → Result Joined CommandFault → Type 0
 JoinComes a files (Ok (Whole bytes)) =
-    (parts : List Proof) × AreProofsOf a.told files parts × ((p : Proof) × Joins parts (Ok p) × Spells proof_layout bytes p)
-JoinComes a files (Ok (Unfit place)) = (parts : List Proof) × AreProofsOf a.told files parts × Joins parts (Err (Gap place))
-JoinComes a files (Err (Unreadable (BadByte named place))) = HasBadPart a.told files named place
+    (parts : List Proof) × AreProofsOfFiles a.told files parts × ((p : Proof) × Joins parts (Ok p) × Spells proof_layout bytes p)
+JoinComes a files (Ok (Unfit place)) = (parts : List Proof) × AreProofsOfFiles a.told files parts × Joins parts (Err (Gap place))
+JoinComes a files (Err (Unreadable (BadByte named place))) = HasBadPartFile a.told files named place
 JoinComes a files (Err InputFault) = (files ≢ []) × Rose a.before a.after
 JoinComes a files (Err NoMemory) = Unit {0}
 JoinComes a files _ = ⊥

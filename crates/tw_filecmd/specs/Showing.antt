@@ -9,7 +9,7 @@ use Rattle.tw_base.specs.history.History.{History}
 use Rattle.tw_base.specs.history.Sound.{IsSound}
 use Rattle.tw_base.specs.kinds.Faults.{Rose}
 use Rattle.tw_outside.specs.Asked.{Asked}
-use Rattle.tw_outside.specs.Files.{Files, IsThere, Tells}
+use Rattle.tw_outside.specs.Files.{Files, IsThere, TellsBytes}
 use Rattle.tw_chain.specs.Accepting.{Accepts}
 use Rattle.tw_skipproof.specs.HistoryProofs.{MakesExistence}
 use Rattle.tw_base.specs.declared.kinds.limits.TheConstants.{MOST_HISTORY_BYTES}
@@ -24,7 +24,7 @@ use Rattle.tw_text.specs.declared.fault.CommandFault.{CommandFault}
 use Rattle.tw_text.specs.declared.fault.CommandFault.TheVariants.{Refused, Unreadable, InputFault, NoMemory}
 
 -- the bytes are a history file of this sound history
-pub record IsFileOf (bytes : List ℕ) (h : History) : Type 0 where
+pub record IsHistoryFileOf (bytes : List ℕ) (h : History) : Type 0 where
   pub short : length bytes ≤ MOST_HISTORY_BYTES
   pub spelled : Spells history_layout bytes h
   pub sound : IsSound h
@@ -32,7 +32,7 @@ pub record IsFileOf (bytes : List ℕ) (h : History) : Type 0 where
 -- the file is there; where the inputs tell its bytes, they are the file of a sound history for which P holds
 pub record OfHistory (told : Option Files) (file : List ℕ) (P : History → Type 0) : Type 0 where
   pub there : IsThere told file
-  pub holds : (bytes : List ℕ) → Tells told file bytes → (h : History) × IsFileOf bytes h × P h
+  pub holds : (bytes : List ℕ) → TellsBytes told file bytes → (h : History) × IsHistoryFileOf bytes h × P h
 
 -- the bytes are the proof that the history has of this event, with its last step as the top; so whoever holds the
 -- history's authenticator of that step accepts them
@@ -64,9 +64,9 @@ abbrev pub ShowComes : Asked → (file : List ℕ) → (step index : ℕ) → Re
 ShowComes a file step index (Ok proof) = OfHistory a.told file (ProvesEvent step index proof)
 ShowComes a file step index (Err (Refused refusal)) = OfHistory a.told file (RefusesToShow step index refusal)
 ShowComes a file step index (Err (Unreadable (BadByte named place))) =
-    (named ≡ file) × IsThere a.told file × ((bytes : List ℕ) → Tells a.told file bytes → IsBadByte bytes place)
+    (named ≡ file) × IsThere a.told file × ((bytes : List ℕ) → TellsBytes a.told file bytes → IsBadByte bytes place)
 ShowComes a file step index (Err (Unreadable (Unsound named broken rule))) =
-    (named ≡ file) × IsThere a.told file × ((bytes : List ℕ) → Tells a.told file bytes → BreaksRule bytes broken rule)
+    (named ≡ file) × IsThere a.told file × ((bytes : List ℕ) → TellsBytes a.told file bytes → BreaksRule bytes broken rule)
 ShowComes a file step index (Err InputFault) = Rose a.before a.after
 ShowComes a file step index (Err NoMemory) = Unit {0}
 ShowComes a file step index _ = ⊥

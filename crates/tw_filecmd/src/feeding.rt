@@ -3,7 +3,7 @@
 ghost use Rattle.std.specs.Prelude.{◌≡◌, ◌≤◌, ◌+◌, ◌↔◌, ℕ, List, Bool, length, Ok, Err, IfOk, OnOk};
 ghost use Rattle.tw_base.specs.kinds.Faults.{Rose};
 ghost use Rattle.tw_base.specs.declared.history.thread.Thread.{Thread as Anchor};
-ghost use Rattle.tw_outside.specs.Files.{IsThere, Tells};
+ghost use Rattle.tw_outside.specs.Files.{IsThere, TellsBytes};
 ghost use Rattle.tw_filecmd.specs.Feeding.{IsFedFar, IsFedFront};
 
 use std::alloc::Global;
@@ -62,7 +62,7 @@ fn feed_piece<I: Inputs>(
     ensures within { IfOk result (λ came. came ≤ PIECE) }
     ensures fed { IfOk result (λ came. (anchors : List Anchor) (strict : Bool) →
         IsFedFront (I.told inputs.old) proof.now anchors strict verifier.old at → IsFedFront (I.told inputs.old) proof.now anchors strict verifier.new (at + came)) }
-    ensures end { result ≡ Ok 0 → (bytes : List ℕ) → Tells (I.told inputs.old) proof.now bytes → length bytes ≤ at }
+    ensures end { result ≡ Ok 0 → (bytes : List ℕ) → TellsBytes (I.told inputs.old) proof.now bytes → length bytes ≤ at }
 {
     let mut piece = [0u8; PIECE];
     let room = PIECE - at % PIECE;

@@ -4,7 +4,7 @@ ghost use Rattle.std.specs.Prelude.{ℕ, List, [], ◌∷◌, ◌++◌, OnOk, Op
 ghost use Rattle.tw_base.specs.kinds.Lists.{Each};
 ghost use Rattle.tw_outside.specs.Asked.{asked};
 ghost use Rattle.tw_outside.specs.Files.{Files, IsReadTo, IsThere};
-ghost use Rattle.tw_filecmd.specs.Parts.{AreRead, PartsCome};
+ghost use Rattle.tw_filecmd.specs.Parts.{ArePartsRead, PartsCome};
 
 use crate::faults::bad_byte;
 use crate::limits::FILE_READ;
@@ -56,7 +56,7 @@ impl Parts {
     /// decide none is kept.
     fn add(&mut self, alloc: Global, file: &str, bytes: &[u8]) -> Result<(), NoMemory>
         ensures { OnOk result ((told : Option Files) (files : List (List ℕ)) → IsThere told file.now → IsReadTo told file.now FILE_READ bytes.now →
-            AreRead told files self.old.proofs self.old.bad → AreRead told (files ++ file.now ∷ []) self.new.proofs self.new.bad) }
+            ArePartsRead told files self.old.proofs self.old.bad → ArePartsRead told (files ++ file.now ∷ []) self.new.proofs self.new.bad) }
     {
         if self.bad.is_some() {
             return Ok(());

@@ -10,7 +10,7 @@ use Rattle.tw_disk.specs.Disk.{DiskView, IsAtRest, LeavesOnly, Reads}
 use Rattle.tw_disk.specs.Image.{Image}
 use Rattle.tw_disk.proofs.FoundLaws.{same_found}
 use Rattle.tw_msg.specs.HistoryMessages.{MakesMessage, thread_at_step}
-use Rattle.tw_pages.specs.Same.{IsSameStore, count_of}
+use Rattle.tw_pages.specs.Same.{IsSameStore, store_count}
 use Rattle.tw_pages.specs.SameSteps.{is_same_itself}
 use Rattle.tw_follow.specs.declared.follower.Follower.{Follower}
 use Rattle.tw_follow.specs.declared.judging.Offered.{Offered}
@@ -18,18 +18,18 @@ use Rattle.tw_follow.specs.declared.judging.Offered.TheVariants.{Known, Moves}
 use Rattle.tw_follow.specs.declared.refusal.FollowRefusal.{FollowRefusal}
 use Rattle.tw_follow.specs.declared.refusal.FollowRefusal.TheVariants.{Malformed, BadPage, DiskFault, Reopen, NoMemory}
 use Rattle.tw_follow.specs.declared.root.RootRecord.{RootRecord}
-use Rattle.tw_follow.specs.Calls.{Offers, Tells}
+use Rattle.tw_follow.specs.Calls.{Offers, TellsHeads}
 use Rattle.tw_follow.specs.Writing.{moved_to}
 use Rattle.tw_follow.specs.Follows.{Follows, HasSameDisk, IsOver, disk_of, has_failed, head_of, pages_of, record_of}
 use Rattle.tw_follow.specs.HeadLists.{HasHead, Kept, RiseTo, with_head}
 use Rattle.tw_follow.specs.HeadPages.{found_heads}
-use Rattle.tw_follow.specs.Offers.{AnswersOffer, Judges, answer_to, judged}
-use Rattle.tw_follow.specs.Refusals.{IsFault, refusals}
+use Rattle.tw_follow.specs.Offers.{AnswersOffer, JudgesOffer, answer_to, judged_offer}
+use Rattle.tw_follow.specs.Refusals.{IsFollowerFault, follower_refusals}
 use Rattle.tw_follow.specs.Runs.{MovesBy}
 use Rattle.tw_follow.specs.Stands.{KeepsList, StandsFor, StandsForOneOf, root_kind}
-use Rattle.tw_pages.specs.Records.{IsOneOf, IsWritten, Written, written}
+use Rattle.tw_pages.specs.Records.{IsOneOf, IsWritten, Written, written_record}
 use Rattle.tw_pages.specs.Rests.{RestsWith}
-use Rattle.tw_pages.specs.States.{Serves}
+use Rattle.tw_pages.specs.States.{ServesState}
 use Rattle.tw_pages.proofs.Staged.{leaves_before, reads_before}
 use Rattle.tw_pages.proofs.Written.{still_rests, told_list}
 use Rattle.tw_follow.proofs.Following.{read_leaves, rest_head, same_leaves, still_keeps}
@@ -62,7 +62,7 @@ pub not_both : (b : Bool) → b ≡ false → IsTrue b → ⊥
 not_both true e is = cc
 not_both false e is = cc
 
-shared_fault : (r : FollowRefusal) → IsShared (refusals r) → IsFault r
+shared_fault : (r : FollowRefusal) → IsShared (follower_refusals r) → IsFollowerFault r
 shared_fault (BadPage page) s = tt
 shared_fault DiskFault s = tt
 shared_fault NoMemory s = tt
@@ -85,14 +85,14 @@ module _ {D H : Type 0} {g : _} {k : _} (view : D → DiskView) (only_now : (d :
     reads kept next follows = none_reads view only_now dig f.recorded.store f.recorded.store f.recorded.root kept next (is_same_itself view f.recorded.store) follows
 
     -- whatever its pages keep, it opens as before
-    as_before : (ps : Image) → IsOver dig view f ps → LeavesOnly (view (disk_of f)) (view (disk_of f)) (IsWritten (root_kind dig) (written (record_of f) ps))
+    as_before : (ps : Image) → IsOver dig view f ps → LeavesOnly (view (disk_of f)) (view (disk_of f)) (IsWritten (root_kind dig) (written_record (record_of f) ps))
     as_before ps over = same_leaves view only_now dig f.recorded.store f.recorded.store f.recorded.root ps (is_same_itself view f.recorded.store) over
 
-    either_before : (ps : Image) → IsOver dig view f ps → LeavesOnly (view (disk_of f)) (view (disk_of f)) (IsOneOf (root_kind dig) (written (record_of f) ps) (written (record_of f) ps))
-    either_before ps over = leaves_before view only_now (root_kind dig) f.recorded.store f.recorded.store (written f.recorded.root ps) (written f.recorded.root ps) (is_same_itself view f.recorded.store) over
+    either_before : (ps : Image) → IsOver dig view f ps → LeavesOnly (view (disk_of f)) (view (disk_of f)) (IsOneOf (root_kind dig) (written_record (record_of f) ps) (written_record (record_of f) ps))
+    either_before ps over = leaves_before view only_now (root_kind dig) f.recorded.store f.recorded.store (written_record f.recorded.root ps) (written_record f.recorded.root ps) (is_same_itself view f.recorded.store) over
 
-    reads_either : (ps : Image) → IsOver dig view f ps → Reads (view (disk_of f)) (IsOneOf (root_kind dig) (written (record_of f) ps) (written (record_of f) ps))
-    reads_either ps over = reads_before view only_now (root_kind dig) f.recorded.store f.recorded.store (written f.recorded.root ps) (written f.recorded.root ps) (is_same_itself view f.recorded.store) over
+    reads_either : (ps : Image) → IsOver dig view f ps → Reads (view (disk_of f)) (IsOneOf (root_kind dig) (written_record (record_of f) ps) (written_record (record_of f) ps))
+    reads_either ps over = reads_before view only_now (root_kind dig) f.recorded.store f.recorded.store (written_record f.recorded.root ps) (written_record f.recorded.root ps) (is_same_itself view f.recorded.store) over
 
     -- a refused offer
     pub refused_offer : (bytes : List ℕ) (r : FollowRefusal) → AnswersOffer dig (has_failed f) (head_of f) bytes (Err r) → r ≢ DiskFault → Offers dig view bytes f f (Err r)
@@ -107,7 +107,7 @@ module _ {D H : Type 0} {g : _} {k : _} (view : D → DiskView) (only_now : (d :
         refused = inr (follows, still kept follows);
       };
       written = λ ps over. record {
-        next = written (record_of f) ps;
+        next = written_record (record_of f) ps;
         is_next = inl refl;
         any_moment = either_before ps over;
         told = reads_either ps over;
@@ -124,7 +124,7 @@ module _ {D H : Type 0} {g : _} {k : _} (view : D → DiskView) (only_now : (d :
     }
 
     -- an offer of the head itself
-    pub known_offer : (bytes : List ℕ) → has_failed f ≡ false → Judges dig (head_of f) bytes (Ok Known) → Offers dig view bytes f f (Ok (head_of f))
+    pub known_offer : (bytes : List ℕ) → has_failed f ≡ false → JudgesOffer dig (head_of f) bytes (Ok Known) → Offers dig view bytes f f (Ok (head_of f))
     known_offer bytes whole judges = record {
       table = subst (λ (b : Bool). AnswersOffer dig b (head_of f) bytes (Ok (head_of f))) (sym whole) (Known, judges, refl);
       steps = λ kept follows.
@@ -134,11 +134,11 @@ module _ {D H : Type 0} {g : _} {k : _} (view : D → DiskView) (only_now : (d :
             goes = inl (tt, refl);
             any_moment = still_one_of kept kept follows;
             told = reads kept kept follows;
-            done = (inl ((subst (λ (t : Thread). Judges dig t bytes (Ok Known)) (sym is) judges, sym is), refl), follows);
+            done = (inl ((subst (λ (t : Thread). JudgesOffer dig t bytes (Ok Known)) (sym is) judges, sym is), refl), follows);
             refused = tt;
           };
       written = λ ps over. record {
-        next = written (record_of f) ps;
+        next = written_record (record_of f) ps;
         is_next = inl refl;
         any_moment = either_before ps over;
         told = reads_either ps over;
@@ -155,7 +155,7 @@ module _ {D H : Type 0} {g : _} {k : _} (view : D → DiskView) (only_now : (d :
     }
 
     -- the heads aren't told after a disk fault
-    pub reopened_heads : has_failed f ≡ true → Tells dig view f f (Err Reopen)
+    pub reopened_heads : has_failed f ≡ true → TellsHeads dig view f f (Err Reopen)
     reopened_heads failed = record {
       reopen = (λ e. failed_is failed, λ is. refl);
       faults = inl refl;
@@ -175,16 +175,16 @@ module _ {D H : Type 0} {g : _} {k : _} (view : D → DiskView) (only_now : (d :
 
   -- ---- a call that moves the head
 
-  module _ (old new : Follower D H g k) (bytes : List ℕ) (head : Thread) (whole : has_failed old ≡ false) (judges : Judges dig (head_of old) bytes (Ok (Moves head)))
+  module _ (old new : Follower D H g k) (bytes : List ℕ) (head : Thread) (whole : has_failed old ≡ false) (judges : JudgesOffer dig (head_of old) bytes (Ok (Moves head)))
       (any_moment : (kept : Kept) → Follows dig view old kept → LeavesOnly (view (disk_of old)) (view (disk_of new)) (StandsForOneOf dig kept (with_head kept head)))
       (told : (kept : Kept) → Follows dig view old kept → Reads (view (disk_of new)) (StandsForOneOf dig kept (with_head kept head)))
       (later : (view (disk_of old)).faults ≤ (view (disk_of new)).faults) where
     -- what is written, whatever the pages keep
     abbrev pub IsWrittenBy : (Done : Written RootRecord → Type 0) → Type 0
     IsWrittenBy Done = (ps : Image) → IsOver dig view old ps
-        → LeavesOnly (view (disk_of old)) (view (disk_of new)) (IsOneOf (root_kind dig) (written (record_of old) ps) (moved_to (written (record_of old) ps) head))
-        × Reads (view (disk_of new)) (IsOneOf (root_kind dig) (written (record_of old) ps) (moved_to (written (record_of old) ps) head))
-        × Done (moved_to (written (record_of old) ps) head)
+        → LeavesOnly (view (disk_of old)) (view (disk_of new)) (IsOneOf (root_kind dig) (written_record (record_of old) ps) (moved_to (written_record (record_of old) ps) head))
+        × Reads (view (disk_of new)) (IsOneOf (root_kind dig) (written_record (record_of old) ps) (moved_to (written_record (record_of old) ps) head))
+        × Done (moved_to (written_record (record_of old) ps) head)
 
     is : IsMoved dig (head_of old) judges.0 head
     is = moved-is dig (head_of old) judges.0 head judges.2
@@ -194,7 +194,7 @@ module _ {D H : Type 0} {g : _} {k : _} (view : D → DiskView) (only_now : (d :
         let same = rest_head view only_now dig old.recorded.store old.recorded.root kept follows in
         record {
           spelled = judges.1;
-          moves = ap (λ (t : Thread). judged dig t judges.0) same ∙ judges.2 ∙ ap (λ (t : Thread). Ok (Moves t)) is.thread_is;
+          moves = ap (λ (t : Thread). judged_offer dig t judges.0) same ∙ judges.2 ∙ ap (λ (t : Thread). Ok (Moves t)) is.thread_is;
           adds = ap (λ (t : Thread). with_head kept t) is.thread_is;
         }
 
@@ -214,7 +214,7 @@ module _ {D H : Type 0} {g : _} {k : _} (view : D → DiskView) (only_now : (d :
       written = λ ps over.
           let it = writes ps over in
           record {
-            next = moved_to (written (record_of old) ps) head;
+            next = moved_to (written_record (record_of old) ps) head;
             is_next = inr (head, judges, refl);
             any_moment = it.0;
             told = it.1;
@@ -246,7 +246,7 @@ module _ {D H : Type 0} {g : _} {k : _} (view : D → DiskView) (only_now : (d :
         told = told kept follows;
         done = tt;
         refused = ⊎_elim (λ e. inl e) (λ same. inr (
-          subst (λ (x : RootRecord). Serves (root_kind dig) KeepsList view new.recorded.store x kept) (sym kept_is.0)
+          subst (λ (x : RootRecord). ServesState (root_kind dig) KeepsList view new.recorded.store x kept) (sym kept_is.0)
               (still_keeps view only_now dig old.recorded.store new.recorded.store old.recorded.root kept same follows),
           read_leaves view only_now dig old.recorded.store new.recorded.store old.recorded.root kept same follows,
         )) kept_is.1;
@@ -254,13 +254,13 @@ module _ {D H : Type 0} {g : _} {k : _} (view : D → DiskView) (only_now : (d :
       written = λ ps over.
           let it = writes ps over in
           record {
-            next = moved_to (written (record_of old) ps) head;
+            next = moved_to (written_record (record_of old) ps) head;
             is_next = inr (head, judges, refl);
             any_moment = it.0;
             told = it.1;
             done = tt;
             refused = ⊎_elim (λ e. inl e) (λ same. inr (
-              still_rests view (root_kind dig) old.recorded.store new.recorded.store (written old.recorded.root ps) same over,
+              still_rests view (root_kind dig) old.recorded.store new.recorded.store (written_record old.recorded.root ps) same over,
               same_leaves view only_now dig old.recorded.store new.recorded.store old.recorded.root ps same over,
             )) kept_is.1;
           };
@@ -287,24 +287,24 @@ module _ {D H : Type 0} {g : _} {k : _} (view : D → DiskView) (only_now : (d :
 
   -- ---- telling the heads
 
-  module _ (old new : Follower D H g k) (whole : has_failed old ≡ false) (same : IsSameStore view old.recorded.store new.recorded.store) (count : count_of new.recorded.store ≡ count_of old.recorded.store)
+  module _ (old new : Follower D H g k) (whole : has_failed old ≡ false) (same : IsSameStore view old.recorded.store new.recorded.store) (count : store_count new.recorded.store ≡ store_count old.recorded.store)
       (record_is : record_of new ≡ record_of old) (later : (view (disk_of old)).faults ≤ (view (disk_of new)).faults) where
     kept_on : (kept : Kept) → Follows dig view old kept → Follows dig view new kept × LeavesOnly (view (disk_of old)) (view (disk_of new)) (λ i. StandsFor dig i kept)
     kept_on kept follows = (
-      subst (λ (x : RootRecord). Serves (root_kind dig) KeepsList view new.recorded.store x kept) (sym record_is)
+      subst (λ (x : RootRecord). ServesState (root_kind dig) KeepsList view new.recorded.store x kept) (sym record_is)
           (still_keeps view only_now dig old.recorded.store new.recorded.store old.recorded.root kept same follows),
       read_leaves view only_now dig old.recorded.store new.recorded.store old.recorded.root kept same follows,
     )
 
-    pub told_heads : (heads : List Thread) → ((ps : Image) → pages_of view old ≡ Some ps → AnswersAs refusals (λ (hs : List Thread). hs) (Ok heads) (found_heads ps (record_of old))) → RiseTo (head_of old) heads → has_failed new ≡ has_failed old
-        → Tells dig view old new (Ok heads)
+    pub told_heads : (heads : List Thread) → ((ps : Image) → pages_of view old ≡ Some ps → AnswersAs follower_refusals (λ (hs : List Thread). hs) (Ok heads) (found_heads ps (record_of old))) → RiseTo (head_of old) heads → has_failed new ≡ has_failed old
+        → TellsHeads dig view old new (Ok heads)
     told_heads heads answer rises failed = record {
       reopen = (λ e. absurd (never_ok (List Thread) heads Reopen e), λ is. absurd (not_both (has_failed old) whole is));
       faults = tt;
       answer = λ _. answer;
       rises = rises;
       heads = λ kept follows.
-          same_found heads kept.heads (sym (answer follows.pages (told_list view (root_kind dig) old.recorded.store (written old.recorded.root follows.pages) follows.rests old.clean)) ∙ follows.keeps.found);
+          same_found heads kept.heads (sym (answer follows.pages (told_list view (root_kind dig) old.recorded.store (written_record old.recorded.root follows.pages) follows.rests old.clean)) ∙ follows.keeps.found);
       still = kept_on;
       unwritten = same;
       record_ = record_is;
@@ -313,10 +313,10 @@ module _ {D H : Type 0} {g : _} {k : _} (view : D → DiskView) (only_now : (d :
       later = later;
     }
 
-    pub untold_heads : (r : FollowRefusal) → ((ps : Image) → pages_of view old ≡ Some ps → AnswersAs refusals (λ (hs : List Thread). hs) (Err r) (found_heads ps (record_of old))) → IsShared (refusals r)
-        → (IsTrue (has_failed new) ↔ (r ≡ DiskFault)) → (is_of_disk (refusals r) ≡ true → Rose (view (disk_of old)).faults (view (disk_of new)).faults) → Tells dig view old new (Err r)
+    pub untold_heads : (r : FollowRefusal) → ((ps : Image) → pages_of view old ≡ Some ps → AnswersAs follower_refusals (λ (hs : List Thread). hs) (Err r) (found_heads ps (record_of old))) → IsShared (follower_refusals r)
+        → (IsTrue (has_failed new) ↔ (r ≡ DiskFault)) → (is_of_disk (follower_refusals r) ≡ true → Rose (view (disk_of old)).faults (view (disk_of new)).faults) → TellsHeads dig view old new (Err r)
     untold_heads r answer shared broken rose = record {
-      reopen = (λ e. absurd (subst (λ (x : FollowRefusal). IsShared (refusals x)) (same_refusal (List Thread) r Reopen e) shared), λ is. absurd (not_both (has_failed old) whole is));
+      reopen = (λ e. absurd (subst (λ (x : FollowRefusal). IsShared (follower_refusals x)) (same_refusal (List Thread) r Reopen e) shared), λ is. absurd (not_both (has_failed old) whole is));
       faults = inr (shared_fault r shared);
       answer = λ _. answer;
       rises = tt;
@@ -325,14 +325,14 @@ module _ {D H : Type 0} {g : _} {k : _} (view : D → DiskView) (only_now : (d :
       unwritten = same;
       record_ = record_is;
       broken = (λ is. inr (ap (λ (x : FollowRefusal). Err x) (broken.0 is)), λ either. ⊎_elim (λ is. absurd (not_both (has_failed old) whole is)) (λ e. broken.1 (same_refusal (List Thread) r DiskFault e)) either);
-      fault = λ e. rose (ap (λ (x : FollowRefusal). is_of_disk (refusals x)) (same_refusal (List Thread) r DiskFault e));
+      fault = λ e. rose (ap (λ (x : FollowRefusal). is_of_disk (follower_refusals x)) (same_refusal (List Thread) r DiskFault e));
       later = later;
     }
 
 -- ---- the message of a history that has the head
 
 module _ (dig : List ℕ → List ℕ) (h : History) (head : Thread) (bytes : List ℕ) (name : h.name ≡ head.from) (has : HasHead dig h head) (makes : MakesMessage dig h head.step bytes) where
-  own : (offered : Offered) × (judged dig head makes.0 ≡ Ok offered) × (answer_to head offered ≡ thread_at_step dig h (length h.steps))
+  own : (offered : Offered) × (judged_offer dig head makes.0 ≡ Ok offered) × (answer_to head offered ≡ thread_at_step dig h (length h.steps))
   own = own-judged dig h head makes.0 name has makes.2
 
   offered_in : Offered → Result Offered FollowRefusal → Offered
@@ -347,19 +347,19 @@ module _ (dig : List ℕ → List ℕ) (h : History) (head : Thread) (bytes : Li
   none_wanted offered e = cc
 
   -- what is answered to it is the history's last thread
-  pub own-answer : (offered : Offered) → Judges dig head bytes (Ok offered) → answer_to head offered ≡ thread_at_step dig h (length h.steps)
+  pub own-answer : (offered : Offered) → JudgesOffer dig head bytes (Ok offered) → answer_to head offered ≡ thread_at_step dig h (length h.steps)
   own-answer offered j =
       let same = same_offered offered own.0 (judges-once dig head bytes (Ok offered) (Ok own.0) j (judges-table dig head bytes (Ok own.0) makes.0 makes.1 own.1) (none_wanted offered) (none_wanted own.0)) in
       ap (answer_to head) same ∙ own.2
 
   -- it is refused for want of memory alone
-  pub own-refused : (r : FollowRefusal) → Judges dig head bytes (Err r) → r ≡ NoMemory
+  pub own-refused : (r : FollowRefusal) → JudgesOffer dig head bytes (Err r) → r ≡ NoMemory
   own-refused r j = by (sort_of dig head bytes (Err r) j)
     where
       by : (◌≡◌ {A = Result Offered FollowRefusal} (Err r) (Err NoMemory)) ⊎ IsJudged dig head bytes (Err r) → r ≡ NoMemory
       by (inl e) = same_refusal Offered r NoMemory e
       by (inr (inl a)) = absurd (a.2 makes.0 makes.1)
-      by (inr (inr b)) = absurd (let never : ◌≡◌ {A = Result Offered FollowRefusal} (Ok own.0) (Err r) = sym own.1 ∙ ap (judged dig head) (one-message bytes makes.0 b.0 makes.1 b.1) ∙ b.2 in never_ok Offered own.0 r never)
+      by (inr (inr b)) = absurd (let never : ◌≡◌ {A = Result Offered FollowRefusal} (Ok own.0) (Err r) = sym own.1 ∙ ap (judged_offer dig head) (one-message bytes makes.0 b.0 makes.1 b.1) ∙ b.2 in never_ok Offered own.0 r never)
 
   pub own-told : (thread : Thread) → thread ≡ thread_at_step dig h (length h.steps) → (thread.step ≡ length h.steps) × (thread.auth ≡ auth dig h (length h.steps))
   own-told thread e = (ap (λ (t : Thread). t.step) e, ap (λ (t : Thread). t.auth) e)

@@ -15,13 +15,13 @@ use Rattle.tw_msg.specs.declared.message.Message.{Message}
 use Rattle.tw_follow.specs.declared.follower.Follower.{Follower}
 use Rattle.tw_follow.specs.declared.refusal.FollowRefusal.{FollowRefusal}
 use Rattle.tw_follow.specs.declared.refusal.FollowRefusal.TheVariants.{DiskFault, Reopen}
-use Rattle.tw_follow.specs.Calls.{Offers, Tells}
-use Rattle.tw_follow.specs.DiskRuns.{Act, Does, GoesOn, HasHeadIn, IsOf, IsOpenedAs, IsTold, KeepsAll, ShowsNone, TellsHead, followers}
+use Rattle.tw_follow.specs.Calls.{Offers, TellsHeads}
+use Rattle.tw_follow.specs.DiskRuns.{Act, Does, GoesOnByMoves, HasHeadIn, IsFollowerOpened, IsImageOfList, IsToldByFollowers, KeepsAll, ShowsNone, TellsHead, followers}
 use Rattle.tw_follow.specs.DiskRuns.Act.{Offered, ToldHeads}
 use Rattle.tw_follow.specs.Follows.{Follows, HasSameDisk, disk_of, has_failed, head_of}
 use Rattle.tw_follow.specs.HeadLists.{Kept}
 use Rattle.tw_follow.specs.Offers.{AnswersOffer}
-use Rattle.tw_follow.specs.Runs.{Goes, Move, Runs}
+use Rattle.tw_follow.specs.Runs.{GoesByMove, Move, RunsByMoves}
 use Rattle.tw_follow.specs.Runs.Move.{Answered, Stopped}
 use Rattle.tw_follow.specs.Stands.{KeepsList, StandsFor, root_kind}
 use Rattle.tw_follow.proofs.Answering.{reopen_is_none, same_refusal}
@@ -36,31 +36,31 @@ in-left x (y ∷ xs) ys (inr there) = inr (in-left x xs ys there)
 module _ (dig : List ℕ → List ℕ) where
   -- ---- lists that go on
 
-  pub none : (k : Kept) → Runs dig k [] [] k
-  unfolding Runs
+  pub none : (k : Kept) → RunsByMoves dig k [] [] k
+  unfolding RunsByMoves
   none k = (refl, refl)
 
-  pub one : (k : Kept) (move : Move) (next : Kept) → Goes dig k move next → (moved : List Message) × Runs dig k (move ∷ []) moved next
-  unfolding Runs
+  pub one : (k : Kept) (move : Move) (next : Kept) → GoesByMove dig k move next → (moved : List Message) × RunsByMoves dig k (move ∷ []) moved next
+  unfolding RunsByMoves
   one k move next (inl stay) = ([], inl (stay.0, (refl, stay.1)))
   one k move next (inr (m, may)) = (m ∷ [], inr (m, [], next, refl, may, (refl, refl)))
 
-  pub both : (k : Kept) (first : List Move) (moved : List Message) (mid : Kept) (second : List Move) (more : List Message) (last : Kept) → Runs dig k first moved mid → Runs dig mid second more last
-      → Runs dig k (first ++ second) (moved ++ more) last
-  unfolding Runs
+  pub both : (k : Kept) (first : List Move) (moved : List Message) (mid : Kept) (second : List Move) (more : List Message) (last : Kept) → RunsByMoves dig k first moved mid → RunsByMoves dig mid second more last
+      → RunsByMoves dig k (first ++ second) (moved ++ more) last
+  unfolding RunsByMoves
   both k [] moved mid second more last run rest =
-      subst (λ (x : Kept). Runs dig x second (moved ++ more) last) run.1 (subst (λ (ms : List Message). Runs dig mid second (ms ++ more) last) (sym run.0) rest)
+      subst (λ (x : Kept). RunsByMoves dig x second (moved ++ more) last) run.1 (subst (λ (ms : List Message). RunsByMoves dig mid second (ms ++ more) last) (sym run.0) rest)
   both k (move ∷ moves) moved mid second more last (inl stay) rest = inl (stay.0, both k moves moved mid second more last stay.1 rest)
   both k (move ∷ moves) moved mid second more last (inr (m, others, next, is, may, run)) rest =
       inr (m, others ++ more, next, ap (λ (ms : List Message). ms ++ more) is, may, both next moves others mid second more last run rest)
 
-  pub has_on : (k next : Kept) (t : Thread) → GoesOn dig k next → In t k.heads → In t next.heads
+  pub has_on : (k next : Kept) (t : Thread) → GoesOnByMoves dig k next → In t k.heads → In t next.heads
   has_on k next t on there = subst (λ (hs : List Thread). In t hs) (sym (runs-grow dig k on.0 on.1 next on.2).1) (in-left t k.heads (map (λ m. m.thread) on.1) there)
 
   module _ {D H : Type 0} {g : _} {k : _} (view : D → DiskView) where
     -- an offer over a list that is kept
     offered : (bytes : List ℕ) (result : Result Thread FollowRefusal) (old new : Follower D H g k) (s : Kept) → Offers dig view bytes old new result → Follows dig view old s
-        → Acted view (followers dig view) (IsOf dig) (GoesOn dig) (Follows dig view) HasHeadIn ShowsNone TellsHead (Offered bytes result) old new s
+        → Acted view (followers dig view) (IsImageOfList dig) (GoesOnByMoves dig) (Follows dig view) HasHeadIn ShowsNone TellsHead (Offered bytes result) old new s
     offered bytes (Ok thread) old new s o follows =
         let st = o.steps s follows in
         let on = one s (Answered bytes (Ok thread)) st.next st.done.0 in
@@ -83,15 +83,15 @@ module _ (dig : List ℕ → List ℕ) where
         }
 
     -- the telling of the heads
-    told_heads : (result : Result (List Thread) FollowRefusal) (old new : Follower D H g k) (s : Kept) → Tells dig view old new result → Follows dig view old s
-        → Acted view (followers dig view) (IsOf dig) (GoesOn dig) (Follows dig view) HasHeadIn ShowsNone TellsHead (ToldHeads result) old new s
+    told_heads : (result : Result (List Thread) FollowRefusal) (old new : Follower D H g k) (s : Kept) → TellsHeads dig view old new result → Follows dig view old s
+        → Acted view (followers dig view) (IsImageOfList dig) (GoesOnByMoves dig) (Follows dig view) HasHeadIn ShowsNone TellsHead (ToldHeads result) old new s
     told_heads result old new s o follows =
         let still = o.still s follows in
         let rest = serves_for_good (root_kind dig) KeepsList view new.recorded.store new.recorded.root s still.0 in
         record {
           next = s;
           goes = ([], [], none s);
-          any_moment = leaves_weaker (view (disk_of old)) (view (disk_of new)) (λ i. StandsFor dig i s) (OneOf (IsOf dig) s s) (λ i is. inl is) still.1;
+          any_moment = leaves_weaker (view (disk_of old)) (view (disk_of new)) (λ i. StandsFor dig i s) (OneOf (IsImageOfList dig) s s) (λ i is. inl is) still.1;
           told = record { image = rest.image; told = rest.told; has = inl rest.has };
           done = inr (inl (still.0, λ t tells. told_in result o.heads t tells));
         }
@@ -101,7 +101,7 @@ module _ (dig : List ℕ → List ℕ) where
         told_in (Err r) is t tells = absurd tells
 
     acts : (a : Act) (old new : Follower D H g k) (s : Kept) → Does dig view a old new → Follows dig view old s
-        → Acted view (followers dig view) (IsOf dig) (GoesOn dig) (Follows dig view) HasHeadIn ShowsNone TellsHead a old new s
+        → Acted view (followers dig view) (IsImageOfList dig) (GoesOnByMoves dig) (Follows dig view) HasHeadIn ShowsNone TellsHead a old new s
     acts (Offered bytes result) old new s o follows = offered bytes result old new s o follows
     acts (ToldHeads result) old new s o follows = told_heads result old new s o follows
 
@@ -126,7 +126,7 @@ module _ (dig : List ℕ → List ℕ) where
     after_fault (ToldHeads result) old new o failed =
         (o.broken.1 (inl failed), o.unwritten.disk, λ t told. subst (λ (r : Result (List Thread) FollowRefusal). TellsHead (ToldHeads r) t) (o.reopen.1 failed) told, λ t shown. shown)
 
-    pub follower_laws : Laws view (followers dig {D = D} {H = H} {g = g} {k = k} view) (IsOf dig) (GoesOn dig) (Follows dig view) HasHeadIn ShowsNone TellsHead
+    pub follower_laws : Laws view (followers dig {D = D} {H = H} {g = g} {k = k} view) (IsImageOfList dig) (GoesOnByMoves dig) (Follows dig view) HasHeadIn ShowsNone TellsHead
     follower_laws = record {
       same = λ s. ([], [], none s);
       on = λ a b c first second. (first.0 ++ second.0, first.1 ++ second.1, both a first.0 first.1 b second.0 second.1 c first.2 second.2);
@@ -142,14 +142,14 @@ module _ (dig : List ℕ → List ℕ) where
     module _ (only_now : (d : D) (c : Image) → (view d).left_since (view d).moment c → (view d).may_leave c) where
       pub from_first : (disk : D) (first : Kept) (run : List (Happening D (Follower D H g k) Act)) → HoldsOnly view (λ i. StandsFor dig i first) disk
           → IsRunFrom view (followers dig view) (Closed disk) run
-          → HoldsOnly view (KeepsAll dig first (IsTold dig view disk run)) (disk_at view (followers dig view) (end_of (Closed disk) run))
+          → HoldsOnly view (KeepsAll dig first (IsToldByFollowers dig view disk run)) (disk_at view (followers dig view) (end_of (Closed disk) run))
       from_first disk first run is leads =
-          let start = holds view (followers dig view) (IsOf dig) (GoesOn dig) (Follows dig view) HasHeadIn ShowsNone TellsHead follower_laws only_now disk (λ i. StandsFor dig i first) first
+          let start = holds view (followers dig view) (IsImageOfList dig) (GoesOnByMoves dig) (Follows dig view) HasHeadIn ShowsNone TellsHead follower_laws only_now disk (λ i. StandsFor dig i first) first
           (λ i stands. (first, stands, ([], [], none first))) is in
-          let end = ends view (followers dig view) (IsOf dig) (GoesOn dig) (Follows dig view) HasHeadIn ShowsNone TellsHead follower_laws only_now (Closed disk) run first start leads in
-          let left = wavers_at view (followers dig view) (IsOf dig) (GoesOn dig) (Follows dig view) HasHeadIn ShowsNone TellsHead follower_laws only_now (end_of (Closed disk) run) end.now end.is in
-          let all : (i : Image) → GoesOnFrom (IsOf dig) (GoesOn dig) view end.now i → KeepsAll dig first (IsTold dig view disk run) i = λ i goes.
-          let on : GoesOn dig first goes.0 = (end.goes_on.0 ++ goes.2.0, end.goes_on.1 ++ goes.2.1, both first end.goes_on.0 end.goes_on.1 end.now goes.2.0 goes.2.1 goes.0 end.goes_on.2 goes.2.2) in (
+          let end = ends view (followers dig view) (IsImageOfList dig) (GoesOnByMoves dig) (Follows dig view) HasHeadIn ShowsNone TellsHead follower_laws only_now (Closed disk) run first start leads in
+          let left = wavers_at view (followers dig view) (IsImageOfList dig) (GoesOnByMoves dig) (Follows dig view) HasHeadIn ShowsNone TellsHead follower_laws only_now (end_of (Closed disk) run) end.now end.is in
+          let all : (i : Image) → GoesOnFrom (IsImageOfList dig) (GoesOnByMoves dig) view end.now i → KeepsAll dig first (IsToldByFollowers dig view disk run) i = λ i goes.
+          let on : GoesOnByMoves dig first goes.0 = (end.goes_on.0 ++ goes.2.0, end.goes_on.1 ++ goes.2.1, both first end.goes_on.0 end.goes_on.1 end.now goes.2.0 goes.2.1 goes.0 end.goes_on.2 goes.2.2) in (
             goes.0,
             goes.1,
             on,

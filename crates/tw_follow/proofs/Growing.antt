@@ -8,7 +8,7 @@ use Rattle.tw_disk.proofs.FoundLaws.{is_on, same_found}
 use Rattle.tw_follow.specs.declared.head_page.HeadPage.{HeadPage}
 use Rattle.tw_follow.specs.declared.root.RootRecord.{RootRecord}
 use Rattle.tw_follow.specs.HeadLists.{Kept, with_head}
-use Rattle.tw_follow.specs.HeadPages.{earlier_page, head_on, head_page_bytes, heads_below, heads_down, last_page}
+use Rattle.tw_follow.specs.HeadPages.{earlier_page, head_on, head_page_bytes, heads_below, heads_down, last_head_page}
 use Rattle.tw_follow.specs.Roots.{HasPage}
 use Rattle.tw_follow.specs.Stands.{KeepsList}
 use Rattle.tw_follow.proofs.Lists.{IsFrom, found-from, found-none, found-some}
@@ -35,7 +35,7 @@ module _ (ps : Image) (r : RootRecord) (kept : Kept) (keeps : KeepsList ps r kep
   before = ⊎_elim (λ none. omega (arith, page.0 none))
       (λ some. (page_in_range ps r.page _ (found-from ps r kept.heads some keeps.found).last.there).1) (none_or_some r.head.step)
 
-  last : last_page all next ≡ Is own
+  last : last_head_page all next ≡ Is own
   last = is-last all next own (record { there = page-new ps own (head-fits own (thread.1, thread.2) (thread.3, thread.4) (omega (arith, before, room))) before; step = refl; auth = refl })
 
   -- the page below is that of the head before
@@ -61,6 +61,6 @@ module _ (ps : Image) (r : RootRecord) (kept : Kept) (keeps : KeepsList ps r kep
   grown = record {
     named = keeps.named ∙ sym from;
     found = found-some all next (omega (arith, above))
-        ∙ is_on (last_page all next) (λ p. heads_below all p head) own last
+        ∙ is_on (last_head_page all next) (λ p. heads_below all p head) own last
         ∙ ⊎_elim below-none (λ some. below-some some (found-from ps r kept.heads some keeps.found)) (none_or_some r.head.step);
   }

@@ -11,8 +11,8 @@ use Rattle.tw_disk.specs.Image.{Image}
 use Rattle.tw_disk.proofs.FoundLaws.{same_found}
 use Rattle.tw_follow.specs.declared.head_page.HeadPage.{HeadPage}
 use Rattle.tw_follow.specs.declared.root.RootRecord.{RootRecord}
-use Rattle.tw_follow.specs.HeadLists.{IsRising, Kept, RiseAbove, first_thread, head_of, last_from, no_heads, with_head}
-use Rattle.tw_follow.specs.HeadPages.{earlier_page, found_heads, head_on, heads_below, heads_down, last_page}
+use Rattle.tw_follow.specs.HeadLists.{AreHeadsRising, Kept, RiseAbove, first_thread, last_from, last_head, no_heads, with_head}
+use Rattle.tw_follow.specs.HeadPages.{earlier_page, found_heads, head_on, heads_below, heads_down, last_head_page}
 use Rattle.tw_follow.specs.Roots.{IsBegun}
 use Rattle.tw_follow.specs.Stands.{KeepsList}
 use Rattle.tw_follow.proofs.Pages.{IsLast, earlier-is, last-is, tells, through}
@@ -23,7 +23,7 @@ pub last-behind : (t : Thread) (heads : List Thread) (head : Thread) → last_fr
 last-behind t [] head = refl
 last-behind t (h ∷ heads) head = last-behind h heads head
 
-pub head-with : (dig : List ℕ → List ℕ) (kept : Kept) (head : Thread) → head_of dig (with_head kept head) ≡ head
+pub head-with : (dig : List ℕ → List ℕ) (kept : Kept) (head : Thread) → last_head dig (with_head kept head) ≡ head
 head-with dig kept head = last-behind (first_thread dig kept.name) kept.heads head
 
 Each-behind : {X : Type 0} (P : X → Type 0) (xs : List X) (x : X) → Each P xs → P x → Each P (xs ++ x ∷ [])
@@ -35,13 +35,13 @@ rise-behind step t [] head at rise above = (omega (arith, at, above), tt)
 rise-behind step t (h ∷ heads) head at rise above = (rise.0, rise-behind h.step h heads head refl rise.1 above)
 
 -- a later head of the name goes on a list that rises
-pub rising-with : (dig : List ℕ → List ℕ) (kept : Kept) (head : Thread) → IsRising kept → head.from ≡ kept.name → (head_of dig kept).step < head.step → IsRising (with_head kept head)
+pub rising-with : (dig : List ℕ → List ℕ) (kept : Kept) (head : Thread) → AreHeadsRising kept → head.from ≡ kept.name → (last_head dig kept).step < head.step → AreHeadsRising (with_head kept head)
 rising-with dig kept head rising named above = record {
   named = Each-behind (λ h. h.from ≡ kept.name) kept.heads head rising.named named;
   rise = rise-behind 0 (first_thread dig kept.name) kept.heads head refl rising.rise above;
 }
 
-pub rising-none : (name : List ℕ) → IsRising (no_heads name)
+pub rising-none : (name : List ℕ) → AreHeadsRising (no_heads name)
 rising-none name = record { named = tt; rise = tt }
 
 -- the last one is one of them, where its step isn't 0
@@ -58,7 +58,7 @@ last-named : (name : List ℕ) (t : Thread) (heads : List Thread) → t.from ≡
 last-named name t [] own all = own
 last-named name t (h ∷ heads) own all = last-named name h heads all.0 all.1
 
-pub head-named : (dig : List ℕ → List ℕ) (kept : Kept) → IsRising kept → (head_of dig kept).from ≡ kept.name
+pub head-named : (dig : List ℕ → List ℕ) (kept : Kept) → AreHeadsRising kept → (last_head dig kept).from ≡ kept.name
 head-named dig kept rising = last-named kept.name (first_thread dig kept.name) kept.heads refl rising.named
 
 -- ---- lists found in pages
@@ -100,23 +100,23 @@ pub record IsFrom (ps : Image) (r : RootRecord) (all : List Thread) : Type 0 whe
 
 module _ (ps : Image) (r : RootRecord) where
   found-at : (step : ℕ) → Found (List Thread)
-  found-at step = if step == 0 then Is [] else (last_page ps r >>= (λ p. heads_below ps p r.head))
+  found-at step = if step == 0 then Is [] else (last_head_page ps r >>= (λ p. heads_below ps p r.head))
 
-  at-some : (step : ℕ) → 0 < step → found-at step ≡ (last_page ps r >>= (λ p. heads_below ps p r.head))
+  at-some : (step : ℕ) → 0 < step → found-at step ≡ (last_head_page ps r >>= (λ p. heads_below ps p r.head))
   unfolding found-at
-  at-some step some = ap (λ (b : Bool). if b then Is [] else (last_page ps r >>= (λ p. heads_below ps p r.head))) (ne_eqb step 0 (λ e. omega (arith, e, some)))
+  at-some step some = ap (λ (b : Bool). if b then Is [] else (last_head_page ps r >>= (λ p. heads_below ps p r.head))) (ne_eqb step 0 (λ e. omega (arith, e, some)))
 
   pub found-none : r.head.step ≡ 0 → found_heads ps r ≡ Is []
   unfolding found_heads
-  found-none none = ap (λ (n : ℕ). if n == 0 then Is [] else (last_page ps r >>= (λ p. heads_below ps p r.head))) none
+  found-none none = ap (λ (n : ℕ). if n == 0 then Is [] else (last_head_page ps r >>= (λ p. heads_below ps p r.head))) none
 
-  pub found-some : 0 < r.head.step → found_heads ps r ≡ (last_page ps r >>= (λ p. heads_below ps p r.head))
+  pub found-some : 0 < r.head.step → found_heads ps r ≡ (last_head_page ps r >>= (λ p. heads_below ps p r.head))
   unfolding found_heads found-at
   found-some some = at-some r.head.step some
 
   pub found-from : (all : List Thread) → 0 < r.head.step → found_heads ps r ≡ Is all → IsFrom ps r all
   found-from all some e =
-      let own = through (last_page ps r) (λ p. heads_below ps p r.head) all (sym (found-some some) ∙ e) in
+      let own = through (last_head_page ps r) (λ p. heads_below ps p r.head) all (sym (found-some some) ∙ e) in
       record { page = own.first; last = last-is ps r own.first own.is; below = own.then_is }
 
 none_or_some : (n : ℕ) → (n ≡ 0) ⊎ (0 < n)
@@ -128,7 +128,7 @@ module _ (ps : Image) (r : RootRecord) (kept : Kept) (keeps : KeepsList ps r kep
   no_list none = same_found kept.heads [] (sym keeps.found ∙ found-none ps r none)
 
   -- its heads are threads of its name, and rise
-  pub kept-rising : IsRising kept
+  pub kept-rising : AreHeadsRising kept
   kept-rising = ⊎_elim
       (λ none. record { named = subst (Each (λ h. h.from ≡ kept.name)) (sym (no_list none)) tt; rise = subst (RiseAbove 0) (sym (no_list none)) tt })
       (λ some.
@@ -143,7 +143,7 @@ module _ (ps : Image) (r : RootRecord) (kept : Kept) (keeps : KeepsList ps r kep
       (none_or_some r.head.step)
 
   -- its last head is the record's
-  pub kept-head : (dig : List ℕ → List ℕ) → IsBegun dig r → head_of dig kept ≡ r.head
+  pub kept-head : (dig : List ℕ → List ℕ) → IsBegun dig r → last_head dig kept ≡ r.head
   kept-head dig begun = ⊎_elim
       (λ none. ap (last_from (first_thread dig kept.name)) (no_list none)
       ∙ (λ i. record { from = keeps.named i; step = sym none i; auth = (ap (λ (n : List ℕ). dig (genesis_text n)) keeps.named ∙ sym (begun none)) i }))

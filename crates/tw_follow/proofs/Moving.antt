@@ -7,9 +7,9 @@ use Rattle.tw_base.specs.history.Limits.{IsThread}
 use Rattle.tw_disk.specs.Disk.{DiskView}
 use Rattle.tw_disk.specs.Image.{Image}
 use Rattle.tw_pages.specs.StoreValue.{staged_of}
-use Rattle.tw_pages.specs.Same.{IsSameStore, count_of, list_of}
+use Rattle.tw_pages.specs.Same.{IsSameStore, store_count, store_list}
 use Rattle.tw_pages.specs.declared.store.Store.{Store}
-use Rattle.tw_pages.specs.Records.{written}
+use Rattle.tw_pages.specs.Records.{written_record}
 use Rattle.tw_pages.specs.Rests.{RestsWith}
 use Rattle.tw_pages.proofs.Staged.{IsStaged}
 use Rattle.tw_pages.proofs.Written.{told_list}
@@ -36,10 +36,10 @@ may_next dig used generation r head number one_more low few commits above thread
 }
 
 module _ {D : Type 0} {g : _} (view : D → DiskView) (dig : List ℕ → List ℕ) (old mid : Store D g) (r : RootRecord) (head : Thread) (number : ℕ) (page : List ℕ)
-    (same : IsSameStore view old mid) (clean : staged_of old ≡ []) (number_is : number ≡ count_of old) (one_more : count_of mid ≡ count_of old + 1)
-    (page_is : page ≡ head_page_bytes (record { step = head.step; auth = head.auth; before = r.page })) (list : list_of view mid ≡ option_map (λ (pages : Image). pages ++ page ∷ []) (list_of view old))
-    (few : count_of old ≤ 4 + r.head.step) (commits : old.generation ≤ r.head.step + 1) (above : r.head.step < head.step) (thread : IsThread head)
-    (ps : Image) (rest : RestsWith view (root_kind dig) old (written r ps)) (count : count_of old ≡ 4 + length ps) where
+    (same : IsSameStore view old mid) (clean : staged_of old ≡ []) (number_is : number ≡ store_count old) (one_more : store_count mid ≡ store_count old + 1)
+    (page_is : page ≡ head_page_bytes (record { step = head.step; auth = head.auth; before = r.page })) (list : store_list view mid ≡ option_map (λ (pages : Image). pages ++ page ∷ []) (store_list view old))
+    (few : store_count old ≤ 4 + r.head.step) (commits : old.generation ≤ r.head.step + 1) (above : r.head.step < head.step) (thread : IsThread head)
+    (ps : Image) (rest : RestsWith view (root_kind dig) old (written_record r ps)) (count : store_count old ≡ 4 + length ps) where
   abbrev next : RootRecord
   next = record { head = head; page = number }
 
@@ -47,8 +47,8 @@ module _ {D : Type 0} {g : _} (view : D → DiskView) (dig : List ℕ → List �
   put = record {
     same = same;
     rest = rest;
-    list = list ∙ ap (λ (o : Option Image). option_map (λ (pages : Image). pages ++ page ∷ []) o) (told_list view (root_kind dig) old (written r ps) rest clean);
-    may = may_next dig (count_of mid) mid.generation r head number (omega (arith, one_more, number_is)) (omega (arith, number_is, count)) (omega (arith, number_is, few)) (omega (arith, commits, same.generation)) above thread;
+    list = list ∙ ap (λ (o : Option Image). option_map (λ (pages : Image). pages ++ page ∷ []) o) (told_list view (root_kind dig) old (written_record r ps) rest clean);
+    may = may_next dig (store_count mid) mid.generation r head number (omega (arith, one_more, number_is)) (omega (arith, number_is, count)) (omega (arith, number_is, few)) (omega (arith, commits, same.generation)) above thread;
   }
 
   -- the list with the head is kept
@@ -63,22 +63,22 @@ module _ {D : Type 0} {g : _} (view : D → DiskView) (dig : List ℕ → List �
 moved_is : (r : RootRecord) (head : Thread) (number : ℕ) (page : List ℕ) (ps : Image) → number ≡ 4 + length ps → page ≡ head_page_bytes (record { step = head.step; auth = head.auth; before = r.page })
     → written (record { head = head; page = number }) (ps ++ page ∷ []) ≡ moved_to (written r ps) head
 moved_is r head number page ps number_is page_is =
-    ap (λ (n : ℕ). written (record { head = head; page = n }) (ps ++ page ∷ [])) number_is
-    ∙ ap (λ (b : List ℕ). written (record { head = head; page = 4 + length ps }) (ps ++ b ∷ [])) page_is
+    ap (λ (n : ℕ). written_record (record { head = head; page = n }) (ps ++ page ∷ [])) number_is
+    ∙ ap (λ (b : List ℕ). written_record (record { head = head; page = 4 + length ps }) (ps ++ b ∷ [])) page_is
 
 -- the same of whatever pages the store has
 pub record WasPut {D : Type 0} {g : _} (view : D → DiskView) (dig : List ℕ → List ℕ) (old mid : Store D g) (r : RootRecord) (head : Thread) (number : ℕ) (page : List ℕ) : Type 0 where
-  pub staged : (ps : Image) → RestsWith view (root_kind dig) old (written r ps) → IsStaged view (root_kind dig) old mid r (record { head = head; page = number }) ps (ps ++ page ∷ [])
-  pub is : (ps : Image) → RestsWith view (root_kind dig) old (written r ps) → written (record { head = head; page = number }) (ps ++ page ∷ []) ≡ moved_to (written r ps) head
-  pub keeps : (ps : Image) → RestsWith view (root_kind dig) old (written r ps) → (k : Kept) → KeepsList ps r k → KeepsList (ps ++ page ∷ []) (record { head = head; page = number }) (with_head k head)
+  pub staged : (ps : Image) → RestsWith view (root_kind dig) old (written_record r ps) → IsStaged view (root_kind dig) old mid r (record { head = head; page = number }) ps (ps ++ page ∷ [])
+  pub is : (ps : Image) → RestsWith view (root_kind dig) old (written_record r ps) → written_record (record { head = head; page = number }) (ps ++ page ∷ []) ≡ moved_to (written_record r ps) head
+  pub keeps : (ps : Image) → RestsWith view (root_kind dig) old (written_record r ps) → (k : Kept) → KeepsList ps r k → KeepsList (ps ++ page ∷ []) (record { head = head; page = number }) (with_head k head)
 
 pub was_put : {D : Type 0} {g : _} (view : D → DiskView) (dig : List ℕ → List ℕ) (old mid : Store D g) (r : RootRecord) (head : Thread) (number : ℕ) (page : List ℕ)
-    → ((ps : Image) → list_of view old ≡ Some ps → count_of old ≡ 4 + length ps)
-    → IsSameStore view old mid → staged_of old ≡ [] → number ≡ count_of old → count_of mid ≡ count_of old + 1
-    → page ≡ head_page_bytes (record { step = head.step; auth = head.auth; before = r.page }) → list_of view mid ≡ option_map (λ (pages : Image). pages ++ page ∷ []) (list_of view old)
-    → count_of old ≤ 4 + r.head.step → old.generation ≤ r.head.step + 1 → head.from ≡ r.head.from → r.head.step < head.step → IsThread head → WasPut view dig old mid r head number page
+    → ((ps : Image) → store_list view old ≡ Some ps → store_count old ≡ 4 + length ps)
+    → IsSameStore view old mid → staged_of old ≡ [] → number ≡ store_count old → store_count mid ≡ store_count old + 1
+    → page ≡ head_page_bytes (record { step = head.step; auth = head.auth; before = r.page }) → store_list view mid ≡ option_map (λ (pages : Image). pages ++ page ∷ []) (store_list view old)
+    → store_count old ≤ 4 + r.head.step → old.generation ≤ r.head.step + 1 → head.from ≡ r.head.from → r.head.step < head.step → IsThread head → WasPut view dig old mid r head number page
 was_put view dig old mid r head number page pages_told same clean number_is one_more page_is list few commits from above thread = record {
-  staged = λ ps rest. put view dig old mid r head number page same clean number_is one_more page_is list few commits above thread ps rest (pages_told ps (told_list view (root_kind dig) old (written r ps) rest clean));
-  is = λ ps rest. moved_is r head number page ps (number_is ∙ pages_told ps (told_list view (root_kind dig) old (written r ps) rest clean)) page_is;
-  keeps = λ ps rest k keeps. keeps_next view dig old mid r head number page same clean number_is one_more page_is list few commits above thread ps rest (pages_told ps (told_list view (root_kind dig) old (written r ps) rest clean)) from k keeps;
+  staged = λ ps rest. put view dig old mid r head number page same clean number_is one_more page_is list few commits above thread ps rest (pages_told ps (told_list view (root_kind dig) old (written_record r ps) rest clean));
+  is = λ ps rest. moved_is r head number page ps (number_is ∙ pages_told ps (told_list view (root_kind dig) old (written_record r ps) rest clean)) page_is;
+  keeps = λ ps rest k keeps. keeps_next view dig old mid r head number page same clean number_is one_more page_is list few commits above thread ps rest (pages_told ps (told_list view (root_kind dig) old (written_record r ps) rest clean)) from k keeps;
 }

@@ -22,7 +22,7 @@ use Rattle.tw_follow.specs.declared.judging.Offered.TheVariants.{Known, Moves}
 use Rattle.tw_follow.specs.declared.refusal.FollowRefusal.{FollowRefusal}
 use Rattle.tw_follow.specs.declared.refusal.FollowRefusal.TheVariants.{Malformed, Other, Stale, Forked, BadLink, BadPage, DiskFault, Reopen, NoMemory}
 use Rattle.tw_follow.specs.HeadLists.{HasHead}
-use Rattle.tw_follow.specs.Offers.{AnswersOffer, Judges, answer_to, judge_later, judge_same, judged, leads}
+use Rattle.tw_follow.specs.Offers.{AnswersOffer, JudgesOffer, answer_to, judge_later, judge_same, judged_offer, leads_from_head}
 
 pub message-linked : (bytes : List ℕ) (m : Message) → Spells message_layout bytes m → IsLinked m
 message-linked bytes m s = (message-within m (spelled-fits message_codec message-lawful bytes m s)).0
@@ -47,8 +47,8 @@ module _ (dig : List ℕ → List ℕ) (head : Thread) (m : Message) where
   abbrev pub by_tests : (other below same : Bool) → Result Offered FollowRefusal
   by_tests other below same = cond (not other) (Err (Other m.thread.from)) (cond below (Err (Stale head.step)) (cond same (judge_same dig head m) (judge_later dig head m)))
 
-  pub table : judged dig head m ≡ by_tests (bytes_eq m.thread.from head.from) (nat_lt m.thread.step head.step) (m.thread.step == head.step)
-  unfolding judged
+  pub table : judged_offer dig head m ≡ by_tests (bytes_eq m.thread.from head.from) (nat_lt m.thread.step head.step) (m.thread.step == head.step)
+  unfolding judged_offer
   table = refl
 
   -- a message that isn't refused is of the service
@@ -67,14 +67,14 @@ module _ (dig : List ℕ → List ℕ) (head : Thread) (m : Message) where
       by false found = cc
 
   later-not_known : judge_later dig head m ≡ Ok Known → ⊥
-  later-not_known is = by (leads dig head m) is
+  later-not_known is = by (leads_from_head dig head m) is
     where
       by : (b : Bool) → cond b (Ok (Moves m.thread)) (Err (BadLink head.step head.auth)) ≡ Ok Known → ⊥
       by true found = cc
       by false found = cc
 
   -- a known message is the head
-  pub known-is : judged dig head m ≡ Ok Known → m.thread ≡ head
+  pub known-is : judged_offer dig head m ≡ Ok Known → m.thread ≡ head
   known-is is = by (bytes_eq m.thread.from head.from) refl (nat_lt m.thread.step head.step) (m.thread.step == head.step) refl (sym table ∙ is)
     where
       by : (a : Bool) → bytes_eq m.thread.from head.from ≡ a → (b c : Bool) → (m.thread.step == head.step) ≡ c → by_tests a b c ≡ Ok Known → m.thread ≡ head
@@ -107,7 +107,7 @@ module _ (dig : List ℕ → List ℕ) (head : Thread) (m : Message) where
   above_of : (step last : ℕ) → last ≤ step → (step ≡ last → ⊥) → last < step
   above_of step last low other = omega (arith, low, other)
 
-  pub moved-is : (thread : Thread) → judged dig head m ≡ Ok (Moves thread) → IsMoved thread
+  pub moved-is : (thread : Thread) → judged_offer dig head m ≡ Ok (Moves thread) → IsMoved thread
   moved-is thread is = by (bytes_eq m.thread.from head.from) refl (nat_lt m.thread.step head.step) refl (m.thread.step == head.step) refl (sym table ∙ is)
     where
       by : (a : Bool) → bytes_eq m.thread.from head.from ≡ a → (b : Bool) → nat_lt m.thread.step head.step ≡ b → (c : Bool) → (m.thread.step == head.step) ≡ c → by_tests a b c ≡ Ok (Moves thread) → IsMoved thread
@@ -127,14 +127,14 @@ module _ (dig : List ℕ → List ℕ) (head : Thread) (m : Message) where
           }
 
   -- what moves the head is a later thread of its service
-  pub moved-next : (thread : Thread) → IsThread m.thread → judged dig head m ≡ Ok (Moves thread) → (thread.from ≡ head.from) × (head.step < thread.step) × IsThread thread
+  pub moved-next : (thread : Thread) → IsThread m.thread → judged_offer dig head m ≡ Ok (Moves thread) → (thread.from ≡ head.from) × (head.step < thread.step) × IsThread thread
   moved-next thread within e =
       let is = moved-is thread e in
       subst (λ (t : Thread). (t.from ≡ head.from) × (head.step < t.step) × IsThread t) (sym is.thread_is) (is.from, is.above, within)
 
   -- the table refuses nothing but as it says
-  pub of-table : IsOfTable (judged dig head m)
-  of-table = subst IsOfTable (sym table) (by (bytes_eq m.thread.from head.from) (nat_lt m.thread.step head.step) (m.thread.step == head.step) (bytes_eq m.thread.auth head.auth) (leads dig head m))
+  pub of-table : IsOfTable (judged_offer dig head m)
+  of-table = subst IsOfTable (sym table) (by (bytes_eq m.thread.from head.from) (nat_lt m.thread.step head.step) (m.thread.step == head.step) (bytes_eq m.thread.auth head.auth) (leads_from_head dig head m))
     where
       by : (a b c d e : Bool) → IsOfTable (cond (not a) (Err (Other m.thread.from)) (cond b (Err (Stale head.step)) (cond c (cond d (Ok Known) (Err (Forked head.step head.auth m.thread.auth))) (cond e (Ok (Moves m.thread)) (Err (BadLink head.step head.auth))))))
       by false b c d e = tt
@@ -156,14 +156,14 @@ module _ (dig : List ℕ → List ℕ) (head : Thread) (bytes : List ℕ) where
   -- they are no message, or the table says so of theirs
   abbrev pub IsJudged : Result Offered FollowRefusal → Type 0
   IsJudged r = ((place : ℕ) × (r ≡ Err (Malformed place)) × SpellsNothing message_layout bytes × IsPlace message_layout bytes place)
-      ⊎ ((m : Message) × Spells message_layout bytes m × (judged dig head m ≡ r))
+      ⊎ ((m : Message) × Spells message_layout bytes m × (judged_offer dig head m ≡ r))
 
-  pub sort_of : (r : Result Offered FollowRefusal) → Judges dig head bytes r → (r ≡ Err NoMemory) ⊎ IsJudged r
+  pub sort_of : (r : Result Offered FollowRefusal) → JudgesOffer dig head bytes r → (r ≡ Err NoMemory) ⊎ IsJudged r
   sort_of (Err (Malformed place)) j = inr (inl (place, refl, j.0, j.1))
   sort_of (Err NoMemory) j = inl refl
   sort_of r j = inr (inr j)
 
-  pub judges-once : (one other : Result Offered FollowRefusal) → Judges dig head bytes one → Judges dig head bytes other → one ≢ Err NoMemory → other ≢ Err NoMemory → one ≡ other
+  pub judges-once : (one other : Result Offered FollowRefusal) → JudgesOffer dig head bytes one → JudgesOffer dig head bytes other → one ≢ Err NoMemory → other ≢ Err NoMemory → one ≡ other
   judges-once one other j k free also = by (sort_of one j) (sort_of other k)
     where
       by : (one ≡ Err NoMemory) ⊎ IsJudged one → (other ≡ Err NoMemory) ⊎ IsJudged other → one ≡ other
@@ -172,22 +172,22 @@ module _ (dig : List ℕ → List ℕ) (head : Thread) (bytes : List ℕ) where
       by (inr (inl a)) (inr (inl b)) = a.1 ∙ ap (λ (p : ℕ). Err (Malformed p)) (place-once a.0 b.0 a.3 b.3) ∙ sym b.1
       by (inr (inl a)) (inr (inr b)) = absurd (a.2 b.0 b.1)
       by (inr (inr a)) (inr (inl b)) = absurd (b.2 a.0 a.1)
-      by (inr (inr a)) (inr (inr b)) = sym a.2 ∙ ap (λ (m : Message). judged dig head m) (one-message bytes a.0 b.0 a.1 b.1) ∙ b.2
+      by (inr (inr a)) (inr (inr b)) = sym a.2 ∙ ap (λ (m : Message). judged_offer dig head m) (one-message bytes a.0 b.0 a.1 b.1) ∙ b.2
 
   -- what the table says of a message is what becomes of its bytes
-  pub judges-table : (r : Result Offered FollowRefusal) (m : Message) → Spells message_layout bytes m → judged dig head m ≡ r → Judges dig head bytes r
+  pub judges-table : (r : Result Offered FollowRefusal) (m : Message) → Spells message_layout bytes m → judged_offer dig head m ≡ r → JudgesOffer dig head bytes r
   judges-table (Err (Malformed place)) m s e = absurd (subst IsOfTable e (of-table dig head m))
   judges-table (Err NoMemory) m s e = tt
   judges-table r m s e = (m, s, e)
 
   -- a refusal is none that comes of the disk
-  pub not_fault : Judges dig head bytes (Err DiskFault) → ⊥
+  pub not_fault : JudgesOffer dig head bytes (Err DiskFault) → ⊥
   not_fault j = subst IsOfTable j.2 (of-table dig head j.0)
 
-  pub no_fault : (r : FollowRefusal) → Judges dig head bytes (Err r) → r ≢ DiskFault
-  no_fault r j e = not_fault (subst (λ (x : FollowRefusal). Judges dig head bytes (Err x)) e j)
+  pub no_fault : (r : FollowRefusal) → JudgesOffer dig head bytes (Err r) → r ≢ DiskFault
+  no_fault r j e = not_fault (subst (λ (x : FollowRefusal). JudgesOffer dig head bytes (Err x)) e j)
 
-  pub refused-answer : (r : FollowRefusal) → Judges dig head bytes (Err r) → AnswersOffer dig false head bytes (Err r)
+  pub refused-answer : (r : FollowRefusal) → JudgesOffer dig head bytes (Err r) → AnswersOffer dig false head bytes (Err r)
   refused-answer DiskFault j = absurd (not_fault j)
   refused-answer r j = j
 
@@ -206,14 +206,14 @@ module _ (dig : List ℕ → List ℕ) (h : History) (head : Thread) (m : Messag
   not_below : nat_lt m.thread.step head.step ≡ false
   not_below = le-ltb m.thread.step head.step (omega (arith, step-is, has.within))
 
-  known : count ≡ head.step → judged dig head m ≡ Ok Known
+  known : count ≡ head.step → judged_offer dig head m ≡ Ok Known
   known same =
       table dig head m
       ∙ (λ i. by_tests dig head m ((bytes_eq-Decides m.thread.from head.from).1 from-is i) (not_below i) ((Decides-eqb m.thread.step head.step).1 (step-is ∙ same) i))
       ∙ ap (λ (b : Bool). cond b (Ok Known) (Err (Forked head.step head.auth m.thread.auth)))
       ((bytes_eq-Decides m.thread.auth head.auth).1 (ap (λ (t : Thread). t.auth) is.thread ∙ ap (auth dig h) same ∙ has.has))
 
-  moves : (count ≡ head.step → ⊥) → judged dig head m ≡ Ok (Moves m.thread)
+  moves : (count ≡ head.step → ⊥) → judged_offer dig head m ≡ Ok (Moves m.thread)
   moves other =
       let climbs : List ℕ = climbed dig m.link.links m.thread.step m.since head.auth in
       let leads_it = subst (λ (k : List ℕ). Leads dig k m) has.has (subst (λ (s : ℕ). Leads dig (auth dig h s) m) is.at_since (leads-own dig h m.since m (subst (λ (s : ℕ). IsMessageOf dig h s m) (sym is.at_since) is))) in
@@ -221,10 +221,10 @@ module _ (dig : List ℕ → List ℕ) (h : History) (head : Thread) (m : Messag
       ∙ (λ i. by_tests dig head m ((bytes_eq-Decides m.thread.from head.from).1 from-is i) (not_below i) (ne_eqb m.thread.step head.step (λ e. other (sym step-is ∙ e)) i))
       ∙ (λ i. cond ((Decides-eqb m.since head.step).1 is.at_since i && (bytes_eq-Decides climbs m.thread.auth).1 leads_it.reaches i) (Ok (Moves m.thread)) (Err (BadLink head.step head.auth)))
 
-  pub own-judged : (offered : Offered) × (judged dig head m ≡ Ok offered) × (answer_to head offered ≡ thread_at_step dig h count)
+  pub own-judged : (offered : Offered) × (judged_offer dig head m ≡ Ok offered) × (answer_to head offered ≡ thread_at_step dig h count)
   own-judged = by (count == head.step) refl
     where
-      by : (b : Bool) → (count == head.step) ≡ b → (offered : Offered) × (judged dig head m ≡ Ok offered) × (answer_to head offered ≡ thread_at_step dig h count)
+      by : (b : Bool) → (count == head.step) ≡ b → (offered : Offered) × (judged_offer dig head m ≡ Ok offered) × (answer_to head offered ≡ thread_at_step dig h count)
       by true e =
           let same = eqb-true count head.step e in
           (Known, known same, (λ i. record { from = sym name i; step = sym same i; auth = (sym has.has ∙ ap (auth dig h) (sym same)) i }))

@@ -12,7 +12,7 @@ use Rattle.tw_disk.proofs.FoundLaws.{bytes_in-out, bytes_in-within, is_on, same_
 use Rattle.tw_disk.proofs.SpelledLaws.{is-spelled, page-is}
 use Rattle.tw_follow.specs.declared.head_page.HeadPage.{HeadPage}
 use Rattle.tw_follow.specs.declared.root.RootRecord.{RootRecord}
-use Rattle.tw_follow.specs.HeadPages.{earlier_page, head_codec, head_in, head_page_bytes, last_page, page_of_head}
+use Rattle.tw_follow.specs.HeadPages.{earlier_page, head_codec, head_in, head_page_bytes, last_head_page, page_of_head}
 use Rattle.tw_follow.proofs.Spelling.{head-lawful, head-step}
 
 -- where two readings one after another find something, the first does, and the second finds it
@@ -114,15 +114,15 @@ pub record IsLast (ps : Image) (r : RootRecord) (p : HeadPage) : Type 0 where
   pub step : p.step ≡ r.head.step
   pub auth : p.auth ≡ r.head.auth
 
-pub last-is : (ps : Image) (r : RootRecord) (p : HeadPage) → last_page ps r ≡ Is p → IsLast ps r p
-unfolding last_page
+pub last-is : (ps : Image) (r : RootRecord) (p : HeadPage) → last_head_page ps r ≡ Is p → IsLast ps r p
+unfolding last_head_page
 last-is ps r p e =
     let own = tested (page_of_head ps r.page) (is_head_of r) r.page p e in
     let parts = and_parts (p.step == r.head.step) (bytes_eq p.auth r.head.auth) own.1 in
     record { there = own.0; step = eqb-true p.step r.head.step parts.0; auth = (bytes_eq-Decides p.auth r.head.auth).0 parts.1 }
 
-pub is-last : (ps : Image) (r : RootRecord) (p : HeadPage) → IsLast ps r p → last_page ps r ≡ Is p
-unfolding last_page
+pub is-last : (ps : Image) (r : RootRecord) (p : HeadPage) → IsLast ps r p → last_head_page ps r ≡ Is p
+unfolding last_head_page
 is-last ps r p is = is_tested (page_of_head ps r.page) (is_head_of r) r.page p is.there
     (λ i. eq-eqb p.step r.head.step is.step i && (bytes_eq-Decides p.auth r.head.auth).1 is.auth i)
 

@@ -17,8 +17,8 @@ use Rattle.tw_msg.specs.Messages.{message_codec, message_layout, message_texts}
 use Rattle.tw_msg.proofs.MessageCodec.{message-lawful, message-within}
 use Rattle.tw_skipproof.proofs.PathBinding.{climb-binds}
 use Rattle.tw_follow.specs.declared.refusal.FollowRefusal.TheVariants.{DiskFault}
-use Rattle.tw_follow.specs.HeadLists.{HasHead, IsRising, Kept, head_of}
-use Rattle.tw_follow.specs.Runs.{MayMove, MayStay, Move, MovesBy, Runs, moved_texts}
+use Rattle.tw_follow.specs.HeadLists.{AreHeadsRising, HasHead, Kept, last_head}
+use Rattle.tw_follow.specs.Runs.{MayMove, MayStay, Move, MovesBy, RunsByMoves, moved_texts}
 use Rattle.tw_follow.specs.Runs.Move.{Answered, Reopened, Stopped}
 use Rattle.tw_follow.proofs.Lists.{head-in, head-named, head-with, rising-with}
 use Rattle.tw_follow.proofs.Offering.{IsMoved, known-is, message-thread, moved-is}
@@ -44,11 +44,11 @@ module _ (dig : List ℕ → List ℕ) where
   moved-by k (Stopped bytes) m next may = (bytes, may)
   moved-by k Reopened m next may = absurd may
 
-  is-moved : (k : Kept) (bytes : List ℕ) (m : Message) (next : Kept) → MovesBy dig k bytes m next → IsMoved dig (head_of dig k) m m.thread
-  is-moved k bytes m next by = moved-is dig (head_of dig k) m m.thread by.moves
+  is-moved : (k : Kept) (bytes : List ℕ) (m : Message) (next : Kept) → MovesBy dig k bytes m next → IsMoved dig (last_head dig k) m m.thread
+  is-moved k bytes m next by = moved-is dig (last_head dig k) m m.thread by.moves
 
-  pub runs-grow : (k : Kept) (moves : List Move) (moved : List Message) (last : Kept) → Runs dig k moves moved last → (last.name ≡ k.name) × (last.heads ≡ k.heads ++ threads moved)
-  unfolding Runs
+  pub runs-grow : (k : Kept) (moves : List Move) (moved : List Message) (last : Kept) → RunsByMoves dig k moves moved last → (last.name ≡ k.name) × (last.heads ≡ k.heads ++ threads moved)
+  unfolding RunsByMoves
   runs-grow k [] moved last run =
       (ap (λ (x : Kept). x.name) run.1, ap (λ (x : Kept). x.heads) run.1 ∙ sym (append-nil k.heads) ∙ ap (λ (ms : List Message). k.heads ++ threads ms) (sym run.0))
   runs-grow k (move ∷ moves) moved last (inl stay) = runs-grow k moves moved last stay.1
@@ -59,34 +59,34 @@ module _ (dig : List ℕ → List ℕ) where
         on.1 ∙ ap (λ (x : Kept). x.heads ++ threads others) adds ∙ append_assoc k.heads (m.thread ∷ []) (threads others) ∙ ap (λ (ms : List Message). k.heads ++ threads ms) (sym is),
       )
 
-  pub runs-rise : (k : Kept) (moves : List Move) (moved : List Message) (last : Kept) → IsRising k → Runs dig k moves moved last → IsRising last
-  unfolding Runs
-  runs-rise k [] moved last rising run = subst IsRising (sym run.1) rising
+  pub runs-rise : (k : Kept) (moves : List Move) (moved : List Message) (last : Kept) → AreHeadsRising k → RunsByMoves dig k moves moved last → AreHeadsRising last
+  unfolding RunsByMoves
+  runs-rise k [] moved last rising run = subst AreHeadsRising (sym run.1) rising
   runs-rise k (move ∷ moves) moved last rising (inl stay) = runs-rise k moves moved last rising stay.1
   runs-rise k (move ∷ moves) moved last rising (inr (m, others, next, is, may, rest)) =
       let own = moved-by k move m next may in
       let moves_it = is-moved k own.0 m next own.1 in
-      runs-rise next moves others last (subst IsRising (sym own.1.adds) (rising-with dig k m.thread rising (moves_it.from ∙ head-named dig k rising) moves_it.above)) rest
+      runs-rise next moves others last (subst AreHeadsRising (sym own.1.adds) (rising-with dig k m.thread rising (moves_it.from ∙ head-named dig k rising) moves_it.above)) rest
 
   module _ (bytes : List ℕ) (thread : Thread) where
     -- a head that is one of a list is one from then on
-    stays : (k : Kept) (moves : List Move) (moved : List Message) (last : Kept) → Runs dig k moves moved last → In thread k.heads → In thread last.heads
+    stays : (k : Kept) (moves : List Move) (moved : List Message) (last : Kept) → RunsByMoves dig k moves moved last → In thread k.heads → In thread last.heads
     stays k moves moved last run there =
         subst (λ (hs : List Thread). In thread hs) (sym (runs-grow k moves moved last run).1) (in-left thread k.heads (threads moved) there)
 
     known-in : (k : Kept) → MayStay dig k (Answered bytes (Ok thread)) → In thread k.heads
     known-in k may =
-        let own = known-is dig (head_of dig k) may.0.0 may.0.2 in
+        let own = known-is dig (last_head dig k) may.0.0 may.0.2 in
         let some = (message-thread bytes may.0.0 may.0.1).1 in
-        let is : (head_of dig k).step ≡ may.0.0.thread.step = ap (λ (t : Thread). t.step) (sym own) in
+        let is : (last_head dig k).step ≡ may.0.0.thread.step = ap (λ (t : Thread). t.step) (sym own) in
         subst (λ (t : Thread). In t k.heads) (sym may.1) (head-in dig k.name k.heads (omega (arith, some, is)))
 
     moved-in : (k : Kept) (m : Message) (next : Kept) → MayMove dig k (Answered bytes (Ok thread)) m next → In thread next.heads
     moved-in k m next may =
         subst (λ (x : Kept). In thread x.heads) (sym may.0.adds) (subst (λ (t : Thread). In t (k.heads ++ m.thread ∷ [])) (sym may.1) (in-last m.thread k.heads))
 
-    pub runs-answered : (k : Kept) (moves : List Move) (moved : List Message) (last : Kept) → Runs dig k moves moved last → In (Answered bytes (Ok thread)) moves → In thread last.heads
-    unfolding Runs
+    pub runs-answered : (k : Kept) (moves : List Move) (moved : List Message) (last : Kept) → RunsByMoves dig k moves moved last → In (Answered bytes (Ok thread)) moves → In thread last.heads
+    unfolding RunsByMoves
     runs-answered k [] moved last run there = absurd there
     runs-answered k (move ∷ moves) moved last (inl stay) (inl is) = stays k moves moved last stay.1 (known-in k (subst (λ (x : Move). MayStay dig k x) (sym is) stay.0))
     runs-answered k (move ∷ moves) moved last (inl stay) (inr there) = runs-answered k moves moved last stay.1 there
@@ -112,16 +112,16 @@ module _ (dig : List ℕ → List ℕ) where
           has = ap (auth dig h) (sym on.moved.since) ∙ sym same;
         }))
 
-    pub runs-bind : (k : Kept) (moves : List Move) (moved : List Message) (last : Kept) → Runs dig k moves moved last → AreBytes (head_of dig k).auth → HasHead dig h (head_of dig last)
-        → OrClash dig (history_texts dig h ++ moved_texts dig (head_of dig k) moved) (HasHead dig h (head_of dig k) × Each (HasHead dig h) (threads moved))
-    unfolding Runs
+    pub runs-bind : (k : Kept) (moves : List Move) (moved : List Message) (last : Kept) → RunsByMoves dig k moves moved last → AreBytes (last_head dig k).auth → HasHead dig h (last_head dig last)
+        → OrClash dig (history_texts dig h ++ moved_texts dig (last_head dig k) moved) (HasHead dig h (last_head dig k) × Each (HasHead dig h) (threads moved))
+    unfolding RunsByMoves
     runs-bind k [] moved last run bytes_are has =
-        inl (subst (λ (x : Kept). HasHead dig h (head_of dig x)) run.1 has, subst (λ (ms : List Message). Each (HasHead dig h) (threads ms)) (sym run.0) tt)
+        inl (subst (λ (x : Kept). HasHead dig h (last_head dig x)) run.1 has, subst (λ (ms : List Message). Each (HasHead dig h) (threads ms)) (sym run.0) tt)
     runs-bind k (move ∷ moves) moved last (inl stay) bytes_are has = runs-bind k moves moved last stay.1 bytes_are has
     runs-bind k (move ∷ moves) moved last (inr (m, others, next, is, may, rest)) bytes_are has =
         let own = moved-by k move m next may in
-        let head : Thread = head_of dig k in
-        let is_next : head_of dig next ≡ m.thread = ap (head_of dig) own.1.adds ∙ head-with dig k m.thread in
+        let head : Thread = last_head dig k in
+        let is_next : last_head dig next ≡ m.thread = ap (last_head dig) own.1.adds ∙ head-with dig k m.thread in
         let thread = message-thread own.0 m own.1.spelled in
         let on = runs-bind next moves others last rest (subst (λ (t : Thread). AreBytes t.auth) (sym is_next) thread.4) has in
         let own_texts : List (List ℕ) = history_texts dig h in

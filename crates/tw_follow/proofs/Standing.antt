@@ -2,13 +2,13 @@
 use Rattle.std.proofs.Common.{◌≡◌, ℕ, ◌+◌, ◌^◌, ◌≤◌, List, length, ap, subst}
 use Rattle.tw_disk.specs.Image.{Image}
 use Rattle.tw_pages.specs.declared.open.StoreFault.{StoreFault}
-use Rattle.tw_pages.specs.Records.{IsOnce, Written, written}
+use Rattle.tw_pages.specs.Records.{IsOnce, Written, written_record}
 use Rattle.tw_pages.specs.Records.Served.{Opened as OpenedWith, Unopened as NotOpened}
 use Rattle.tw_pages.specs.Records.{Served as ServedAs}
 use Rattle.tw_pages.proofs.Standing.{served_once as served_as_once, never_refused, written_once}
 use Rattle.tw_pages.proofs.Standing.{has_numbers as numbers}
 use Rattle.tw_follow.specs.declared.root.RootRecord.{RootRecord}
-use Rattle.tw_follow.specs.HeadLists.{IsRising, Kept}
+use Rattle.tw_follow.specs.HeadLists.{AreHeadsRising, Kept}
 use Rattle.tw_follow.specs.Stands.{IsNotOpenedFor, IsServed, KeepsList, Served, StandsFor, root_kind}
 use Rattle.tw_follow.specs.Stands.Served.{Opened, Unopened}
 use Rattle.tw_follow.proofs.Lists.{kept-once, kept-rising}
@@ -20,15 +20,15 @@ module _ (dig : List ℕ → List ℕ) where
 
   -- the pages of a follower have numbers that fit
   pub has_numbers : (image : Image) (root : RootRecord) (pages : Image) → IsServed dig image (Opened root pages) → 4 + length pages ≤ 2 ^ 64
-  has_numbers image root pages is = numbers (root_kind dig) image (written root pages) is
+  has_numbers image root pages is = numbers (root_kind dig) image (written_record root pages) is
 
   -- an image is served as one thing at most
   pub served_once : (image : Image) (one other : Served) → IsServed dig image one → IsServed dig image other → one ≡ other
   served_once image (Opened root pages) (Opened last others) a b =
-      let w : ◌≡◌ {A = Written RootRecord} (written root pages) (written last others) = written_once (root_kind dig) once image (written root pages) (written last others) a b in
+      let w : ◌≡◌ {A = Written RootRecord} (written_record root pages) (written_record last others) = written_once (root_kind dig) once image (written_record root pages) (written_record last others) a b in
       ap (λ (x : Written RootRecord). Opened x.root x.pages) w
-  served_once image (Opened root pages) (Unopened fault) a b = absurd (never_refused (root_kind dig) image (written root pages) a fault b)
-  served_once image (Unopened fault) (Opened root pages) a b = absurd (never_refused (root_kind dig) image (written root pages) b fault a)
+  served_once image (Opened root pages) (Unopened fault) a b = absurd (never_refused (root_kind dig) image (written_record root pages) a fault b)
+  served_once image (Unopened fault) (Opened root pages) a b = absurd (never_refused (root_kind dig) image (written_record root pages) b fault a)
   served_once image (Unopened fault) (Unopened other) a b = ap (λ (f : StoreFault). Unopened f) (same image fault other a b)
     where
       fault_in : ServedAs RootRecord → StoreFault → StoreFault
@@ -42,7 +42,7 @@ module _ (dig : List ℕ → List ℕ) where
   stands_once image k other s t =
       kept-once t.w.pages t.w.root k other (subst (λ (w : Written RootRecord). KeepsList w.pages w.root k) (written_once (root_kind dig) once image s.w t.w s.is t.is) s.keeps) t.keeps
 
-  pub stands_rising : (image : Image) (k : Kept) → StandsFor dig image k → IsRising k
+  pub stands_rising : (image : Image) (k : Kept) → StandsFor dig image k → AreHeadsRising k
   stands_rising image k s = kept-rising s.w.pages s.w.root k s.keeps
 
   pub stands_opened : (image : Image) (k : Kept) (fault : StoreFault) → StandsFor dig image k → IsNotOpenedFor dig image fault → ⊥

@@ -13,8 +13,8 @@ use Rattle.tw_follow.specs.Follows.{Follows, HasSameDisk, IsOver, disk_of, has_f
 use Rattle.tw_follow.specs.HeadLists.{Kept, RiseTo}
 use Rattle.tw_follow.specs.HeadPages.{found_heads}
 use Rattle.tw_follow.specs.Offers.{AnswersOffer}
-use Rattle.tw_follow.specs.Refusals.{IsFault, refusals}
-use Rattle.tw_follow.specs.Runs.{Goes}
+use Rattle.tw_follow.specs.Refusals.{IsFollowerFault, follower_refusals}
+use Rattle.tw_follow.specs.Runs.{GoesByMove}
 use Rattle.tw_follow.specs.Runs.Move.{Answered, Stopped}
 use Rattle.tw_follow.specs.Stands.{StandsFor, StandsForOneOf, root_kind}
 use Rattle.tw_follow.specs.Writing.{IsAnsweredTo, IsMovedBy}
@@ -23,12 +23,12 @@ module _ {D H : Type 0} {g : _} {k : _} (dig : List ℕ → List ℕ) (view : D 
   -- Of a list that was kept there is a next one: the same, or with the head to which the bytes move. Each image that a crash since may
   -- leave stands for one of the two, and so does the content, which is told still, after a disk fault too. After an answer the next one
   -- is kept, at rest. After a refusal but a disk fault the list is kept as before, at rest, and each image stands for it.
-  pub record Steps (bytes : List ℕ) (old new : Follower D H g k) (result : Result Thread FollowRefusal) (kept : Kept) : Type 0 where
+  pub record OfferSteps (bytes : List ℕ) (old new : Follower D H g k) (result : Result Thread FollowRefusal) (kept : Kept) : Type 0 where
     pub next : Kept
-    pub goes : Goes dig kept (Stopped bytes) next
+    pub goes : GoesByMove dig kept (Stopped bytes) next
     pub any_moment : LeavesOnly (view (disk_of old)) (view (disk_of new)) (StandsForOneOf dig kept next)
     pub told : Reads (view (disk_of new)) (StandsForOneOf dig kept next)
-    pub done : IfOk result (λ thread. Goes dig kept (Answered bytes (Ok thread)) next × Follows dig view new next)
+    pub done : IfOk result (λ thread. GoesByMove dig kept (Answered bytes (Ok thread)) next × Follows dig view new next)
     pub refused : IfErr result (λ refusal. (refusal ≡ DiskFault)
         ⊎ (Follows dig view new kept × LeavesOnly (view (disk_of old)) (view (disk_of new)) (λ i. StandsFor dig i kept)))
 
@@ -37,7 +37,7 @@ module _ {D H : Type 0} {g : _} {k : _} (dig : List ℕ → List ℕ) (view : D 
     -- each refusal of the table comes exactly where its line is the first that stands; else only a disk fault and want of memory are left
     pub table : AnswersOffer dig (has_failed old) (head_of old) bytes result
     -- of each list that was kept
-    pub steps : (kept : Kept) → Follows dig view old kept → Steps bytes old new result kept
+    pub steps : (kept : Kept) → Follows dig view old kept → OfferSteps bytes old new result kept
     -- of whatever pages: the record and pages that the table makes of them are next
     pub written : (ps : Image) → IsOver dig view old ps
         → Commits view (root_kind dig) DiskFault (IsMovedBy dig bytes) (IsAnsweredTo dig bytes) old.recorded.store new.recorded.store (record_of old) (record_of new) result ps
@@ -54,12 +54,12 @@ module _ {D H : Type 0} {g : _} {k : _} (dig : List ℕ → List ℕ) (view : D 
     pub later : (view (disk_of old)).faults ≤ (view (disk_of new)).faults
 
   -- what telling the heads does
-  pub record Tells (old new : Follower D H g k) (result : Result (List Thread) FollowRefusal) : Type 0 where
+  pub record TellsHeads (old new : Follower D H g k) (result : Result (List Thread) FollowRefusal) : Type 0 where
     -- Reopen comes exactly after a disk fault, and else only faults of the disk, of its pages and of memory
     pub reopen : (result ≡ Err Reopen) ↔ IsTrue (has_failed old)
-    pub faults : IfErr result (λ refusal. (refusal ≡ Reopen) ⊎ IsFault refusal)
+    pub faults : IfErr result (λ refusal. (refusal ≡ Reopen) ⊎ IsFollowerFault refusal)
     -- over told pages, whatever they keep, the answer is what is found in them, a disk fault and want of memory excepted
-    pub answer : has_failed old ≡ false → (ps : Image) → pages_of view old ≡ Some ps → AnswersAs refusals (λ heads. heads) result (found_heads ps (record_of old))
+    pub answer : has_failed old ≡ false → (ps : Image) → pages_of view old ≡ Some ps → AnswersAs follower_refusals (λ heads. heads) result (found_heads ps (record_of old))
     -- over whatever disk, also one that contradicts itself: the answer rises to the value's head
     pub rises : IfOk result (RiseTo (head_of old))
     -- where a list is kept, the answer is it

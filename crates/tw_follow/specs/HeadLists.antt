@@ -26,7 +26,7 @@ RiseAbove step [] = Unit {0}
 RiseAbove step (head ∷ heads) = (step < head.step) × RiseAbove head.step heads
 
 -- all are threads of the name, with steps from 1 on that rise
-pub record IsRising (kept : Kept) : Type 0 where
+pub record AreHeadsRising (kept : Kept) : Type 0 where
   pub named : Each (λ head. head.from ≡ kept.name) kept.heads
   pub rise : RiseAbove 0 kept.heads
 
@@ -39,7 +39,7 @@ last_from thread (head ∷ heads) = last_from head heads
 -- last; and none where it is of step 0.
 pub record RiseTo (head : Thread) (heads : List Thread) : Type 0 where
   pub name : IsName head.from
-  pub rising : IsRising (record { name = head.from; heads = heads })
+  pub rising : AreHeadsRising (record { name = head.from; heads = heads })
   pub none : head.step ≡ 0 → heads ≡ []
   pub last : 0 < head.step → (before : Thread) → last_from before heads ≡ head
 
@@ -49,8 +49,8 @@ module _ (dig : List ℕ → List ℕ) where
   first_thread name = record { from = name; step = 0; auth = dig (genesis_text name) }
 
   -- the last head, and step 0 before the first one
-  abbrev pub head_of : Kept → Thread
-  head_of kept = last_from (first_thread kept.name) kept.heads
+  abbrev pub last_head : Kept → Thread
+  last_head kept = last_from (first_thread kept.name) kept.heads
 
   -- the history has this authenticator at this step
   pub record HasHead (h : History) (head : Thread) : Type 0 where

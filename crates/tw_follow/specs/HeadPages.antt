@@ -10,13 +10,13 @@ use Rattle.tw_disk.specs.Found.Found.{Is}
 use Rattle.tw_disk.specs.Image.{Image}
 use Rattle.tw_follow.specs.declared.head_page.HeadPage.{HeadPage}
 use Rattle.tw_follow.specs.declared.root.RootRecord.{RootRecord}
-use Rattle.tw_follow.specs.Roots.{page_codec}
+use Rattle.tw_follow.specs.Roots.{page_number_codec}
 
 -- a head page: 4, the head's step, its authenticator there, the page of the head before
 unfoldable pub head_codec : Codec HeadPage
 head_codec =
     seen (λ t. record { step = t.0; auth = t.1.0; before = t.1.1 }) (λ p. (p.step, (p.auth, p.before)))
-    (behind (4 ∷ []) (pair (number_codec 8 1 LAST_STEP) (λ step. pair digest_codec (λ auth. page_codec))))
+    (behind (4 ∷ []) (pair (number_codec 8 1 LAST_STEP) (λ step. pair digest_codec (λ auth. page_number_codec))))
 
 abbrev pub head_page_bytes : HeadPage → List ℕ
 head_page_bytes p = padded (head_codec.write p)
@@ -30,8 +30,8 @@ unfoldable pub page_of_head : Image → (page : ℕ) → Found HeadPage
 page_of_head pages page = bytes_in pages page >>= head_in page
 
 -- the page of the last head, which is the record's
-unfoldable pub last_page : Image → RootRecord → Found HeadPage
-last_page pages r = page_of_head pages r.page >>= (λ p. when (p.step == r.head.step && bytes_eq p.auth r.head.auth) r.page p)
+unfoldable pub last_head_page : Image → RootRecord → Found HeadPage
+last_head_page pages r = page_of_head pages r.page >>= (λ p. when (p.step == r.head.step && bytes_eq p.auth r.head.auth) r.page p)
 
 -- the page of an earlier head, whose step lies below that of the head above it
 unfoldable pub earlier_page : Image → (page above : ℕ) → Found HeadPage
@@ -55,4 +55,4 @@ heads_below pages p head = heads_down p.before pages head.from p.before p.step (
 
 -- all heads, oldest first
 unfoldable pub found_heads : Image → RootRecord → Found (List Thread)
-found_heads pages r = if r.head.step == 0 then Is [] else (last_page pages r >>= (λ p. heads_below pages p r.head))
+found_heads pages r = if r.head.step == 0 then Is [] else (last_head_page pages r >>= (λ p. heads_below pages p r.head))

@@ -7,25 +7,25 @@ use Rattle.tw_follow.specs.declared.refusal.FollowRefusal.{FollowRefusal}
 use Rattle.tw_follow.specs.declared.refusal.FollowRefusal.TheVariants.{BadPage, DiskFault, NoMemory}
 
 -- what each refusal says: of a page, of the disk, of memory, and all others of the message or of the value
-abbrev pub refusals : FollowRefusal → FaultSort
-refusals (BadPage page) = OfPage page
-refusals DiskFault = OfDisk
-refusals NoMemory = OfMemory
-refusals _ = OfCall
+abbrev pub follower_refusals : FollowRefusal → FaultSort
+follower_refusals (BadPage page) = OfPage page
+follower_refusals DiskFault = OfDisk
+follower_refusals NoMemory = OfMemory
+follower_refusals _ = OfCall
 
 -- what a walk's fault is to the follower
-abbrev pub refusal_of : WalkFault → FollowRefusal
-refusal_of (walk.BadPage page) = BadPage page
-refusal_of walk.DiskFault = DiskFault
+abbrev pub walk_refusal : WalkFault → FollowRefusal
+walk_refusal (walk.BadPage page) = BadPage page
+walk_refusal walk.DiskFault = DiskFault
 
 -- of a page, the disk or memory, and of no message
-abbrev pub IsFault : FollowRefusal → Type 0
-IsFault (BadPage _) = Unit {0}
-IsFault DiskFault = Unit {0}
-IsFault NoMemory = Unit {0}
-IsFault _ = ⊥
+abbrev pub IsFollowerFault : FollowRefusal → Type 0
+IsFollowerFault (BadPage _) = Unit {0}
+IsFollowerFault DiskFault = Unit {0}
+IsFollowerFault NoMemory = Unit {0}
+IsFollowerFault _ = ⊥
 
 -- that a page isn't that of a head that may stand there
-abbrev pub IsBadPage : FollowRefusal → Type 0
-IsBadPage (BadPage _) = Unit {0}
-IsBadPage _ = ⊥
+abbrev pub IsBadPageOfFollower : FollowRefusal → Type 0
+IsBadPageOfFollower (BadPage _) = Unit {0}
+IsBadPageOfFollower _ = ⊥

@@ -7,15 +7,15 @@ use Rattle.tw_disk.specs.declared.limits.TheConstants.{FIRST_PAGE}
 use Rattle.tw_follow.specs.declared.root.RootRecord.{RootRecord}
 
 -- the number of a page
-abbrev pub page_codec : Codec ℕ
-page_codec = number_codec 8 0 (2 ^ 64 - 1)
+abbrev pub page_number_codec : Codec ℕ
+page_number_codec = number_codec 8 0 (2 ^ 64 - 1)
 
 -- the name, the head's step, its authenticator there, the head's page: 64 bytes
 unfoldable pub root_codec : Codec RootRecord
 root_codec =
     seen (λ t. record { head = record { from = t.0; step = t.1.0; auth = t.1.1.0 }; page = t.1.1.1 })
     (λ r. (r.head.from, (r.head.step, (r.head.auth, r.page))))
-    (pair name_codec (λ name. pair (number_codec 8 0 LAST_STEP) (λ step. pair digest_codec (λ auth. page_codec))))
+    (pair name_codec (λ name. pair (number_codec 8 0 LAST_STEP) (λ step. pair digest_codec (λ auth. page_number_codec))))
 
 abbrev pub root_bytes : RootRecord → List ℕ
 root_bytes = root_codec.write

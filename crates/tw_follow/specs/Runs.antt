@@ -7,8 +7,8 @@ use Rattle.tw_msg.specs.Messages.{message_layout, message_texts}
 use Rattle.tw_follow.specs.declared.judging.Offered.TheVariants.{Known, Moves}
 use Rattle.tw_follow.specs.declared.refusal.FollowRefusal.{FollowRefusal}
 use Rattle.tw_follow.specs.declared.refusal.FollowRefusal.TheVariants.{DiskFault}
-use Rattle.tw_follow.specs.HeadLists.{Kept, head_of, with_head}
-use Rattle.tw_follow.specs.Offers.{Judges, judged}
+use Rattle.tw_follow.specs.HeadLists.{Kept, last_head, with_head}
+use Rattle.tw_follow.specs.Offers.{JudgesOffer, judged_offer}
 
 -- an offer of these bytes with its answer; one that a crash stopped, after which the disk was opened again; or the disk was opened
 -- again, after a crash or not
@@ -21,12 +21,12 @@ module _ (dig : List ℕ → List ℕ) where
   -- the bytes spell this message, which moves the list's head, and the next list has its thread as one head more
   pub record MovesBy (kept : Kept) (bytes : List ℕ) (m : Message) (next : Kept) : Type 0 where
     pub spelled : Spells message_layout bytes m
-    pub moves : judged dig (head_of dig kept) m ≡ Ok (Moves m.thread)
+    pub moves : judged_offer dig (last_head dig kept) m ≡ Ok (Moves m.thread)
     pub adds : next ≡ with_head kept m.thread
 
   -- the list may stay: nothing was answered, or a refusal, or the head to the head itself
   abbrev pub MayStay : Kept → Move → Type 0
-  MayStay kept (Answered bytes (Ok thread)) = Judges dig (head_of dig kept) bytes (Ok Known) × (thread ≡ head_of dig kept)
+  MayStay kept (Answered bytes (Ok thread)) = JudgesOffer dig (last_head dig kept) bytes (Ok Known) × (thread ≡ last_head dig kept)
   MayStay kept (Answered bytes (Err refusal)) = Unit {0}
   MayStay kept (Stopped bytes) = Unit {0}
   MayStay kept Reopened = Unit {0}
@@ -40,15 +40,15 @@ module _ (dig : List ℕ → List ℕ) where
   MayMove kept Reopened m next = ⊥
 
   -- one or the other
-  abbrev pub Goes : Kept → Move → (next : Kept) → Type 0
-  Goes kept move next = (MayStay kept move × (next ≡ kept)) ⊎ ((m : Message) × MayMove kept move m next)
+  abbrev pub GoesByMove : Kept → Move → (next : Kept) → Type 0
+  GoesByMove kept move next = (MayStay kept move × (next ≡ kept)) ⊎ ((m : Message) × MayMove kept move m next)
 
   -- one move after another, with the messages by which the list grew
-  unfoldable pub Runs : Kept → List Move → (moved : List Message) → (last : Kept) → Type 0
-  Runs kept [] moved last = (moved ≡ []) × (last ≡ kept)
-  Runs kept (move ∷ moves) moved last =
-      (MayStay kept move × Runs kept moves moved last)
-      ⊎ ((m : Message) × (others : List Message) × (next : Kept) × (moved ≡ m ∷ others) × MayMove kept move m next × Runs next moves others last)
+  unfoldable pub RunsByMoves : Kept → List Move → (moved : List Message) → (last : Kept) → Type 0
+  RunsByMoves kept [] moved last = (moved ≡ []) × (last ≡ kept)
+  RunsByMoves kept (move ∷ moves) moved last =
+      (MayStay kept move × RunsByMoves kept moves moved last)
+      ⊎ ((m : Message) × (others : List Message) × (next : Kept) × (moved ≡ m ∷ others) × MayMove kept move m next × RunsByMoves next moves others last)
 
   -- what climbing the links of these messages hashes, the first one from this thread, and each other one from that of the one before
   abbrev pub moved_texts : Thread → List Message → List (List ℕ)

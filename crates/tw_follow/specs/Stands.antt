@@ -3,10 +3,10 @@ use Rattle.std.specs.Prelude.{◌≡◌, ◌⊎◌, ℕ, List}
 use Rattle.tw_disk.specs.Found.Found.{Is}
 use Rattle.tw_disk.specs.Image.{Image}
 use Rattle.tw_pages.specs.declared.open.StoreFault.{StoreFault}
-use Rattle.tw_pages.specs.Records.{IsWritten, RecordKind, written}
+use Rattle.tw_pages.specs.Records.{IsWritten, RecordKind, written_record}
 use Rattle.tw_pages.specs.Records.{IsNotOpenedFor as IsNotOpenedAs}
 use Rattle.tw_pages.specs.States.{IsBlankOrFirst}
-use Rattle.tw_pages.specs.States.{StandsFor as StandsForState}
+use Rattle.tw_pages.specs.States.{StandsForState}
 use Rattle.tw_follow.specs.declared.root.RootRecord.{RootRecord}
 use Rattle.tw_follow.specs.HeadLists.{Kept, no_heads}
 use Rattle.tw_follow.specs.HeadPages.{found_heads}
@@ -29,14 +29,14 @@ root_kind dig = record { bytes = root_bytes; May = IsAllowed dig }
 module _ (dig : List ℕ → List ℕ) where
   -- the image opens as a store with this root record, and P holds of the store's pages
   abbrev pub OpensWith : (image : Image) (root : RootRecord) (P : Image → Type 0) → Type 0
-  OpensWith image root P = (pages : Image) × IsWritten (root_kind dig) (written root pages) image × P pages
+  OpensWith image root P = (pages : Image) × IsWritten (root_kind dig) (written_record root pages) image × P pages
 
   -- why an image isn't opened: it opens as no store, or its root record is none of a follower
   abbrev pub IsNotOpenedFor : Image → StoreFault → Type 0
   IsNotOpenedFor image fault = IsNotOpenedAs (root_kind dig) image fault
 
   abbrev pub IsServed : Image → Served → Type 0
-  IsServed image (Opened root pages) = IsWritten (root_kind dig) (written root pages) image
+  IsServed image (Opened root pages) = IsWritten (root_kind dig) (written_record root pages) image
   IsServed image (Unopened fault) = IsNotOpenedFor image fault
 
   -- the image opens as a store that keeps this list

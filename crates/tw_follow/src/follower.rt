@@ -2,7 +2,7 @@
 ghost use Rattle.std.specs.Prelude.{◌≡◌, ◌⊎◌, ◌≤◌, ◌<◌, ◌+◌, [], true, false};
 ghost use Rattle.tw_base.specs.declared.kinds.limits.TheConstants.{LAST_STEP};
 ghost use Rattle.tw_disk.specs.declared.limits.TheConstants.{FIRST_PAGE};
-ghost use Rattle.tw_pages.specs.Same.{count_of};
+ghost use Rattle.tw_pages.specs.Same.{store_count};
 ghost use Rattle.tw_pages.specs.StoreValue.{generation_of, staged_of, is_broken as store_is_broken};
 
 use crate::head_page::{HeadPage, head_page};
@@ -26,7 +26,7 @@ pub struct Follower<D: Disk, H: Hasher> {
     hasher: PhantomData<H>,
     ghost tells_faults: { is_broken ≡ false → store_is_broken recorded.store ≡ false },
     ghost short: { recorded.root.head.step ≤ LAST_STEP },
-    ghost few_pages: { count_of recorded.store ≤ FIRST_PAGE + recorded.root.head.step },
+    ghost few_pages: { store_count recorded.store ≤ FIRST_PAGE + recorded.root.head.step },
     ghost few_commits: { generation_of recorded.store ≤ recorded.root.head.step + 1 },
     ghost clean: { staged_of recorded.store ≡ [] },
 }
@@ -45,12 +45,12 @@ impl<D: Disk, H: Hasher> Follower<D, H> {
     ghost use Rattle.tw_base.specs.format.Formats.{Spells};
     ghost use Rattle.tw_msg.specs.HistoryMessages.{MakesMessage};
     ghost use Rattle.tw_msg.specs.Messages.{IsLinked, message_layout};
-    ghost use Rattle.tw_follow.specs.Calls.{Offers, Steps, Tells};
+    ghost use Rattle.tw_follow.specs.Calls.{OfferSteps, Offers, TellsHeads};
     ghost use Rattle.tw_follow.specs.Follows.{Follows, HasSameDisk, IsOver, disk_of, has_failed, head_of, pages_of, record_of};
-    ghost use Rattle.tw_follow.specs.HeadLists.{HasHead, Kept, first_thread, head_of as last_head, no_heads, with_head};
+    ghost use Rattle.tw_follow.specs.HeadLists.{HasHead, Kept, first_thread, last_head, no_heads, with_head};
     ghost use Rattle.tw_follow.specs.Stands.{IsBlankOrNew, IsNotOpenedFor, OpensWith, StandsFor, StandsForOneOf, root_kind};
     ghost use Rattle.tw_follow.specs.Writing.{moved_to};
-    ghost use Rattle.tw_pages.specs.Records.{IsOneOf, IsWritten, written};
+    ghost use Rattle.tw_pages.specs.Records.{IsOneOf, IsWritten, written_record};
     ghost use Rattle.tw_pages.specs.Rests.{RestsWith};
 
     /// Makes a follower of the service of this name, without a head, on a disk that has no store.
@@ -147,7 +147,7 @@ impl<D: Disk, H: Hasher> Follower<D, H> {
 
         // Over a disk that told what it reads as the value's disk is at rest with its record and pages, whatever they keep.
         ensures over { IfOk result (λ f. (c : Image) → (D.view disk).content ≡ Some c
-            → (ps : Image) × (pages_of D.view f ≡ Some ps) × IsWritten (root_kind H.dig) (written (record_of f) ps) c × IsOver H.dig D.view f ps) }
+            → (ps : Image) × (pages_of D.view f ≡ Some ps) × IsWritten (root_kind H.dig) (written_record (record_of f) ps) c × IsOver H.dig D.view f ps) }
 
         // `Blank` and `NotAStore` come only where their reasons stand.
         ensures refused { IfErr result (λ e. (c : Image) → (D.view disk).content ≡ Some c
@@ -209,7 +209,7 @@ impl<D: Disk, H: Hasher> Follower<D, H> {
         // list is kept, the answer is it. Whatever the answer, the list is kept as before, at rest, nothing is written,
         // and the root record is as before. The value remembers that a call answered `DiskFault`, which comes only
         // where the disk's count of faults rose.
-        ensures { Tells H.dig D.view self.old self.new result }
+        ensures { TellsHeads H.dig D.view self.old self.new result }
     {
         if self.is_broken {
             return Err(FollowRefusal::Reopen);
@@ -289,11 +289,11 @@ impl<D: Disk, H: Hasher> Follower<D, H> {
         ensures head { IfOk result (λ thread. (thread ≡ head.now) × (head_of self.new ≡ head.now)) }
         ensures answers { IfErr result (λ refusal. (refusal ≡ FollowRefusal.DiskFault) ⊎ (refusal ≡ FollowRefusal.NoMemory)) }
         ensures written { (ps : Image) → IsOver H.dig D.view self.old ps
-            → LeavesOnly (D.view (disk_of self.old)) (D.view (disk_of self.new)) (IsOneOf (root_kind H.dig) (written (record_of self.old) ps)
-            (moved_to (written (record_of self.old) ps) head.now))
-            × Reads (D.view (disk_of self.new)) (IsOneOf (root_kind H.dig) (written (record_of self.old) ps) (moved_to (written (record_of self.old) ps) head.now))
-            × OnOk result ((record_of self.new ≡ (moved_to (written (record_of self.old) ps) head.now).root)
-            × RestsWith D.view (root_kind H.dig) self.new.recorded.store (moved_to (written (record_of self.old) ps) head.now)) }
+            → LeavesOnly (D.view (disk_of self.old)) (D.view (disk_of self.new)) (IsOneOf (root_kind H.dig) (written_record (record_of self.old) ps)
+            (moved_to (written_record (record_of self.old) ps) head.now))
+            × Reads (D.view (disk_of self.new)) (IsOneOf (root_kind H.dig) (written_record (record_of self.old) ps) (moved_to (written_record (record_of self.old) ps) head.now))
+            × OnOk result ((record_of self.new ≡ (moved_to (written_record (record_of self.old) ps) head.now).root)
+            × RestsWith D.view (root_kind H.dig) self.new.recorded.store (moved_to (written_record (record_of self.old) ps) head.now)) }
         ensures done { IfOk result (λ _. (k : Kept) → Follows H.dig D.view self.old k → Follows H.dig D.view self.new (with_head k head.now)) }
         ensures any_moment { (k : Kept) → Follows H.dig D.view self.old k
             → LeavesOnly (D.view (disk_of self.old)) (D.view (disk_of self.new)) (StandsForOneOf H.dig k (with_head k head.now)) }
@@ -338,7 +338,7 @@ impl<D: Disk, H: Hasher> Follower<D, H> {
             → IsAtRest (D.view result) (λ i. StandsFor H.dig i k) }
         // So it opens with the record and pages that there were, whatever these keep.
         ensures over { (ps : Image) → IsOver H.dig D.view self ps
-            → IsAtRest (D.view result) (IsWritten (root_kind H.dig) (written (record_of self) ps)) }
+            → IsAtRest (D.view result) (IsWritten (root_kind H.dig) (written_record (record_of self) ps)) }
     {
         let Follower {
             alloc: _,

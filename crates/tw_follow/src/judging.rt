@@ -2,7 +2,7 @@
 
 ghost use Rattle.std.specs.Prelude.{◌≡◌};
 ghost use Rattle.tw_msg.specs.Messages.{IsLinked};
-ghost use Rattle.tw_follow.specs.Offers.{judged, leads as leads_from};
+ghost use Rattle.tw_follow.specs.Offers.{judged_offer, leads_from_head};
 
 use crate::refusal::FollowRefusal;
 use tw_base::{Hasher, Thread};
@@ -22,7 +22,7 @@ pub enum Offered {
 /// message's.
 fn leads<H: Hasher>(head: &Thread, message: &Message) -> bool
     requires { IsLinked message.now }
-    ensures { result ≡ leads_from H.dig head.now message.now }
+    ensures { result ≡ leads_from_head H.dig head.now message.now }
 {
     if message.since != head.step {
         return false;
@@ -46,10 +46,10 @@ fn leads<H: Hasher>(head: &Thread, message: &Message) -> bool
 /// - it is of the head's step, with another one: `Forked`;
 /// - its link doesn't lead down to the head's step, or doesn't climb from the head's authenticator: `BadLink`;
 /// - otherwise `Moves`.
-#[tactic(auto, unfolding(crate::specs::Offers::judged))]
+#[tactic(auto, unfolding(crate::specs::Offers::judged_offer))]
 pub(crate) fn judge<H: Hasher>(head: &Thread, message: &Message) -> Result<Offered, FollowRefusal>
     requires { IsLinked message.now }
-    ensures { result ≡ judged H.dig head.now message.now }
+    ensures { result ≡ judged_offer H.dig head.now message.now }
 {
     let thread = &message.thread;
     if thread.from != head.from {

@@ -4,8 +4,8 @@ ghost use Rattle.std.specs.Prelude.{◌≡◌, ◌<◌, IfOk};
 ghost use Rattle.tw_disk.specs.Answers.{ReadsPages};
 ghost use Rattle.tw_disk.specs.WalkFaults.{walk_faults};
 ghost use Rattle.tw_follow.specs.HeadLists.{RiseTo};
-ghost use Rattle.tw_follow.specs.HeadPages.{earlier_page, found_heads, heads_below, last_page, page_of_head};
-ghost use Rattle.tw_follow.specs.Refusals.{refusals};
+ghost use Rattle.tw_follow.specs.HeadPages.{earlier_page, found_heads, heads_below, last_head_page, page_of_head};
+ghost use Rattle.tw_follow.specs.Refusals.{follower_refusals};
 
 use crate::head_page::{HeadPage, read_head_page};
 use crate::refusal::FollowRefusal;
@@ -31,9 +31,9 @@ fn read_head<P: Pages>(pages: &mut P, page: u64) -> Result<HeadPage, WalkFault>
 }
 
 /// Reads the page of the last head, which is the record's.
-#[tactic(auto, unfolding(crate::specs::HeadPages::last_page))]
+#[tactic(auto, unfolding(crate::specs::HeadPages::last_head_page))]
 fn read_last<P: Pages>(pages: &mut P, root: &RootRecord) -> Result<HeadPage, WalkFault>
-    ensures reads { ReadsPages walk_faults P.view P.same pages.old pages.new (λ p. p) result (λ ps. last_page ps root.now) }
+    ensures reads { ReadsPages walk_faults P.view P.same pages.old pages.new (λ p. p) result (λ ps. last_head_page ps root.now) }
     ensures step { IfOk result (λ p. p.step ≡ root.now.head.step) }
 {
     let found = read_head(pages, root.page)?;
@@ -69,7 +69,7 @@ fn read_below<P: Pages>(
 ) -> Result<Threads, FollowRefusal>
     requires step { last.now.step ≡ head.now.step }
     requires some { 0 < head.now.step }
-    ensures reads { ReadsPages refusals P.view P.same pages.old pages.new (λ heads. heads) result (λ ps. heads_below ps last.now head.now) }
+    ensures reads { ReadsPages follower_refusals P.view P.same pages.old pages.new (λ heads. heads) result (λ ps. heads_below ps last.now head.now) }
     ensures rises { IfOk result (RiseTo head.now) }
 {
     let mut heads = Threads::new(alloc);
@@ -98,7 +98,7 @@ pub(crate) fn read_heads<P: Pages>(
     pages: &mut P,
     root: &RootRecord,
 ) -> Result<Threads, FollowRefusal>
-    ensures reads { ReadsPages refusals P.view P.same pages.old pages.new (λ heads. heads) result (λ ps. found_heads ps root.now) }
+    ensures reads { ReadsPages follower_refusals P.view P.same pages.old pages.new (λ heads. heads) result (λ ps. found_heads ps root.now) }
     ensures rises { IfOk result (RiseTo root.now.head) }
 {
     if root.head.step == 0 {

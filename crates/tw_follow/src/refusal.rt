@@ -1,7 +1,7 @@
 // Why a follower refuses a call.
 
 ghost use Rattle.std.specs.Prelude.{◌≡◌, ◌↔◌, IsTrue};
-ghost use Rattle.tw_follow.specs.Refusals.{refusal_of};
+ghost use Rattle.tw_follow.specs.Refusals.{walk_refusal};
 
 use tw_base::{Digest, Name, NoMemory};
 use tw_disk::WalkFault;
@@ -48,7 +48,7 @@ pub enum FollowRefusal {
 }
 
 impl From<WalkFault> for FollowRefusal {
-    ghost from_gives = { λ fault refusal. refusal ≡ refusal_of fault };
+    ghost from_gives = { λ fault refusal. refusal ≡ walk_refusal fault };
 
     fn from(fault: WalkFault) -> Self {
         match fault {

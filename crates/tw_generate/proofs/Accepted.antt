@@ -24,9 +24,9 @@ use Rattle.tw_chain.specs.declared.proof.ThreadProof.{ThreadProof}
 use Rattle.tw_join.specs.Joining.{shown_hop}
 use Rattle.tw_join.specs.OwnParts.{IsMade}
 use Rattle.tw_service.specs.Machine.{last_thread}
-use Rattle.tw_generate.specs.Schedules.{Trio, Who, alpha_name, beta_name, history_of as of_who}
+use Rattle.tw_generate.specs.Schedules.{Trio, Who, alpha_name, beta_name, trio_history}
 use Rattle.tw_generate.specs.Schedules.Who.{Alpha, Beta, Gamma}
-use Rattle.tw_generate.specs.Summing.{family, heads, last}
+use Rattle.tw_generate.specs.Summing.{last, trio_family, trio_heads}
 use Rattle.tw_generate.proofs.Standing.{AreNamed, Stand, has-own, own-thread}
 
 -- ---- anchors
@@ -48,7 +48,7 @@ anchor-in (a ∷ anchors) name step t P all is = by (is_at name step a) is (λ r
 
 module _ (dig : List ℕ → List ℕ) where
   -- the head of each is found among the heads
-  pub head-found : (who : Who) (t : Trio) → AreNamed t → anchor_of (heads dig t) (of_who who t).name (last (of_who who t)) ≡ Some (last_thread dig (of_who who t))
+  pub head-found : (who : Who) (t : Trio) → AreNamed t → anchor_of (trio_heads dig t) (trio_history who t).name (last (trio_history who t)) ≡ Some (last_thread dig (trio_history who t))
   head-found Alpha t names = ap (found_at (last_thread dig t.alpha) (last_thread dig t.beta ∷ last_thread dig t.gamma ∷ []) t.alpha.name (last t.alpha)) (same-place (last_thread dig t.alpha))
   head-found Beta t names =
       let apart : bytes_eq t.alpha.name t.beta.name ≡ false = ap (λ n. bytes_eq n t.beta.name) names.alpha ∙ ap (bytes_eq alpha_name) names.beta in
@@ -61,30 +61,30 @@ module _ (dig : List ℕ → List ℕ) where
       ∙ ap (found_at (last_thread dig t.beta) (last_thread dig t.gamma ∷ []) t.gamma.name (last t.gamma)) (ap (λ b. b && last t.beta == last t.gamma) two)
       ∙ ap (found_at (last_thread dig t.gamma) [] t.gamma.name (last t.gamma)) (same-place (last_thread dig t.gamma))
 
-  heads-had : (t : Trio) → AreNamed t → Each (HasThread dig (family t)) (heads dig t)
+  heads-had : (t : Trio) → AreNamed t → Each (HasThread dig (trio_family t)) (trio_heads dig t)
   heads-had t names =
       (own-thread dig Alpha t (last t.alpha) names (omega arith), (own-thread dig Beta t (last t.beta) names (omega arith), (own-thread dig Gamma t (last t.gamma) names (omega arith), tt)))
 
   abbrev pub IsKeyHeld : Trio → Key → Type 0
-  IsKeyHeld t key = (anchor : Thread) × (anchor_at (heads dig t) key ≡ Some anchor) × HasThread dig (family t) anchor
+  IsKeyHeld t key = (anchor : Thread) × (anchor_at (trio_heads dig t) key ≡ Some anchor) × HasThread dig (trio_family t) anchor
 
-  pub key-held : (who : Who) (t : Trio) (key : Key) → AreNamed t → key.from ≡ (of_who who t).name → key.step ≡ last (of_who who t) → IsKeyHeld t key
+  pub key-held : (who : Who) (t : Trio) (key : Key) → AreNamed t → key.from ≡ (trio_history who t).name → key.step ≡ last (trio_history who t) → IsKeyHeld t key
   key-held who t key names from at = (
-    last_thread dig (of_who who t),
-    ap (λ n. anchor_of (heads dig t) n key.step) from ∙ ap (anchor_of (heads dig t) (of_who who t).name) at ∙ head-found who t names,
-    own-thread dig who t (last (of_who who t)) names (omega arith),
+    last_thread dig (trio_history who t),
+    ap (λ n. anchor_of (trio_heads dig t) n key.step) from ∙ ap (anchor_of (trio_heads dig t) (trio_history who t).name) at ∙ head-found who t names,
+    own-thread dig who t (last (trio_history who t)) names (omega arith),
   )
 
   -- where no thread is carried, the histories have all threads that are held
-  pub held-had : (t : Trio) (cs : List Check) → AreNamed t → flat_map carried_by cs ≡ [] → Each (HasThread dig (family t)) (flat_map (held_by (heads dig t)) cs)
+  pub held-had : (t : Trio) (cs : List Check) → AreNamed t → flat_map carried_by cs ≡ [] → Each (HasThread dig (trio_family t)) (flat_map (held_by (trio_heads dig t)) cs)
   held-had t [] names none = tt
   held-had t (InOrder lower upper ∷ cs) names none = held-had t cs names none
   held-had t (NeedsAnchor key ∷ cs) names none =
-      Each-append (HasThread dig (family t)) (option_to_list (anchor_at (heads dig t) key)) (flat_map (held_by (heads dig t)) cs) (by (anchor_at (heads dig t) key) refl) (held-had t cs names none)
+      Each-append (HasThread dig (trio_family t)) (option_to_list (anchor_at (trio_heads dig t) key)) (flat_map (held_by (trio_heads dig t)) cs) (by (anchor_at (trio_heads dig t) key) refl) (held-had t cs names none)
     where
-      by : (o : Option Thread) → anchor_at (heads dig t) key ≡ o → Each (HasThread dig (family t)) (option_to_list o)
+      by : (o : Option Thread) → anchor_at (trio_heads dig t) key ≡ o → Each (HasThread dig (trio_family t)) (option_to_list o)
       by None is = tt
-      by (Some a) is = (anchor-in (heads dig t) key.from key.step a (HasThread dig (family t)) (heads-had t names) is, tt)
+      by (Some a) is = (anchor-in (trio_heads dig t) key.from key.step a (HasThread dig (trio_family t)) (heads-had t names) is, tt)
   held-had t (CarriesThread thread ∷ cs) names none = cc
   held-had t (PathOf part at upper ∷ cs) names none = held-had t cs names none
   held-had t (LinkOf part l ∷ cs) names none = held-had t cs names none
@@ -93,18 +93,18 @@ module _ (dig : List ℕ → List ℕ) where
   held-had t (AnswerOf part root ask proof ∷ cs) names none = held-had t cs names none
 
   -- a thread of one of them is one that it has
-  pub own-had : (who : Who) (t : Trio) (thread : Thread) → AreNamed t → HasThread dig (family t) thread → thread.from ≡ (of_who who t).name
-      → (thread.step ≤ last (of_who who t)) × (auth dig (of_who who t) thread.step ≡ thread.auth)
+  pub own-had : (who : Who) (t : Trio) (thread : Thread) → AreNamed t → HasThread dig (trio_family t) thread → thread.from ≡ (trio_history who t).name
+      → (thread.step ≤ last (trio_history who t)) × (auth dig (trio_history who t) thread.step ≡ thread.auth)
   own-had who t thread names had from =
-      let there : Some had.0 ≡ Some (of_who who t) = sym had.1 ∙ ap (history_of (family t)) from ∙ has-own who t names in
-      let same : had.0 ≡ of_who who t = cc in
+      let there : Some had.0 ≡ Some (trio_history who t) = sym had.1 ∙ ap (history_of (trio_family t)) from ∙ has-own who t names in
+      let same : had.0 ≡ trio_history who t = cc in
       subst (λ (h : History). (thread.step ≤ length h.steps) × (auth dig h thread.step ≡ thread.auth)) same (had.2, had.3)
 
   -- ---- a part that one of the histories made
 
-  pub made-by : (who : Who) (t : Trio) (step top : ℕ) (p : Proof) → AreNamed t → step ≤ top → top ≤ last (of_who who t) → IsOwnProof dig (of_who who t) step top p → IsMade dig (family t) p
+  pub made-by : (who : Who) (t : Trio) (step top : ℕ) (p : Proof) → AreNamed t → step ≤ top → top ≤ last (trio_history who t) → IsOwnProof dig (trio_history who t) step top p → IsMade dig (trio_family t) p
   made-by who t step top p names order within own = record {
-    history = of_who who t;
+    history = trio_history who t;
     has = has-own who t names;
     step = step;
     top = top;
@@ -113,13 +113,13 @@ module _ (dig : List ℕ → List ℕ) where
     own = own;
   }
 
-  pub hop-stands : (who : Who) (t : Trio) (p : ThreadProof) (most : ℕ) → Stand dig t most → p.at.service ≡ (of_who who t).name → entry_at (of_who who t) p.entry.archived ≡ Some p.entry
-      → HasThread dig (family t) p.entry.thread → HopStands dig (family t) (shown_hop p)
+  pub hop-stands : (who : Who) (t : Trio) (p : ThreadProof) (most : ℕ) → Stand dig t most → p.at.service ≡ (trio_history who t).name → entry_at (trio_history who t) p.entry.archived ≡ Some p.entry
+      → HasThread dig (trio_family t) p.entry.thread → HopStands dig (trio_family t) (shown_hop p)
   hop-stands who t p most s service at had = record {
     source = had.0;
     has_source = had.1;
     within = had.2;
-    archive = of_who who t;
-    has_archive = subst (λ n. HasHistory (family t) n (of_who who t)) (sym service) (has-own who t s.names);
+    archive = trio_history who t;
+    has_archive = subst (λ n. HasHistory (trio_family t) n (trio_history who t)) (sym service) (has-own who t s.names);
     received = at ∙ ap (λ a. Some (record { thread = record { from = p.entry.thread.from; step = p.entry.thread.step; auth = a }; archived = p.entry.archived })) (sym had.3);
   }

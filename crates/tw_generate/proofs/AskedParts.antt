@@ -13,16 +13,16 @@ use Rattle.tw_base.specs.history.Sound.{IsSound}
 use Rattle.tw_base.proofs.lemmas.history.Plus.{step_at-new}
 use Rattle.tw_chain.proofs.ArchiveAnswers.{received-is_so}
 use Rattle.tw_chain.proofs.Completeness.{from_1_of_entry}
-use Rattle.tw_service.specs.EventSteps.{event_step, with_events}
+use Rattle.tw_service.specs.EventSteps.{event_step, with_events_at}
 use Rattle.tw_service.specs.Machine.Call.{Ask}
 use Rattle.tw_service.specs.Questions.{pages_refusal}
 use Rattle.tw_generate.specs.Coming.{IsLedTo, IsNotRefused}
 use Rattle.tw_generate.specs.Draws.{step_events}
-use Rattle.tw_generate.specs.Schedules.{Act, LeadTo, Trio, Who, after_rounds, all_append, end_event, history_of as of_who, no_steps, round, rounds_of, with_history}
-use Rattle.tw_generate.specs.Schedules.Act.{Appends}
+use Rattle.tw_generate.specs.Schedules.{LeadTo, ScheduledAct, Trio, Who, after_rounds, all_append, end_event, no_steps, round_of_acts, rounds_of, trio_history, with_history}
+use Rattle.tw_generate.specs.Schedules.ScheduledAct.{Appends}
 use Rattle.tw_generate.specs.Schedules.Who.{Alpha, Beta, Gamma}
 use Rattle.tw_tmap.specs.Bounds.{first_from}
-use Rattle.tw_generate.specs.Summing.{family, high_side, last, last_event, low_side, received_by}
+use Rattle.tw_generate.specs.Summing.{high_side, last, last_event, low_side, received_by, trio_family}
 use Rattle.tw_generate.proofs.Accepted.{own-had}
 use Rattle.tw_generate.proofs.Acts.{done-moves, played-stands}
 use Rattle.tw_generate.proofs.DrawnEvents.{step-some}
@@ -47,7 +47,7 @@ module _ (dig : List ℕ → List ℕ) (h : History) where
 
 -- ---- the events that are asked for
 
-last-events : (h : History) (events : List (List ℕ)) → events_at (with_events h events None) (last (with_events h events None)) ≡ events
+last-events : (h : History) (events : List (List ℕ)) → events_at (with_events_at h events None) (last (with_events_at h events None)) ≡ events
 last-events h events =
     let s : Step = event_step (root_of (step_at h (last h))) events None in
     let at : last (plus h s) ≡ suc (last h) = length_push h.steps s ∙ omega arith in
@@ -58,12 +58,12 @@ abbrev Begins : Trio → Type 0
 Begins t = (1 ≤ last t.alpha) × (0 < length (events_at t.alpha 1))
 
 module _ (dig : List ℕ → List ℕ) where
-  begins-put : (who : Who) (t : Trio) (h : History) → GoesOn dig (of_who who t) h → Begins t → Begins (with_history who h t)
+  begins-put : (who : Who) (t : Trio) (h : History) → GoesOn dig (trio_history who t) h → Begins t → Begins (with_history who h t)
   begins-put Alpha t h on begins = (omega (arith, on.longer, begins.0), subst (λ es. 0 < length es) (sym (on.events 1 begins.0)) begins.1)
   begins-put Beta t h on begins = begins
   begins-put Gamma t h on begins = begins
 
-  lead-begins : (acts : List Act) (t end : Trio) → LeadTo dig acts t end → Begins t → Begins end
+  lead-begins : (acts : List ScheduledAct) (t end : Trio) → LeadTo dig acts t end → Begins t → Begins end
   unfolding LeadTo
   lead-begins [] t end lead begins = subst Begins lead begins
   lead-begins (act ∷ acts) t end lead begins =
@@ -71,7 +71,7 @@ module _ (dig : List ℕ → List ℕ) where
       lead-begins acts lead.0 end lead.2 (subst Begins (sym m.is) (begins-put m.who t m.history m.on begins))
 
   -- the first act appends alpha's first step
-  first-begins : (events : List (List ℕ)) (acts : List Act) (end : Trio) → 0 < length events → LeadTo dig (Appends Alpha events ∷ acts) no_steps end → Begins end
+  first-begins : (events : List (List ℕ)) (acts : List ScheduledAct) (end : Trio) → 0 < length events → LeadTo dig (Appends Alpha events ∷ acts) no_steps end → Begins end
   unfolding LeadTo
   first-begins events acts end some lead = lead-begins acts lead.0 end lead.2 (subst Begins (sym lead.1) (omega arith, some))
 
@@ -79,8 +79,8 @@ module _ (dig : List ℕ → List ℕ) where
   unfolding rounds_of
   rounds-begin number zero t lead = first-begins (step_events (after_rounds number 0)) _ t (step-some (after_rounds number 0)) lead
   rounds-begin number (suc n) t lead =
-      let both = lead-split dig (rounds_of number (suc n)) (round (after_rounds number (suc n)) (suc (suc n))) no_steps t lead in
-      lead-begins (round (after_rounds number (suc n)) (suc (suc n))) both.0 t both.2 (rounds-begin number n both.0 both.1)
+      let both = lead-split dig (rounds_of number (suc n)) (round_of_acts (after_rounds number (suc n)) (suc (suc n))) no_steps t lead in
+      lead-begins (round_of_acts (after_rounds number (suc n)) (suc (suc n))) both.0 t both.2 (rounds-begin number n both.0 both.1)
 
   pub led-begins : (number rounds : ℕ) (t : Trio) → IsLedTo dig number rounds t → Begins t
   led-begins number zero t led = first-begins end_event _ t (omega arith) (subst (λ acts. LeadTo dig (acts ++ all_append end_event end_event end_event) no_steps t) (rounds-none number) led.1)
@@ -135,8 +135,8 @@ module _ (dig : List ℕ → List ℕ) where
         let beta_is = first-is t.beta.name of_alpha.archived (received_by t.gamma) of_beta first_beta in
         let alpha_at = received-at t.beta (last t.beta) of_alpha alpha_is.0 in
         let beta_at = received-at t.gamma (last t.gamma) of_beta beta_is.0 in
-        let alpha_had = own-had dig Alpha t of_alpha.thread s.names (each-who dig (AllHad dig (family t)) Beta t s.had of_alpha.archived of_alpha alpha_at.0) alpha_is.1 in
-        let beta_had = own-had dig Beta t of_beta.thread s.names (each-who dig (AllHad dig (family t)) Gamma t s.had of_beta.archived of_beta beta_at.0) beta_is.1 in (
+        let alpha_had = own-had dig Alpha t of_alpha.thread s.names (each-who dig (AllHad dig (trio_family t)) Beta t s.had of_alpha.archived of_alpha alpha_at.0) alpha_is.1 in
+        let beta_had = own-had dig Beta t of_beta.thread s.names (each-who dig (AllHad dig (trio_family t)) Gamma t s.had of_beta.archived of_beta beta_at.0) beta_is.1 in (
           thread-goes dig t.gamma (last t.gamma - 1) (last t.gamma) of_beta s.sound.1.1.0 beta_at.0 (received-before of_beta beta_at.0) (omega arith) (omega arith),
           question-goes dig t.beta (ask.Link of_beta.thread.step (Some (last t.beta))) (some Beta, beta_had.0, omega arith) refl,
           thread-goes dig t.beta of_beta.thread.step (last t.beta) of_alpha s.sound.1.0 alpha_at.0 beta_is.2 beta_had.0 (omega arith),

@@ -30,15 +30,15 @@ use Rattle.tw_chain.specs.declared.proof.Proof.{Proof}
 use Rattle.tw_chain.specs.declared.proof.Proof.TheVariants.{Archived, Exists, Linked, Precedes}
 use Rattle.tw_chain.specs.declared.verdict.Verdict.TheVariants.{Yes}
 use Rattle.tw_chain.proofs.ProofCodec.{from_existence}
-use Rattle.tw_join.specs.Joining.{joined}
+use Rattle.tw_join.specs.Joining.{joined_proof}
 use Rattle.tw_join.specs.Joining.Taken.{Nothing}
 use Rattle.tw_join.specs.OwnParts.{HopOfPartStands, IsMade, JoinedIsAccepted}
 use Rattle.tw_service.specs.Machine.{Makes, last_thread}
 use Rattle.tw_tmap.specs.Bounds.{first_from}
 use Rattle.tw_generate.specs.Coming.{IsAuditTold}
-use Rattle.tw_generate.specs.Schedules.{Trio, Who, history_of as of_who}
+use Rattle.tw_generate.specs.Schedules.{Trio, Who, trio_history}
 use Rattle.tw_generate.specs.Schedules.Who.{Alpha, Beta, Gamma}
-use Rattle.tw_generate.specs.Summing.{AreParts, IsAnswered, IsClaimed, IsPrecedence, family, heads, last, last_event, received_by}
+use Rattle.tw_generate.specs.Summing.{AreParts, IsClaimed, IsPrecedence, IsQuestionAnswered, last, last_event, received_by, trio_family, trio_heads}
 use Rattle.tw_generate.proofs.Accepted.{IsKeyHeld, head-found, held-had, hop-stands, key-held, made-by, own-had}
 use Rattle.tw_generate.proofs.FirstEntries.{first-is, received-at}
 use Rattle.tw_generate.proofs.Parts.{event-part, link-part, made-of, thread-part}
@@ -47,17 +47,17 @@ use Rattle.tw_generate.proofs.Standing.{AllHad, Stand, each-who}
 
 module _ (dig : List ℕ → List ℕ) (once : IsUnambiguous proof_codec) where
   -- the histories are sound and named, received each other's threads alone, and each has a step
-  module _ (t : Trio) (most : ℕ) (s : Stand dig t most) (some : (who : Who) → 0 < last (of_who who t)) where
-    had-by : (who : Who) (k : ℕ) (e : Entry) → entry_at (of_who who t) k ≡ Some e → HasThread dig (family t) e.thread
-    had-by who = each-who dig (AllHad dig (family t)) who t s.had
+  module _ (t : Trio) (most : ℕ) (s : Stand dig t most) (some : (who : Who) → 0 < last (trio_history who t)) where
+    had-by : (who : Who) (k : ℕ) (e : Entry) → entry_at (trio_history who t) k ≡ Some e → HasThread dig (trio_family t) e.thread
+    had-by who = each-who dig (AllHad dig (trio_family t)) who t s.had
 
     -- the parts over two hops
     pub record AreSix (parts : List Proof) : Type 0 where
       pub six : Six
       pub fit : AllFit six
       pub are : parts ≡ parts_of six
-      pub made : Each (IsMade dig (family t)) (parts_of six)
-      pub stand : Each (HopOfPartStands dig (family t)) (parts_of six)
+      pub made : Each (IsMade dig (trio_family t)) (parts_of six)
+      pub stand : Each (HopOfPartStands dig (trio_family t)) (parts_of six)
       pub held : Each (IsKeyHeld dig t) (keys six)
 
     pub parts-are : (of_alpha of_beta : Entry) (parts : List Proof) → first_from t.alpha.name 1 (received_by t.beta) ≡ Some of_alpha
@@ -149,18 +149,18 @@ module _ (dig : List ℕ → List ℕ) (once : IsUnambiguous proof_codec) where
     pub record AreAccepted (bytes : List ℕ) : Type 0 where
       pub proof : Proof
       pub spells : Spells proof_layout bytes proof
-      pub accepted : IsAccepted dig (heads dig t) proof
+      pub accepted : IsAccepted dig (trio_heads dig t) proof
       pub bare : carried proof ≡ []
 
     module _ (joined_law : JoinedIsAccepted dig)
-        (spelled_law : (parts : List Proof) (p : PrecedenceProof) → Each (λ part. (bytes : List ℕ) × Spells proof_layout bytes part) parts → joined Nothing 1 parts ≡ Ok p
+        (spelled_law : (parts : List Proof) (p : PrecedenceProof) → Each (λ part. (bytes : List ℕ) × Spells proof_layout bytes part) parts → joined_proof Nothing 1 parts ≡ Ok p
         → Spells proof_layout (proof_bytes (Precedes p)) (Precedes p)) where
       precedence-accepted : (bytes : List ℕ) → IsPrecedence dig t bytes → AreAccepted bytes
       precedence-accepted bytes is =
           let six = parts-are is.of_alpha is.of_beta is.parts is.is_of_alpha is.is_of_beta is.are_parts in
           let are = is.are_parts in
           let x : Six = six.six in
-          let join : joined Nothing 1 is.parts ≡ Ok (whole x) = ap (joined Nothing 1) six.are ∙ parts-join x six.fit in
+          let join : joined_proof Nothing 1 is.parts ≡ Ok (whole x) = ap (joined_proof Nothing 1) six.are ∙ parts-join x six.fit in
           let spelled : Each (λ part. (word : List ℕ) × Spells proof_layout word part) is.parts =
           subst (Each (λ part. (word : List ℕ) × Spells proof_layout word part)) (sym are.parts_are) (
             (are.is_second.0, are.is_second.2),
@@ -184,7 +184,7 @@ module _ (dig : List ℕ → List ℕ) (once : IsUnambiguous proof_codec) where
           record {
             proof = Precedes (whole x);
             spells = subst (λ (word : List ℕ). Spells proof_layout word (Precedes (whole x))) (sym bytes_are) (spelled_law is.parts (whole x) spelled join);
-            accepted = joined_law (family t) (parts_of x) (whole x) (heads dig t) s.sound six.made six.stand (parts-join x six.fit)
+            accepted = joined_law (trio_family t) (parts_of x) (whole x) (trio_heads dig t) s.sound six.made six.stand (parts-join x six.fit)
                 (subst (Each (IsKeyHeld dig t)) (sym (three-named x six.fit)) six.held);
             bare = none-carried x six.fit;
           }
@@ -192,14 +192,14 @@ module _ (dig : List ℕ → List ℕ) (once : IsUnambiguous proof_codec) where
       module _ (own_law : (h : History) (step top : ℕ) (p : Proof) (anchors : List Thread) (anchor : Thread) →
           IsSound h → step ≤ top → top ≤ length h.steps → IsOwnProof dig h step top p → anchor_of anchors h.name top ≡ Some anchor → anchor.auth ≡ auth dig h top →
           IsAccepted dig anchors p) where
-        existence-accepted : (bytes : List ℕ) → IsAnswered dig t.gamma (last_event t) bytes → AreAccepted bytes
+        existence-accepted : (bytes : List ℕ) → IsQuestionAnswered dig t.gamma (last_event t) bytes → AreAccepted bytes
         unfolding Makes
         existence-accepted bytes is =
             let made = made-of dig t.gamma (last_event t) bytes is in
             record {
               proof = Exists made.0;
               spells = from_existence bytes made.0 made.1;
-              accepted = own_law t.gamma (last t.gamma) (last t.gamma) (Exists made.0) (heads dig t) (last_thread dig t.gamma) s.sound.1.1.0 (omega arith) (omega arith) (0, made.2)
+              accepted = own_law t.gamma (last t.gamma) (last t.gamma) (Exists made.0) (trio_heads dig t) (last_thread dig t.gamma) s.sound.1.1.0 (omega arith) (omega arith) (0, made.2)
                   (head-found dig Gamma t s.names) refl;
               bare = refl;
             }
@@ -207,18 +207,18 @@ module _ (dig : List ℕ → List ℕ) (once : IsUnambiguous proof_codec) where
         pub claim-accepted : (rounds : ℕ) (bytes : List ℕ) → IsClaimed dig t rounds bytes → AreAccepted bytes
         claim-accepted rounds bytes is = by (nat_lt rounds 50) is
           where
-            by : (b : Bool) → MatchBool b (IsAnswered dig t.gamma (last_event t) bytes) (IsPrecedence dig t bytes) → AreAccepted bytes
+            by : (b : Bool) → MatchBool b (IsQuestionAnswered dig t.gamma (last_event t) bytes) (IsPrecedence dig t bytes) → AreAccepted bytes
             by true is = existence-accepted bytes is
             by false is = precedence-accepted bytes is
 
-    pub accepted-verdict : (bytes : List ℕ) → AreAccepted bytes → (report : Report) × IsVerdict dig (heads dig t) true bytes (Yes report)
+    pub accepted-verdict : (bytes : List ℕ) → AreAccepted bytes → (report : Report) × IsVerdict dig (trio_heads dig t) true bytes (Yes report)
     accepted-verdict bytes a = (report_of a.proof, ((a.proof, a.spells, a.accepted), λ is. a.bare, refl))
 
-    pub accepted-told : (bytes : List ℕ) (a : AreAccepted bytes) (result : Result Finding AuditFault) → AnswerMeans dig (family t) (heads dig t) a.proof result → IsAuditTold result
+    pub accepted-told : (bytes : List ℕ) (a : AreAccepted bytes) (result : Result Finding AuditFault) → AnswerMeans dig (trio_family t) (trio_heads dig t) a.proof result → IsAuditTold result
     accepted-told bytes a (Ok (Stands report)) means = (true, refl)
     accepted-told bytes a (Ok (Clash one other digest)) means = (false, refl)
     accepted-told bytes a (Ok (NotAccepted reason)) means = absurd (means.0 a.accepted)
     accepted-told bytes a (Err (NotHeld thread found)) means =
-        absurd (means.missing (Each-parts (HasThread dig (family t)) means.first.0 (thread ∷ means.first.1)
-        (subst (Each (HasThread dig (family t))) means.first.2 (held-had dig t (checks a.proof) s.names a.bare))).1.0)
+        absurd (means.missing (Each-parts (HasThread dig (trio_family t)) means.first.0 (thread ∷ means.first.1)
+        (subst (Each (HasThread dig (trio_family t))) means.first.2 (held-had dig t (checks a.proof) s.names a.bare))).1.0)
     accepted-told bytes a (Err NoMemory) means = tt

@@ -1,6 +1,6 @@
 -- What one draw more makes.
 use Rattle.std.proofs.Common.{◌≡◌, ℕ, ◌+◌, [], ◌∷◌, ◌++◌, ap, refl, add-one}
-use Rattle.tw_generate.specs.Draws.{after_draws, drawn, drawn_events, event_of, next_state}
+use Rattle.tw_generate.specs.Draws.{after_draws, drawn, drawn_event, drawn_events, next_state}
 
 pub drawn-none : (x : ℕ) → drawn_events x 0 ≡ []
 unfolding drawn_events
@@ -14,6 +14,6 @@ pub after-more : (x n : ℕ) → after_draws x (n + 1) ≡ next_state (after_dra
 unfolding after_draws
 after-more x n = ap (after_draws x) (add-one n)
 
-pub drawn-more : (x n : ℕ) → drawn_events x (n + 1) ≡ drawn_events x n ++ event_of (drawn (next_state (after_draws x n))) ∷ []
+pub drawn-more : (x n : ℕ) → drawn_events x (n + 1) ≡ drawn_events x n ++ drawn_event (drawn (next_state (after_draws x n))) ∷ []
 unfolding drawn_events after_draws
 drawn-more x n = ap (drawn_events x) (add-one n)

@@ -7,17 +7,17 @@ use Rattle.tw_base.specs.history.Limits.{MayRecord}
 use Rattle.tw_base.specs.kinds.Bytes.{AreBytes}
 use Rattle.tw_base.specs.kinds.Lists.{Each}
 use Rattle.tw_base.proofs.lemmas.kinds.ListLemmas.{Each-append}
-use Rattle.tw_generate.specs.Draws.{after_draws, count_of, drawn, drawn_events, event_of, next_state, step_events}
+use Rattle.tw_generate.specs.Draws.{after_draws, drawn, drawn_count, drawn_event, drawn_events, next_state, step_events}
 use Rattle.tw_generate.specs.Schedules.{end_event}
 
 each-same : (n b : ℕ) → b < 256 → AreBytes (replicate n b)
 each-same zero b small = tt
 each-same (suc n) b small = (small, each-same n b small)
 
-event-length : (v : ℕ) → length (event_of v) ≡ 200
+event-length : (v : ℕ) → length (drawn_event v) ≡ 200
 event-length v = refl
 
-event-bytes : (v : ℕ) → AreBytes (event_of v)
+event-bytes : (v : ℕ) → AreBytes (drawn_event v)
 event-bytes v = each-same 200 (v % 256) (omega arith)
 
 abbrev size : List ℕ → ℕ
@@ -34,7 +34,7 @@ unfolding drawn_events
 drawn-fit x zero = record { count = refl; sizes = tt; bytes = tt; sum = refl }
 drawn-fit x (suc n) =
     let rest = drawn-fit x n in
-    let last : List ℕ = event_of (drawn (after_draws x (suc n))) in
+    let last : List ℕ = drawn_event (drawn (after_draws x (suc n))) in
     record {
       count = length-append (drawn_events x n) (last ∷ []) ∙ omega (arith, rest.count);
       sizes = Each-append _ (drawn_events x n) (last ∷ []) rest.sizes (omega (arith, event-length (drawn (after_draws x (suc n)))), tt);
@@ -44,13 +44,13 @@ drawn-fit x (suc n) =
 
 pub step-may : (x : ℕ) → MayRecord (step_events x)
 step-may x =
-    let fits = drawn-fit (next_state x) (count_of x) in
-    let few : count_of x ≤ 4 = omega arith in
+    let fits = drawn-fit (next_state x) (drawn_count x) in
+    let few : drawn_count x ≤ 4 = omega arith in
     record { are = record { count = omega (arith, fits.count, few); sizes = fits.sizes; bytes = fits.bytes }; fit = omega (arith, fits.sum, few) }
 
 -- a step has an event
 pub step-some : (x : ℕ) → 0 < length (step_events x)
-step-some x = let fits = drawn-fit (next_state x) (count_of x) in omega (arith, fits.count)
+step-some x = let fits = drawn-fit (next_state x) (drawn_count x) in omega (arith, fits.count)
 
 pub end-may : MayRecord end_event
 end-may = record {

@@ -12,10 +12,10 @@ use Rattle.tw_base.specs.declared.history.thread.Entry.{Entry}
 use Rattle.tw_base.specs.declared.history.thread.Thread.{Thread}
 use Rattle.tw_base.specs.history.History.{History, Step, plus, received, thread_of}
 use Rattle.tw_generate.specs.Playing.{HasHeard}
-use Rattle.tw_generate.specs.Schedules.{last_heard, last_step}
+use Rattle.tw_generate.specs.Schedules.{last_heard, last_received_step}
 use Rattle.tw_generate.proofs.Onward.{entry_of, received-more}
 
-last_step-more : (from : List ℕ) (es : List Entry) (e : Entry) → last_step from (es ++ e ∷ []) ≡ (if bytes_eq e.thread.from from then e.thread.step else last_step from es)
+last_step-more : (from : List ℕ) (es : List Entry) (e : Entry) → last_received_step from (es ++ e ∷ []) ≡ (if bytes_eq e.thread.from from then e.thread.step else last_received_step from es)
 last_step-more from es e =
     ap (λ (l : List Entry). option_map_or (λ (x : Entry). x.thread.step) (find (λ (x : Entry). bytes_eq x.thread.from from) l) 0) (reverse-append es (e ∷ []))
     ∙ by (bytes_eq e.thread.from from) (find (λ (x : Entry). bytes_eq x.thread.from from) (reverse es))
@@ -31,13 +31,13 @@ module _ (h : History) (s : Step) where
   -- a step that received nothing
   pub heard-nothing : thread_of (Some s) ≡ None → (n : List ℕ) → last_heard (plus h s) n ≡ last_heard h n
   heard-nothing none n =
-      ap (last_step n) (received-more h s ∙ ap with_thread none ∙ append-nil (received h (length h.steps)))
+      ap (last_received_step n) (received-more h s ∙ ap with_thread none ∙ append-nil (received h (length h.steps)))
 
   -- a step that received a thread
   pub heard-thread : (t : Thread) → s.content ≡ Received t → (n : List ℕ) → last_heard (plus h s) n ≡ (if bytes_eq t.from n then t.step else last_heard h n)
   heard-thread t is n =
       let some : thread_of (Some s) ≡ Some t = ap (λ (c : Content). thread_of (Some (record { content = c; time = s.time; fresh = s.fresh; root = s.root }))) is in
-      ap (last_step n) (received-more h s ∙ ap with_thread some)
+      ap (last_received_step n) (received-more h s ∙ ap with_thread some)
       ∙ last_step-more n (received h (length h.steps)) (record { thread = t; archived = suc (length h.steps) })
 
 pub same-name : (n : List ℕ) → bytes_eq n n ≡ true

@@ -16,8 +16,8 @@ use Rattle.tw_service.specs.declared.receiving.Reception.TheVariants.{Archive, K
 use Rattle.tw_service.proofs.ReceivingLaws.{own-receipt}
 use Rattle.tw_tmap.specs.Bounds.{first_from}
 use Rattle.tw_generate.specs.Draws.{after_step, step_events}
-use Rattle.tw_generate.specs.Schedules.{Act, Hears, IsDone, LeadTo, Trio, Who, after_rounds, no_steps, round, rounds_of, history_of as of_who, with_history}
-use Rattle.tw_generate.specs.Schedules.Act.{Appends, Tells}
+use Rattle.tw_generate.specs.Schedules.{ScheduledAct, Hears, IsDone, LeadTo, Trio, Who, after_rounds, no_steps, round_of_acts, rounds_of, trio_history, with_history}
+use Rattle.tw_generate.specs.Schedules.ScheduledAct.{Appends, Tells}
 use Rattle.tw_generate.specs.Schedules.Who.{Alpha, Beta, Gamma}
 use Rattle.tw_generate.specs.Summing.{last, received_by}
 use Rattle.tw_generate.proofs.Acts.{done-moves}
@@ -65,12 +65,12 @@ module _ (dig : List ℕ → List ℕ) where
   goes-first from next_from least h next e name on is =
       ap (λ n. first_from n least (received_by next)) name ∙ ap (first_from from least) on.heard ∙ first-stays from least (received_by h) on.more e is
 
-  put-first : (who : Who) (t : Trio) (h : History) → GoesOn dig (of_who who t) h → HasFirst t → HasFirst (with_history who h t)
+  put-first : (who : Who) (t : Trio) (h : History) → GoesOn dig (trio_history who t) h → HasFirst t → HasFirst (with_history who h t)
   put-first Alpha t h on f = record { of_alpha = f.of_alpha; is_of_alpha = ap (λ n. first_from n 1 (received_by t.beta)) on.name ∙ f.is_of_alpha }
   put-first Beta t h on f = record { of_alpha = f.of_alpha; is_of_alpha = goes-first t.alpha.name t.alpha.name 1 t.beta h f.of_alpha refl on f.is_of_alpha }
   put-first Gamma t h on f = record { of_alpha = f.of_alpha; is_of_alpha = f.is_of_alpha }
 
-  put-heard : (who : Who) (t : Trio) (h : History) → GoesOn dig (of_who who t) h → HaveHeard t → HaveHeard (with_history who h t)
+  put-heard : (who : Who) (t : Trio) (h : History) → GoesOn dig (trio_history who t) h → HaveHeard t → HaveHeard (with_history who h t)
   unfolding put-first
   put-heard Alpha t h on f = record { first = put-first Alpha t h on f.first; of_beta = f.of_beta; is_of_beta = f.is_of_beta }
   put-heard Beta t h on f = record {
@@ -84,13 +84,13 @@ module _ (dig : List ℕ → List ℕ) where
     is_of_beta = goes-first t.beta.name t.beta.name f.first.of_alpha.archived t.gamma h f.of_beta refl on f.is_of_beta;
   }
 
-  done-first : (act : Act) (t next : Trio) → IsDone dig act t next → HasFirst t → HasFirst next
+  done-first : (act : ScheduledAct) (t next : Trio) → IsDone dig act t next → HasFirst t → HasFirst next
   done-first act t next done f = let m = done-moves dig act t next done in subst HasFirst (sym m.is) (put-first m.who t m.history m.on f)
 
-  done-heard : (act : Act) (t next : Trio) → IsDone dig act t next → HaveHeard t → HaveHeard next
+  done-heard : (act : ScheduledAct) (t next : Trio) → IsDone dig act t next → HaveHeard t → HaveHeard next
   done-heard act t next done f = let m = done-moves dig act t next done in subst HaveHeard (sym m.is) (put-heard m.who t m.history m.on f)
 
-  pub lead-heard : (acts : List Act) (t end : Trio) → LeadTo dig acts t end → HaveHeard t → HaveHeard end
+  pub lead-heard : (acts : List ScheduledAct) (t end : Trio) → LeadTo dig acts t end → HaveHeard t → HaveHeard end
   unfolding LeadTo
   lead-heard [] t end lead f = subst HaveHeard lead f
   lead-heard (act ∷ acts) t end lead f = lead-heard acts lead.0 end lead.2 (done-heard act t lead.0 lead.1 f)
@@ -128,14 +128,14 @@ module _ (dig : List ℕ → List ℕ) where
   rounds-first : (number : ℕ) (t : Trio) → LeadTo dig (rounds_of number 50) no_steps t → HaveHeard t
   rounds-first number t lead =
       let x : ℕ = after_rounds number 49 in
-      let parts = lead-split dig (rounds_of number 49) (round x 50) no_steps t (subst (λ acts. LeadTo dig acts no_steps t) (rounds-more number 49) lead) in
+      let parts = lead-split dig (rounds_of number 49) (round_of_acts x 50) no_steps t (subst (λ acts. LeadTo dig acts no_steps t) (rounds-more number 49) lead) in
       told-heard (step_events x) (step_events (after_step x)) (step_events (after_step (after_step x))) parts.0 t parts.2
 
   rounds-later : (number d : ℕ) (t : Trio) → LeadTo dig (rounds_of number (50 + d)) no_steps t → HaveHeard t
   rounds-later number zero t lead = rounds-first number t lead
   rounds-later number (suc d) t lead =
       let next : 50 + suc d ≡ (50 + d) + 1 = omega arith in
-      let more = round (after_rounds number (50 + d)) (50 + d + 1) in
+      let more = round_of_acts (after_rounds number (50 + d)) (50 + d + 1) in
       let parts = lead-split dig (rounds_of number (50 + d)) more no_steps t
       (subst (λ acts. LeadTo dig acts no_steps t) (ap (rounds_of number) next ∙ rounds-more number (50 + d)) lead) in
       lead-heard more parts.0 t parts.2 (rounds-later number d parts.0 parts.1)

@@ -6,7 +6,7 @@ use Rattle.std.specs.Str.{bytes_eq}
 use Rattle.std.proofs.lemmas.List.{reverse-append}
 use Rattle.std.proofs.lemmas.List.Folds.{find-append}
 use Rattle.std.proofs.lemmas.Slice.Eq.{bytes_eq-Decides}
-use Rattle.tw_archive.specs.Judging.{last_of, last_step as step_of}
+use Rattle.tw_archive.specs.Judging.{last_entry_step, last_of_peer}
 use Rattle.tw_base.specs.declared.history.thread.Entry.{Entry}
 use Rattle.tw_base.specs.history.History.{History}
 use Rattle.tw_base.specs.history.Limits.{IsEntryInRange}
@@ -67,19 +67,19 @@ module _ (name : List ℕ) where
       subst (IsLast (x ∷ rest)) (sym (ap (find is_of) (reverse-append (x ∷ []) rest) ∙ find-append is_of (reverse rest) (x ∷ [])))
       (last-more x rest (find is_of (reverse rest)) rises (last-is rest rises.1))
 
-  module _ (last_law : (es : List Entry) (e : Entry) → IsRising es → Each IsEntryInRange es → last_of es name ≡ Some e
+  module _ (last_law : (es : List Entry) (e : Entry) → IsRising es → Each IsEntryInRange es → last_of_peer es name ≡ Some e
       → In e es × (e.thread.from ≡ name) × ((f : Entry) → In f es → f.thread.from ≡ name → (f ≡ e) ⊎ (f.thread.step < e.thread.step)))
-      (no_last_law : (es : List Entry) → IsRising es → Each IsEntryInRange es → last_of es name ≡ None → (f : Entry) → In f es → f.thread.from ≡ name → ⊥)
+      (no_last_law : (es : List Entry) → IsRising es → Each IsEntryInRange es → last_of_peer es name ≡ None → (f : Entry) → In f es → f.thread.from ≡ name → ⊥)
       (h : History) (sound : IsSound h) where
     abbrev es : List Entry
     es = entries (tree h (last h))
 
-    pub last-entry : (e : Entry) → last_of es name ≡ Some e → In e es × In e (received_by h) × (e.thread.from ≡ name)
+    pub last-entry : (e : Entry) → last_of_peer es name ≡ Some e → In e es × In e (received_by h) × (e.thread.from ≡ name)
     last-entry e is =
         let found = last_law es e (tree-rises h sound (last h)) (archive-ranges h sound (last h)) is in
         (found.0, tree-only_received h (last h) e found.0, found.1)
 
-    step-is : (o q : Option Entry) → IsLast (received_by h) o → last_of es name ≡ q → step_of q ≡ option_map_or (λ (e : Entry). e.thread.step) o 0
+    step-is : (o q : Option Entry) → IsLast (received_by h) o → last_of_peer es name ≡ q → last_entry_step q ≡ option_map_or (λ (e : Entry). e.thread.step) o 0
     step-is None None is at = refl
     step-is None (Some e) is at = let there = last-entry e at in absurd (is e there.1 there.2)
     step-is (Some f) None is at =
@@ -94,5 +94,5 @@ module _ (name : List ℕ) where
         ] in
         omega (arith, below, above)
 
-    pub last-heard : step_of (last_of es name) ≡ last_heard h name
-    last-heard = step-is (find is_of (reverse (received_by h))) (last_of es name) (last-is (received_by h) (received-rises h sound (last h))) refl
+    pub last-heard : last_entry_step (last_of_peer es name) ≡ last_heard h name
+    last-heard = step-is (find is_of (reverse (received_by h))) (last_of_peer es name) (last-is (received_by h) (received-rises h sound (last h))) refl

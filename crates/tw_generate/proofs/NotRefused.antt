@@ -4,10 +4,10 @@ use Rattle.std.specs.Prelude.{◌%◌, ◌&&◌, ◌==◌, Option, Some, None, M
 use Rattle.std.specs.Str.{bytes_eq}
 use Rattle.std.proofs.lemmas.Bool.{and_from, cases_lt, le-leb, le-ltb, lt-leb, lt-ltb}
 use Rattle.std.proofs.lemmas.Slice.Eq.{bytes_eq-Decides}
-use Rattle.tw_answers.specs.Limits.{append_refusal, archive_refusal, bytes_of, clock_refusal, first_long, full_refusal, length_refusal, limits_refusal, link_refusal, or_else, order_refusal, thread_refusal, top_refusal}
+use Rattle.tw_answers.specs.Limits.{append_refusal, archive_refusal, clock_refusal, events_size, first_long, full_refusal, length_refusal, limits_refusal, link_refusal, or_else, order_refusal, thread_refusal, top_refusal}
 use Rattle.tw_answers.specs.declared.refusal.Refusal.{Refusal}
 use Rattle.tw_answers.specs.declared.refusal.Refusal.TheVariants.{Full, NoStep, TooLong, TooMany}
-use Rattle.tw_archive.specs.Judging.{kept_auth, last_of, last_step as step_of}
+use Rattle.tw_archive.specs.Judging.{kept_auth, last_entry_step, last_of_peer}
 use Rattle.tw_base.specs.declared.history.question.Question.{Question}
 use Rattle.tw_base.specs.declared.history.question.Question.TheVariants as ask
 use Rattle.tw_base.specs.declared.history.thread.Entry.{Entry}
@@ -23,21 +23,21 @@ use Rattle.tw_base.specs.kinds.Lists.{Each, In}
 use Rattle.tw_base.specs.kinds.Texts.{genesis_text}
 use Rattle.tw_msg.specs.HistoryMessages.{IsMessageOf, thread_at_step}
 use Rattle.tw_msg.specs.declared.message.Message.{Message}
-use Rattle.tw_service.specs.EventSteps.{with_events}
+use Rattle.tw_service.specs.EventSteps.{with_events_at}
 use Rattle.tw_service.specs.Machine.{RepliesTo, append_table, received_as}
 use Rattle.tw_service.specs.Machine.Call.{Append, Ask, Receive}
 use Rattle.tw_service.specs.Machine.Reply.{Refused}
 use Rattle.tw_service.specs.Questions.{AreInOrder, history_refusal, pages_refusal, question_refusal}
 use Rattle.tw_service.specs.Stands.{greatest_time}
-use Rattle.tw_service.specs.Tops.{top_of}
+use Rattle.tw_service.specs.Tops.{top_or_last}
 use Rattle.tw_service.specs.declared.receiving.Reception.{Reception}
 use Rattle.tw_service.specs.declared.receiving.Reception.TheVariants.{Archive, Known}
 use Rattle.tw_generate.specs.Coming.{AllCanBeDone, CanBeDone, IsNotRefused}
 use Rattle.tw_generate.specs.Draws.{after_step, step_events}
-use Rattle.tw_generate.specs.Schedules.{Act, IsDone, LeadTo, Trio, Who, after_rounds, all_append, all_tell, alpha_name, beta_name, end_event, gamma_name, history_of as of_who, last_heard, no_steps, round, rounds_of, schedule, with_history}
-use Rattle.tw_generate.specs.Schedules.Act.{Appends, Tells}
+use Rattle.tw_generate.specs.Schedules.{IsDone, LeadTo, ScheduledAct, Trio, Who, after_rounds, all_append, all_tell, alpha_name, beta_name, end_event, gamma_name, last_heard, no_steps, round_of_acts, rounds_of, schedule, trio_history, with_history}
+use Rattle.tw_generate.specs.Schedules.ScheduledAct.{Appends, Tells}
 use Rattle.tw_generate.specs.Schedules.Who.{Alpha, Beta, Gamma}
-use Rattle.tw_generate.specs.Summing.{family, last}
+use Rattle.tw_generate.specs.Summing.{last, trio_family}
 use Rattle.tw_generate.proofs.Accepted.{own-had}
 use Rattle.tw_generate.proofs.Acts.{done-moves, done-stand, front-stands, no-clock, rounds-length, rounds-may}
 use Rattle.tw_generate.proofs.DrawnEvents.{end-may, step-may}
@@ -59,9 +59,9 @@ none-long (event ∷ events) sizes = ap (λ b. if b then Some event else first_l
 within-limits : (events : List (List ℕ)) → MayRecord events → limits_refusal events ≡ None
 unfolding limits_refusal
 within-limits events may =
-    ap (λ b. if b then Some (TooMany (length events)) else length_refusal (first_long events) (bytes_of events)) (le-ltb MOST_EVENTS (length events) may.are.count)
-    ∙ ap (λ o. length_refusal o (bytes_of events)) (none-long events may.are.sizes)
-    ∙ ap (λ b. if b then Some (TooLong (bytes_of events)) else None) (le-ltb MOST_STEP_BYTES (bytes_of events) may.fit)
+    ap (λ b. if b then Some (TooMany (length events)) else length_refusal (first_long events) (events_size events)) (le-ltb MOST_EVENTS (length events) may.are.count)
+    ∙ ap (λ o. length_refusal o (events_size events)) (none-long events may.are.sizes)
+    ∙ ap (λ b. if b then Some (TooLong (events_size events)) else None) (le-ltb MOST_STEP_BYTES (events_size events) may.fit)
 
 may-append : (n : ℕ) (clock : Option ℕ) (events : List (List ℕ)) → n < LAST_STEP → MayRecord events → append_refusal false n clock events None ≡ None
 unfolding append_refusal
@@ -85,15 +85,15 @@ steps-pass n step top order =
 in-order : (n : ℕ) (q : Question) → AreInOrder n q → question_refusal false n q ≡ None
 unfolding question_refusal link_refusal thread_refusal top_refusal
 in-order n (ask.Link step top) order =
-    passes (nat_le step (top_of top n)) (nat_le 1 (top_of top n) && nat_le (top_of top n) n) n (le-leb step (top_of top n) order.1)
-    (and_from (nat_le 1 (top_of top n)) (nat_le (top_of top n) n) (le-leb 1 (top_of top n) order.0) (le-leb (top_of top n) n order.2))
-in-order n (ask.High step peer top) order = passes (nat_le 1 (top_of top n)) (nat_le (top_of top n) n) n (le-leb 1 (top_of top n) order.0) (le-leb (top_of top n) n order.1)
+    passes (nat_le step (top_or_last top n)) (nat_le 1 (top_or_last top n) && nat_le (top_or_last top n) n) n (le-leb step (top_or_last top n) order.1)
+    (and_from (nat_le 1 (top_or_last top n)) (nat_le (top_or_last top n) n) (le-leb 1 (top_or_last top n) order.0) (le-leb (top_or_last top n) n order.2))
+in-order n (ask.High step peer top) order = passes (nat_le 1 (top_or_last top n)) (nat_le (top_or_last top n) n) n (le-leb 1 (top_or_last top n) order.0) (le-leb (top_or_last top n) n order.1)
 in-order n (ask.ThreadOut since) order = passes (nat_lt 0 n) (nat_le since n) n (lt-ltb 0 n (omega (arith, order.0))) (le-leb since n order.1)
 in-order n ask.Export order = refl
-in-order n (ask.Event step index top) order = steps-pass n step (top_of top n) order
-in-order n (ask.Thread step key top) order = steps-pass n step (top_of top n) order
-in-order n (ask.Absent step key top) order = steps-pass n step (top_of top n) order
-in-order n (ask.Low step peer top) order = steps-pass n step (top_of top n) order
+in-order n (ask.Event step index top) order = steps-pass n step (top_or_last top n) order
+in-order n (ask.Thread step key top) order = steps-pass n step (top_or_last top n) order
+in-order n (ask.Absent step key top) order = steps-pass n step (top_or_last top n) order
+in-order n (ask.Low step peer top) order = steps-pass n step (top_or_last top n) order
 
 -- where the table has no refusal none is answered
 by-table : (P : Type 0) (Q : Refusal → Type 0) (o : Option Refusal) → o ≡ None → (P → ⊥) → MatchOption o P Q → ⊥
@@ -107,7 +107,7 @@ name_of Alpha = alpha_name
 name_of Beta = beta_name
 name_of Gamma = gamma_name
 
-named : (who : Who) (t : Trio) → AreNamed t → (of_who who t).name ≡ name_of who
+named : (who : Who) (t : Trio) → AreNamed t → (trio_history who t).name ≡ name_of who
 named Alpha t names = names.alpha
 named Beta t names = names.beta
 named Gamma t names = names.gamma
@@ -115,7 +115,7 @@ named Gamma t names = names.gamma
 abbrev AreApart : (from to : Who) → Type 0
 AreApart from to = bytes_eq (name_of from) (name_of to) ≡ false
 
-apart : (from to : Who) (t : Trio) → AreNamed t → AreApart from to → (of_who from t).name ≢ (of_who to t).name
+apart : (from to : Who) (t : Trio) → AreNamed t → AreApart from to → (trio_history from t).name ≢ (trio_history to t).name
 apart from to t names differ same =
     let equal : name_of from ≡ name_of to = sym (named from t names) ∙ same ∙ named to t names in
     let yes_it : bytes_eq (name_of from) (name_of to) ≡ true = (bytes_eq-Decides (name_of from) (name_of to)).1 equal in
@@ -141,20 +141,20 @@ module _ (dig : List ℕ → List ℕ) where
   not-refused h m refusal next x (inr is) step =
       let done : RepliesTo dig h m None (Refused refusal) next (Known is.0) = subst (RepliesTo dig h m None (Refused refusal) next) is.1 step in (let bad = done.1 in cc)
 
-  module _ (last_law : (es : List Entry) (peer : List ℕ) (e : Entry) → IsRising es → Each IsEntryInRange es → last_of es peer ≡ Some e
+  module _ (last_law : (es : List Entry) (peer : List ℕ) (e : Entry) → IsRising es → Each IsEntryInRange es → last_of_peer es peer ≡ Some e
       → In e es × (e.thread.from ≡ peer) × ((f : Entry) → In f es → f.thread.from ≡ peer → (f ≡ e) ⊎ (f.thread.step < e.thread.step)))
-      (no_last_law : (es : List Entry) (peer : List ℕ) → IsRising es → Each IsEntryInRange es → last_of es peer ≡ None → (f : Entry) → In f es → f.thread.from ≡ peer → ⊥)
+      (no_last_law : (es : List Entry) (peer : List ℕ) → IsRising es → Each IsEntryInRange es → last_of_peer es peer ≡ None → (f : Entry) → In f es → f.thread.from ≡ peer → ⊥)
       (accepts_law : (h peer : History) (since : ℕ) (m : Message) (time : Option ℕ) → IsSound h → peer.name ≢ h.name → IsMessageOf dig peer since m →
-      step_of (last_of (entries (tree h (last h))) peer.name) ≡ since → kept_auth dig peer.name (last_of (entries (tree h (last h))) peer.name) ≡ auth dig peer since → since < last peer →
+      last_entry_step (last_of_peer (entries (tree h (last h))) peer.name) ≡ since → kept_auth dig peer.name (last_of_peer (entries (tree h (last h))) peer.name) ≡ auth dig peer since → since < last peer →
       archive_refusal (last h) (greatest_time h) time ≡ None → received_as dig h m time ≡ Archive)
       (knows_law : (h : History) (m : Message) (time : Option ℕ) (e : Entry) → IsSound h → m.thread.from ≢ h.name → In e (entries (tree h (last h))) → e.thread ≡ m.thread →
       received_as dig h m time ≡ Known e.archived) where
-    module _ (t : Trio) (most : ℕ) (s : Stand dig t most) (some : (who : Who) → 0 < last (of_who who t)) (from to : Who) (differ : AreApart from to) where
+    module _ (t : Trio) (most : ℕ) (s : Stand dig t most) (some : (who : Who) → 0 < last (trio_history who t)) (from to : Who) (differ : AreApart from to) where
       abbrev a : History
-      a = of_who from t
+      a = trio_history from t
 
       abbrev b : History
-      b = of_who to t
+      b = trio_history to t
 
       abbrev es : List Entry
       es = entries (tree b (last b))
@@ -163,9 +163,9 @@ module _ (dig : List ℕ → List ℕ) where
       sound = each-who dig IsSound to t s.sound
 
       abbrev found : Option Entry
-      found = last_of es a.name
+      found = last_of_peer es a.name
 
-      found-is : step_of found ≡ last_heard b a.name
+      found-is : last_entry_step found ≡ last_heard b a.name
       found-is = last-heard a.name (λ xs e. last_law xs a.name e) (λ xs. no_last_law xs a.name) b sound
 
       -- what is found is a thread that the other history has
@@ -173,7 +173,7 @@ module _ (dig : List ℕ → List ℕ) where
       found-had e is =
           let there = last-entry a.name (λ xs x. last_law xs a.name x) (λ xs. no_last_law xs a.name) b sound e is in
           let at = received-at b (last b) e there.1 in
-          let has : HasThread dig (family t) e.thread = each-who dig (AllHad dig (family t)) to t s.had e.archived e at.0 in
+          let has : HasThread dig (trio_family t) e.thread = each-who dig (AllHad dig (trio_family t)) to t s.had e.archived e at.0 in
           let own = own-had dig from t e.thread s.names has there.2 in
           (there.0, there.2, own.0, own.1)
 
@@ -181,10 +181,10 @@ module _ (dig : List ℕ → List ℕ) where
       order = by found refl
         where
           by : (o : Option Entry) → found ≡ o → last_heard b a.name ≤ last a
-          by None is = omega (arith, sym found-is, ap step_of is)
-          by (Some e) is = omega (arith, sym found-is, ap step_of is, (found-had e is).2)
+          by None is = omega (arith, sym found-is, ap last_entry_step is)
+          by (Some e) is = omega (arith, sym found-is, ap last_entry_step is, (found-had e is).2)
 
-      kept-is : (o : Option Entry) → found ≡ o → kept_auth dig a.name o ≡ auth dig a (step_of o)
+      kept-is : (o : Option Entry) → found ≡ o → kept_auth dig a.name o ≡ auth dig a (last_entry_step o)
       kept-is None is = sym (genesis a)
       kept-is (Some e) is = sym (found-had e is).3
 
@@ -192,10 +192,10 @@ module _ (dig : List ℕ → List ℕ) where
       receive-goes m is room refusal next step = not-refused b m refusal next (received_as dig b m None) answer step
         where
           known : (o : Option Entry) → found ≡ o → last a ≤ last_heard b a.name → (archived : ℕ) × (received_as dig b m None ≡ Known archived)
-          known None none all = absurd (omega (arith, all, sym found-is, ap step_of none, is.some))
+          known None none all = absurd (omega (arith, all, sym found-is, ap last_entry_step none, is.some))
           known (Some e) found_e all =
               let had = found-had e found_e in
-              let at : e.thread.step ≡ last a = omega (arith, all, sym found-is, ap step_of found_e, had.2) in
+              let at : e.thread.step ≡ last a = omega (arith, all, sym found-is, ap last_entry_step found_e, had.2) in
               let same : e.thread ≡ thread_at_step dig a (last a) =
               (λ j. record { from = had.1 j; step = at j; auth = (sym had.3 ∙ ap (auth dig a) at) j }) in
               let other : m.thread.from ≢ b.name = λ eq. apart from to t s.names differ (sym (ap (λ (x : Thread). x.from) is.thread) ∙ eq) in
@@ -214,25 +214,25 @@ module _ (dig : List ℕ → List ℕ) where
 
     -- ---- all acts
 
-    few : (t : Trio) (most : ℕ) → Stand dig t most → (who : Who) → last (of_who who t) ≤ most
+    few : (t : Trio) (most : ℕ) → Stand dig t most → (who : Who) → last (trio_history who t) ≤ most
     few t most s who = each-who dig (λ (h : History). length h.steps ≤ most) who t s.few
 
-    abbrev IsTold : Act → Type 0
+    abbrev IsTold : ScheduledAct → Type 0
     IsTold (Appends who events) = ⊥
     IsTold (Tells from to) = AreApart from to
 
     abbrev HaveSteps : Trio → Type 0
-    HaveSteps t = (who : Who) → 0 < last (of_who who t)
+    HaveSteps t = (who : Who) → 0 < last (trio_history who t)
 
-    put-steps : (who : Who) (t : Trio) (h : History) → last (of_who who t) ≤ last h → HaveSteps t → HaveSteps (with_history who h t)
-    put-steps Alpha t h longer some = λ who. (elim who as (λ w. 0 < last (of_who w (with_history Alpha h t))) [ Alpha ↦ omega (arith, longer, some Alpha) | Beta ↦ some Beta | Gamma ↦ some Gamma ])
-    put-steps Beta t h longer some = λ who. (elim who as (λ w. 0 < last (of_who w (with_history Beta h t))) [ Alpha ↦ some Alpha | Beta ↦ omega (arith, longer, some Beta) | Gamma ↦ some Gamma ])
-    put-steps Gamma t h longer some = λ who. (elim who as (λ w. 0 < last (of_who w (with_history Gamma h t))) [ Alpha ↦ some Alpha | Beta ↦ some Beta | Gamma ↦ omega (arith, longer, some Gamma) ])
+    put-steps : (who : Who) (t : Trio) (h : History) → last (trio_history who t) ≤ last h → HaveSteps t → HaveSteps (with_history who h t)
+    put-steps Alpha t h longer some = λ who. (elim who as (λ w. 0 < last (trio_history w (with_history Alpha h t))) [ Alpha ↦ omega (arith, longer, some Alpha) | Beta ↦ some Beta | Gamma ↦ some Gamma ])
+    put-steps Beta t h longer some = λ who. (elim who as (λ w. 0 < last (trio_history w (with_history Beta h t))) [ Alpha ↦ some Alpha | Beta ↦ omega (arith, longer, some Beta) | Gamma ↦ some Gamma ])
+    put-steps Gamma t h longer some = λ who. (elim who as (λ w. 0 < last (trio_history w (with_history Gamma h t))) [ Alpha ↦ some Alpha | Beta ↦ some Beta | Gamma ↦ omega (arith, longer, some Gamma) ])
 
-    done-steps : (act : Act) (t next : Trio) → IsDone dig act t next → HaveSteps t → HaveSteps next
+    done-steps : (act : ScheduledAct) (t next : Trio) → IsDone dig act t next → HaveSteps t → HaveSteps next
     done-steps act t next done some = let m = done-moves dig act t next done in subst HaveSteps (sym m.is) (put-steps m.who t m.history m.on.longer some)
 
-    all-told : (acts : List Act) (t : Trio) (most : ℕ) → Each IsTold acts → most + length acts ≤ LAST_STEP → Stand dig t most → HaveSteps t → AllCanBeDone dig acts t
+    all-told : (acts : List ScheduledAct) (t : Trio) (most : ℕ) → Each IsTold acts → most + length acts ≤ LAST_STEP → Stand dig t most → HaveSteps t → AllCanBeDone dig acts t
     unfolding AllCanBeDone
     all-told [] t most told room s some = tt
     all-told (Appends who events ∷ acts) t most told room s some = absurd told.0
@@ -242,10 +242,10 @@ module _ (dig : List ℕ → List ℕ) where
     )
 
     appends-go : (who : Who) (events : List (List ℕ)) (t : Trio) (most : ℕ) → MayRecord events → most < LAST_STEP → Stand dig t most → CanBeDone dig (Appends who events) t
-    appends-go who events t most may room s = append-goes (of_who who t) events (omega (arith, room, few t most s who)) may
+    appends-go who events t most may room s = append-goes (trio_history who t) events (omega (arith, room, few t most s who)) may
 
     -- each appends, and then what goes on
-    all-appended : (x y z : List (List ℕ)) (acts : List Act) (t : Trio) (most : ℕ) → MayRecord x → MayRecord y → MayRecord z → most + 3 ≤ LAST_STEP → Stand dig t most
+    all-appended : (x y z : List (List ℕ)) (acts : List ScheduledAct) (t : Trio) (most : ℕ) → MayRecord x → MayRecord y → MayRecord z → most + 3 ≤ LAST_STEP → Stand dig t most
         → ((next : Trio) → Stand dig next (most + 3) → HaveSteps next → AllCanBeDone dig acts next) → AllCanBeDone dig (all_append x y z ++ acts) t
     unfolding AllCanBeDone
     all-appended x y z acts t most may_x may_y may_z room s rest = (
@@ -259,9 +259,9 @@ module _ (dig : List ℕ → List ℕ) where
                   λ next done.
                       let s_next = done-stand dig (Appends Gamma z) two next (suc (suc most)) done may_z (omega (arith, room)) s_two in
                       rest next (subst (λ n. Stand dig next n) (omega arith) s_next)
-                      (subst HaveSteps (sym (done ∙ ap (λ (u : Trio). with_history Gamma (with_events u.gamma z None) u)
-                      (done_two ∙ ap (λ (u : Trio). with_history Beta (with_events u.beta y None) u) done_one)))
-                      (λ who. (elim who as (λ w. 0 < last (of_who w (with_steps dig t x y z))) [ Alpha ↦ has-step t.alpha x | Beta ↦ has-step t.beta y | Gamma ↦ has-step t.gamma z ]))),
+                      (subst HaveSteps (sym (done ∙ ap (λ (u : Trio). with_history Gamma (with_events_at u.gamma z None) u)
+                      (done_two ∙ ap (λ (u : Trio). with_history Beta (with_events_at u.beta y None) u) done_one)))
+                      (λ who. (elim who as (λ w. 0 < last (trio_history w (with_steps dig t x y z))) [ Alpha ↦ has-step t.alpha x | Beta ↦ has-step t.beta y | Gamma ↦ has-step t.gamma z ]))),
                 ),
           ),
     )
@@ -270,14 +270,14 @@ module _ (dig : List ℕ → List ℕ) where
     messages-go true t most room s some = all-told all_tell t most (refl, (refl, (refl, (refl, (refl, (refl, tt)))))) room s some
     messages-go false t most room s some = all-told [] t most tt (omega (arith, room)) s some
 
-    round-goes : (x number : ℕ) (t : Trio) (most : ℕ) → most + 9 ≤ LAST_STEP → Stand dig t most → AllCanBeDone dig (round x number) t
+    round-goes : (x number : ℕ) (t : Trio) (most : ℕ) → most + 9 ≤ LAST_STEP → Stand dig t most → AllCanBeDone dig (round_of_acts x number) t
     round-goes x number t most room s =
         all-appended (step_events x) (step_events (after_step x)) (step_events (after_step (after_step x))) (if number % 50 == 0 then all_tell else []) t most
         (step-may x) (step-may (after_step x)) (step-may (after_step (after_step x))) (omega (arith, room)) s
         (λ next stand some. messages-go (number % 50 == 0) next (most + 3) (omega (arith, room)) stand some)
 
     -- acts, and then others wherever they led
-    all-on : (xs ys : List Act) (t : Trio) → AllCanBeDone dig xs t → ((u : Trio) → LeadTo dig xs t u → AllCanBeDone dig ys u) → AllCanBeDone dig (xs ++ ys) t
+    all-on : (xs ys : List ScheduledAct) (t : Trio) → AllCanBeDone dig xs t → ((u : Trio) → LeadTo dig xs t u → AllCanBeDone dig ys u) → AllCanBeDone dig (xs ++ ys) t
     unfolding AllCanBeDone LeadTo
     all-on [] ys t all rest = rest t refl
     all-on (act ∷ xs) ys t all rest = (all.0, λ next done. all-on xs ys next (all.1 next done) (λ u lead. rest u (next, done, lead)))
@@ -289,7 +289,7 @@ module _ (dig : List ℕ → List ℕ) where
     unfolding rounds_of AllCanBeDone
     rounds-go number zero room = tt
     rounds-go number (suc n) room =
-        all-on (rounds_of number n) (round (after_rounds number n) (suc n)) no_steps (rounds-go number n (omega (arith, room)))
+        all-on (rounds_of number n) (round_of_acts (after_rounds number n) (suc n)) no_steps (rounds-go number n (omega (arith, room)))
         (λ u lead. round-goes (after_rounds number n) (suc n) u (length (rounds_of number n)) (omega (arith, room, rounds-length number n)) (stands-after number n u (omega (arith, room)) lead))
 
     end-goes : (t : Trio) (most : ℕ) → most + 3 ≤ LAST_STEP → Stand dig t most → AllCanBeDone dig (all_append end_event end_event end_event) t

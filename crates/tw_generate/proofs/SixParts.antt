@@ -9,7 +9,7 @@ use Rattle.std.proofs.lemmas.Slice.Eq.{bytes_eq-Decides}
 use Rattle.tw_base.specs.declared.history.thread.Key.{Key}
 use Rattle.tw_base.specs.declared.history.thread.Thread.{Thread}
 use Rattle.tw_chain.specs.Accepting.{carried, named}
-use Rattle.tw_chain.specs.Checks.{Check, bind_of, end_of, hops_checks, link_checks, link_top, opening_checks, root_of, tail_checks, top_of}
+use Rattle.tw_chain.specs.Checks.{Check, bind_of, end_of_order, hops_checks, link_checks, link_top, opening_checks, opening_root, tail_checks, top_of}
 use Rattle.tw_chain.specs.Checks.Check.{CarriesThread}
 use Rattle.tw_chain.specs.Passing.{carried_by, needed_by}
 use Rattle.tw_chain.specs.declared.proof.HopPart.{HopPart}
@@ -18,14 +18,14 @@ use Rattle.tw_chain.specs.declared.proof.PrecedenceProof.{PrecedenceProof}
 use Rattle.tw_chain.specs.declared.proof.Proof.{Proof}
 use Rattle.tw_chain.specs.declared.proof.Proof.TheVariants.{Archived, Exists, Linked, Precedes}
 use Rattle.tw_chain.specs.declared.proof.ThreadProof.{ThreadProof}
-use Rattle.tw_join.specs.Joining.{Joint, Taken, hop_of, is_key, is_link_of, joined, joined_of, only_if, wanted, with_part}
+use Rattle.tw_join.specs.Joining.{Joint, Taken, hop_of, is_key, is_link_of, joined_of, joined_proof, only_if, wanted, with_part}
 use Rattle.tw_join.specs.Joining.Taken.{Hops, Nothing, Whole}
 use Rattle.tw_skipproof.specs.declared.existence.ExistenceProof.{ExistenceProof}
 
 join-on : (second : ExistenceProof) (joints : List Joint) (next : Taken) (number : ℕ) (part : Proof) (parts : List Proof) (r : Result PrecedenceProof ℕ)
-    → with_part (Hops second joints) part ≡ Some next → joined next (number + 1) parts ≡ r → joined (Hops second joints) number (part ∷ parts) ≡ r
+    → with_part (Hops second joints) part ≡ Some next → joined_proof next (number + 1) parts ≡ r → joined_proof (Hops second joints) number (part ∷ parts) ≡ r
 join-on second joints next number part parts r fits rest =
-    ap (λ (o : Option Taken). option_map_or (λ (n : Taken). joined n (number + 1) parts) o (Err number)) fits ∙ rest
+    ap (λ (o : Option Taken). option_map_or (λ (n : Taken). joined_proof n (number + 1) parts) o (Err number)) fits ∙ rest
 
 fits-key : (key : Key) (service : List ℕ) (step : ℕ) → key.from ≡ service → key.step ≡ step → is_key key service step ≡ true
 fits-key key service step from at = and_from (bytes_eq key.from service) (key.step == step) ((bytes_eq-Decides key.from service).1 from) (eq-eqb key.step step at)
@@ -77,7 +77,7 @@ abbrev pub whole : Six → PrecedenceProof
 whole x = joined_of x.second (joints x) x.first
 
 module _ (x : Six) (fit : AllFit x) where
-  pub parts-join : joined Nothing 1 (parts_of x) ≡ Ok (whole x)
+  pub parts-join : joined_proof Nothing 1 (parts_of x) ≡ Ok (whole x)
   parts-join =
       join-on x.second [] (Hops x.second (alone x.one ∷ [])) 2 (Archived x.one) (Linked x.one_link ∷ Archived x.other ∷ Linked x.other_link ∷ Exists x.first ∷ []) (Ok (whole x))
       (ap (λ b. only_if b (Hops x.second (alone x.one ∷ []))) (fits-key (wanted x.second []) x.one.at.service x.one.at.step fit.one_fits.service fit.one_fits.at_step))
@@ -109,12 +109,12 @@ keys x = top_of x.second.at ∷ link_top (bind_of (hop_one x)) ∷ link_top (bin
 abbrev from_other : Six → (is_carried : Bool) → List Check
 from_other x b =
     (((if b then CarriesThread (hop_other x).entry.thread ∷ [] else link_checks 2 (bind_of (hop_other x))) ++ opening_checks 2 (hop_other x).entry.thread (hop_other x).opening)
-    ++ []) ++ tail_checks 3 (end_of (whole x)) (whole x).tail
+    ++ []) ++ tail_checks 3 (end_of_order (whole x)) (whole x).tail
 
 abbrev from_one : Six → (is_carried : Bool) → List Check
 from_one x b =
     (((if b then CarriesThread (hop_one x).entry.thread ∷ [] else link_checks 1 (bind_of (hop_one x))) ++ opening_checks 1 (hop_one x).entry.thread (hop_one x).opening)
-    ++ hops_checks 2 (hop_one x).entry.thread.step (root_of (hop_one x).opening) (hop_other x ∷ [])) ++ tail_checks 3 (end_of (whole x)) (whole x).tail
+    ++ hops_checks 2 (hop_one x).entry.thread.step (opening_root (hop_one x).opening) (hop_other x ∷ [])) ++ tail_checks 3 (end_of_order (whole x)) (whole x).tail
 
 not-zero : (n : ℕ) → 0 < n → (n == 0) ≡ false
 not-zero n some = ne_eqb n 0 (λ same. omega (arith, some, same))

@@ -11,8 +11,8 @@ use Rattle.tw_msg.specs.declared.message.Message.{Message}
 use Rattle.tw_service.specs.Machine.{Call, IsStepOf}
 use Rattle.tw_service.specs.Machine.Call.{Append, Ask, Receive}
 use Rattle.tw_service.specs.Machine.Reply.{Refused}
-use Rattle.tw_generate.specs.Schedules.{Act, IsDone, LeadTo, Trio, history_of, last_heard, no_steps, schedule}
-use Rattle.tw_generate.specs.Schedules.Act.{Appends, Tells}
+use Rattle.tw_generate.specs.Schedules.{IsDone, LeadTo, ScheduledAct, Trio, last_heard, no_steps, schedule, trio_history}
+use Rattle.tw_generate.specs.Schedules.ScheduledAct.{Appends, Tells}
 use Rattle.tw_generate.specs.Summing.{TellsStands}
 
 -- the number's schedule of so many rounds, at most 10,000, leads to the three histories
@@ -34,13 +34,13 @@ module _ (dig : List ℕ → List ℕ) where
 
   -- no call of the act is refused: that a service appends; that one tells its last step, and that the other one receives any message of that
   -- step since the last one that it has archived
-  abbrev pub CanBeDone : Act → Trio → Type 0
-  CanBeDone (Appends who events) t = IsNotRefused (history_of who t) (Append events None)
+  abbrev pub CanBeDone : ScheduledAct → Trio → Type 0
+  CanBeDone (Appends who events) t = IsNotRefused (trio_history who t) (Append events None)
   CanBeDone (Tells from to) t =
-      let since : ℕ = last_heard (history_of to t) (history_of from t).name in
-      IsNotRefused (history_of from t) (Ask (ThreadOut since)) × ((m : Message) → IsMessageOf dig (history_of from t) since m → IsNotRefused (history_of to t) (Receive m None))
+      let since : ℕ = last_heard (trio_history to t) (trio_history from t).name in
+      IsNotRefused (trio_history from t) (Ask (ThreadOut since)) × ((m : Message) → IsMessageOf dig (trio_history from t) since m → IsNotRefused (trio_history to t) (Receive m None))
 
   -- no call of the acts is, wherever those before it led
-  unfoldable pub AllCanBeDone : List Act → Trio → Type 0
+  unfoldable pub AllCanBeDone : List ScheduledAct → Trio → Type 0
   AllCanBeDone [] t = Unit {0}
   AllCanBeDone (act ∷ acts) t = CanBeDone act t × ((next : Trio) → IsDone dig act t next → AllCanBeDone acts next)

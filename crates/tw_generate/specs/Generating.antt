@@ -5,7 +5,7 @@ use Rattle.tw_disk.specs.Disk.{DiskView, IsAtRest}
 use Rattle.tw_service.specs.Stands.{StandsFor}
 use Rattle.tw_generate.specs.Schedules.{LeadTo, Trio, no_steps, schedule}
 use Rattle.tw_generate.specs.Line.{summary_line}
-use Rattle.tw_generate.specs.Summing.{IsToldOf}
+use Rattle.tw_generate.specs.Summing.{IsSummaryOf}
 use Rattle.tw_generate.specs.declared.summary.Summary.{Summary}
 
 module _ (dig : List ℕ → List ℕ) where
@@ -18,7 +18,7 @@ module _ (dig : List ℕ → List ℕ) where
     pub histories : Trio
     pub leads : LeadTo dig (schedule number rounds) no_steps histories
     pub told : Summary
-    pub is_told : IsToldOf dig histories rounds told
+    pub is_told : IsSummaryOf dig histories rounds told
     pub text_is : text ≡ summary_line told
     pub held_alpha : IsHeld alpha histories.alpha
     pub held_beta : IsHeld beta histories.beta

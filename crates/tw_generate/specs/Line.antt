@@ -23,10 +23,10 @@ summary_of_values audit high hops low steps threads =
     (member (codes "verdict") (string (codes "accepted")) no_members)))))))
 
 -- the steps are those of alpha, beta and gamma; where there is no high bound it is null
-unfoldable pub summary : Summary → Data
-summary told =
+unfoldable pub summary_told : Summary → Data
+summary_told told =
     summary_of_values (audit_word told.stands) (option_map_or count told.high null) told.hops told.low
     (array (item (count told.alpha) (item (count told.beta) (item (count told.gamma) no_items)))) told.threads
 
 abbrev pub summary_line : Summary → List ℕ
-summary_line told = compact_text (summary told) ++ codes "\n"
+summary_line told = compact_text (summary_told told) ++ codes "\n"

@@ -5,7 +5,7 @@ use Rattle.tw_base.specs.history.History.{History}
 use Rattle.tw_disk.specs.Disk.{DiskView}
 use Rattle.tw_service.specs.Serves.{Serves, has_failed}
 use Rattle.tw_service.specs.declared.service.Service.{Service}
-use Rattle.tw_generate.specs.Schedules.{Act, Hears, LeadTo, Trio, alpha_name, beta_name, gamma_name, last_heard}
+use Rattle.tw_generate.specs.Schedules.{Hears, LeadTo, ScheduledAct, Trio, alpha_name, beta_name, gamma_name, last_heard}
 use Rattle.tw_generate.specs.declared.services.Services.{Services}
 
 -- a history that has heard of another service up to this step goes on from one that has heard the same of all others
@@ -16,15 +16,15 @@ pub record HasHeard (from before after : History) (last : ℕ) : Type 0 where
 
 module _ {D H : Type 0} {g : _} {k : _} (dig : List ℕ → List ℕ) (view : D → DiskView) where
   -- the service serves the history, and no call on it has met a disk fault
-  abbrev pub Plays : Service D H g k → History → Type 0
-  Plays service h = Serves dig view service h × (has_failed service ≡ false)
+  abbrev pub PlaysHistory : Service D H g k → History → Type 0
+  PlaysHistory service h = Serves dig view service h × (has_failed service ≡ false)
 
   -- the one service has told its last step to the other one, which has heard of it up to this step
   pub record HasTold (a b : History) (from to : Service D H g k) (last : ℕ) : Type 0 where
-    pub sender : Plays from a
+    pub sender : PlaysHistory from a
     pub heard : History
     pub hears : Hears dig a b heard
-    pub receiver : Plays to heard
+    pub receiver : PlaysHistory to heard
     pub has_heard : HasHeard a b heard last
 
 -- what a history has heard of two other services, up to these steps
@@ -36,17 +36,17 @@ pub record HasHeardOf (own one other : List ℕ) (h : History) (of_one of_other 
 module _ {D H : Type 0} {g : _} {k : _} (dig : List ℕ → List ℕ) (view : D → DiskView) where
   -- the services play the histories, and what they have heard of one another is told beside them
   pub record ArePlaying (services : Services D H g k) (t : Trio) : Type 0 where
-    pub alpha : Plays dig view services.alpha t.alpha
-    pub beta : Plays dig view services.beta t.beta
-    pub gamma : Plays dig view services.gamma t.gamma
+    pub alpha : PlaysHistory dig view services.alpha t.alpha
+    pub beta : PlaysHistory dig view services.beta t.beta
+    pub gamma : PlaysHistory dig view services.gamma t.gamma
     pub alpha_heard : HasHeardOf alpha_name beta_name gamma_name t.alpha services.heard.alpha_of_beta services.heard.alpha_of_gamma
     pub beta_heard : HasHeardOf beta_name alpha_name gamma_name t.beta services.heard.beta_of_alpha services.heard.beta_of_gamma
     pub gamma_heard : HasHeardOf gamma_name alpha_name beta_name t.gamma services.heard.gamma_of_alpha services.heard.gamma_of_beta
 
   -- whatever histories the services played, they now play some to which the acts lead
-  abbrev pub Leads : List Act → (old new : Services D H g k) → Type 0
-  Leads acts old new = (t : Trio) → ArePlaying old t → (end : Trio) × LeadTo dig acts t end × ArePlaying new end
+  abbrev pub LeadsByActs : List ScheduledAct → (old new : Services D H g k) → Type 0
+  LeadsByActs acts old new = (t : Trio) → ArePlaying old t → (end : Trio) × LeadTo dig acts t end × ArePlaying new end
 
   -- the services play the histories
   abbrev pub AllPlay : Services D H g k → Trio → Type 0
-  AllPlay services t = Plays dig view services.alpha t.alpha × Plays dig view services.beta t.beta × Plays dig view services.gamma t.gamma
+  AllPlay services t = PlaysHistory dig view services.alpha t.alpha × PlaysHistory dig view services.beta t.beta × PlaysHistory dig view services.gamma t.gamma

@@ -34,8 +34,8 @@ last h = length h.steps
 abbrev pub received_by : History → List Entry
 received_by h = received h (last h)
 
-abbrev pub family : Trio → List History
-family t = t.alpha ∷ t.beta ∷ t.gamma ∷ []
+abbrev pub trio_family : Trio → List History
+trio_family t = t.alpha ∷ t.beta ∷ t.gamma ∷ []
 
 -- the question for the first event of gamma's last step, and those for the map of alpha's last step against gamma
 abbrev pub last_event : Trio → Question
@@ -58,32 +58,32 @@ abbrev pub IsJoined : List Proof → List ℕ → Type 0
 IsJoined parts bytes = (whole : Proof) × Joins parts (Ok whole) × (bytes ≡ proof_bytes whole)
 
 module _ (dig : List ℕ → List ℕ) where
-  abbrev pub heads : Trio → List Thread
-  heads t = last_thread dig t.alpha ∷ last_thread dig t.beta ∷ last_thread dig t.gamma ∷ []
+  abbrev pub trio_heads : Trio → List Thread
+  trio_heads t = last_thread dig t.alpha ∷ last_thread dig t.beta ∷ last_thread dig t.gamma ∷ []
 
   -- the bytes are the history's answer to the question
-  abbrev pub IsAnswered : History → Question → List ℕ → Type 0
-  IsAnswered h q bytes = IsStepOf dig h (Ask q) (OfBytes bytes) h
+  abbrev pub IsQuestionAnswered : History → Question → List ℕ → Type 0
+  IsQuestionAnswered h q bytes = IsStepOf dig h (Ask q) (OfBytes bytes) h
 
   -- the proof is
-  abbrev pub IsPart : History → Question → Proof → Type 0
-  IsPart h q part = (bytes : List ℕ) × IsAnswered h q bytes × Spells proof_layout bytes part
+  abbrev pub IsPartAsked : History → Question → Proof → Type 0
+  IsPartAsked h q part = (bytes : List ℕ) × IsQuestionAnswered h q bytes × Spells proof_layout bytes part
 
   -- the parts of the proof that alpha's first event precedes gamma's last one, by a thread of alpha that beta received and one of beta
   -- that gamma received
   pub record AreParts (t : Trio) (of_alpha of_beta : Entry) (parts : List Proof) : Type 0 where
     pub second : Proof
-    pub is_second : IsPart t.gamma (last_event t) second
+    pub is_second : IsPartAsked t.gamma (last_event t) second
     pub at_gamma : Proof
-    pub is_at_gamma : IsPart t.gamma (ask.Thread (last t.gamma - 1) (key_of of_beta) (Some (last t.gamma))) at_gamma
+    pub is_at_gamma : IsPartAsked t.gamma (ask.Thread (last t.gamma - 1) (key_of of_beta) (Some (last t.gamma))) at_gamma
     pub in_beta : Proof
-    pub is_in_beta : IsPart t.beta (ask.Link of_beta.thread.step (Some (last t.beta))) in_beta
+    pub is_in_beta : IsPartAsked t.beta (ask.Link of_beta.thread.step (Some (last t.beta))) in_beta
     pub at_beta : Proof
-    pub is_at_beta : IsPart t.beta (ask.Thread of_beta.thread.step (key_of of_alpha) (Some (last t.beta))) at_beta
+    pub is_at_beta : IsPartAsked t.beta (ask.Thread of_beta.thread.step (key_of of_alpha) (Some (last t.beta))) at_beta
     pub in_alpha : Proof
-    pub is_in_alpha : IsPart t.alpha (ask.Link of_alpha.thread.step (Some (last t.alpha))) in_alpha
+    pub is_in_alpha : IsPartAsked t.alpha (ask.Link of_alpha.thread.step (Some (last t.alpha))) in_alpha
     pub first : Proof
-    pub is_first : IsPart t.alpha (ask.Event 1 0 (Some of_alpha.thread.step)) first
+    pub is_first : IsPartAsked t.alpha (ask.Event 1 0 (Some of_alpha.thread.step)) first
     pub parts_are : parts ≡ second ∷ at_gamma ∷ in_beta ∷ at_beta ∷ in_alpha ∷ first ∷ []
 
   -- the proof that alpha's first event precedes gamma's last one, over beta's first thread of alpha and gamma's first thread of beta of
@@ -100,7 +100,7 @@ module _ (dig : List ℕ → List ℕ) where
   -- the proof that is claimed after so many rounds
   abbrev pub IsClaimed : Trio → (rounds : ℕ) → List ℕ → Type 0
   IsClaimed t rounds bytes =
-      MatchBool (nat_lt rounds 50) (IsAnswered t.gamma (last_event t) bytes) (IsPrecedence t bytes)
+      MatchBool (nat_lt rounds 50) (IsQuestionAnswered t.gamma (last_event t) bytes) (IsPrecedence t bytes)
 
   -- the bytes spell map files that tell these bounds under the anchors
   pub record IsFileMap (anchors : List Thread) (low_bytes high_bytes : List ℕ) (low : ℕ) (high : Option ℕ) : Type 0 where
@@ -114,22 +114,22 @@ module _ (dig : List ℕ → List ℕ) where
   -- the map of alpha's last step against gamma, under the heads
   pub record IsMap (t : Trio) (low : ℕ) (high : Option ℕ) : Type 0 where
     pub low_bytes : List ℕ
-    pub low_made : IsAnswered t.alpha (low_side t) low_bytes
+    pub low_made : IsQuestionAnswered t.alpha (low_side t) low_bytes
     pub high_bytes : List ℕ
-    pub high_made : IsAnswered t.gamma (high_side t) high_bytes
-    pub files : IsFileMap (heads t) low_bytes high_bytes low high
+    pub high_made : IsQuestionAnswered t.gamma (high_side t) high_bytes
+    pub files : IsFileMap (trio_heads t) low_bytes high_bytes low high
 
   -- what is told of the histories after so many rounds, under the heads: by the strict verdict on the proof that is claimed, by the map,
   -- and by the audit of the proof against the histories
-  pub record IsToldOf (t : Trio) (rounds : ℕ) (told : Summary) : Type 0 where
+  pub record IsSummaryOf (t : Trio) (rounds : ℕ) (told : Summary) : Type 0 where
     pub proof : List ℕ
     pub claimed : IsClaimed t rounds proof
     pub report : Report
-    pub accepted : IsVerdict dig (heads t) true proof (Yes report)
+    pub accepted : IsVerdict dig (trio_heads t) true proof (Yes report)
     pub hops : told.hops ≡ length report.hops
     pub map : IsMap t told.low told.high
     pub finding : Finding
-    pub audited : IsAudit dig (family t) (heads t) proof (Ok finding)
+    pub audited : IsAudit dig (trio_family t) (trio_heads t) proof (Ok finding)
     pub stands : TellsStands finding told.stands
     pub alpha : told.alpha ≡ last t.alpha
     pub beta : told.beta ≡ last t.beta

@@ -8,9 +8,9 @@ ghost use Rattle.tw_base.specs.history.History.{History as HistoryMeant};
 ghost use Rattle.tw_chain.specs.Proofs.{proof_layout};
 ghost use Rattle.tw_chain.specs.declared.proof.Proof.{Proof as ProofMeant};
 ghost use Rattle.tw_tmap.specs.Bounds.{first_from};
-ghost use Rattle.tw_generate.specs.Playing.{AllPlay, Plays};
+ghost use Rattle.tw_generate.specs.Playing.{AllPlay, PlaysHistory};
 ghost use Rattle.tw_generate.specs.Schedules.{Trio};
-ghost use Rattle.tw_generate.specs.Summing.{AreParts, IsAnswered, IsClaimed, IsJoined, IsPart, IsPrecedence, last_event, received_by};
+ghost use Rattle.tw_generate.specs.Summing.{AreParts, IsClaimed, IsJoined, IsPartAsked, IsPrecedence, IsQuestionAnswered, last_event, received_by};
 
 use crate::received::first_entry;
 use crate::services::{ROUNDS_BETWEEN, Services};
@@ -89,8 +89,8 @@ fn add_part<D: Disk, H: Hasher>(
     service: &mut Service<D, H>,
     question: Question,
 ) -> Result<(), NoMemory>
-    ensures { (h : HistoryMeant) → Plays H.dig D.view service.old h → OnOk result (Plays H.dig D.view service.new h
-        × ((part : ProofMeant) × IsPart H.dig h question part × (parts.new ≡ parts.old ++ part ∷ []))) }
+    ensures { (h : HistoryMeant) → PlaysHistory H.dig D.view service.old h → OnOk result (PlaysHistory H.dig D.view service.new h
+        × ((part : ProofMeant) × IsPartAsked H.dig h question part × (parts.new ≡ parts.old ++ part ∷ []))) }
 {
     let bytes = answered(service, &question)?;
     parts.push(proof_of(alloc, &bytes)?)?;
@@ -157,7 +157,7 @@ fn precedence<D: Disk, H: Hasher>(
 /// The proof of the first event of gamma's last step.
 fn existence<D: Disk, H: Hasher>(services: &mut Services<D, H>) -> Result<Bytes, NoMemory>
     ensures { (t : Trio) → AllPlay H.dig D.view services.old t
-        → IfOk result (λ bytes. AllPlay H.dig D.view services.new t × IsAnswered H.dig t.gamma (last_event t) bytes) }
+        → IfOk result (λ bytes. AllPlay H.dig D.view services.new t × IsQuestionAnswered H.dig t.gamma (last_event t) bytes) }
 {
     let last = services.gamma.steps();
     answered(&mut services.gamma, &event(last, last))

@@ -1,7 +1,7 @@
 // Draws of numbers, and the events that they make.
 
 ghost use Rattle.std.specs.Prelude.{◌≡◌, IfOk};
-ghost use Rattle.tw_generate.specs.Draws.{after_step, drawn, event_of, next_state, step_events};
+ghost use Rattle.tw_generate.specs.Draws.{after_step, drawn, drawn_event, next_state, step_events};
 ghost use Rattle.tw_generate.specs.Draws.{after_draws, drawn_events};
 
 use std::alloc::Global;
@@ -39,7 +39,7 @@ impl Draws {
     /// The next event: so many times one byte, by one draw.
     fn event(&mut self, alloc: Global) -> Result<Bytes, NoMemory>
         ensures state { self.new.state ≡ next_state self.old.state }
-        ensures event { IfOk result (λ event. event ≡ event_of (drawn self.new.state)) }
+        ensures event { IfOk result (λ event. event ≡ drawn_event (drawn self.new.state)) }
     {
         let byte = (self.draw() % 256) as u8;
         Bytes::from_slice(alloc, &[byte; EVENT_BYTES])

@@ -2,11 +2,11 @@
 
 ghost use Rattle.std.specs.Prelude.{◌≡◌, IfOk};
 ghost use Rattle.sha2.specs.Sha256.{sha256};
-ghost use Rattle.tw_disk.specs.MemDisk.{view_of};
+ghost use Rattle.tw_disk.specs.MemDisk.{mem_disk_view};
 ghost use Rattle.tw_generate.specs.Generating.{IsGenerated, IsHeld};
 ghost use Rattle.tw_generate.specs.Playing.{AllPlay};
 ghost use Rattle.tw_generate.specs.Schedules.{Trio};
-ghost use Rattle.tw_generate.specs.Summing.{IsToldOf};
+ghost use Rattle.tw_generate.specs.Summing.{IsSummaryOf};
 
 use crate::claiming::claim;
 use crate::judging::{exported, heads, judge, list_of, map, stands};
@@ -34,7 +34,7 @@ fn summarize<D: Disk, H: Hasher>(
     rounds: u64,
 ) -> Result<Summary, NoMemory>
     ensures { (t : Trio) → AllPlay H.dig D.view services.old t
-        → IfOk result (λ summary. AllPlay H.dig D.view services.new t × IsToldOf H.dig t rounds summary) }
+        → IfOk result (λ summary. AllPlay H.dig D.view services.new t × IsSummaryOf H.dig t rounds summary) }
 {
     let heads = heads(alloc, services)?;
     let alpha = exported(alloc, &mut services.alpha)?;
@@ -74,7 +74,7 @@ pub fn generate(alloc: Global, number: u64, rounds: u64) -> Result<Generated, No
     // What is generated are histories to which the schedule of the number leads. The text is the line of what is told of them: by the strict
     // verdict, under their heads, on the proof that is claimed, by the map of alpha's last step against gamma, and by the audit of the proof
     // against them. Each disk stands for the history of its service, at rest.
-    ensures { IfOk result (λ made. IsGenerated sha256 number rounds made.text (view_of made.alpha) (view_of made.beta) (view_of made.gamma)) }
+    ensures { IfOk result (λ made. IsGenerated sha256 number rounds made.text (mem_disk_view made.alpha) (mem_disk_view made.beta) (mem_disk_view made.gamma)) }
 {
     let mut services = Services::<MemDisk, Sha>::make(
         alloc,

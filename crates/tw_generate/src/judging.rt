@@ -9,9 +9,9 @@ ghost use Rattle.tw_base.specs.history.History.{History as HistoryMeant};
 ghost use Rattle.tw_chain.specs.Reasons.{IsVerdict};
 ghost use Rattle.tw_chain.specs.declared.verdict.Verdict.TheVariants.{Yes as Accepted};
 ghost use Rattle.tw_history.specs.Refusals.{ReadsHistory};
-ghost use Rattle.tw_generate.specs.Playing.{AllPlay, Plays};
+ghost use Rattle.tw_generate.specs.Playing.{AllPlay, PlaysHistory};
 ghost use Rattle.tw_generate.specs.Schedules.{Trio};
-ghost use Rattle.tw_generate.specs.Summing.{IsFileMap, IsMap, TellsStands, heads as heads_of};
+ghost use Rattle.tw_generate.specs.Summing.{IsFileMap, IsMap, TellsStands, trio_heads};
 
 use crate::services::Services;
 use crate::telling::answered;
@@ -37,7 +37,7 @@ pub(crate) fn heads<D: Disk, H: Hasher>(
     alloc: Global,
     services: &Services<D, H>,
 ) -> Result<Threads, NoMemory>
-    ensures { (t : Trio) → AllPlay H.dig D.view services.now t → IfOk result (λ heads. heads ≡ heads_of H.dig t) }
+    ensures { (t : Trio) → AllPlay H.dig D.view services.now t → IfOk result (λ heads. heads ≡ trio_heads H.dig t) }
 {
     let alpha = services.alpha.head();
     let beta = services.beta.head();
@@ -102,7 +102,7 @@ pub(crate) fn map<D: Disk, H: Hasher>(
     services: &mut Services<D, H>,
     heads: &Threads,
 ) -> Result<Bounds, NoMemory>
-    ensures { (t : Trio) → AllPlay H.dig D.view services.old t → heads.now ≡ heads_of H.dig t
+    ensures { (t : Trio) → AllPlay H.dig D.view services.old t → heads.now ≡ trio_heads H.dig t
         → IfOk result (λ bounds. AllPlay H.dig D.view services.new t × IsMap H.dig t bounds.low bounds.high) }
 {
     let step = services.alpha.steps();
@@ -151,8 +151,8 @@ pub(crate) fn exported<D: Disk, H: Hasher>(
     alloc: Global,
     service: &mut Service<D, H>,
 ) -> Result<History, NoMemory>
-    ensures { (h : HistoryMeant) → Plays H.dig D.view service.old h
-        → IfOk result (λ history. Plays H.dig D.view service.new h × (history ≡ h)) }
+    ensures { (h : HistoryMeant) → PlaysHistory H.dig D.view service.old h
+        → IfOk result (λ history. PlaysHistory H.dig D.view service.new h × (history ≡ h)) }
 {
     let bytes = answered(service, &Question::Export)?;
     history_of(alloc, &bytes)

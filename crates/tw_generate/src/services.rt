@@ -4,8 +4,8 @@ ghost use Rattle.std.specs.Prelude.{◌≡◌, ◌%◌, ◌==◌, [], Some, IfOk
 ghost use Rattle.tw_base.specs.kinds.Names.{padded_name};
 ghost use Rattle.tw_disk.specs.Image.{Image};
 ghost use Rattle.tw_generate.specs.Draws.{after_step};
-ghost use Rattle.tw_generate.specs.Playing.{ArePlaying, Leads};
-ghost use Rattle.tw_generate.specs.Schedules.{all_append, all_tell, end_event, no_steps, round as round_of, rounds_of, schedule};
+ghost use Rattle.tw_generate.specs.Playing.{ArePlaying, LeadsByActs};
+ghost use Rattle.tw_generate.specs.Schedules.{all_append, all_tell, end_event, no_steps, round_of_acts, rounds_of, schedule};
 
 use crate::draws::Draws;
 use crate::telling::{append, make, tell};
@@ -84,7 +84,7 @@ impl<D: Disk, H: Hasher> Services<D, H> {
         beta: &EventList,
         gamma: &EventList,
     ) -> Result<(), NoMemory>
-        ensures { OnOk result (Leads H.dig D.view (all_append alpha.now beta.now gamma.now) self.old self.new) }
+        ensures { OnOk result (LeadsByActs H.dig D.view (all_append alpha.now beta.now gamma.now) self.old self.new) }
     {
         append(&mut self.alpha, alpha)?;
         append(&mut self.beta, beta)?;
@@ -94,7 +94,7 @@ impl<D: Disk, H: Hasher> Services<D, H> {
 
     /// Each tells its last step to the two others.
     fn exchange(&mut self) -> Result<(), NoMemory>
-        ensures { OnOk result (Leads H.dig D.view all_tell self.old self.new) }
+        ensures { OnOk result (LeadsByActs H.dig D.view all_tell self.old self.new) }
     {
         let Services {
             alpha,
@@ -113,7 +113,7 @@ impl<D: Disk, H: Hasher> Services<D, H> {
 
     /// The messages of the round of this number.
     fn exchange_in(&mut self, number: u64) -> Result<(), NoMemory>
-        ensures { OnOk result (Leads H.dig D.view (if number % 50 == 0 then all_tell else []) self.old self.new) }
+        ensures { OnOk result (LeadsByActs H.dig D.view (if number % 50 == 0 then all_tell else []) self.old self.new) }
     {
         if is_fiftieth(number) {
             return self.exchange();
@@ -123,7 +123,7 @@ impl<D: Disk, H: Hasher> Services<D, H> {
 
     /// The round of this number.
     fn round(&mut self, alloc: Global, draws: &mut Draws, number: u64) -> Result<(), NoMemory>
-        ensures leads { OnOk result (Leads H.dig D.view (round_of draws.old.state number) self.old self.new) }
+        ensures leads { OnOk result (LeadsByActs H.dig D.view (round_of_acts draws.old.state number) self.old self.new) }
         ensures state { OnOk result (draws.new.state ≡ after_step (after_step (after_step draws.old.state))) }
     {
         let alpha = draws.events(alloc)?;
@@ -135,7 +135,7 @@ impl<D: Disk, H: Hasher> Services<D, H> {
 
     /// So many rounds, whose events are drawn from this number on.
     fn rounds(&mut self, alloc: Global, number: u64, rounds: u64) -> Result<(), NoMemory>
-        ensures { OnOk result (Leads H.dig D.view (rounds_of number rounds) self.old self.new) }
+        ensures { OnOk result (LeadsByActs H.dig D.view (rounds_of number rounds) self.old self.new) }
     {
         let mut draws = Draws::new(number);
         for done in 0..rounds {
@@ -146,7 +146,7 @@ impl<D: Disk, H: Hasher> Services<D, H> {
 
     /// Each appends a step of the one event `end`.
     fn append_end(&mut self, alloc: Global) -> Result<(), NoMemory>
-        ensures { OnOk result (Leads H.dig D.view (all_append end_event end_event end_event) self.old self.new) }
+        ensures { OnOk result (LeadsByActs H.dig D.view (all_append end_event end_event end_event) self.old self.new) }
     {
         let mut events = EventList::new(alloc);
         events.push(Bytes::from_slice(alloc, b"end")?)?;
@@ -155,7 +155,7 @@ impl<D: Disk, H: Hasher> Services<D, H> {
 
     /// Plays so many rounds, whose events are drawn from this number on, and the end.
     pub(crate) fn play(&mut self, alloc: Global, number: u64, rounds: u64) -> Result<(), NoMemory>
-        ensures { OnOk result (Leads H.dig D.view (schedule number rounds) self.old self.new) }
+        ensures { OnOk result (LeadsByActs H.dig D.view (schedule number rounds) self.old self.new) }
     {
         self.rounds(alloc, number, rounds)?;
         self.append_end(alloc)

@@ -5,7 +5,7 @@ ghost use Rattle.std.specs.Option.{option_map_or};
 ghost use Rattle.serde_json.specs.Data.{array, item, no_items, null};
 ghost use Rattle.serde_json.specs.View.{view};
 ghost use Rattle.serde_json.specs.Written.{compact_text, has_float};
-ghost use Rattle.tw_generate.specs.Line.{audit_word as word_of, count, summary as summary_of, summary_line, summary_of_values};
+ghost use Rattle.tw_generate.specs.Line.{audit_word as word_of, count, summary_line, summary_of_values, summary_told};
 
 use serde_json::{Value, json};
 use std::alloc::{AllocError, Global};
@@ -80,9 +80,9 @@ fn object(
 }
 
 /// The summary as JSON, whose keys are sorted.
-#[tactic(auto, unfolding(crate::specs::Line::summary))]
+#[tactic(auto, unfolding(crate::specs::Line::summary_told))]
 fn data(alloc: Global, summary: &Summary) -> Result<Value, AllocError>
-    ensures { IfOk result (λ v. view v ≡ summary_of summary.now) }
+    ensures { IfOk result (λ v. view v ≡ summary_told summary.now) }
 {
     let high = bound_value(summary.high);
     let steps = steps_value(alloc, summary.alpha, summary.beta, summary.gamma)?;

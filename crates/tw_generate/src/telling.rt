@@ -5,11 +5,11 @@ ghost use Rattle.tw_base.specs.history.History.{History};
 ghost use Rattle.tw_base.specs.history.Questions.{MayAsk};
 ghost use Rattle.tw_disk.specs.Image.{Image};
 ghost use Rattle.tw_service.specs.Answered.{IsAcceptedFor};
-ghost use Rattle.tw_service.specs.EventSteps.{with_events};
+ghost use Rattle.tw_service.specs.EventSteps.{with_events_at};
 ghost use Rattle.tw_service.specs.Stands.{no_history};
-ghost use Rattle.tw_generate.specs.Playing.{HasTold, Plays};
+ghost use Rattle.tw_generate.specs.Playing.{HasTold, PlaysHistory};
 ghost use Rattle.tw_generate.specs.Schedules.{last_heard};
-ghost use Rattle.tw_generate.specs.Summing.{IsAnswered};
+ghost use Rattle.tw_generate.specs.Summing.{IsQuestionAnswered};
 
 use std::alloc::Global;
 use tw_answers::Refusal;
@@ -46,9 +46,9 @@ pub(crate) fn answered<D: Disk, H: Hasher>(
     service: &mut Service<D, H>,
     question: &Question,
 ) -> Result<Bytes, NoMemory>
-    ensures asked { (h : History) → Plays H.dig D.view service.old h
-        → IfOk result (λ bytes. Plays H.dig D.view service.new h × IsAnswered H.dig h question.now bytes) }
-    ensures accepted { (h : History) → Plays H.dig D.view service.old h → IfOk result (λ bytes. IsAcceptedFor H.dig h question.now bytes) }
+    ensures asked { (h : History) → PlaysHistory H.dig D.view service.old h
+        → IfOk result (λ bytes. PlaysHistory H.dig D.view service.new h × IsQuestionAnswered H.dig h question.now bytes) }
+    ensures accepted { (h : History) → PlaysHistory H.dig D.view service.old h → IfOk result (λ bytes. IsAcceptedFor H.dig h question.now bytes) }
 {
     if !may_ask(question) {
         return Err(NoMemory);
@@ -62,7 +62,7 @@ pub(crate) fn make<D: Disk + Drop, H: Hasher>(
     disk: D,
     name: Name,
 ) -> Result<Service<D, H>, NoMemory>
-    ensures { (image : Image) → (D.view disk).content ≡ Some image → IfOk result (λ service. Plays H.dig D.view service (no_history name)) }
+    ensures { (image : Image) → (D.view disk).content ≡ Some image → IfOk result (λ service. PlaysHistory H.dig D.view service (no_history name)) }
 {
     match Service::<D, H>::init(alloc, disk, name) {
         Ok(service) => Ok(service),
@@ -75,7 +75,7 @@ pub(crate) fn append<D: Disk, H: Hasher>(
     service: &mut Service<D, H>,
     events: &EventList,
 ) -> Result<(), NoMemory>
-    ensures { (h : History) → Plays H.dig D.view service.old h → OnOk result (Plays H.dig D.view service.new (with_events h events.now None)) }
+    ensures { (h : History) → PlaysHistory H.dig D.view service.old h → OnOk result (PlaysHistory H.dig D.view service.new (with_events_at h events.now None)) }
 {
     given(service.append(events))?;
     Ok(())
@@ -95,7 +95,7 @@ pub(crate) fn tell<D: Disk, H: Hasher>(
     to: &mut Service<D, H>,
     last: &mut u64,
 ) -> Result<(), NoMemory>
-    ensures { (a b : History) → Plays H.dig D.view from.old a → Plays H.dig D.view to.old b → last.old ≡ last_heard b a.name
+    ensures { (a b : History) → PlaysHistory H.dig D.view from.old a → PlaysHistory H.dig D.view to.old b → last.old ≡ last_heard b a.name
         → OnOk result (HasTold H.dig D.view a b from.new to.new last.new) }
 {
     let bytes = answered(from, &Question::ThreadOut { since: *last })?;

@@ -29,7 +29,7 @@ use Rattle.tw_base.specs.kinds.Handing.{Hands}
 use Rattle.tw_history.specs.Links.{AreReached}
 use Rattle.tw_base.proofs.lemmas.kinds.HandedTexts.{hands-none, hands-text}
 use Rattle.tw_history.proofs.LinkLabels.{length-labels_below}
-use Rattle.tw_history.specs.PassSteps.{HandsOn, HasPassed, IsOfStep, IsTold, events_in, texts_of_rest}
+use Rattle.tw_history.specs.PassSteps.{HandsOn, HasPassed, IsLabelTold, IsOfStep, passed_events, texts_of_rest}
 use Rattle.tw_history.proofs.LastSteps.{last-kept, last-own, last-reached}
 use Rattle.tw_history.proofs.TableSteps.{events_of-content}
 
@@ -107,13 +107,13 @@ module _ (dig : List ℕ → List ℕ) where
 
   -- one that doesn't stand has no text
   pub told-none : {S : Type 0} (took : S → List (List ℕ) → Type 0) (s : S) (entry : Option Entry) (l r : Tree) (label : List ℕ) → None ≡ entry → label ≡ tree_label dig Empty
-      → IsTold dig took s s label (branch entry l r)
+      → IsLabelTold dig took s s label (branch entry l r)
   told-none took s entry l r label none is =
-      subst (λ (o : Option Entry). IsTold dig took s s label (branch o l r)) none (record { label_is = is; took_top = hands-none took s })
+      subst (λ (o : Option Entry). IsLabelTold dig took s s label (branch o l r)) none (record { label_is = is; took_top = hands-none took s })
 
   pub told-some : {S : Type 0} (took : S → List (List ℕ) → Type 0) (old new : S) (entry : Option Entry) (e : Entry) (l r : Tree) (left right label : List ℕ) → Some e ≡ entry
       → left ≡ tree_label dig l → right ≡ tree_label dig r → label ≡ dig (entry_text left e right) → Hands took old new (entry_text left e right ∷ [])
-      → IsTold dig took old new label (branch entry l r)
+      → IsLabelTold dig took old new label (branch entry l r)
   told-some took old new entry e l r left right label some left_is right_is is hands = record {
     label_is = label-some entry e l r left right label some left_is right_is is;
     took_top = subst (λ (o : Option Entry). Hands took old new (top_texts dig (branch o l r))) some
@@ -247,7 +247,7 @@ module _ (dig : List ℕ → List ℕ) where
       pub event_root : d.event_root ≡ event_root dig (events_at h step)
       pub archive_root : (trees : List Tree) → new.tree_labels ≡ map (tree_label dig) trees → get_or trees 0 Empty ≡ Empty
           → d.archive_root ≡ tree_label dig (get_or trees s.root Empty)
-      pub datum : d.datum ≡ dig (step_datum_text d.event_root d.archive_root (length (events_in s.content)) s.time)
+      pub datum : d.datum ≡ dig (step_datum_text d.event_root d.archive_root (length (passed_events s.content)) s.time)
       pub labels : (earlier : List (List ℕ)) → AreReached step earlier old.latest
           → d.labels.items ≡ map dig (link_texts dig d.datum earlier step (suc (top_level step)))
       pub few : step ≤ LAST_STEP
@@ -269,7 +269,7 @@ module _ (dig : List ℕ → List ℕ) where
           is.archive_root (forest h (suc i)) forest_is (forest-first h (suc i))
           ∙ ap (λ (o : Option StepMeant). tree_label dig (get_or (forest h (suc i)) (root_of o) Empty)) (sym same_step)
 
-      events_are : events_in s.content ≡ events_at h (suc i)
+      events_are : passed_events s.content ≡ events_at h (suc i)
       events_are = sym (events_of-content s.content s fresh refl) ∙ ap events_of (sym same_step)
 
       time_is : s.time ≡ time_at h (suc i)
@@ -300,7 +300,7 @@ module _ (dig : List ℕ → List ℕ) where
 
     -- the texts that passing the step hands on, but for those of its events
     module _ (i : ℕ) (s : Step) (fresh : List Node) (old new : Digests) (d : StepDigests) (last : List ℕ) (is : PassesStep (suc i) i s fresh old new d last) where
-      datum_text_is : step_datum_text d.event_root d.archive_root (length (events_in s.content)) s.time ≡ datum_text_at dig h (suc i)
+      datum_text_is : step_datum_text d.event_root d.archive_root (length (passed_events s.content)) s.time ≡ datum_text_at dig h (suc i)
       unfolding datum_text_at
       datum_text_is =
           λ k. step_datum_text (is.event_root k) (archive_is i s fresh old new d last is k) (length (events_are i s fresh old new d last is k)) (time_is i s fresh old new d last is k)
@@ -309,7 +309,7 @@ module _ (dig : List ℕ → List ℕ) where
       fresh_are = ap (λ (o : Option StepMeant). planted (entry_to h (suc i)) (forest h i) (fresh_of o)) (sym (same_step i s fresh old new d last is))
 
       rest_is : (node_texts dig (planted (entry_to h (suc i)) (forest h i) (map node_of fresh))
-          ++ (step_datum_text d.event_root d.archive_root (length (events_in s.content)) s.time ∷ link_texts dig d.datum (auths dig h i) (suc i) (suc (top_level (suc i)))))
+          ++ (step_datum_text d.event_root d.archive_root (length (passed_events s.content)) s.time ∷ link_texts dig d.datum (auths dig h i) (suc i) (suc (top_level (suc i)))))
           ++ authenticator_text (suc i) d.labels.items ∷ []
           ≡ texts_of_rest dig h i
       rest_is =
@@ -320,13 +320,13 @@ module _ (dig : List ℕ → List ℕ) where
     pub PassesStep-texts : (i : ℕ) (s : Step) (fresh : List Node) (old new : Digests) (d : StepDigests) (last : List ℕ)
         → PassesStep (i + 1) i s fresh old new d last
         → (node_texts dig (planted (entry_to h (i + 1)) (forest h i) (map node_of fresh))
-        ++ (step_datum_text d.event_root d.archive_root (length (events_in s.content)) s.time ∷ link_texts dig d.datum (auths dig h i) (i + 1) (suc (top_level (i + 1)))))
+        ++ (step_datum_text d.event_root d.archive_root (length (passed_events s.content)) s.time ∷ link_texts dig d.datum (auths dig h i) (i + 1) (suc (top_level (i + 1)))))
         ++ authenticator_text (i + 1) d.labels.items ∷ []
         ≡ texts_of_rest dig h i
     PassesStep-texts i s fresh old new d last =
         subst (λ n. PassesStep n i s fresh old new d last
         → (node_texts dig (planted (entry_to h n) (forest h i) (map node_of fresh))
-        ++ (step_datum_text d.event_root d.archive_root (length (events_in s.content)) s.time ∷ link_texts dig d.datum (auths dig h i) n (suc (top_level n))))
+        ++ (step_datum_text d.event_root d.archive_root (length (passed_events s.content)) s.time ∷ link_texts dig d.datum (auths dig h i) n (suc (top_level n))))
         ++ authenticator_text n d.labels.items ∷ []
         ≡ texts_of_rest dig h i) (sym (add-one i)) (rest_is i s fresh old new d last)
 

@@ -9,7 +9,7 @@ use Rattle.tw_base.proofs.lemmas.kinds.ListLemmas.{Each-append}
 use Rattle.tw_base.proofs.lemmas.format.TakeLaws.{ManyTaken}
 use Rattle.tw_history.specs.declared.step.Step.{Step}
 use Rattle.tw_history.specs.declared.step.Node.{Node}
-use Rattle.tw_history.specs.Tables.{added, node_of, step_of, steps_of_table}
+use Rattle.tw_history.specs.Tables.{added_behind, node_of, step_of, steps_of_table}
 
 module _ {X : Type 0} where
   -- so many are left that one can be taken
@@ -21,21 +21,21 @@ module _ {X : Type 0} where
   each_further P xs more x pushed all one = subst (λ ys. Each P ys) (sym pushed) (Each-append P xs (x ∷ []) all (one, tt))
 
   -- nothing was appended
-  pub added-none : (xs : List X) → (added xs xs ≡ []) × (xs ≡ xs ++ added xs xs)
-  added-none xs = let none : added xs xs ≡ [] = drop-length xs in (none, sym (append-nil xs) ∙ ap (λ ys. xs ++ ys) (sym none))
+  pub added-none : (xs : List X) → (added_behind xs xs ≡ []) × (xs ≡ xs ++ added_behind xs xs)
+  added-none xs = let none : added_behind xs xs ≡ [] = drop-length xs in (none, sym (append-nil xs) ∙ ap (λ ys. xs ++ ys) (sym none))
 
   -- an item more
-  pub added-push : (old now next : List X) (x : X) → now ≡ old ++ added old now → next ≡ now ++ x ∷ []
-      → (added old next ≡ added old now ++ x ∷ []) × (next ≡ old ++ added old next)
+  pub added-push : (old now next : List X) (x : X) → now ≡ old ++ added_behind old now → next ≡ now ++ x ∷ []
+      → (added_behind old next ≡ added_behind old now ++ x ∷ []) × (next ≡ old ++ added_behind old next)
   added-push old now next x kept pushed =
-      let whole : next ≡ old ++ (added old now ++ x ∷ []) = pushed ∙ ap (λ xs. xs ++ x ∷ []) kept ∙ append_assoc old (added old now) (x ∷ []) in
-      let same : added old next ≡ added old now ++ x ∷ [] = ap (added old) whole ∙ drop-append_seam old (added old now ++ x ∷ []) in
+      let whole : next ≡ old ++ (added_behind old now ++ x ∷ []) = pushed ∙ ap (λ xs. xs ++ x ∷ []) kept ∙ append_assoc old (added_behind old now) (x ∷ []) in
+      let same : added_behind old next ≡ added_behind old now ++ x ∷ [] = ap (added_behind old) whole ∙ drop-append_seam old (added_behind old now ++ x ∷ []) in
       (same, whole ∙ ap (λ xs. old ++ xs) (sym same))
 
 -- the nodes of a table, with one more
-pub nodes-push : (old now next : List Node) (n : Node) → now ≡ old ++ added old now → next ≡ now ++ n ∷ []
-    → map node_of (added old next) ≡ map node_of (added old now) ++ node_of n ∷ []
-nodes-push old now next n kept pushed = ap (map node_of) (added-push old now next n kept pushed).0 ∙ map-append node_of (added old now) (n ∷ [])
+pub nodes-push : (old now next : List Node) (n : Node) → now ≡ old ++ added_behind old now → next ≡ now ++ n ∷ []
+    → map node_of (added_behind old next) ≡ map node_of (added_behind old now) ++ node_of n ∷ []
+nodes-push old now next n kept pushed = ap (map node_of) (added-push old now next n kept pushed).0 ∙ map-append node_of (added_behind old now) (n ∷ [])
 
 -- one step more takes the nodes that are appended with it
 steps_of_table-push : (steps : List Step) (nodes fresh : List Node) (s : Step) → sum_by (λ s. s.fresh) steps ≡ length nodes → s.fresh ≡ length fresh
@@ -52,14 +52,14 @@ steps_of_table-push (t ∷ steps) nodes fresh s counted count =
 
 -- a table with one step more, and the nodes that it added
 pub record Further (steps more : List Step) (nodes all : List Node) (s : Step) : Type 0 where
-  pub taken : steps_of_table more all ≡ steps_of_table steps nodes ++ step_of s (added nodes all) ∷ []
+  pub taken : steps_of_table more all ≡ steps_of_table steps nodes ++ step_of s (added_behind nodes all) ∷ []
   pub counted : sum_by (λ s. s.fresh) more ≡ length all
 
 pub steps_further : (steps more : List Step) (nodes all : List Node) (s : Step)
-    → sum_by (λ s. s.fresh) steps ≡ length nodes → more ≡ steps ++ s ∷ [] → all ≡ nodes ++ added nodes all → length all ≡ length nodes + s.fresh → Further steps more nodes all s
+    → sum_by (λ s. s.fresh) steps ≡ length nodes → more ≡ steps ++ s ∷ [] → all ≡ nodes ++ added_behind nodes all → length all ≡ length nodes + s.fresh → Further steps more nodes all s
 steps_further steps more nodes all s counted pushed kept count =
-    let fresh : s.fresh ≡ length (added nodes all) = omega (arith, count, ap length kept, length-append nodes (added nodes all)) in
+    let fresh : s.fresh ≡ length (added_behind nodes all) = omega (arith, count, ap length kept, length-append nodes (added_behind nodes all)) in
     record {
-      taken = ap (λ ss. steps_of_table ss all) pushed ∙ ap (steps_of_table (steps ++ s ∷ [])) kept ∙ steps_of_table-push steps nodes (added nodes all) s counted fresh;
+      taken = ap (λ ss. steps_of_table ss all) pushed ∙ ap (steps_of_table (steps ++ s ∷ [])) kept ∙ steps_of_table-push steps nodes (added_behind nodes all) s counted fresh;
       counted = omega (arith, ap (sum_by (λ s. s.fresh)) pushed, sum_by-append (λ s. s.fresh) steps (s ∷ []), sum_by-cons (λ s. s.fresh) s [], counted, count);
     }

@@ -16,7 +16,7 @@ use Rattle.tw_base.specs.declared.history.content.Content.TheVariants.{Events, R
 use Rattle.tw_history.specs.declared.step.Step.{Step}
 use Rattle.tw_history.specs.declared.step.Node.{Node}
 use Rattle.tw_history.specs.Tables.{node_of, step_of, steps_of_table}
-use Rattle.tw_history.specs.PassSteps.{events_in, thread_in}
+use Rattle.tw_history.specs.PassSteps.{passed_events, passed_thread}
 
 pub Each-inside : {X : Type 0} (P : X → Type 0) (xs : List X) (i : ℕ) (d : X) → i < length xs → Each P xs → P (get_or xs i d)
 Each-inside P [] i d inside all = absurd (omega arith)
@@ -44,11 +44,11 @@ steps_of_table-at (s ∷ steps) nodes (suc i) d inside =
     ∙ ap (λ (ns : List Node). Some (step_of (get_or steps i d) (take (get_or steps i d).fresh ns)))
     (drop-drop (nodes_of_first steps i) s.fresh nodes ∙ ap (λ n. drop n nodes) (sym (sum_by-cons (λ (x : Step). x.fresh) s (take i steps))))
 
-pub events_of-content : (c : Content) (s : Step) (fresh : List Node) → s.content ≡ c → events_of (Some (step_of s fresh)) ≡ events_in s.content
+pub events_of-content : (c : Content) (s : Step) (fresh : List Node) → s.content ≡ c → events_of (Some (step_of s fresh)) ≡ passed_events s.content
 events_of-content (Events events) s fresh e = rw e
 events_of-content (Received t) s fresh e = rw e
 
-pub thread_of-content : (c : Content) (s : Step) (fresh : List Node) → s.content ≡ c → thread_of (Some (step_of s fresh)) ≡ thread_in s.content
+pub thread_of-content : (c : Content) (s : Step) (fresh : List Node) → s.content ≡ c → thread_of (Some (step_of s fresh)) ≡ passed_thread s.content
 thread_of-content (Events events) s fresh e = rw e
 thread_of-content (Received t) s fresh e = rw e
 
@@ -63,11 +63,11 @@ module _ (h : History) (steps : List Step) (nodes : List Node) (is : h.steps ≡
       → step_at h (suc i) ≡ Some (step_of (get_or steps i d) (take (get_or steps i d).fresh (drop (nodes_of_first steps i) nodes)))
   step_at-table i d inside = ap (λ (ss : List StepMeant). slice_get ss i) is ∙ steps_of_table-at steps nodes i d inside
 
-  pub events_at-table : (i : ℕ) (d : Step) → i < length steps → events_at h (i + 1) ≡ events_in (get_or steps i d).content
+  pub events_at-table : (i : ℕ) (d : Step) → i < length steps → events_at h (i + 1) ≡ passed_events (get_or steps i d).content
   events_at-table i d inside =
       ap (events_at h) (add-one i) ∙ ap events_of (step_at-table i d inside) ∙ events_of-content (get_or steps i d).content (get_or steps i d) (take (get_or steps i d).fresh (drop (nodes_of_first steps i) nodes)) refl
 
-  pub thread_at-table : (i : ℕ) (d : Step) → i < length steps → thread_of (step_at h (i + 1)) ≡ thread_in (get_or steps i d).content
+  pub thread_at-table : (i : ℕ) (d : Step) → i < length steps → thread_of (step_at h (i + 1)) ≡ passed_thread (get_or steps i d).content
   thread_at-table i d inside = ap (λ n. thread_of (step_at h n)) (add-one i) ∙ ap thread_of (step_at-table i d inside) ∙ thread_of-content (get_or steps i d).content (get_or steps i d) (take (get_or steps i d).fresh (drop (nodes_of_first steps i) nodes)) refl
 
   pub time_at-table : (i : ℕ) (d : Step) → i < length steps → time_at h (i + 1) ≡ (get_or steps i d).time

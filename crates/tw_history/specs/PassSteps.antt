@@ -14,17 +14,17 @@ use Rattle.tw_history.specs.declared.pass.Digests.{Digests}
 use Rattle.tw_history.specs.declared.step_digests.StepDigests.{StepDigests}
 
 -- the events of a step; one that received a thread has none
-abbrev pub events_in : Content → List (List ℕ)
-events_in (Events events) = events
-events_in (Received t) = []
+abbrev pub passed_events : Content → List (List ℕ)
+passed_events (Events events) = events
+passed_events (Received t) = []
 
 -- the thread that a step received, if it received one
-abbrev pub thread_in : Content → Option Thread
-thread_in (Events events) = None
-thread_in (Received t) = Some t
+abbrev pub passed_thread : Content → Option Thread
+passed_thread (Events events) = None
+passed_thread (Received t) = Some t
 
 -- the label is the tree's, and the text of its root was handed on
-pub record IsTold (dig : List ℕ → List ℕ) {S : Type 0} (took : S → List (List ℕ) → Type 0) (old new : S) (label : List ℕ) (t : Tree) : Type 0 where
+pub record IsLabelTold (dig : List ℕ → List ℕ) {S : Type 0} (took : S → List (List ℕ) → Type 0) (old new : S) (label : List ℕ) (t : Tree) : Type 0 where
   pub label_is : label ≡ tree_label dig t
   pub took_top : Hands took old new (top_texts dig t)
 

@@ -22,8 +22,8 @@ steps_of_table [] nodes = []
 steps_of_table (s ∷ ss) nodes = step_of s (take s.fresh nodes) ∷ steps_of_table ss (drop s.fresh nodes)
 
 -- what stands in the longer list behind as many items as the shorter one has
-abbrev pub added : {X : Type 0} → (shorter longer : List X) → List X
-added shorter longer = drop (length shorter) longer
+abbrev pub added_behind : {X : Type 0} → (shorter longer : List X) → List X
+added_behind shorter longer = drop (length shorter) longer
 
 -- the ranges of a step's content; names, digests and bytes have theirs by their types
 abbrev pub IsInRange : Content → Type 0

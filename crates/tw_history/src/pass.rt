@@ -8,7 +8,7 @@ ghost use Rattle.tw_base.specs.history.HistoryTexts.{node_texts, texts_to};
 ghost use Rattle.tw_base.specs.history.Tree.{Tree, branch, planted};
 ghost use Rattle.tw_base.specs.history.Tree.Tree.{Empty};
 ghost use Rattle.tw_history.specs.Tables.{node_of};
-ghost use Rattle.tw_history.specs.PassSteps.{HandsOn, HasPassed, IsOfStep, IsTold, texts_of_rest};
+ghost use Rattle.tw_history.specs.PassSteps.{HandsOn, HasPassed, IsLabelTold, IsOfStep, texts_of_rest};
 ghost use Rattle.tw_base.specs.kinds.Handing.{Hands};
 
 use crate::history::History;
@@ -75,7 +75,7 @@ fn label_of_node<T: Transcript>(
 ) -> Digest
     requires { 0 < length tree_labels.now }
     ensures { (trees : List Tree) → tree_labels.now ≡ map (tree_label T.dig) trees → slice_index_or trees 0 Empty ≡ Empty →
-        IsTold T.dig T.took texts.old texts.new result (branch (entry_to history.now step node.now.entry) (slice_index_or trees node.now.left Empty) (slice_index_or trees node.now.right Empty)) }
+        IsLabelTold T.dig T.took texts.old texts.new result (branch (entry_to history.now step node.now.entry) (slice_index_or trees node.now.left Empty) (slice_index_or trees node.now.right Empty)) }
 {
     let left = label_of_tree(tree_labels, node.left);
     let right = label_of_tree(tree_labels, node.right);

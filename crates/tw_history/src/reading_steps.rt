@@ -9,7 +9,7 @@ ghost use Rattle.tw_base.specs.kinds.Lists.{Each};
 ghost use Rattle.tw_base.specs.format.Taking.{Takes};
 ghost use Rattle.tw_history.specs.declared.reading_steps.Table.{Table};
 ghost use Rattle.tw_history.specs.declared.step.Step.{Step};
-ghost use Rattle.tw_history.specs.Tables.{IsInRange, IsTable, added, node_of, step_of, steps_of_table};
+ghost use Rattle.tw_history.specs.Tables.{IsInRange, IsTable, added_behind, node_of, step_of, steps_of_table};
 
 use crate::step::{Node, Nodes, Step, Steps};
 use std::alloc::Global;
@@ -44,8 +44,8 @@ fn take_node(bytes: &[u8], at: &mut u64) -> Result<Node, ReadFault>
 fn take_nodes(bytes: &[u8], at: &mut u64, count: u64, nodes: &mut Nodes) -> Result<(), ReadFault>
     requires within { at.old ≤ length bytes.now }
     requires entries { Each (λ n. n.entry < 2 ^ 64) nodes.old }
-    ensures takes { Takes (many count node_codec) (λ _. map node_of (added nodes.old nodes.new)) bytes.now at.old at.new result }
-    ensures kept { IfOk result (λ _. nodes.new ≡ nodes.old ++ added nodes.old nodes.new) }
+    ensures takes { Takes (many count node_codec) (λ _. map node_of (added_behind nodes.old nodes.new)) bytes.now at.old at.new result }
+    ensures kept { IfOk result (λ _. nodes.new ≡ nodes.old ++ added_behind nodes.old nodes.new) }
     ensures count { IfOk result (λ _. length nodes.new ≡ length nodes.old + count) }
     ensures entries { IfOk result (λ _. Each (λ n. n.entry < 2 ^ 64) nodes.new) }
 {
@@ -59,8 +59,8 @@ fn take_nodes(bytes: &[u8], at: &mut u64, count: u64, nodes: &mut Nodes) -> Resu
 fn take_fresh(bytes: &[u8], at: &mut u64, nodes: &mut Nodes) -> Result<u16, ReadFault>
     requires within { at.old ≤ length bytes.now }
     requires entries { Each (λ n. n.entry < 2 ^ 64) nodes.old }
-    ensures takes { Takes (counted 2 0 65535 node_codec) (λ _. map node_of (added nodes.old nodes.new)) bytes.now at.old at.new result }
-    ensures kept { IfOk result (λ _. nodes.new ≡ nodes.old ++ added nodes.old nodes.new) }
+    ensures takes { Takes (counted 2 0 65535 node_codec) (λ _. map node_of (added_behind nodes.old nodes.new)) bytes.now at.old at.new result }
+    ensures kept { IfOk result (λ _. nodes.new ≡ nodes.old ++ added_behind nodes.old nodes.new) }
     ensures count { IfOk result (λ fresh. length nodes.new ≡ length nodes.old + fresh) }
     ensures entries { IfOk result (λ _. Each (λ n. n.entry < 2 ^ 64) nodes.new) }
 {
@@ -79,8 +79,8 @@ fn take_step(
 ) -> Result<Step, ReadFault>
     requires within { at.old ≤ length bytes.now }
     requires entries { Each (λ n. n.entry < 2 ^ 64) nodes.old }
-    ensures takes { Takes step_codec (λ (s : Step). step_of s (added nodes.old nodes.new)) bytes.now at.old at.new result }
-    ensures kept { IfOk result (λ _. nodes.new ≡ nodes.old ++ added nodes.old nodes.new) }
+    ensures takes { Takes step_codec (λ (s : Step). step_of s (added_behind nodes.old nodes.new)) bytes.now at.old at.new result }
+    ensures kept { IfOk result (λ _. nodes.new ≡ nodes.old ++ added_behind nodes.old nodes.new) }
     ensures count { IfOk result (λ s. length nodes.new ≡ length nodes.old + s.fresh) }
     ensures content { IfOk result (λ s. IsInRange s.content) }
     ensures time { IfOk result (λ s. IsTimeWithinLimits s.time) }

@@ -10,9 +10,9 @@ ghost use Rattle.tw_base.specs.kinds.Lists.{Each};
 ghost use Rattle.tw_base.specs.format.Formats.{Spells};
 ghost use Rattle.tw_skipproof.specs.Acceptance.{IsAcceptedUnder};
 ghost use Rattle.tw_skipproof.specs.Existence.{existence_layout};
-ghost use Rattle.tw_skipproof.specs.HistoryProofs.{IsExistenceOf, IsOpeningOf, IsPartOf, MakesExistence};
+ghost use Rattle.tw_skipproof.specs.HistoryProofs.{IsExistenceOf, IsOpeningOf, IsPartOfHistory, MakesExistence};
 ghost use Rattle.tw_history.specs.Tables.{IsInRange};
-ghost use Rattle.tw_history.specs.PassSteps.{HasPassed, events_in};
+ghost use Rattle.tw_history.specs.PassSteps.{HasPassed, passed_events};
 ghost use Rattle.tw_history.specs.Refusals.{RefusesEvent};
 ghost use Rattle.tw_base.specs.declared.kinds.limits.TheConstants.{LAST_STEP, MOST_EVENTS, MOST_EVENT_BYTES};
 
@@ -30,9 +30,9 @@ use tw_skipproof::{ExistenceProof, Opening, Part, Path, write_existence};
 /// The events of the content, where one has this index; else how many there are.
 fn events_having(content: &Content, index: u32) -> Result<&[Bytes], u32>
     requires { IsInRange content.now }
-    ensures events { IfOk result (λ events. (events.now ≡ events_in content.now) × (index < length events.now)) }
+    ensures events { IfOk result (λ events. (events.now ≡ passed_events content.now) × (index < length events.now)) }
     ensures ranges { IfOk result (λ events. (length events.now ≤ MOST_EVENTS) × Each (λ event. length event ≤ MOST_EVENT_BYTES) events.now) }
-    ensures count { IfErr result (λ count. (count ≡ length (events_in content.now)) × (count ≤ index)) }
+    ensures count { IfErr result (λ count. (count ≡ length (passed_events content.now)) × (count ≤ index)) }
 {
     match content {
         Content::Events(events) => {
@@ -100,7 +100,7 @@ fn part_of<H: Hasher>(
     requires from_1 { 0 < step }
     requires inside { step ≤ length history.now.steps }
     requires event_root { event_root ≡ event_root_of H.dig (events_at history.now step) }
-    ensures part { IfOk result (IsPartOf H.dig history.now step (length history.now.steps)) }
+    ensures part { IfOk result (IsPartOfHistory H.dig history.now step (length history.now.steps)) }
     ensures time { IfOk result (λ part. IsTimeWithinLimits part.opening.time) }
     ensures few { OnOk result (length history.now.steps ≤ LAST_STEP) }
 {

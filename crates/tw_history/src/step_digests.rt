@@ -6,7 +6,7 @@ ghost use Rattle.tw_base.specs.events.EventTree.{event_root as event_root_of, ev
 ghost use Rattle.tw_base.specs.kinds.Levels.{top_level as top_level_of};
 ghost use Rattle.tw_base.specs.kinds.Texts.{step_datum_text};
 ghost use Rattle.tw_history.specs.Tables.{IsInRange};
-ghost use Rattle.tw_history.specs.PassSteps.{events_in};
+ghost use Rattle.tw_history.specs.PassSteps.{passed_events};
 ghost use Rattle.tw_base.specs.declared.kinds.limits.TheConstants.{LAST_STEP};
 ghost use Rattle.tw_base.specs.kinds.Handing.{Hands};
 ghost use Rattle.tw_history.specs.Links.{AreReached};
@@ -31,8 +31,8 @@ pub(crate) struct StepDigests {
 /// The root of the content's events.
 pub(crate) fn root_of_events<T: Transcript>(content: &Content, texts: &mut T) -> Digest
     requires { IsInRange content.now }
-    ensures root { result ≡ event_root_of T.dig (events_in content.now) }
-    ensures took { Hands T.took texts.old texts.new (event_texts T.dig (events_in content.now)) }
+    ensures root { result ≡ event_root_of T.dig (passed_events content.now) }
+    ensures took { Hands T.took texts.old texts.new (event_texts T.dig (passed_events content.now)) }
 {
     match content {
         Content::Events(events) => event_root_told(events.as_slice(), texts),
@@ -43,7 +43,7 @@ pub(crate) fn root_of_events<T: Transcript>(content: &Content, texts: &mut T) ->
 /// The number of the content's events.
 pub(crate) fn count_of_events(content: &Content) -> u32
     requires { IsInRange content.now }
-    ensures value { result ≡ length (events_in content.now) }
+    ensures value { result ≡ length (passed_events content.now) }
 {
     match content {
         Content::Events(events) => events.len() as u32,

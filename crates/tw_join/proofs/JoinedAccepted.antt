@@ -29,7 +29,7 @@ use Rattle.tw_chain.specs.declared.proof.Proof.TheVariants.{Exists, Precedes, Ar
 use Rattle.tw_chain.specs.declared.proof.Tail.{Tail}
 use Rattle.tw_chain.specs.declared.proof.ThreadProof.{ThreadProof}
 use Rattle.tw_chain.specs.Accepting.{IsAccepted}
-use Rattle.tw_chain.specs.Checks.{Check, bind_checks, bind_of, checks, end_of, hops_checks, link_checks, link_top, opening_checks, root_of, start_of, tail_at, tail_checks, top_of, under_anchor}
+use Rattle.tw_chain.specs.Checks.{Check, bind_checks, bind_of, checks, end_of_order, hops_checks, link_checks, link_top, opening_checks, opening_root, start_of, tail_at, tail_checks, top_of, under_anchor}
 use Rattle.tw_chain.specs.Checks.Check.{AnswerOf, CarriesThread, EventOf, InOrder}
 use Rattle.tw_join.specs.Joining.{Joint, hop_of, hops_before, joined_of, wanted}
 use Rattle.tw_join.specs.OwnParts.{HopOfPartStands, IsMade, JoinedIsAccepted}
@@ -164,7 +164,7 @@ module _ (dig : List ℕ → List ℕ) (family : List History) (sound : AllSound
 
     -- the opening behind a thread, and the hops from there
     abbrev Behind : Thread → Option Opening → List HopPart → Type 0
-    Behind t before hops = (n : ℕ) → Hold (opening_checks n t before ++ hops_checks (suc n) t.step (root_of before) hops)
+    Behind t before hops = (n : ℕ) → Hold (opening_checks n t before ++ hops_checks (suc n) t.step (opening_root before) hops)
 
     hop-holds : (t : Thread) (joint : Joint) (before : Option Opening) (hops : List HopPart) → HasThread dig family t
         → JointFits OwnPart (record { from = t.from; step = t.step }) joint → Behind joint.thread.entry.thread before hops
@@ -175,7 +175,7 @@ module _ (dig : List ℕ → List ℕ) (family : List History) (sound : AllSound
         let made = fits.part.0 in
         let bind : List Check = bind_checks (suc n) hop in
         let opening : List Check = opening_checks (suc n) p.entry.thread before in
-        let onward : List Check = hops_checks (suc (suc n)) p.entry.thread.step (root_of before) hops in
+        let onward : List Check = hops_checks (suc (suc n)) p.entry.thread.step (opening_root before) hops in
         let answer : List Check = InOrder p.entry.archived t.step ∷ AnswerOf (suc n) p.at.opening.archive_root (ask.Present p.entry) p.shown ∷ [] in
         let shown = entry-shown dig made.history made.step made.top (sound_of family made.history.name made.history sound made.has) (omega (arith, made.order, made.within)) p made.own in
         let answers : Hold answer = (λ needed. (omega (arith, shown.0, fits.step), (shown.1, tt))) in
@@ -217,17 +217,17 @@ module _ (dig : List ℕ → List ℕ) (family : List History) (sound : AllSound
         let p : PrecedenceProof = joined_of second joints first in
         let own = fits.second_part in
         let opening : List Check = opening_checks 0 (start_of p) p.before in
-        let onward : List Check = hops_checks 1 (start_of p).step (root_of p.before) p.hops in
+        let onward : List Check = hops_checks 1 (start_of p).step (opening_root p.before) p.hops in
         let n : ℕ = suc (length p.hops) in
         let key = come_to-key second own joints in
         let last : Thread = come_to (start_of p) joints in
-        let tail : Hold (tail_checks n (end_of p) p.tail) =
+        let tail : Hold (tail_checks n (end_of_order p) p.tail) =
         subst (λ t. Hold (tail_checks n t p.tail)) (sym (last-thread (start_of p) joints None []))
         (λ needed. first-passes n last first (come_to-thread second own joints fits.joints_fit) fits.first_part
         (sym (ap (λ (k : Key). k.from) key) ∙ fits.service) (sym (ap (λ (k : Key). k.step) key) ∙ fits.top) anchors) in
         let hops : Hold (opening ++ onward) = hops-hold second own joints None [] fits.joints_fit (λ m needed. tt) 0 in
-        both-hold (under_anchor 0 second.at ++ EventOf 0 second.at.opening second.event ∷ []) (opening ++ (onward ++ tail_checks n (end_of p) p.tail)) (second-holds second own)
-        (subst Hold (append_assoc opening onward (tail_checks n (end_of p) p.tail)) (both-hold (opening ++ onward) (tail_checks n (end_of p) p.tail) hops tail))
+        both-hold (under_anchor 0 second.at ++ EventOf 0 second.at.opening second.event ∷ []) (opening ++ (onward ++ tail_checks n (end_of_order p) p.tail)) (second-holds second own)
+        (subst Hold (append_assoc opening onward (tail_checks n (end_of_order p) p.tail)) (both-hold (opening ++ onward) (tail_checks n (end_of_order p) p.tail) hops tail))
 
 pub joined-accepted : (dig : List ℕ → List ℕ) → JoinedIsAccepted dig
 joined-accepted dig family parts p anchors sound made stand is anchored =

@@ -12,7 +12,7 @@ use Rattle.tw_chain.specs.declared.proof.Proof.TheVariants.{Exists, Precedes, Ar
 use Rattle.tw_join.specs.declared.joining.JoinFault.{JoinFault}
 use Rattle.tw_join.specs.declared.joining.JoinFault.TheVariants.{Gap, NoMemory}
 use Rattle.tw_join.specs.declared.limits.TheConstants.{MOST_PARTS}
-use Rattle.tw_join.specs.Joining.{Joins, Joint, Taken, is_key, is_link_of, joined, wanted, with_part}
+use Rattle.tw_join.specs.Joining.{Joins, Joint, Taken, is_key, is_link_of, joined_proof, wanted, with_part}
 use Rattle.tw_join.specs.Joining.Taken.{Nothing, Hops, Whole}
 use Rattle.tw_join.proofs.JoinedParts.{only-if}
 
@@ -75,7 +75,7 @@ part-left (Whole second joints first) part next is = cc
 -- ---- the parts that decide
 
 joined-more : (taken : Taken) (number : ℕ) (part : Proof) (parts : List Proof)
-    → joined taken number (part ∷ parts) ≡ option_map_or (λ next. joined next (number + 1) parts) (with_part taken part) (Err number)
+    → joined_proof taken number (part ∷ parts) ≡ option_map_or (λ next. joined_proof next (number + 1) parts) (with_part taken part) (Err number)
 joined-more Nothing number part parts = refl
 joined-more (Hops second joints) number part parts = refl
 joined-more (Whole second joints first) number part parts = refl
@@ -85,10 +85,10 @@ take-none zero = refl
 take-none (suc count) = refl
 
 abbrev after : (number : ℕ) → List Proof → Option Taken → Result PrecedenceProof ℕ
-after number parts next = option_map_or (λ taken. joined taken (number + 1) parts) next (Err number)
+after number parts next = option_map_or (λ taken. joined_proof taken (number + 1) parts) next (Err number)
 
 front-step : (taken : Taken) (number count : ℕ) (part : Proof) (front parts : List Proof) → left taken < suc count
-    → ((next : Taken) → left next < count → joined next (number + 1) front ≡ joined next (number + 1) parts) → joined taken number (part ∷ front) ≡ joined taken number (part ∷ parts)
+    → ((next : Taken) → left next < count → joined_proof next (number + 1) front ≡ joined_proof next (number + 1) parts) → joined_proof taken number (part ∷ front) ≡ joined_proof taken number (part ∷ parts)
 front-step taken number count part front parts some rest =
     joined-more taken number part front ∙ by (with_part taken part) refl ∙ sym (joined-more taken number part parts)
   where
@@ -97,8 +97,8 @@ front-step taken number count part front parts some rest =
     by (Some next) is = let fewer = part-left taken part next is in rest next (omega (arith, fewer, some))
 
 -- more parts than may still come decide
-front-decides : (taken : Taken) (number count : ℕ) (parts : List Proof) → left taken < count → joined taken number (take count parts) ≡ joined taken number parts
-front-decides taken number count [] some = ap (joined taken number) (take-none count)
+front-decides : (taken : Taken) (number count : ℕ) (parts : List Proof) → left taken < count → joined_proof taken number (take count parts) ≡ joined_proof taken number parts
+front-decides taken number count [] some = ap (joined_proof taken number) (take-none count)
 front-decides taken number zero (part ∷ parts) some = absurd (omega (arith, some))
 front-decides taken number (suc count) (part ∷ parts) some =
     front-step taken number count part (take count parts) parts some (λ next fewer. front-decides next (number + 1) count parts fewer)

@@ -12,8 +12,8 @@ use Rattle.tw_chain.specs.declared.proof.PrecedenceProof.{PrecedenceProof}
 use Rattle.tw_chain.specs.declared.proof.Proof.{Proof}
 use Rattle.tw_chain.specs.declared.proof.Proof.TheVariants.{Precedes}
 use Rattle.tw_chain.specs.Accepting.{hop_from, hops_of, hops_to, report_of}
-use Rattle.tw_chain.specs.Checks.{last_thread}
-use Rattle.tw_join.specs.Joining.{Joint, hop_of, hops_before, joined, shown_hops, wanted}
+use Rattle.tw_chain.specs.Checks.{last_hop_thread}
+use Rattle.tw_join.specs.Joining.{Joint, hop_of, hops_before, joined_proof, shown_hops, wanted}
 use Rattle.tw_join.specs.Joining.Taken.{Nothing}
 use Rattle.tw_chain.specs.Proofs.{last_step}
 use Rattle.tw_join.proofs.JoinedParts.{JointsFit, joined-fits, joint_hops}
@@ -25,12 +25,12 @@ come_to start (joint ∷ joints) = joint.thread.entry.thread
 
 -- the hops of all parts come to the thread of the last ones
 pub last-thread : (start : Thread) (joints : List Joint) (before : Option Opening) (hops : List HopPart)
-    → last_thread start (hops_before joints before hops).1 ≡ last_thread (come_to start joints) hops
+    → last_hop_thread start (hops_before joints before hops).1 ≡ last_hop_thread (come_to start joints) hops
 last-thread start [] before hops = refl
 last-thread start (joint ∷ []) before hops = refl
 last-thread start (joint ∷ more ∷ joints) before hops = last-thread start (more ∷ joints) (Some joint.thread.at.opening) (hop_of joint before ∷ hops)
 
-pub last-step : (step : ℕ) (t : Thread) (hops : List HopPart) → t.step ≡ step → last_step step hops ≡ (last_thread t hops).step
+pub last-step : (step : ℕ) (t : Thread) (hops : List HopPart) → t.step ≡ step → last_step step hops ≡ (last_hop_thread t hops).step
 last-step step t [] is = sym is
 last-step step t (hop ∷ hops) is = last-step hop.entry.thread.step hop.entry.thread hops refl
 
@@ -58,7 +58,7 @@ each-unit [] = tt
 each-unit (part ∷ parts) = (tt, each-unit parts)
 
 -- the hops of the report are those that the parts show, turned around
-pub joined-hops : (parts : List Proof) (p : PrecedenceProof) → joined Nothing 1 parts ≡ Ok p → (report_of (Precedes p)).hops ≡ reverse (shown_hops parts)
+pub joined-hops : (parts : List Proof) (p : PrecedenceProof) → joined_proof Nothing 1 parts ≡ Ok p → (report_of (Precedes p)).hops ≡ reverse (shown_hops parts)
 joined-hops parts p is =
     let had = joined-fits (λ part. Unit {0}) parts p (each-unit parts) is in
     ap (λ (q : PrecedenceProof). hops_of (Precedes q)) had.is
@@ -66,7 +66,7 @@ joined-hops parts p is =
     ∙ had.shown ∙ append-nil (reverse (shown_hops parts))
 
 -- at most 64
-pub joined-few : (parts : List Proof) (p : PrecedenceProof) → joined Nothing 1 parts ≡ Ok p → length p.hops ≤ MOST_HOPS
+pub joined-few : (parts : List Proof) (p : PrecedenceProof) → joined_proof Nothing 1 parts ≡ Ok p → length p.hops ≤ MOST_HOPS
 joined-few parts p is =
     let had = joined-fits (λ part. Unit {0}) parts p (each-unit parts) is in
     omega (

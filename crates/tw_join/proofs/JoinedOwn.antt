@@ -21,7 +21,7 @@ use Rattle.tw_chain.specs.Proofs.{proof_bytes, proof_codec, proof_layout}
 use Rattle.tw_chain.proofs.Completeness.{from_1_of_entry}
 use Rattle.tw_chain.proofs.OwnSpelling.{own-spelled}
 use Rattle.tw_chain.proofs.ProofCodec.{proof-lawful}
-use Rattle.tw_join.specs.Joining.{Joint, joined, wanted}
+use Rattle.tw_join.specs.Joining.{Joint, joined_proof, wanted}
 use Rattle.tw_join.specs.Joining.Taken.{Nothing}
 use Rattle.tw_join.specs.OwnParts.{IsMade, JoinedBytesAreAccepted}
 use Rattle.tw_join.proofs.JoinedAccepted.{each-both, joined-accepted}
@@ -92,7 +92,7 @@ module _ (dig : List ℕ → List ℕ) (size : (text : List ℕ) → length (dig
     top = fits.top;
   }
 
-  own-joined-spelled : (parts : List Proof) (p : PrecedenceProof) → Each (IsMade dig family) parts → Each HasFewNodes parts → joined Nothing 1 parts ≡ Ok p
+  own-joined-spelled : (parts : List Proof) (p : PrecedenceProof) → Each (IsMade dig family) parts → Each HasFewNodes parts → joined_proof Nothing 1 parts ≡ Ok p
       → Spells proof_layout (proof_bytes (Precedes p)) (Precedes p)
   own-joined-spelled parts p made few is =
       let had = joined-fits ShortPart parts p (each-both (IsMade dig family) HasFewNodes parts made few) is in

@@ -18,7 +18,7 @@ use Rattle.tw_chain.specs.declared.proof.Proof.{Proof}
 use Rattle.tw_chain.specs.declared.proof.Proof.TheVariants.{Exists, Precedes, Archived, Absent, Linked}
 use Rattle.tw_chain.specs.declared.proof.ThreadProof.{ThreadProof}
 use Rattle.tw_chain.specs.Checks.{link_top, top_of}
-use Rattle.tw_join.specs.Joining.{Joint, Taken, is_key, is_link_of, joined, joined_of, link_tops, only_if, shown_hop, shown_hops, tops_of, wanted, with_part}
+use Rattle.tw_join.specs.Joining.{Joint, Taken, is_key, is_link_of, joined_of, joined_proof, link_tops, only_if, shown_hop, shown_hops, tops_of, wanted, with_part}
 use Rattle.tw_join.specs.Joining.Taken.{Nothing, Hops, Whole}
 
 -- ---- what the tests say
@@ -231,7 +231,7 @@ module _ (P : Proof → Type 0) where
     pub tops : top_of second.at ∷ joint_tops joints ≡ tops_with taken parts
     pub is : p ≡ joined_of second joints first
 
-  ended : (taken : Taken) (number : ℕ) (p : PrecedenceProof) → TakenFits taken → joined taken number [] ≡ Ok p → JoinedFits taken [] p
+  ended : (taken : Taken) (number : ℕ) (p : PrecedenceProof) → TakenFits taken → joined_proof taken number [] ≡ Ok p → JoinedFits taken [] p
   ended Nothing number p fits is = cc
   ended (Hops second joints) number p fits is = cc
   ended (Whole second joints first) number p fits is = record {
@@ -258,17 +258,17 @@ module _ (P : Proof → Type 0) where
     is = rest.is;
   }
 
-  onward : (taken : Taken) (number : ℕ) (parts : List Proof) (p : PrecedenceProof) → TakenFits taken → Each P parts → joined taken number parts ≡ Ok p
+  onward : (taken : Taken) (number : ℕ) (parts : List Proof) (p : PrecedenceProof) → TakenFits taken → Each P parts → joined_proof taken number parts ≡ Ok p
       → JoinedFits taken parts p
   onward taken number [] p fits all is = ended taken number p fits is
   onward taken number (part ∷ parts) p fits all is =
       by (with_part taken part) refl is (λ next at now. onward next (number + 1) parts p (with-part taken part next fits all.0 at) all.1 now)
     where
-      by : (o : Option Taken) → with_part taken part ≡ o → option_map_or (λ next. joined next (number + 1) parts) o (Err number) ≡ Ok p
-          → ((next : Taken) → with_part taken part ≡ Some next → joined next (number + 1) parts ≡ Ok p → JoinedFits next parts p)
+      by : (o : Option Taken) → with_part taken part ≡ o → option_map_or (λ next. joined_proof next (number + 1) parts) o (Err number) ≡ Ok p
+          → ((next : Taken) → with_part taken part ≡ Some next → joined_proof next (number + 1) parts ≡ Ok p → JoinedFits next parts p)
           → JoinedFits taken (part ∷ parts) p
       by None at now rest = cc
       by (Some next) at now rest = with-one taken part parts next p at (rest next at now)
 
-  pub joined-fits : (parts : List Proof) (p : PrecedenceProof) → Each P parts → joined Nothing 1 parts ≡ Ok p → JoinedFits Nothing parts p
+  pub joined-fits : (parts : List Proof) (p : PrecedenceProof) → Each P parts → joined_proof Nothing 1 parts ≡ Ok p → JoinedFits Nothing parts p
   joined-fits parts p all is = onward Nothing 1 parts p tt all is

@@ -14,7 +14,7 @@ use Rattle.tw_base.proofs.lemmas.kinds.ListLemmas.{Each-map}
 use Rattle.tw_skipproof.specs.declared.existence.ExistenceProof.{ExistenceProof}
 use Rattle.tw_skipproof.specs.declared.existence.Part.{Part}
 use Rattle.tw_skipproof.specs.declared.opening.Opening.{Opening}
-use Rattle.tw_skipproof.specs.Codecs.{event_codec, existence_body, opening_codec, part_codec, path_codec}
+use Rattle.tw_skipproof.specs.Codecs.{event_part_codec, existence_body, opening_codec, part_codec, path_codec}
 use Rattle.tw_skipproof.specs.Paths.{greedy_steps, steps_within}
 use Rattle.tw_treeproof.specs.Codecs.{present_codec}
 use Rattle.tw_chain.specs.declared.proof.HopPart.{HopPart}
@@ -24,7 +24,7 @@ use Rattle.tw_chain.specs.declared.proof.Proof.{Proof}
 use Rattle.tw_chain.specs.declared.proof.Proof.TheVariants.{Exists, Precedes, Archived, Linked}
 use Rattle.tw_chain.specs.declared.proof.ThreadProof.{ThreadProof}
 use Rattle.tw_chain.specs.Checks.{start_of}
-use Rattle.tw_join.specs.Joining.{Joint, hop_of, hops_before, joined, joined_of, wanted}
+use Rattle.tw_join.specs.Joining.{Joint, hop_of, hops_before, joined_of, joined_proof, wanted}
 use Rattle.tw_join.specs.Joining.Taken.{Nothing}
 use Rattle.tw_chain.specs.Proofs.{behind_codec, hop_codec, hops_codec, kinds_codec, last_step, link_body, precedence_body, proof_bytes, proof_codec, proof_layout, tail_codec, thread_body}
 use Rattle.tw_chain.proofs.ChainShapes.{HopsFit}
@@ -39,7 +39,7 @@ FitsPart part = proof_codec.Fits part
 
 record ExistenceFits (p : ExistenceProof) : Type 0 where
   pub at : (part_codec 1).Fits p.at
-  pub event : (event_codec p.at.opening.count).Fits p.event
+  pub event : (event_part_codec p.at.opening.count).Fits p.event
 
 existence-parts : (p : ExistenceProof) → FitsPart (Exists p) → ExistenceFits p
 unfolding proof_codec kinds_codec existence_body behind by_kind variant seen pair
@@ -151,7 +151,7 @@ whole-fits second joints first fits =
 
 -- what is written of it spells it
 pub joined-spelled : (parts : List Proof) (p : PrecedenceProof) → Each (λ part. (bytes : List ℕ) × Spells proof_layout bytes part) parts
-    → joined Nothing 1 parts ≡ Ok p → Spells proof_layout (proof_bytes (Precedes p)) (Precedes p)
+    → joined_proof Nothing 1 parts ≡ Ok p → Spells proof_layout (proof_bytes (Precedes p)) (Precedes p)
 joined-spelled parts p all is =
     let each_fits : Each FitsPart parts = Each-map (λ part. (bytes : List ℕ) × Spells proof_layout bytes part) FitsPart parts
     (λ part spelled. spelled-fits proof_codec proof-lawful spelled.0 part spelled.1) all in

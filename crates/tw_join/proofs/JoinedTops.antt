@@ -16,10 +16,10 @@ use Rattle.tw_chain.specs.declared.proof.Proof.{Proof}
 use Rattle.tw_chain.specs.declared.proof.Proof.TheVariants.{Precedes, Linked}
 use Rattle.tw_chain.specs.declared.proof.ThreadProof.{ThreadProof}
 use Rattle.tw_chain.specs.Accepting.{named}
-use Rattle.tw_chain.specs.Checks.{Check, bind_checks, bind_of, end_of, hops_checks, link_checks, opening_checks, root_of, start_of, tail_checks, top_of}
+use Rattle.tw_chain.specs.Checks.{Check, bind_checks, bind_of, end_of_order, hops_checks, link_checks, opening_checks, opening_root, start_of, tail_checks, top_of}
 use Rattle.tw_chain.specs.Checks.Check.{CarriesThread}
 use Rattle.tw_chain.specs.Passing.{needed_by}
-use Rattle.tw_join.specs.Joining.{Joint, hop_of, hops_before, joined, joined_of, link_tops, tops_of}
+use Rattle.tw_join.specs.Joining.{Joint, hop_of, hops_before, joined_of, joined_proof, link_tops, tops_of}
 use Rattle.tw_join.specs.Joining.Taken.{Nothing}
 use Rattle.tw_join.proofs.JoinedHops.{each-unit}
 use Rattle.tw_join.proofs.JoinedParts.{JointsFit, LinkFits, joined-fits, joint_tops}
@@ -53,11 +53,11 @@ hops-tops part step root (hop ∷ hops) =
     let t : Thread = hop.entry.thread in
     let bind : List Check = bind_checks part hop in
     let opening : List Check = opening_checks part t hop.opening in
-    let onward : List Check = hops_checks (suc part) t.step (root_of hop.opening) hops in
+    let onward : List Check = hops_checks (suc part) t.step (opening_root hop.opening) hops in
     ap (flat_map needed_by) (append_assoc bind opening onward)
     ∙ flat_map-append needed_by bind (opening ++ onward)
     ∙ ap (λ (ks : List Key). ks ++ flat_map needed_by (opening ++ onward)) (bind-tops part hop)
-    ∙ ap (λ (ks : List Key). hop_tops hop ++ ks) (opening-tops part t hop.opening onward ∙ hops-tops (suc part) t.step (root_of hop.opening) hops)
+    ∙ ap (λ (ks : List Key). hop_tops hop ++ ks) (opening-tops part t hop.opening onward ∙ hops-tops (suc part) t.step (opening_root hop.opening) hops)
 
 -- ---- of hops that are made of parts
 
@@ -80,14 +80,14 @@ module _ (P : Proof → Type 0) where
       → named (Precedes (joined_of second joints first)) ≡ top_of second.at ∷ joint_tops joints
   whole-tops second joints first fits =
       let p : PrecedenceProof = joined_of second joints first in
-      let hops : List Check = hops_checks 1 (start_of p).step (root_of p.before) p.hops in
-      let tail : List Check = tail_checks (suc (length p.hops)) (end_of p) p.tail in
+      let hops : List Check = hops_checks 1 (start_of p).step (opening_root p.before) p.hops in
+      let tail : List Check = tail_checks (suc (length p.hops)) (end_of_order p) p.tail in
       ap (λ (ks : List Key). top_of second.at ∷ ks)
       (opening-tops 0 (start_of p) p.before (hops ++ tail) ∙ flat_map-append needed_by hops tail ∙ append-nil (flat_map needed_by hops)
-      ∙ hops-tops 1 (start_of p).step (root_of p.before) p.hops ∙ joints-tops second joints None [] fits ∙ append-nil (joint_tops joints))
+      ∙ hops-tops 1 (start_of p).step (opening_root p.before) p.hops ∙ joints-tops second joints None [] fits ∙ append-nil (joint_tops joints))
 
 -- those of the first part and of the links
-pub joined-tops : (parts : List Proof) (p : PrecedenceProof) → joined Nothing 1 parts ≡ Ok p → named (Precedes p) ≡ tops_of parts
+pub joined-tops : (parts : List Proof) (p : PrecedenceProof) → joined_proof Nothing 1 parts ≡ Ok p → named (Precedes p) ≡ tops_of parts
 joined-tops parts p is =
     let had = joined-fits (λ part. Unit {0}) parts p (each-unit parts) is in
     ap (λ (q : PrecedenceProof). named (Precedes q)) had.is

@@ -93,15 +93,15 @@ joined_of second joints first =
 
 -- the proof of all parts; or the number of the first part that doesn't fit, which is one more than there are where the last one
 -- is missing
-abbrev pub joined : Taken → (number : ℕ) → List Proof → Result PrecedenceProof ℕ
-joined (Whole second joints first) number [] = Ok (joined_of second joints first)
-joined _ number [] = Err number
-joined taken number (part ∷ parts) = option_map_or (λ next. joined next (number + 1) parts) (with_part taken part) (Err number)
+abbrev pub joined_proof : Taken → (number : ℕ) → List Proof → Result PrecedenceProof ℕ
+joined_proof (Whole second joints first) number [] = Ok (joined_of second joints first)
+joined_proof _ number [] = Err number
+joined_proof taken number (part ∷ parts) = option_map_or (λ next. joined_proof next (number + 1) parts) (with_part taken part) (Err number)
 
 -- what joining answers. Want of memory is free
 abbrev pub Joins : List Proof → Result Proof JoinFault → Type 0
-Joins parts (Ok p) = (whole : PrecedenceProof) × (joined Nothing 1 parts ≡ Ok whole) × (p ≡ Precedes whole)
-Joins parts (Err (Gap place)) = joined Nothing 1 parts ≡ Err place
+Joins parts (Ok p) = (whole : PrecedenceProof) × (joined_proof Nothing 1 parts ≡ Ok whole) × (p ≡ Precedes whole)
+Joins parts (Err (Gap place)) = joined_proof Nothing 1 parts ≡ Err place
 Joins parts (Err NoMemory) = Unit {0}
 
 -- ---- the hops that they tell

@@ -10,7 +10,7 @@ use Rattle.tw_chain.specs.declared.proof.PrecedenceProof.{PrecedenceProof}
 use Rattle.tw_chain.specs.declared.proof.Proof.{Proof}
 use Rattle.tw_chain.specs.declared.proof.Proof.TheVariants.{Precedes, Archived}
 use Rattle.tw_chain.specs.Accepting.{Accepts, IsAccepted, named}
-use Rattle.tw_join.specs.Joining.{joined, shown_hop}
+use Rattle.tw_join.specs.Joining.{joined_proof, shown_hop}
 use Rattle.tw_join.specs.Joining.Taken.{Nothing}
 use Rattle.tw_chain.specs.OwnProofs.{HasFewNodes, IsOwnProof}
 use Rattle.tw_chain.specs.Passing.{anchor_at}
@@ -41,7 +41,7 @@ module _ (dig : List ℕ → List ℕ) (family : List History) where
 abbrev pub JoinedIsAccepted : (dig : List ℕ → List ℕ) → Type 0
 JoinedIsAccepted dig =
     (family : List History) (parts : List Proof) (p : PrecedenceProof) (anchors : List Thread) → AllSound family
-    → Each (IsMade dig family) parts → Each (HopOfPartStands dig family) parts → joined Nothing 1 parts ≡ Ok p
+    → Each (IsMade dig family) parts → Each (HopOfPartStands dig family) parts → joined_proof Nothing 1 parts ≡ Ok p
     → IsAnchored dig family anchors (Precedes p) → IsAccepted dig anchors (Precedes p)
 
 -- where no part has more nodes above the place of its tree proof than the format has room for, the bytes that are written of what
@@ -50,5 +50,5 @@ abbrev pub JoinedBytesAreAccepted : (dig : List ℕ → List ℕ) → Type 0
 JoinedBytesAreAccepted dig =
     (family : List History) (parts : List Proof) (p : PrecedenceProof) (anchors : List Thread) → AllSound family
     → Each (IsMade dig family) parts → Each HasFewNodes parts → Each (HopOfPartStands dig family) parts
-    → joined Nothing 1 parts ≡ Ok p → IsAnchored dig family anchors (Precedes p)
+    → joined_proof Nothing 1 parts ≡ Ok p → IsAnchored dig family anchors (Precedes p)
     → Spells proof_layout (proof_bytes (Precedes p)) (Precedes p) × Accepts dig anchors (proof_bytes (Precedes p))

@@ -9,7 +9,7 @@ ghost use Rattle.tw_chain.specs.declared.proof.Proof.{Proof};
 ghost use Rattle.tw_chain.specs.declared.proof.Proof.TheVariants.{Precedes};
 ghost use Rattle.tw_chain.specs.Accepting.{named, report_of};
 ghost use Rattle.tw_join.specs.declared.joining.JoinFault.{JoinFault};
-ghost use Rattle.tw_join.specs.Joining.{Joins, joined, shown_hops, tops_of};
+ghost use Rattle.tw_join.specs.Joining.{Joins, joined_proof, shown_hops, tops_of};
 ghost use Rattle.tw_join.specs.Joining.Taken.{Nothing};
 ghost use Rattle.tw_join.specs.OwnParts.{JoinedBytesAreAccepted, JoinedIsAccepted};
 ghost use Rattle.tw_chain.specs.Proofs.{proof_bytes, proof_layout};
@@ -25,7 +25,7 @@ pub fn joining_laws<H: Hasher>()
     ensures joined { JoinedIsAccepted H.dig }
     // What parts join to, each of which has a spelling, has a spelling itself: what is written of it.
     ensures joined_spelled { (parts : List Proof) (p : PrecedenceProof) →
-        Each (λ part. (bytes : List ℕ) × Spells proof_layout bytes part) parts → joined Nothing 1 parts ≡ Ok p → Spells proof_layout (proof_bytes (Precedes p)) (Precedes p) }
+        Each (λ part. (bytes : List ℕ) × Spells proof_layout bytes part) parts → joined_proof Nothing 1 parts ≡ Ok p → Spells proof_layout (proof_bytes (Precedes p)) (Precedes p) }
     // In one piece: where services of sound histories made the parts, for hops that stand there, and no part has more nodes
     // above the place of its tree proof than its format has room for, 127 above an entry, the bytes that are written of what
     // they join to spell it, and are accepted wherever the anchors of the tops that it names are held, and are those of the
@@ -33,11 +33,11 @@ pub fn joining_laws<H: Hasher>()
     ensures joined_accepts { JoinedBytesAreAccepted H.dig }
     // The hops of its report are those that the parts show, from the first event to the second.
     ensures joined_hops { (parts : List Proof) (p : PrecedenceProof) →
-        joined Nothing 1 parts ≡ Ok p → (report_of (Precedes p)).hops ≡ reverse (shown_hops parts) }
+        joined_proof Nothing 1 parts ≡ Ok p → (report_of (Precedes p)).hops ≡ reverse (shown_hops parts) }
     // It names the top of the first part and those tops of the links that are above 0, and no other, in the order of the parts.
-    ensures joined_tops { (parts : List Proof) (p : PrecedenceProof) → joined Nothing 1 parts ≡ Ok p → named (Precedes p) ≡ tops_of parts }
+    ensures joined_tops { (parts : List Proof) (p : PrecedenceProof) → joined_proof Nothing 1 parts ≡ Ok p → named (Precedes p) ≡ tops_of parts }
     // It has at most 64 hops.
-    ensures joined_few { (parts : List Proof) (p : PrecedenceProof) → joined Nothing 1 parts ≡ Ok p → length p.hops ≤ MOST_HOPS }
+    ensures joined_few { (parts : List Proof) (p : PrecedenceProof) → joined_proof Nothing 1 parts ≡ Ok p → length p.hops ≤ MOST_HOPS }
     // No more than 130 parts join: what the first 131 of some come to, all of them come to.
     ensures front_decides { (parts : List Proof) (result : Result Proof JoinFault) → Joins (take (MOST_PARTS + 1) parts) result → Joins parts result }
 {}

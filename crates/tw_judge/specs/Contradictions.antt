@@ -3,7 +3,7 @@ use Rattle.std.specs.Prelude.{◌⊎◌, ℕ, List, [], ◌++◌, Bool, true, fa
 use Rattle.sha2.specs.Sha256.{sha256}
 use Rattle.tw_base.specs.declared.history.thread.Thread.{Thread}
 use Rattle.tw_base.specs.history.Entries.{key_of}
-use Rattle.tw_msg.specs.AnchorsFile.{AllGood, anchor, lines}
+use Rattle.tw_msg.specs.AnchorsFile.{AllGood, anchor_on, lines}
 use Rattle.tw_text.specs.Lines.{line}
 use Rattle.tw_text.specs.Reports.{absent_line, thread_line}
 use Rattle.tw_text.specs.declared.fault.CommandFault.{CommandFault}
@@ -14,9 +14,9 @@ use Rattle.tw_evidence.specs.declared.verdict.ContradictReason.{ContradictReason
 use Rattle.tw_evidence.specs.declared.verdict.ContradictReason.TheVariants.{Part, NoConflict, BadLink}
 use Rattle.tw_evidence.specs.declared.verdict.ContradictVerdict.{ContradictVerdict}
 use Rattle.tw_evidence.specs.declared.verdict.ContradictVerdict.TheVariants.{Yes, No}
-use Rattle.tw_evidence.specs.Verdicts.{IsVerdict}
+use Rattle.tw_evidence.specs.Verdicts.{IsContradictVerdict}
 use Rattle.tw_judge.specs.Told.{IsUnjudged}
-use Rattle.tw_judge.specs.Telling.{TellsOf, TellsWhy}
+use Rattle.tw_judge.specs.Telling.{TellsJudged, TellsWhy}
 
 -- two files with the anchors files under which each is judged, and a link: their bytes
 pub record FiveFiles : Type 0 where
@@ -55,23 +55,23 @@ contradict_text (Yes conflict is_joined) = broken_line is_joined ++ conflict_lin
 contradict_text (No reason) = refusal_text reason
 
 -- the verdict on both files under these anchors, with its theorem
-abbrev pub IsVerdictUnder : (anchors others : List Thread) → FiveFiles → ContradictVerdict → Type 0
-IsVerdictUnder anchors others bytes verdict = IsVerdict sha256 anchors others bytes.first bytes.second bytes.link verdict
+abbrev pub IsContradictVerdictUnder : (anchors others : List Thread) → FiveFiles → ContradictVerdict → Type 0
+IsContradictVerdictUnder anchors others bytes verdict = IsContradictVerdict sha256 anchors others bytes.first bytes.second bytes.link verdict
 
 -- each line of both anchors files is good, and the status and the text are those of the verdict under their anchors
 pub record TellsFiles (bytes : FiveFiles) (status : ℕ) (text : List ℕ) : Type 0 where
   pub good : AllGood (lines bytes.first_anchors)
   pub others_good : AllGood (lines bytes.second_anchors)
   pub tells :
-      TellsOf (IsVerdictUnder (map anchor (lines bytes.first_anchors)) (map anchor (lines bytes.second_anchors)) bytes)
+      TellsJudged (IsContradictVerdictUnder (map anchor_on (lines bytes.first_anchors)) (map anchor_on (lines bytes.second_anchors)) bytes)
       contradict_status contradict_text status text
 
 -- why there is no verdict: the first bad line of the first anchors file; or, where it has none, of the second. Want of memory is free
-abbrev pub AreUnjudged : FiveFiles → TwoNames → CommandFault → Type 0
-AreUnjudged bytes names fault =
+abbrev pub IsContradictionUnjudged : FiveFiles → TwoNames → CommandFault → Type 0
+IsContradictionUnjudged bytes names fault =
     IsUnjudged names.first bytes.first_anchors fault
     ⊎ (AllGood (lines bytes.first_anchors) × IsUnjudged names.second bytes.second_anchors fault)
 
 -- what is told of both files
 abbrev pub AreFilesTold : FiveFiles → TwoNames → (status : ℕ) (text : List ℕ) → Type 0
-AreFilesTold bytes names status text = TellsFiles bytes status text ⊎ TellsWhy (AreUnjudged bytes names) status text
+AreFilesTold bytes names status text = TellsFiles bytes status text ⊎ TellsWhy (IsContradictionUnjudged bytes names) status text

@@ -2,21 +2,21 @@
 use Rattle.std.specs.Prelude.{◌⊎◌, ℕ, List, map}
 use Rattle.sha2.specs.Sha256.{sha256}
 use Rattle.tw_base.specs.declared.history.thread.Thread.{Thread}
-use Rattle.tw_msg.specs.AnchorsFile.{AllGood, anchor, lines}
+use Rattle.tw_msg.specs.AnchorsFile.{AllGood, anchor_on, lines}
 use Rattle.tw_evidence.specs.declared.fork.ForkVerdict.{ForkVerdict}
 use Rattle.tw_evidence.specs.declared.fork.ForkVerdict.TheVariants.{Yes, No}
 use Rattle.tw_evidence.specs.Binding.{BindsFork}
 use Rattle.tw_evidence.specs.Forks.{IsForkVerdict}
 use Rattle.tw_evidence.specs.Texts.{fork_text}
 use Rattle.tw_judge.specs.Told.{IsUnjudged}
-use Rattle.tw_judge.specs.Telling.{TellsOf, TellsWhy}
+use Rattle.tw_judge.specs.Telling.{TellsJudged, TellsWhy}
 
 abbrev pub fork_status : ForkVerdict → ℕ
 fork_status (Yes fork) = 0
 fork_status (No reason) = 1
 
 -- the verdict on the evidence under these anchors, with its theorem
-pub record IsVerdictUnder (anchors : List Thread) (evidence : List ℕ) (verdict : ForkVerdict) : Type 0 where
+pub record IsForkVerdictUnder (anchors : List Thread) (evidence : List ℕ) (verdict : ForkVerdict) : Type 0 where
   pub is_verdict : IsForkVerdict sha256 anchors evidence verdict
   pub binds : BindsFork sha256 anchors evidence verdict
 
@@ -24,5 +24,5 @@ pub record IsVerdictUnder (anchors : List Thread) (evidence : List ℕ) (verdict
 -- memory is free
 abbrev pub IsForkTold : (file evidence anchors : List ℕ) → (status : ℕ) (text : List ℕ) → Type 0
 IsForkTold file evidence anchors status text =
-    (AllGood (lines anchors) × TellsOf (IsVerdictUnder (map anchor (lines anchors)) evidence) fork_status fork_text status text)
+    (AllGood (lines anchors) × TellsJudged (IsForkVerdictUnder (map anchor_on (lines anchors)) evidence) fork_status fork_text status text)
     ⊎ TellsWhy (IsUnjudged file anchors) status text

@@ -2,7 +2,7 @@
 use Rattle.std.specs.Prelude.{◌≡◌, ◌⊎◌, ℕ, List, map, Err}
 use Rattle.sha2.specs.Sha256.{sha256}
 use Rattle.tw_base.specs.format.Formats.{Spells}
-use Rattle.tw_msg.specs.AnchorsFile.{AllGood, anchor, lines}
+use Rattle.tw_msg.specs.AnchorsFile.{AllGood, anchor_on, lines}
 use Rattle.tw_text.specs.declared.fault.CommandFault.{CommandFault}
 use Rattle.tw_tmap.specs.declared.map_file.HighFile.{HighFile}
 use Rattle.tw_tmap.specs.declared.map_file.LowFile.{LowFile}
@@ -13,7 +13,7 @@ use Rattle.tw_tmap.specs.Checking.{map_verdict}
 use Rattle.tw_tmap.specs.MapFiles.{high_layout, low_layout}
 use Rattle.tw_tmap.specs.Texts.{map_text}
 use Rattle.tw_judge.specs.Told.{IsUnjudged}
-use Rattle.tw_judge.specs.Telling.{IsReadAs, TellsOf, TellsWhy}
+use Rattle.tw_judge.specs.Telling.{IsReadAs, TellsJudged, TellsWhy}
 
 -- a low map file, a high one, and an anchors file: their bytes, or the words by which texts name them
 pub record ThreeFiles : Type 0 where
@@ -32,18 +32,18 @@ pub record AreMaps (bytes : ThreeFiles) (low : LowFile) (high : HighFile) : Type
   pub high_spelled : Spells high_layout bytes.high high
 
 -- they do, each line of the anchors is good, and this is what is told of both files under their anchors, with the bounds theorem
-pub record AreMapsJudged (bytes : ThreeFiles) (verdict : MapVerdict) : Type 0 where
+pub record AreMapBytesJudged (bytes : ThreeFiles) (verdict : MapVerdict) : Type 0 where
   pub low : LowFile
   pub high : HighFile
   pub are : AreMaps bytes low high
   pub good : AllGood (lines bytes.anchors)
-  pub is_verdict : verdict ≡ map_verdict sha256 (map anchor (lines bytes.anchors)) low high
-  pub binds : BindsMap sha256 (map anchor (lines bytes.anchors)) low high verdict
+  pub is_verdict : verdict ≡ map_verdict sha256 (map anchor_on (lines bytes.anchors)) low high
+  pub binds : BindsMap sha256 (map anchor_on (lines bytes.anchors)) low high verdict
 
 -- why nothing is told of them: the first of both that spells no map file of its kind, with the first byte at which none goes on; or, where
 -- both do, the first bad line of the anchors. Want of memory is free
-abbrev pub AreUnjudged : (bytes names : ThreeFiles) → CommandFault → Type 0
-AreUnjudged bytes names fault =
+abbrev pub AreMapsUnjudged : (bytes names : ThreeFiles) → CommandFault → Type 0
+AreMapsUnjudged bytes names fault =
     IsReadAs low_layout names.low bytes.low (Err fault)
     ⊎ (((low : LowFile) × Spells low_layout bytes.low low) × IsReadAs high_layout names.high bytes.high (Err fault))
     ⊎ (((low : LowFile) × (high : HighFile) × AreMaps bytes low high) × IsUnjudged names.anchors bytes.anchors fault)
@@ -51,4 +51,4 @@ AreUnjudged bytes names fault =
 -- what is told of the map files under the anchors, by the names of the files
 abbrev pub AreMapsTold : (bytes names : ThreeFiles) → (status : ℕ) (text : List ℕ) → Type 0
 AreMapsTold bytes names status text =
-    TellsOf (AreMapsJudged bytes) map_status map_text status text ⊎ TellsWhy (AreUnjudged bytes names) status text
+    TellsJudged (AreMapBytesJudged bytes) map_status map_text status text ⊎ TellsWhy (AreMapsUnjudged bytes names) status text

@@ -7,7 +7,7 @@ use Rattle.tw_text.specs.declared.refusal.BadInput.TheVariants.{BadByte}
 use Rattle.tw_text.specs.Faults.{fault_status, fault_text}
 
 -- a verdict that is so, with its status and its text
-pub record TellsOf {V : Type 0} (IsSo : V → Type 0) (status_of : V → ℕ) (text_of : V → List ℕ) (status : ℕ) (text : List ℕ) : Type 0 where
+pub record TellsJudged {V : Type 0} (IsSo : V → Type 0) (status_of : V → ℕ) (text_of : V → List ℕ) (status : ℕ) (text : List ℕ) : Type 0 where
   pub verdict : V
   pub judged : IsSo verdict
   pub status_is : status ≡ status_of verdict

@@ -5,7 +5,7 @@ use Rattle.tw_chain.specs.declared.verdict.Verdict.{Verdict}
 use Rattle.tw_chain.specs.declared.verdict.Verdict.TheVariants.{Yes, No}
 use Rattle.tw_chain.specs.Binding.{BindsHistories}
 use Rattle.tw_chain.specs.Reasons.{IsVerdict}
-use Rattle.tw_msg.specs.AnchorsFile.{AllGood, IsFirstBadLine, anchor, lines}
+use Rattle.tw_msg.specs.AnchorsFile.{AllGood, IsFirstBadLine, anchor_on, lines}
 use Rattle.tw_text.specs.declared.fault.CommandFault.{CommandFault}
 use Rattle.tw_text.specs.declared.fault.CommandFault.TheVariants.{NoMemory, Unreadable}
 use Rattle.tw_text.specs.declared.refusal.BadInput.TheVariants.{BadLine}
@@ -23,8 +23,8 @@ verdict_text (No reason) = rejected_text reason
 -- each line of the anchors is good, and this is the verdict on the proof under their anchors, with its theorem
 pub record IsJudged (strict : Bool) (proof anchors : List ℕ) (verdict : Verdict) : Type 0 where
   pub good : AllGood (lines anchors)
-  pub is_verdict : IsVerdict sha256 (map anchor (lines anchors)) strict proof verdict
-  pub binds : BindsHistories sha256 (map anchor (lines anchors)) proof verdict
+  pub is_verdict : IsVerdict sha256 (map anchor_on (lines anchors)) strict proof verdict
+  pub binds : BindsHistories sha256 (map anchor_on (lines anchors)) proof verdict
 
 -- why there is no verdict: the first bad line of the anchors, which the text names by their file; or want of memory, which is free
 abbrev pub IsUnjudged : (file anchors : List ℕ) → CommandFault → Type 0

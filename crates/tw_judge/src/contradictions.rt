@@ -6,9 +6,9 @@ ghost use Rattle.tw_base.specs.declared.history.report.Reason.{Reason as AnyReas
 ghost use Rattle.tw_base.specs.history.Entries.{key_of};
 ghost use Rattle.tw_text.specs.Reports.{absent_line as absent_line_of, thread_line as thread_line_of};
 ghost use Rattle.tw_judge.specs.Contradictions.{AreFilesTold, broken_line as broken_line_of, conflict_lines as conflict_lines_of, contradict_status, contradict_text, refusal_text};
-ghost use Rattle.tw_judge.specs.Telling.{TellsOf};
+ghost use Rattle.tw_judge.specs.Telling.{TellsJudged};
 ghost use Rattle.sha2.specs.Sha256.{sha256};
-ghost use Rattle.tw_evidence.specs.Verdicts.{IsVerdict};
+ghost use Rattle.tw_evidence.specs.Verdicts.{IsContradictVerdict};
 
 use crate::told::{Told, tell_line};
 use std::alloc::Global;
@@ -71,7 +71,7 @@ fn judge_under(
     others: &[Thread],
     link: &[u8],
 ) -> Result<Told, NoMemory>
-    ensures { IfOk result (λ told. TellsOf (λ verdict. IsVerdict sha256 anchors.now others.now first.now second.now link.now verdict)
+    ensures { IfOk result (λ told. TellsJudged (λ verdict. IsContradictVerdict sha256 anchors.now others.now first.now second.now link.now verdict)
         contradict_status contradict_text told.status told.text) }
 {
     match contradict::<Sha>(alloc, first, anchors, second, others, link) {

@@ -3,8 +3,8 @@
 ghost use Rattle.std.specs.Prelude.{◌≡◌, IfOk};
 // (The check has to know the type of a reason within a verdict.)
 ghost use Rattle.tw_base.specs.declared.history.report.Reason.{Reason as AnyReason};
-ghost use Rattle.tw_judge.specs.Forks.{IsForkTold, IsVerdictUnder, fork_status};
-ghost use Rattle.tw_judge.specs.Telling.{TellsOf};
+ghost use Rattle.tw_judge.specs.Forks.{IsForkTold, IsForkVerdictUnder, fork_status};
+ghost use Rattle.tw_judge.specs.Telling.{TellsJudged};
 ghost use Rattle.tw_evidence.specs.Texts.{fork_text};
 
 use crate::told::{Told, tell_line};
@@ -35,7 +35,7 @@ pub fn judge_fork(
 
 /// What is told of the evidence under these anchors.
 fn judge_under(alloc: Global, evidence: &[u8], anchors: &[Thread]) -> Result<Told, NoMemory>
-    ensures { IfOk result (λ told. TellsOf (IsVerdictUnder anchors.now evidence.now) fork_status fork_text told.status told.text) }
+    ensures { IfOk result (λ told. TellsJudged (IsForkVerdictUnder anchors.now evidence.now) fork_status fork_text told.status told.text) }
 {
     match check_evidence::<Sha>(alloc, evidence, anchors) {
         Ok(verdict) => Ok(tell_verdict(alloc, &verdict)?),

@@ -4,11 +4,11 @@ use Rattle.std.specs.Prelude.{◌%◌, ◌==◌, if◌then◌else◌}
 use Rattle.tw_base.specs.kinds.Bytes.{AreBytes}
 use Rattle.tw_base.specs.kinds.Lists.{Each}
 use Rattle.tw_base.proofs.lemmas.kinds.ListLemmas.{Each-append}
-use Rattle.tw_generate.specs.Draws.{after_draws, after_step, count_of, drawn, drawn_events, event_of, next_state, step_events}
-use Rattle.tw_generate.specs.Schedules.{Act, after_rounds, all_append, all_tell, end_event, round, rounds_of, schedule}
-use Rattle.tw_generate.specs.Schedules.Act.{Appends, Tells}
+use Rattle.tw_generate.specs.Draws.{after_draws, after_step, drawn, drawn_count, drawn_event, drawn_events, next_state, step_events}
+use Rattle.tw_generate.specs.Schedules.{ScheduledAct, after_rounds, all_append, all_tell, end_event, round_of_acts, rounds_of, schedule}
+use Rattle.tw_generate.specs.Schedules.ScheduledAct.{Appends, Tells}
 
-abbrev pub HasBytes : Act → Type 0
+abbrev pub HasBytes : ScheduledAct → Type 0
 HasBytes (Appends who events) = Each AreBytes events
 HasBytes (Tells from to) = Unit {0}
 
@@ -16,16 +16,16 @@ each-same : (n b : ℕ) → b < 256 → AreBytes (replicate n b)
 each-same zero b small = tt
 each-same (suc n) b small = (small, each-same n b small)
 
-event-bytes : (v : ℕ) → AreBytes (event_of v)
+event-bytes : (v : ℕ) → AreBytes (drawn_event v)
 event-bytes v = each-same 200 (v % 256) (omega arith)
 
 drawn-bytes : (x n : ℕ) → Each AreBytes (drawn_events x n)
 unfolding drawn_events
 drawn-bytes x zero = tt
-drawn-bytes x (suc n) = Each-append AreBytes (drawn_events x n) (event_of (drawn (after_draws x (suc n))) ∷ []) (drawn-bytes x n) (event-bytes (drawn (after_draws x (suc n))), tt)
+drawn-bytes x (suc n) = Each-append AreBytes (drawn_events x n) (drawn_event (drawn (after_draws x (suc n))) ∷ []) (drawn-bytes x n) (event-bytes (drawn (after_draws x (suc n))), tt)
 
 step-bytes : (x : ℕ) → Each AreBytes (step_events x)
-step-bytes x = drawn-bytes (next_state x) (count_of x)
+step-bytes x = drawn-bytes (next_state x) (drawn_count x)
 
 end-bytes : Each AreBytes end_event
 end-bytes = ((omega arith, (omega arith, (omega arith, tt))), tt)
@@ -34,14 +34,14 @@ tell-bytes : (b : Bool) → Each HasBytes (if b then all_tell else [])
 tell-bytes true = (tt, (tt, (tt, (tt, (tt, (tt, tt))))))
 tell-bytes false = tt
 
-round-bytes : (x number : ℕ) → Each HasBytes (round x number)
+round-bytes : (x number : ℕ) → Each HasBytes (round_of_acts x number)
 round-bytes x number = (step-bytes x, (step-bytes (after_step x), (step-bytes (after_step (after_step x)), tell-bytes (number % 50 == 0))))
 
 rounds-bytes : (number n : ℕ) → Each HasBytes (rounds_of number n)
 unfolding rounds_of
 rounds-bytes number zero = tt
 rounds-bytes number (suc n) =
-    Each-append HasBytes (rounds_of number n) (round (after_rounds number n) (suc n)) (rounds-bytes number n) (round-bytes (after_rounds number n) (suc n))
+    Each-append HasBytes (rounds_of number n) (round_of_acts (after_rounds number n) (suc n)) (rounds-bytes number n) (round-bytes (after_rounds number n) (suc n))
 
 pub schedule-bytes : (number rounds : ℕ) → Each HasBytes (schedule number rounds)
 schedule-bytes number rounds =

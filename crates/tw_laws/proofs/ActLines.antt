@@ -11,16 +11,16 @@ use Rattle.tw_base.specs.history.Sound.{IsSound}
 use Rattle.tw_base.specs.kinds.Bytes.{AreBytes}
 use Rattle.tw_base.specs.kinds.Lists.{Each}
 use Rattle.tw_generate.specs.Coming.{AllCanBeDone, CanBeDone, IsNotRefused}
-use Rattle.tw_generate.specs.Schedules.{Act, Hears, LeadTo, Trio, Who, alpha_name, beta_name, gamma_name, history_of, last_heard, no_steps, with_history}
-use Rattle.tw_generate.specs.Schedules.Act.{Appends, Tells}
-use Rattle.tw_generate.specs.Summing.{family as family_of}
+use Rattle.tw_generate.specs.Schedules.{Hears, LeadTo, ScheduledAct, Trio, Who, alpha_name, beta_name, gamma_name, last_heard, no_steps, trio_history, with_history}
+use Rattle.tw_generate.specs.Schedules.ScheduledAct.{Appends, Tells}
+use Rattle.tw_generate.specs.Summing.{trio_family}
 use Rattle.tw_msg.specs.HistoryMessages.{IsMessageOf}
 use Rattle.tw_msg.specs.Messages.{message_bytes, message_layout}
 use Rattle.tw_msg.specs.declared.message.Message.{Message}
 use Rattle.tw_msg.specs.declared.receipt.Receipt.{Receipt}
 use Rattle.tw_script.specs.declared.line.Line.{Line}
 use Rattle.tw_script.specs.declared.line.Line.TheVariants.{Append, Send, Deliver}
-use Rattle.tw_service.specs.EventSteps.{with_events}
+use Rattle.tw_service.specs.EventSteps.{with_events_at}
 use Rattle.tw_service.specs.Machine.{IsStepOf, Makes, RepliesTo, append_table, last_thread, received_as}
 use Rattle.tw_service.specs.Machine.Call.{Append as AppendEvents, Ask}
 use Rattle.tw_service.specs.Machine.Reply.{OfBytes, OfReceipt, OfThread, Refused}
@@ -28,13 +28,13 @@ use Rattle.tw_service.specs.Questions.{history_refusal}
 use Rattle.tw_service.specs.declared.receiving.Reception.{Reception}
 use Rattle.tw_service.specs.declared.receiving.Reception.TheVariants.{Archive, Known, Refuse}
 use Rattle.tw_world.specs.Hosts.{claims_none}
-use Rattle.tw_world.specs.Runs.{IsDelivered, IsMember, IsReached, IsTold, Runs}
+use Rattle.tw_world.specs.Runs.{IsDelivered, IsLineTold, IsMember, IsReached, RunsLines}
 use Rattle.tw_world.specs.Worlds.{Mail, Member, World, after_line, family, histories_of, member_of, moved, no_world, put_member, with_message, with_service}
 use Rattle.tw_world.specs.Worlds.Mail.{Made}
 use Rattle.tw_world.specs.declared.told.Answer.TheVariants as answer
 use Rattle.tw_world.specs.declared.told.Told.{Told}
 use Rattle.tw_world.specs.declared.told.Told.TheVariants.{Plain}
-use Rattle.tw_laws.specs.ScheduledLines.{AreLinesOf, IsRunOf, IsTaken, name_of, services}
+use Rattle.tw_laws.specs.ScheduledLines.{AreLinesOf, IsLineTaken, IsScriptRunOf, services, who_name}
 use Rattle.tw_laws.proofs.ActBytes.{HasBytes}
 use Rattle.tw_laws.proofs.ThreeServices.{AreNamed, Births, births_of, each-who, found, members_of, named, names-put, one_of, put, with_births}
 
@@ -55,13 +55,13 @@ module _ (dig : List ℕ → List ℕ) where
   -- ---- what the services do
 
   appended : (h : History) (events : List (List ℕ)) → IsNotRefused dig h (AppendEvents events None)
-      → IsStepOf dig h (AppendEvents events None) (OfThread (last_thread dig (with_events h events None))) (with_events h events None)
+      → IsStepOf dig h (AppendEvents events None) (OfThread (last_thread dig (with_events_at h events None))) (with_events_at h events None)
   appended h events goes = unrefused _ _ (append_table h events None) never (refl, refl)
     where
       never : (r : Refusal) → append_table h events None ≡ Some r → ⊥
       never r is =
           goes r h
-          (subst (λ (o : Option Refusal). MatchOption o ((h ≡ with_events h events None) × (Refused r ≡ OfThread (last_thread dig h))) (λ refusal. (h ≡ h) × (Refused r ≡ Refused refusal))) (sym is)
+          (subst (λ (o : Option Refusal). MatchOption o ((h ≡ with_events_at h events None) × (Refused r ≡ OfThread (last_thread dig h))) (λ refusal. (h ≡ h) × (Refused r ≡ Refused refusal))) (sym is)
           (refl, refl))
 
   told_thread : (h : History) (since : ℕ) (m : Message) → IsNotRefused dig h (Ask (ThreadOut since)) → IsMessageOf dig h since m → Spells message_layout (message_bytes m) m
@@ -79,15 +79,15 @@ module _ (dig : List ℕ → List ℕ) where
 
   -- ---- one line more
 
-  runs-more : (w : World) (lines : List Line) (told : List Told) (v : World) (line : Line) (one : Told) (end : World) → Runs dig claims_none w lines told v
-      → IsTold dig claims_none v line one end → Runs dig claims_none w (lines ++ line ∷ []) (told ++ one ∷ []) end
-  unfolding Runs
-  runs-more w [] [] v line one end run is = (end, subst (λ (u : World). IsTold dig claims_none u line one end) (sym run) is, refl)
+  runs-more : (w : World) (lines : List Line) (told : List Told) (v : World) (line : Line) (one : Told) (end : World) → RunsLines dig claims_none w lines told v
+      → IsLineTold dig claims_none v line one end → RunsLines dig claims_none w (lines ++ line ∷ []) (told ++ one ∷ []) end
+  unfolding RunsLines
+  runs-more w [] [] v line one end run is = (end, subst (λ (u : World). IsLineTold dig claims_none u line one end) (sym run) is, refl)
   runs-more w [] (t ∷ told) v line one end run is = absurd run
   runs-more w (l ∷ lines) [] v line one end run is = absurd run
   runs-more w (l ∷ lines) (t ∷ told) v line one end run is = (run.0, run.1, runs-more run.0 lines told v line one end run.2 is)
 
-  reach-more : (w : World) (line : Line) (one : Told) (next : World) → IsReached dig claims_none w → IsTold dig claims_none w line one next → IsReached dig claims_none next
+  reach-more : (w : World) (line : Line) (one : Told) (next : World) → IsReached dig claims_none w → IsLineTold dig claims_none w line one next → IsReached dig claims_none next
   reach-more w line one next r is = (r.0 ++ line ∷ [], r.1 ++ one ∷ [], runs-more no_world r.0 r.1 w line one next r.2 is)
 
   -- ---- worlds of the three services
@@ -98,17 +98,17 @@ module _ (dig : List ℕ → List ℕ) where
     names : AreNamed t
     reached : IsReached dig claims_none w
 
-  member : (who : Who) (t : Trio) (w : World) (s : Stands t w) → IsMember w (name_of who) (one_of who t s.births)
-  member who t w s = ap (λ (ms : List Member). member_of ms (name_of who)) s.members ∙ found t s.births s.names who
+  member : (who : Who) (t : Trio) (w : World) (s : Stands t w) → IsMember w (who_name who) (one_of who t s.births)
+  member who t w s = ap (λ (ms : List Member). member_of ms (who_name who)) s.members ∙ found t s.births s.names who
 
   -- the world in which one of them goes on
   abbrev onward : (who : Who) (t : Trio) (w : World) → Births → History → World
   onward who t w b h = after_line (moved w (one_of who t b) h)
 
-  stands-on : (who : Who) (t : Trio) (w : World) (s : Stands t w) (h : History) → h.name ≡ name_of who → IsReached dig claims_none (onward who t w s.births h)
+  stands-on : (who : Who) (t : Trio) (w : World) (s : Stands t w) (h : History) → h.name ≡ who_name who → IsReached dig claims_none (onward who t w s.births h)
       → Stands (with_history who h t) (onward who t w s.births h)
   stands-on who t w s h own reached =
-      let births : List ℕ = births_of who s.births ++ replicate (length h.steps - length (history_of who t).steps) w.place in
+      let births : List ℕ = births_of who s.births ++ replicate (length h.steps - length (trio_history who t).steps) w.place in
       record {
         births = with_births who births s.births;
         members = ap (λ (ms : List Member). put_member ms (record { history = h; births = births; waits = false })) s.members ∙ put t s.births s.names h births who own;
@@ -117,17 +117,17 @@ module _ (dig : List ℕ → List ℕ) where
       }
 
   append-line : (who : Who) (events : List (List ℕ)) (t : Trio) (w : World) (s : Stands t w) → Each AreBytes events → CanBeDone dig (Appends who events) t
-      → IsTold dig claims_none w (Append (name_of who) events) (Plain (answer.Stepped (length (with_events (history_of who t) events None).steps)))
-      (onward who t w s.births (with_events (history_of who t) events None))
+      → IsLineTold dig claims_none w (Append (who_name who) events) (Plain (answer.Stepped (length (with_events_at (trio_history who t) events None).steps)))
+      (onward who t w s.births (with_events_at (trio_history who t) events None))
   append-line who events t w s bytes can = (
     bytes,
     (
       one_of who t s.births,
       member who t w s,
       inl (record {
-        reply = OfThread (last_thread dig (with_events (history_of who t) events None));
-        history = with_events (history_of who t) events None;
-        replies = (None, refl, tt, appended (history_of who t) events can);
+        reply = OfThread (last_thread dig (with_events_at (trio_history who t) events None));
+        history = with_events_at (trio_history who t) events None;
+        replies = (None, refl, tt, appended (trio_history who t) events can);
         tells = refl;
         becomes = refl;
       }),
@@ -138,21 +138,21 @@ module _ (dig : List ℕ → List ℕ) where
   abbrev mailed : World → Message → World
   mailed w m = after_line (with_message w (Made (message_bytes m)))
 
-  send-line : (from : Who) (since : ℕ) (m : Message) (t : Trio) (w : World) (s : Stands t w) → IsNotRefused dig (history_of from t) (Ask (ThreadOut since))
-      → IsMessageOf dig (history_of from t) since m → Spells message_layout (message_bytes m) m
-      → IsTold dig claims_none w (Send (name_of from) since) (Plain (answer.Sent (suc (length w.messages)))) (mailed w m)
+  send-line : (from : Who) (since : ℕ) (m : Message) (t : Trio) (w : World) (s : Stands t w) → IsNotRefused dig (trio_history from t) (Ask (ThreadOut since))
+      → IsMessageOf dig (trio_history from t) since m → Spells message_layout (message_bytes m) m
+      → IsLineTold dig claims_none w (Send (who_name from) since) (Plain (answer.Sent (suc (length w.messages)))) (mailed w m)
   send-line from since m t w s goes is spelled = (
     one_of from t s.births,
     member from t w s,
-    (OfBytes (message_bytes m), told_thread (history_of from t) since m goes is spelled, refl, refl),
+    (OfBytes (message_bytes m), told_thread (trio_history from t) since m goes is spelled, refl, refl),
   )
 
   stands-mailed : (t : Trio) (w : World) (m : Message) (s : Stands t w) → IsReached dig claims_none (mailed w m) → Stands t (mailed w m)
   stands-mailed t w m s reached = record { births = s.births; members = s.members; names = s.names; reached = reached }
 
-  deliver-line : (from to : Who) (t : Trio) (w : World) (next : History) (hears : Hears dig (history_of from t) (history_of to t) next) (s : Stands t (mailed w hears.message))
+  deliver-line : (from to : Who) (t : Trio) (w : World) (next : History) (hears : Hears dig (trio_history from t) (trio_history to t) next) (s : Stands t (mailed w hears.message))
       → Spells message_layout (message_bytes hears.message) hears.message
-      → IsTold dig claims_none (mailed w hears.message) (Deliver (suc (length w.messages)) (name_of to)) (Plain (answer.Archived hears.receipt.by.step))
+      → IsLineTold dig claims_none (mailed w hears.message) (Deliver (suc (length w.messages)) (who_name to)) (Plain (answer.Archived hears.receipt.by.step))
       (onward to t (mailed w hears.message) s.births next)
   deliver-line from to t w next hears s spelled =
       let v : World = mailed w hears.message in
@@ -172,33 +172,33 @@ module _ (dig : List ℕ → List ℕ) where
 
   -- ---- all acts
 
-  record Played (acts : List Act) (w : World) (t : Trio) : Type 0 where
+  record Played (acts : List ScheduledAct) (w : World) (t : Trio) : Type 0 where
     lines : List Line
     told : List Told
     end : World
     are : AreLinesOf (length w.messages) acts lines
-    runs : Runs dig claims_none w lines told end
-    taken : Each IsTaken told
-    histories : family end ≡ family_of t
+    runs : RunsLines dig claims_none w lines told end
+    taken : Each IsLineTaken told
+    histories : family end ≡ trio_family t
 
   module _ (Counted : World → Type 0) (sound_law : (w : World) → IsReached dig claims_none w → AllSound (family w) × Counted w)
       (spelled_law : (h : History) (since : ℕ) (m : Message) → IsSound h → IsMessageOf dig h since m → Spells message_layout (message_bytes m) m) where
-    sound : (who : Who) (t : Trio) (w : World) → Stands t w → IsSound (history_of who t)
+    sound : (who : Who) (t : Trio) (w : World) → Stands t w → IsSound (trio_history who t)
     sound who t w s = each-who IsSound who t (subst AllSound (ap histories_of s.members) (sound_law w s.reached).0)
 
-    play : (acts : List Act) (t end : Trio) (w : World) → LeadTo dig acts t end → AllCanBeDone dig acts t → Each HasBytes acts → Stands t w → Played acts w end
-    unfolding LeadTo AllCanBeDone AreLinesOf Runs
+    play : (acts : List ScheduledAct) (t end : Trio) (w : World) → LeadTo dig acts t end → AllCanBeDone dig acts t → Each HasBytes acts → Stands t w → Played acts w end
+    unfolding LeadTo AllCanBeDone AreLinesOf RunsLines
     play [] t end w lead can bytes s =
-        record { lines = []; told = []; end = w; are = refl; runs = refl; taken = tt; histories = ap histories_of s.members ∙ ap family_of lead }
+        record { lines = []; told = []; end = w; are = refl; runs = refl; taken = tt; histories = ap histories_of s.members ∙ ap trio_family lead }
     play (Appends who events ∷ acts) t end w lead can bytes s =
-        let h : History = with_events (history_of who t) events None in
+        let h : History = with_events_at (trio_history who t) events None in
         let v : World = onward who t w s.births h in
         let line = append-line who events t w s bytes.0 can.0 in
-        let stands : Stands (with_history who h t) v = stands-on who t w s h (named who t s.names) (reach-more w (Append (name_of who) events) (Plain (answer.Stepped (length h.steps))) v s.reached line) in
+        let stands : Stands (with_history who h t) v = stands-on who t w s h (named who t s.names) (reach-more w (Append (who_name who) events) (Plain (answer.Stepped (length h.steps))) v s.reached line) in
         let rest : Played acts v end =
         play acts lead.0 end v lead.2 (can.1 lead.0 lead.1) bytes.1 (subst (λ (u : Trio). Stands u v) (sym lead.1) stands) in
         record {
-          lines = Append (name_of who) events ∷ rest.lines;
+          lines = Append (who_name who) events ∷ rest.lines;
           told = Plain (answer.Stepped (length h.steps)) ∷ rest.told;
           end = rest.end;
           are = (rest.lines, refl, rest.are);
@@ -207,8 +207,8 @@ module _ (dig : List ℕ → List ℕ) where
           histories = rest.histories;
         }
     play (Tells from to ∷ acts) t end w lead can bytes s =
-        let a : History = history_of from t in
-        let b : History = history_of to t in
+        let a : History = trio_history from t in
+        let b : History = trio_history to t in
         let next : History = lead.1.0 in
         let hears : Hears dig a b next = lead.1.1 in
         let m : Message = hears.message in
@@ -216,16 +216,16 @@ module _ (dig : List ℕ → List ℕ) where
         let v : World = mailed w m in
         let spelled = spelled_law a since m (sound from t w s) hears.is_message in
         let sent = send-line from since m t w s can.0.0 hears.is_message spelled in
-        let between : Stands t v = stands-mailed t w m s (reach-more w (Send (name_of from) since) (Plain (answer.Sent (suc (length w.messages)))) v s.reached sent) in
+        let between : Stands t v = stands-mailed t w m s (reach-more w (Send (who_name from) since) (Plain (answer.Sent (suc (length w.messages)))) v s.reached sent) in
         let line = deliver-line from to t w next hears between spelled in
         let x : World = onward to t v between.births next in
         let archived : Told = Plain (answer.Archived hears.receipt.by.step) in
-        let own : next.name ≡ name_of to = heard-name b m hears.receipt next (received_as dig b m None) hears.receives ∙ named to t s.names in
-        let stands : Stands (with_history to next t) x = stands-on to t v between next own (reach-more v (Deliver (suc (length w.messages)) (name_of to)) archived x between.reached line) in
+        let own : next.name ≡ who_name to = heard-name b m hears.receipt next (received_as dig b m None) hears.receives ∙ named to t s.names in
+        let stands : Stands (with_history to next t) x = stands-on to t v between next own (reach-more v (Deliver (suc (length w.messages)) (who_name to)) archived x between.reached line) in
         let rest : Played acts x end =
         play acts lead.0 end x lead.2 (can.1 lead.0 lead.1) bytes.1 (subst (λ (u : Trio). Stands u x) (sym lead.1.2) stands) in
         let count : length (w.messages ++ Made (message_bytes m) ∷ []) ≡ suc (length w.messages) = omega (arith, length_push w.messages (Made (message_bytes m))) in
-        let lines : List Line = Send (name_of from) since ∷ Deliver (suc (length w.messages)) (name_of to) ∷ rest.lines in
+        let lines : List Line = Send (who_name from) since ∷ Deliver (suc (length w.messages)) (who_name to) ∷ rest.lines in
         record {
           lines = lines;
           told = Plain (answer.Sent (suc (length w.messages))) ∷ archived ∷ rest.told;
@@ -247,9 +247,9 @@ module _ (dig : List ℕ → List ℕ) where
     abbrev done : Told
     done = Plain answer.Done
 
-    begin-runs : (lines : List Line) (told : List Told) (end : World) → Runs dig claims_none first lines told end
-        → Runs dig claims_none no_world (services ++ lines) (done ∷ done ∷ done ∷ told) end
-    unfolding Runs
+    begin-runs : (lines : List Line) (told : List Told) (end : World) → RunsLines dig claims_none first lines told end
+        → RunsLines dig claims_none no_world (services ++ lines) (done ∷ done ∷ done ∷ told) end
+    unfolding RunsLines
     begin-runs lines told end run = (
       begun no_world alpha_name,
       (((codes "alpha", refl, refl), refl, λ bad. bad), refl, refl),
@@ -260,8 +260,8 @@ module _ (dig : List ℕ → List ℕ) where
       ),
     )
 
-    none-run : Runs dig claims_none first [] [] first
-    unfolding Runs
+    none-run : RunsLines dig claims_none first [] [] first
+    unfolding RunsLines
     none-run = refl
 
     begin-stands : Stands no_steps first
@@ -272,7 +272,7 @@ module _ (dig : List ℕ → List ℕ) where
       reached = (services, done ∷ done ∷ done ∷ [], begin-runs [] [] first none-run);
     }
 
-    pub is-run : (acts : List Act) (t : Trio) → LeadTo dig acts no_steps t → AllCanBeDone dig acts no_steps → Each HasBytes acts → IsRunOf dig acts t
+    pub is-run : (acts : List ScheduledAct) (t : Trio) → LeadTo dig acts no_steps t → AllCanBeDone dig acts no_steps → Each HasBytes acts → IsScriptRunOf dig acts t
     is-run acts t lead can bytes =
         let played : Played acts first t = play acts no_steps t first lead can bytes begin-stands in
         record {

@@ -16,8 +16,8 @@ use Rattle.tw_answers.specs.declared.root.RootRecord.{RootRecord}
 use Rattle.tw_service.specs.declared.service.Service.{Service}
 use Rattle.tw_msg.specs.declared.message.Message.{Message}
 use Rattle.tw_msg.specs.declared.receipt.Receipt.{Receipt}
-use Rattle.tw_service.specs.Adding.{Receives, Steps}
-use Rattle.tw_service.specs.Machine.{Answers, Call, IsStepOf, NextOf, Reply}
+use Rattle.tw_service.specs.Adding.{CallSteps, Receives}
+use Rattle.tw_service.specs.Machine.{AnswersByMachine, Call, IsStepOf, NextOf, Reply}
 use Rattle.tw_service.specs.Machine.Call.{Receive}
 use Rattle.tw_service.specs.Machine.Reply.{OfReceipt}
 use Rattle.tw_service.specs.Receiving.{RefusesNoMessage}
@@ -27,10 +27,10 @@ use Rattle.tw_answers.specs.Limits.{append_refusal, broken_refusal, link_refusal
 use Rattle.tw_base.specs.declared.history.question.Question.{Question}
 use Rattle.tw_base.specs.declared.history.question.Question.TheVariants as ask
 use Rattle.tw_service.specs.Questions.{question_refusal}
-use Rattle.tw_service.specs.Tops.{top_of}
+use Rattle.tw_service.specs.Tops.{top_or_last}
 use Rattle.tw_service.proofs.Serving.{rest_for_good}
 use Rattle.tw_laws.specs.Published.{IsReplyTo}
-use Rattle.tw_laws.specs.Runs.{IsAnswered, StaysAs, IsOpenedAs, replied}
+use Rattle.tw_laws.specs.Runs.{IsCallAnswered, StaysAs, IsServiceOpened, replied}
 
 -- ---- after a disk fault each table says Reopen
 
@@ -74,12 +74,12 @@ module _ {X : Type 0} (answer : Result X Refusal) (Else : Type 0) where
 
   pub question_reopens : (broken : Bool) (last : ℕ) (q : Question) → Says (question_refusal broken last q) → IsTrue broken → answer ≡ Err Reopen
   unfolding question_refusal
-  question_reopens broken last (ask.Event step index top) = order_reopens broken last step (top_of top last)
-  question_reopens broken last (ask.Thread step key top) = order_reopens broken last step (top_of top last)
-  question_reopens broken last (ask.Absent step key top) = order_reopens broken last step (top_of top last)
-  question_reopens broken last (ask.Link step top) = link_reopens broken last step (top_of top last)
-  question_reopens broken last (ask.Low step peer top) = order_reopens broken last step (top_of top last)
-  question_reopens broken last (ask.High step peer top) = top_reopens broken last (top_of top last)
+  question_reopens broken last (ask.Event step index top) = order_reopens broken last step (top_or_last top last)
+  question_reopens broken last (ask.Thread step key top) = order_reopens broken last step (top_or_last top last)
+  question_reopens broken last (ask.Absent step key top) = order_reopens broken last step (top_or_last top last)
+  question_reopens broken last (ask.Link step top) = link_reopens broken last step (top_or_last top last)
+  question_reopens broken last (ask.Low step peer top) = order_reopens broken last step (top_or_last top last)
+  question_reopens broken last (ask.High step peer top) = top_reopens broken last (top_or_last top last)
   question_reopens broken last (ask.ThreadOut since) = thread_reopens broken last since
   question_reopens broken last ask.Export = broken_reopens broken
 
@@ -110,7 +110,7 @@ module _ {D H : Type 0} {g : _} {k : _} (dig : List ℕ → List ℕ) (view : D 
       → MatchResult result (λ s. (view (disk_of s)).content ≡ (view disk).content) (λ e. (view e.0).content ≡ (view disk).content)
       → IfOk result (λ s. LeavesOnly (view disk) (view (disk_of s)) (view disk).may_leave)
       → IfErr result (λ e. LeavesOnly (view disk) (view e.0) (view disk).may_leave)
-      → MatchResult result (λ s. IsOpenedAs dig view disk s) (λ e. StaysAs view disk e.0)
+      → MatchResult result (λ s. IsServiceOpened dig view disk s) (λ e. StaysAs view disk e.0)
   opened (Ok s) served unchanged since left = record { serves = λ image of h told stands. served image of h told stands; any_moment = since }
   opened (Err e) served unchanged since left = (unchanged, left)
 
@@ -130,14 +130,14 @@ module _ {D H : Type 0} {g : _} {k : _} (dig : List ℕ → List ℕ) (view : D 
 
   -- ---- answers, as replies
 
-  answers_as : (h : History) (r : Refusal) → Answers dig h call reply (Err r) (Serves dig view new) → Answers dig h call (λ (x : Reply). x) (Err r) (Serves dig view new)
+  answers_as : (h : History) (r : Refusal) → AnswersByMachine dig h call reply (Err r) (Serves dig view new) → AnswersByMachine dig h call (λ (x : Reply). x) (Err r) (Serves dig view new)
   answers_as h DiskFault a = a
   answers_as h NoMemory a = a
   answers_as h (BadPage page) a = a
   answers_as h Reopen a = a
   answers_as h _ a = a
 
-  steps_as : (result : Result T Refusal) (h : History) → Steps dig view call reply old new result h → Steps dig view call (λ (x : Reply). x) old new (replied reply result) h
+  steps_as : (result : Result T Refusal) (h : History) → CallSteps dig view call reply old new result h → CallSteps dig view call (λ (x : Reply). x) old new (replied reply result) h
   steps_as (Ok x) h s =
       record { next = s.next; is_next = s.is_next; any_moment = s.any_moment; told = s.told; done = s.done; refused = tt; machine = λ whole. tt }
   steps_as (Err r) h s =
@@ -154,8 +154,8 @@ module _ {D H : Type 0} {g : _} {k : _} (dig : List ℕ → List ℕ) (view : D 
 
   -- ---- a call that may add a step
 
-  pub adds : (kind : (x : T) → IsReplyTo call (reply x)) (result : Result T Refusal) → ((h : History) → Serves dig view old h → Steps dig view call reply old new result h)
-      → (IsTrue (has_failed old) → result ≡ Err Reopen) → Remembers result → Keeps result → LeavesUnwritten result → IsAnswered dig view call (replied reply result) old new
+  pub adds : (kind : (x : T) → IsReplyTo call (reply x)) (result : Result T Refusal) → ((h : History) → Serves dig view old h → CallSteps dig view call reply old new result h)
+      → (IsTrue (has_failed old) → result ≡ Err Reopen) → Remembers result → Keeps result → LeavesUnwritten result → IsCallAnswered dig view call (replied reply result) old new
   adds kind (Ok x) steps reopen broken kept unwritten = record {
     kind = kind x;
     steps = λ h served. steps_as (Ok x) h (steps h served);
@@ -187,7 +187,7 @@ module _ {D H : Type 0} {g : _} {k : _} (dig : List ℕ → List ℕ) (view : D 
     Serves_on = (h : History) → Serves dig view old h → Serves dig view new h × LeavesOnly (view (disk_of old)) (view (disk_of new)) (λ i. StandsFor dig i (name_of old) h)
 
     abbrev Is_step : Result T Refusal → Type 0
-    Is_step result = has_failed old ≡ false → (h : History) → Serves dig view old h → Answers dig h call reply result (Serves dig view new)
+    Is_step result = has_failed old ≡ false → (h : History) → Serves dig view old h → AnswersByMachine dig h call reply result (Serves dig view new)
 
     answered : (b : Bool) → has_failed old ≡ b → (x : T) → (IsTrue (has_failed old) → Ok x ≡ Err Reopen) → Is_step (Ok x) → (h : History) → Serves dig view old h → IsStepOf dig h call (reply x) h
     answered true is x reopen machine h served = let no = reopen (subst (λ b. IsTrue b) (sym is) refl) in absurd cc
@@ -196,7 +196,7 @@ module _ {D H : Type 0} {g : _} {k : _} (dig : List ℕ → List ℕ) (view : D 
         subst (λ (n : History). IsStepOf dig h call (reply x) n) (only h a.0 (reply x) a.1) a.1
 
     read_steps : (result : Result T Refusal) → (IsTrue (has_failed old) → result ≡ Err Reopen) → Is_step result → Serves_on → record_of new ≡ record_of old
-        → (h : History) → Serves dig view old h → Steps dig view call reply old new result h
+        → (h : History) → Serves dig view old h → CallSteps dig view call reply old new result h
     read_steps (Ok x) reopen machine same kept h served =
         let on = same h served in
         let rest = rest_for_good view only_now dig new.recorded.kept.store new.recorded.kept.root h on.0 in
@@ -231,7 +231,7 @@ module _ {D H : Type 0} {g : _} {k : _} (dig : List ℕ → List ℕ) (view : D 
     unwritten_by (Err r) same = inr same
 
     pub reads : (kind : (x : T) → IsReplyTo call (reply x)) (result : Result T Refusal) → (IsTrue (has_failed old) → result ≡ Err Reopen) → Is_step result → Serves_on → record_of new ≡ record_of old → HasSameDisk view old new → Remembers result
-        → IsAnswered dig view call (replied reply result) old new
+        → IsCallAnswered dig view call (replied reply result) old new
     reads kind result reopen machine same kept unwritten broken =
         adds kind result (read_steps result reopen machine same kept) reopen broken (kept_by result kept) (unwritten_by result unwritten)
 
@@ -251,6 +251,6 @@ module _ {D H : Type 0} {g : _} {k : _} (dig : List ℕ → List ℕ) (view : D 
   received_kept : (result : Result Receipt Refusal) → OnErr result (record_of new ≡ record_of old) → OnErr result ((head_of new ≡ head_of old) × (name_of new ≡ name_of old))
   received_kept result kept = weaker result _ _ (λ same. (ap (λ (r : RootRecord). r.head) same, ap (λ (r : RootRecord). r.name) same)) kept
 
-  pub received : (result : Result Receipt Refusal) → Receives dig view m time old new result → IsAnswered dig view (Receive m time) (replied (λ (r : Receipt). OfReceipt r) result) old new
+  pub received : (result : Result Receipt Refusal) → Receives dig view m time old new result → IsCallAnswered dig view (Receive m time) (replied (λ (r : Receipt). OfReceipt r) result) old new
   received result a =
       adds dig view (Receive m time) (λ (r : Receipt). OfReceipt r) old new (λ r. tt) result a.steps (own_reopens result _ (has_failed old) (name_of old) m.thread.from a.table) a.broken (received_kept result a.kept) a.unwritten

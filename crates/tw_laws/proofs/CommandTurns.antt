@@ -21,7 +21,7 @@ use Rattle.tw_pages.specs.Disks.{AddsSafe, OneOf}
 use Rattle.tw_pages.proofs.AtRest.{untouched_left}
 use Rattle.tw_diskcmd.specs.Comes.{FoundDisk}
 use Rattle.tw_diskcmd.specs.Files.{IsMessageIn}
-use Rattle.tw_diskcmd.specs.Disks.{IsLeft, IsOf, NextBy, ReadLeaves, ReadsAs, Rests, Stands}
+use Rattle.tw_diskcmd.specs.Disks.{IsImageOfHeads, IsLeft, NextBy, ReadLeavesHistory, ReadsAsHeads, RestsAtHeads, StandsAtHistory}
 use Rattle.tw_diskcmd.specs.Making.{InitComes, InitLeaves}
 use Rattle.tw_diskcmd.specs.Receiving.{ReceiveComes, ReceiveLeaves, ReceiveSafe}
 use Rattle.tw_diskcmd.proofs.AtRest.{own_name, stands_taken}
@@ -30,7 +30,7 @@ use Rattle.tw_words.specs.declared.command.Command.{Command}
 use Rattle.tw_words.specs.declared.command.Command.TheVariants as command
 use Rattle.tw_app.specs.declared.outcome.Outcome.{Outcome}
 use Rattle.tw_app.specs.declared.outcome.Outcome.TheVariants.{Made, Received, Written, Undone}
-use Rattle.tw_app.specs.Around.{Outside, found_of}
+use Rattle.tw_app.specs.Around.{Outside, found_around}
 use Rattle.tw_app.specs.Outcomes.{outcome_by}
 use Rattle.tw_app.specs.Running.{asking, work}
 use Rattle.tw_app.proofs.Commands.{rows}
@@ -49,7 +49,7 @@ pub made_undone : (t : Thread) (f : CommandFault) → Made t ≡ Undone f → �
 made_undone t f is = cc
 
 -- what the answer of a history to a question publishes
-answer_told : (t : FoundDisk) (h : History) (reads : ReadsAs t.found h) (q : Question) (bytes : List ℕ) (u : Thread) → AskComes t q (Ok bytes) → IsInAnswer sha256 q bytes u → IsThreadOf sha256 h u
+answer_told : (t : FoundDisk) (h : History) (reads : ReadsAsHeads t.found h) (q : Question) (bytes : List ℕ) (u : Thread) → AskComes t q (Ok bytes) → IsInAnswer sha256 q bytes u → IsThreadOf sha256 h u
 unfolding AskComes
 answer_told t h reads q bytes u comes told = told_own sha256 h reads.stands.stands.keeps.sound (Ask q) (OfBytes bytes) h tt (comes.machine h reads).machine u told
 
@@ -57,7 +57,7 @@ module _ {D : Type 0} (view : D → DiskView) (name : List ℕ)
     (only_now : (d : D) (image : Image) → (view d).left_since (view d).moment image → (view d).may_leave image)
     (as_it_reads : (d : D) (image : Image) → (view d).content ≡ Some image → (view d).may_leave image) where
   -- a disk that stands for a history for good
-  pub stands_wavers : (d : D) (c : History) → c.name ≡ name → Stands view d c → Wavers sha256 view name d c
+  pub stands_wavers : (d : D) (c : History) → c.name ≡ name → StandsAtHistory view d c → Wavers sha256 view name d c
   stands_wavers d c named is =
       let own : (i : Image) → (view d).may_leave i → GoesOnFrom sha256 view name c i =
       λ i left. (c, subst (λ (n : List ℕ). StandsFor sha256 i n c) named (is.each i left), same_has sha256 view name c) in
@@ -85,10 +85,10 @@ module _ {D : Type 0} (view : D → DiskView) (name : List ℕ)
       named : read.name ≡ name
       named = waver.0.has.1.named
 
-      abbrev reads : ReadsAs (view o.disk.before).content read
+      abbrev reads : ReadsAsHeads (view o.disk.before).content read
       reads = record { image = waver.0.image; told = waver.0.told; stands = own_name name read waver.0.image waver.0.has.1 }
 
-      one_goes : (call : Call) (next : History) → NextOf sha256 call read next → (c : Image) → OneOf IsOf read next c → GoesOnFrom sha256 view name h c
+      one_goes : (call : Call) (next : History) → NextOf sha256 call read next → (c : Image) → OneOf IsImageOfHeads read next c → GoesOnFrom sha256 view name h c
       one_goes call next is_next c one = ⊎_elim
           (λ stands. (read, subst (λ (n : List ℕ). StandsFor sha256 c n read) named stands, read_has))
           (λ stands. (
@@ -111,7 +111,7 @@ module _ {D : Type 0} (view : D → DiskView) (name : List ℕ)
       }
 
       -- nothing was written, and the disk became stable
-      settled_behind : (Tells : Thread → Type 0) → IsLeft view o.disk.before o.disk.after → Rests view o.disk.after read → ((t : Thread) → Tells t → IsThreadOf sha256 read t) → Behind h Tells
+      settled_behind : (Tells : Thread → Type 0) → IsLeft view o.disk.before o.disk.after → RestsAtHeads view o.disk.after read → ((t : Thread) → Tells t → IsThreadOf sha256 read t) → Behind h Tells
       settled_behind Tells left rests own = record {
         now = read;
         keeps = read_has;
@@ -122,7 +122,7 @@ module _ {D : Type 0} (view : D → DiskView) (name : List ℕ)
 
       -- ---- a step that may be added
 
-      module _ {X : Type 0} (In : X → Type 0) (call : X → Call) (safe : AddsSafe IsOf view In (λ x. NextBy (call x)) o.disk.before o.disk.after) where
+      module _ {X : Type 0} (In : X → Type 0) (call : X → Call) (safe : AddsSafe IsImageOfHeads view In (λ x. NextBy (call x)) o.disk.before o.disk.after) where
         adds_moment : (c : Image) → (view o.disk.after).left_since (view o.disk.before).moment c → GoesOnFrom sha256 view name h c
         adds_moment c since = ⊎_elim
             (λ kept. waver.1 c (kept.0.each c since))
@@ -147,7 +147,7 @@ module _ {D : Type 0} (view : D → DiskView) (name : List ℕ)
             record { now = h; keeps = same_has sha256 view name h; settled = adds_wavers; any_moment = adds_moment; tells = λ t told. absurd (none t told) }
 
         -- it was
-        added_behind : (Tells : Thread → Type 0) (by : Call) (next : History) → NextOf sha256 by read next → Rests view o.disk.after next → ((t : Thread) → Tells t → IsThreadOf sha256 next t) → Behind h Tells
+        added_behind : (Tells : Thread → Type 0) (by : Call) (next : History) → NextOf sha256 by read next → RestsAtHeads view o.disk.after next → ((t : Thread) → Tells t → IsThreadOf sha256 next t) → Behind h Tells
         added_behind Tells by next is_next rests own = record {
           now = next;
           keeps = λ t has. next_has sha256 by read next is_next t (read_has t has);
@@ -168,11 +168,11 @@ module _ {D : Type 0} (view : D → DiskView) (name : List ℕ)
       asked : (q : Question) (outcome : Outcome) → (asking view o (Some q)).does outcome → Behind h (IsOutByAnswer q outcome)
       asked q outcome came = of_result came.0 came.1 came.2
         where
-          of_result : (r : Result (List ℕ) CommandFault) → AskComes (found_of view o) q r × ReadLeaves view o.disk.before o.disk.after r → outcome ≡ outcome_by Written r
+          of_result : (r : Result (List ℕ) CommandFault) → AskComes (found_around view o) q r × ReadLeavesHistory view o.disk.before o.disk.after r → outcome ≡ outcome_by Written r
               → Behind h (IsOutByAnswer q outcome)
           of_result (Ok bytes) may is =
               subst (λ (x : Outcome). Behind h (IsOutByAnswer q x)) (sym is)
-              (settled_behind (IsOutByAnswer q (Written bytes)) may.1.0 (may.1.1.0 read reads) (λ t told. answer_told (found_of view o) read reads q bytes t may.0 told))
+              (settled_behind (IsOutByAnswer q (Written bytes)) may.1.0 (may.1.1.0 read reads) (λ t told. answer_told (found_around view o) read reads q bytes t may.0 told))
           of_result (Err f) may is =
               subst (λ (x : Outcome). Behind h (IsOutByAnswer q x)) (sym is)
               (left_behind (IsOutByAnswer q (Undone f)) ((asking_is_safe view o.disk.before o.disk.after {X = List ℕ}).safe (Err f) may.1).0 (λ t told. told))
@@ -186,7 +186,7 @@ module _ {D : Type 0} (view : D → DiskView) (name : List ℕ)
           left : IsLeft view o.disk.before o.disk.after
           left = ((rows view only_now as_it_reads o (command.Init of)).safe outcome came).2 waver.0.image waver.0.told taken
 
-          of_result : (r : Result Thread CommandFault) → InitComes (found_of view o) of r × InitLeaves view o.disk.before o.disk.after of r → outcome ≡ outcome_by Made r → By (command.Init of) outcome
+          of_result : (r : Result Thread CommandFault) → InitComes (found_around view o) of r × InitLeaves view o.disk.before o.disk.after of r → outcome ≡ outcome_by Made r → By (command.Init of) outcome
           of_result (Ok thread) may is = absurd (may.0.free waver.0.image waver.0.told taken)
           of_result (Err f) may is = subst (λ (x : Outcome). By (command.Init of) x) (sym is) (left_behind (IsOutBy (command.Init of) (Undone f)) left (λ t told. told))
 
@@ -196,7 +196,7 @@ module _ {D : Type 0} (view : D → DiskView) (name : List ℕ)
           safe : AppendSafe view o.disk.before o.disk.after o.inputs.told file time
           safe = (rows view only_now as_it_reads o (command.Append file time)).safe outcome came
 
-          of_result : (r : Result Thread CommandFault) → AppendComes o.inputs (found_of view o) file time r × AppendLeaves view o.disk.before o.disk.after o.inputs.told file time r
+          of_result : (r : Result Thread CommandFault) → AppendComes o.inputs (found_around view o) file time r × AppendLeaves view o.disk.before o.disk.after o.inputs.told file time r
               → outcome ≡ outcome_by Made r → By (command.Append file time) outcome
           of_result (Ok thread) may is =
               let events = may.1.0.0 in
@@ -216,7 +216,7 @@ module _ {D : Type 0} (view : D → DiskView) (name : List ℕ)
           safe : ReceiveSafe view o.disk.before o.disk.after o.inputs.told file time
           safe = (rows view only_now as_it_reads o (command.Receive file time)).safe outcome came
 
-          of_result : (r : Result Receipt CommandFault) → ReceiveComes o.inputs (found_of view o) file time r × ReceiveLeaves view o.disk.before o.disk.after o.inputs.told file time r
+          of_result : (r : Result Receipt CommandFault) → ReceiveComes o.inputs (found_around view o) file time r × ReceiveLeaves view o.disk.before o.disk.after o.inputs.told file time r
               → outcome ≡ outcome_by Received r → By (command.Receive file time) outcome
           of_result (Ok receipt) may is =
               let m = may.1.0.0 in

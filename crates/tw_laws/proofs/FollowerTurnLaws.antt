@@ -18,10 +18,10 @@ use Rattle.tw_text.specs.declared.fault.CommandFault.{CommandFault}
 use Rattle.tw_follow.specs.declared.judging.Offered.{Offered}
 use Rattle.tw_follow.specs.declared.judging.Offered.TheVariants.{Known, Moves}
 use Rattle.tw_follow.specs.declared.refusal.FollowRefusal.{FollowRefusal}
-use Rattle.tw_follow.specs.DiskRuns.{GoesOn, IsOf, KeepsAll}
-use Rattle.tw_follow.specs.HeadLists.{Kept, head_of, with_head}
-use Rattle.tw_follow.specs.Offers.{judged}
-use Rattle.tw_follow.specs.Runs.{Goes}
+use Rattle.tw_follow.specs.DiskRuns.{GoesOnByMoves, IsImageOfList, KeepsAll}
+use Rattle.tw_follow.specs.HeadLists.{Kept, last_head, with_head}
+use Rattle.tw_follow.specs.Offers.{judged_offer}
+use Rattle.tw_follow.specs.Runs.{GoesByMove}
 use Rattle.tw_follow.specs.Runs.Move.{Answered, Stopped as StoppedOffer}
 use Rattle.tw_follow.specs.Stands.{StandsFor, StandsForOneOf}
 use Rattle.tw_follow.proofs.DiskRunning.{both, has_on, none, one}
@@ -29,7 +29,7 @@ use Rattle.tw_follow.proofs.Offering.{moved-is}
 use Rattle.tw_follow.proofs.Running.{runs-answered, runs-rise}
 use Rattle.tw_follow.proofs.Standing.{stands_rising}
 use Rattle.tw_diskcmd.specs.FollowerDisks.{IsLeft, ReadsAs, Rests}
-use Rattle.tw_diskcmd.specs.Offering.{OfferComes, OfferLeaves, OfferSafe, as_told, list_after, next_list}
+use Rattle.tw_diskcmd.specs.Offering.{OfferComes, OfferLeaves, OfferSafe, list_after, next_list, offer_as_told}
 use Rattle.tw_pages.proofs.AtRest.{untouched_left}
 use Rattle.tw_diskcmd.specs.Files.{IsMessageIn}
 use Rattle.tw_diskcmd.proofs.FollowerAtRest.{stands_taken}
@@ -38,11 +38,11 @@ use Rattle.tw_words.specs.declared.command.Command.{Command}
 use Rattle.tw_words.specs.declared.command.Command.TheVariants as command
 use Rattle.tw_app.specs.declared.outcome.Outcome.{Outcome}
 use Rattle.tw_app.specs.declared.outcome.Outcome.TheVariants.{Made}
-use Rattle.tw_app.specs.Around.{Around, Outside, found_of}
+use Rattle.tw_app.specs.Around.{Around, Outside, found_around}
 use Rattle.tw_app.specs.Outcomes.{outcome_by}
-use Rattle.tw_app.specs.Running.{HaveNoForm, IsUntouched, work}
+use Rattle.tw_app.specs.Running.{HaveNoForm, IsDiskUntouched, work}
 use Rattle.tw_app.proofs.Commands.{rows}
-use Rattle.tw_laws.specs.FollowerTurns.{AreRunsFrom, Behind, IsTold, IsToldBy, IsToldIn, Leads, Run, last_of}
+use Rattle.tw_laws.specs.FollowerTurns.{AreRunsFrom, IsToldByCommand, IsToldIn, IsToldInRuns, LeadsByRun, Run, RunBehind, disk_behind_runs}
 use Rattle.tw_laws.specs.FollowerTurns.Run.{Ran, Stopped}
 use Rattle.tw_laws.specs.Turns.{IsRunOn}
 use Rattle.tw_laws.proofs.OtherStores.{list_closed}
@@ -50,21 +50,21 @@ use Rattle.tw_laws.proofs.OtherStores.{list_closed}
 -- ---- lists that go on by a message
 
 module _ (k : Kept) (bytes : List ℕ) (m : Message) (spells : Spells message_layout bytes m) where
-  goes_by : (r : Result Offered FollowRefusal) → judged sha256 (head_of sha256 k) m ≡ r → Goes sha256 k (StoppedOffer bytes) (list_after k r)
+  goes_by : (r : Result Offered FollowRefusal) → judged_offer sha256 (last_head sha256 k) m ≡ r → GoesByMove sha256 k (StoppedOffer bytes) (list_after k r)
   goes_by (Ok (Moves thread)) is =
-      let same : thread ≡ m.thread = (moved-is sha256 (head_of sha256 k) m thread is).thread_is in
+      let same : thread ≡ m.thread = (moved-is sha256 (last_head sha256 k) m thread is).thread_is in
       inr (m, record { spelled = spells; moves = is ∙ ap (λ (t : Thread). Ok (Moves t)) same; adds = ap (λ (t : Thread). with_head k t) same })
   goes_by (Ok Known) is = inl (tt, refl)
   goes_by (Err refusal) is = inl (tt, refl)
 
-  answers_by : (thread : Thread) (r : Result Offered FollowRefusal) → judged sha256 (head_of sha256 k) m ≡ r → ◌≡◌ {A = Result Thread CommandFault} (Ok thread) (as_told (head_of sha256 k) r)
-      → Goes sha256 k (Answered bytes (Ok thread)) (list_after k r)
+  answers_by : (thread : Thread) (r : Result Offered FollowRefusal) → judged_offer sha256 (last_head sha256 k) m ≡ r → ◌≡◌ {A = Result Thread CommandFault} (Ok thread) (offer_as_told (last_head sha256 k) r)
+      → GoesByMove sha256 k (Answered bytes (Ok thread)) (list_after k r)
   answers_by thread (Ok (Moves later)) is told =
-      let same : later ≡ m.thread = (moved-is sha256 (head_of sha256 k) m later is).thread_is in
+      let same : later ≡ m.thread = (moved-is sha256 (last_head sha256 k) m later is).thread_is in
       let answer : thread ≡ later = cc in
       inr (m, (record { spelled = spells; moves = is ∙ ap (λ (t : Thread). Ok (Moves t)) same; adds = ap (λ (t : Thread). with_head k t) same }, answer ∙ same))
   answers_by thread (Ok Known) is told =
-      let answer : thread ≡ head_of sha256 k = cc in
+      let answer : thread ≡ last_head sha256 k = cc in
       inl (((m, spells, is), answer), refl)
   answers_by thread (Err refusal) is told = absurd cc
 
@@ -72,15 +72,15 @@ module _ {D : Type 0} (view : D → DiskView)
     (only_now : (d : D) (image : Image) → (view d).left_since (view d).moment image → (view d).may_leave image)
     (as_it_reads : (d : D) (image : Image) → (view d).content ≡ Some image → (view d).may_leave image) where
   abbrev GoesFrom : Kept → Image → Type 0
-  GoesFrom k image = GoesOnFrom (IsOf sha256) (GoesOn sha256) view k image
+  GoesFrom k image = GoesOnFrom (IsImageOfList sha256) (GoesOnByMoves sha256) view k image
 
   abbrev Wavers : D → Kept → Type 0
-  Wavers disk k = kept.Wavers (IsOf sha256) (GoesOn sha256) view disk k
+  Wavers disk k = kept.Wavers (IsImageOfList sha256) (GoesOnByMoves sha256) view disk k
 
-  stays_on : (k : Kept) → GoesOn sha256 k k
+  stays_on : (k : Kept) → GoesOnByMoves sha256 k k
   stays_on k = ([], [], none sha256 k)
 
-  goes_then : (a b c : Kept) → GoesOn sha256 a b → GoesOn sha256 b c → GoesOn sha256 a c
+  goes_then : (a b c : Kept) → GoesOnByMoves sha256 a b → GoesOnByMoves sha256 b c → GoesOnByMoves sha256 a c
   goes_then a b c first second = (first.0 ++ second.0, first.1 ++ second.1, both sha256 a first.0 first.1 b second.0 second.1 c first.2 second.2)
 
   holds : (disk : D) (P : Image → Type 0) (k : Kept) → ((c : Image) → P c → GoesFrom k c) → HoldsOnly view P disk → Wavers disk k
@@ -96,7 +96,7 @@ module _ {D : Type 0} (view : D → DiskView)
     -- images that go on from this one
     record Left (k : Kept) (Tells : Thread → Type 0) : Type 0 where
       now : Kept
-      goes_on : GoesOn sha256 k now
+      goes_on : GoesOnByMoves sha256 k now
       settled : Wavers o.disk.after now
       any_moment : (c : Image) → (view o.disk.after).left_since (view o.disk.before).moment c → GoesFrom k c
       tells : (t : Thread) → Tells t → In t now.heads
@@ -125,7 +125,7 @@ module _ {D : Type 0} (view : D → DiskView)
       Does c outcome = (work view o c).does outcome
 
       abbrev By : Command → Outcome → Type 0
-      By c outcome = Left k (IsToldBy c outcome)
+      By c outcome = Left k (IsToldByCommand c outcome)
 
       -- ---- an offer
 
@@ -134,7 +134,7 @@ module _ {D : Type 0} (view : D → DiskView)
         one_goes m is next same c each = ⊎_elim
             (λ was. (read, was, waver.0.has.2))
             (λ now.
-            let on = one sha256 read (StoppedOffer is.bytes) (next_list read m) (goes_by read is.bytes m is.spelled (judged sha256 (head_of sha256 read) m) refl) in
+            let on = one sha256 read (StoppedOffer is.bytes) (next_list read m) (goes_by read is.bytes m is.spelled (judged_offer sha256 (last_head sha256 read) m) refl) in
             (next_list read m, subst (λ (x : Kept). StandsFor sha256 c x) same now, goes_then k read (next_list read m) waver.0.has.2 (StoppedOffer is.bytes ∷ [], on.0, on.1)))
             each
 
@@ -157,13 +157,13 @@ module _ {D : Type 0} (view : D → DiskView)
         untold Tells nothing = record { now = k; goes_on = stays_on k; settled = still; any_moment = moments; tells = λ t told. absurd (nothing t told) }
 
         of_result : (r : Result Thread CommandFault)
-            → OfferComes o.inputs (found_of view o) file r × OfferLeaves view o.disk.before o.disk.after o.inputs.told file r
+            → OfferComes o.inputs (found_around view o) file r × OfferLeaves view o.disk.before o.disk.after o.inputs.told file r
             → outcome ≡ outcome_by Made r → By (command.Offer file) outcome
         of_result (Ok thread) may is =
             let m = may.1.0.0 in
             let there = may.1.0.1 in
             let moved = may.1.0.2.1 read reads in
-            let step = answers_by read there.bytes m there.spelled thread (judged sha256 (head_of sha256 read) m) refl (may.1.0.2.0.list read reads) in
+            let step = answers_by read there.bytes m there.spelled thread (judged_offer sha256 (last_head sha256 read) m) refl (may.1.0.2.0.list read reads) in
             let on = one sha256 read (Answered there.bytes (Ok thread)) (next_list read m) step in
             let has = runs-answered sha256 there.bytes thread read (Answered there.bytes (Ok thread) ∷ []) on.0 (next_list read m) on.1 (inl refl) in
             subst (λ (x : Outcome). By (command.Offer file) x) (sym is) (record {
@@ -200,26 +200,26 @@ module _ {D : Type 0} (view : D → DiskView)
       leaves (command.MapLow step peer top) outcome came = idle (λ t. ⊥) ((rows view only_now as_it_reads o (command.MapLow step peer top)).safe outcome came).0 (λ t told. told)
       leaves (command.MapHigh step peer top) outcome came = idle (λ t. ⊥) ((rows view only_now as_it_reads o (command.MapHigh step peer top)).safe outcome came).0 (λ t told. told)
       leaves command.Export outcome came = idle (λ t. ⊥) ((rows view only_now as_it_reads o command.Export).safe outcome came).0 (λ t told. told)
-      leaves c outcome came = idle (IsToldBy c outcome) (untouched_left view o.disk.before o.disk.after only_now ((rows view only_now as_it_reads o c).safe outcome came).0) (λ t told. told)
+      leaves c outcome came = idle (IsToldByCommand c outcome) (untouched_left view o.disk.before o.disk.after only_now ((rows view only_now as_it_reads o c).safe outcome came).0) (λ t told. told)
 
   -- ---- a run, and what is there behind it
 
   of_words : (words : List (List ℕ)) (o : Outside D) (outcome : Outcome) (k : Kept) → Wavers o.disk.before k → (asked : Option Command)
-      → MatchOption asked (HaveNoForm words outcome × IsUntouched view o) (λ c. (work view o c).does outcome) → Left o k (λ t. MatchOption asked ⊥ (λ c. IsToldBy c outcome t))
+      → MatchOption asked (HaveNoForm words outcome × IsDiskUntouched view o) (λ c. (work view o c).does outcome) → Left o k (λ t. MatchOption asked ⊥ (λ c. IsToldByCommand c outcome t))
   of_words words o outcome k waver None came = idle o k waver (λ t. ⊥) (untouched_left view o.disk.before o.disk.after only_now came.1) (λ t told. told)
   of_words words o outcome k waver (Some c) came = leaves o k waver c outcome came
 
   of_run : (disk : D) (a : Around D) (status : ℕ) (outcome : Outcome) (k : Kept) → Wavers disk k → IsRunOn view disk a status outcome
-      → Left a.outside k (λ t. MatchOption (command_of a.words) ⊥ (λ c. IsToldBy c outcome t))
+      → Left a.outside k (λ t. MatchOption (command_of a.words) ⊥ (λ c. IsToldByCommand c outcome t))
   of_run disk a status outcome k waver run = of_words a.words a.outside outcome k (subst (λ (d : D). Wavers d k) (sym run.on) waver) (command_of a.words) run.ends.has
 
   record GoesTo (run : Run D) (left : D) (k : Kept) : Type 0 where
     now : Kept
-    goes_on : GoesOn sha256 k now
+    goes_on : GoesOnByMoves sha256 k now
     is : Wavers left now
     tells : (t : Thread) → IsToldIn run t → In t now.heads
 
-  goes : (run : Run D) (disk left : D) (k : Kept) → Wavers disk k → Leads view run disk left → GoesTo run left k
+  goes : (run : Run D) (disk left : D) (k : Kept) → Wavers disk k → LeadsByRun view run disk left → GoesTo run left k
   goes (Ran a status outcome) disk left k waver leads =
       let b = of_run disk a status outcome k waver leads.0 in
       record {
@@ -238,13 +238,13 @@ module _ {D : Type 0} (view : D → DiskView)
         tells = λ t told. absurd told;
       }
 
-  record Ends (disk : D) (runs : List (Behind D)) (k : Kept) : Type 0 where
+  record Ends (disk : D) (runs : List (RunBehind D)) (k : Kept) : Type 0 where
     now : Kept
-    goes_on : GoesOn sha256 k now
-    is : Wavers (last_of disk runs) now
-    tells : (t : Thread) → IsTold runs t → In t now.heads
+    goes_on : GoesOnByMoves sha256 k now
+    is : Wavers (disk_behind_runs disk runs) now
+    tells : (t : Thread) → IsToldInRuns runs t → In t now.heads
 
-  all_runs : (disk : D) (runs : List (Behind D)) (k : Kept) → Wavers disk k → AreRunsFrom view disk runs → Ends disk runs k
+  all_runs : (disk : D) (runs : List (RunBehind D)) (k : Kept) → Wavers disk k → AreRunsFrom view disk runs → Ends disk runs k
   all_runs disk [] k waver leads = record { now = k; goes_on = stays_on k; is = waver; tells = λ t told. absurd told }
   all_runs disk (x ∷ runs) k waver leads =
       let first = goes x.run disk x.left k waver leads.0 in
@@ -256,12 +256,12 @@ module _ {D : Type 0} (view : D → DiskView)
         tells = λ t told. ⊎_elim (λ by. has_on sha256 first.now rest.now t rest.goes_on (first.tells t by)) (λ later. rest.tells t later) told;
       }
 
-  pub no_head_lost : (disk : D) (first : Kept) (runs : List (Behind D)) → HoldsOnly view (λ i. StandsFor sha256 i first) disk → AreRunsFrom view disk runs
-      → HoldsOnly view (KeepsAll sha256 first (IsTold runs)) (last_of disk runs)
+  pub no_head_lost : (disk : D) (first : Kept) (runs : List (RunBehind D)) → HoldsOnly view (λ i. StandsFor sha256 i first) disk → AreRunsFrom view disk runs
+      → HoldsOnly view (KeepsAll sha256 first (IsToldInRuns runs)) (disk_behind_runs disk runs)
   no_head_lost disk first runs is leads =
       let start = holds disk (λ i. StandsFor sha256 i first) first (λ i stands. (first, stands, stays_on first)) is in
       let end = all_runs disk runs first start leads in
-      let all : (i : Image) → GoesFrom end.now i → KeepsAll sha256 first (IsTold runs) i = λ i on.
+      let all : (i : Image) → GoesFrom end.now i → KeepsAll sha256 first (IsToldInRuns runs) i = λ i on.
       let whole = goes_then first end.now on.0 end.goes_on on.2 in
       (on.0, on.1, whole, runs-rise sha256 first whole.0 whole.1 on.0 (stands_rising sha256 is.0.image first is.0.has) whole.2, λ t told. has_on sha256 end.now on.0 t on.2 (end.tells t told)) in
       (record { image = end.is.0.image; told = end.is.0.told; has = all end.is.0.image end.is.0.has }, λ c may. all c (end.is.1 c may))

@@ -23,7 +23,7 @@ use Rattle.tw_chain.specs.declared.proof.Proof.TheVariants.{Exists, Archived, Ab
 use Rattle.tw_chain.specs.Proofs.{proof_codec, proof_layout}
 use Rattle.tw_chain.proofs.ProofCodec.{from_existence, proof-lawful}
 use Rattle.tw_skipproof.specs.declared.existence.Part.{Part}
-use Rattle.tw_skipproof.specs.HistoryProofs.{IsPartOf, MakesExistence}
+use Rattle.tw_skipproof.specs.HistoryProofs.{IsPartOfHistory, MakesExistence}
 use Rattle.tw_answers.specs.declared.refusal.Refusal.{Refusal}
 use Rattle.tw_answers.specs.declared.refusal.Refusal.TheVariants.{NoStep, TooLong}
 use Rattle.tw_answers.specs.Limits.{is_in_order, link_refusal, or_else, order_refusal, top_refusal}
@@ -35,7 +35,7 @@ use Rattle.tw_service.specs.Mapping.{MakesHigh, MakesLow}
 use Rattle.tw_tmap.specs.declared.map_file.HighFile.{HighFile}
 use Rattle.tw_tmap.specs.declared.map_file.LowFile.{LowFile}
 use Rattle.tw_tmap.specs.declared.map_file.LowPart.{LowPart}
-use Rattle.tw_tmap.specs.Checking.{low_ask, low_part}
+use Rattle.tw_tmap.specs.Checking.{low_ask, low_file_part}
 use Rattle.tw_tmap.specs.MapFiles.{high_codec, low_codec}
 use Rattle.tw_tmap.proofs.MapCodec.{high-lawful, low-lawful}
 use Rattle.tw_service.specs.Machine.{Call, IsStepOf, Makes, MakesAbsence, MakesLink, MakesThread, NextOf, Reply, append_table, last_thread}
@@ -43,7 +43,7 @@ use Rattle.tw_service.specs.Exporting.{is_short, told_size}
 use Rattle.tw_base.specs.declared.history.question.Question.{Question}
 use Rattle.tw_base.specs.declared.history.question.Question.TheVariants as ask
 use Rattle.tw_service.specs.Questions.{history_refusal, pages_refusal, question_refusal}
-use Rattle.tw_service.specs.Tops.{top_of}
+use Rattle.tw_service.specs.Tops.{top_or_last}
 use Rattle.tw_service.specs.Machine.Call.{Append, Ask, Receive, CountSteps, TellHead, TellName}
 use Rattle.tw_service.specs.Machine.Reply.{OfBytes, OfThread, OfReceipt, Refused}
 use Rattle.tw_service.proofs.ReceivingLaws.{own-receipt}
@@ -102,7 +102,7 @@ module _ (dig : List ℕ → List ℕ) where
 
   -- ---- proofs
 
-  before_own : (h : History) (step top : ℕ) (p : Part) → IsPartOf dig h step top p → step ≤ length h.steps → IsThreadOf dig h (thread_before p)
+  before_own : (h : History) (step top : ℕ) (p : Part) → IsPartOfHistory dig h step top p → step ≤ length h.steps → IsThreadOf dig h (thread_before p)
   before_own h step top p part within = record {
     from = part.service;
     within = omega (arith, part.at_step, within);
@@ -149,12 +149,12 @@ module _ (dig : List ℕ → List ℕ) where
   -- ---- map files
 
   shown_own : (h : History) (step top : ℕ) (f : LowFile) (t : Thread) → step ≤ length h.steps → (o : Option LowPart)
-      → MatchOption o (step ≡ 1) (λ p. (1 < step) × IsPartOf dig h (step - 1) top (low_part f p) × (p.shown ≡ proof_of dig (tree h (step - 1)) (low_ask f)))
-      → In t (option_map_or (λ p. thread_before (low_part f p) ∷ []) o []) → IsThreadOf dig h t
+      → MatchOption o (step ≡ 1) (λ p. (1 < step) × IsPartOfHistory dig h (step - 1) top (low_file_part f p) × (p.shown ≡ proof_of dig (tree h (step - 1)) (low_ask f)))
+      → In t (option_map_or (λ p. thread_before (low_file_part f p) ∷ []) o []) → IsThreadOf dig h t
   shown_own h step top f t within None is there = absurd there
   shown_own h step top f t within (Some p) is there =
       let one = ⊎_elim (λ e. e) (λ no_other. absurd no_other) there in
-      subst (λ (u : Thread). IsThreadOf dig h u) (sym one) (before_own h (step - 1) top (low_part f p) is.1 (omega (arith, within)))
+      subst (λ (u : Thread). IsThreadOf dig h u) (sym one) (before_own h (step - 1) top (low_file_part f p) is.1 (omega (arith, within)))
 
   low_own : (h : History) (step : ℕ) (peer : List ℕ) (top : ℕ) (bytes : List ℕ) → step ≤ length h.steps → MakesLow dig h step peer top bytes
       → (t : Thread) → IsInLow bytes t → IsThreadOf dig h t
@@ -222,22 +222,22 @@ module _ (dig : List ℕ → List ℕ) where
   unfolding question_refusal pages_refusal Makes
   answer_own h sound (ask.Event step index top) none bytes makes t told =
       let n = length h.steps in
-      event_own h step index (top_of top n) bytes (order_within n step (top_of top n) (none_first (order_refusal false n step (top_of top n)) _ none)) makes t told
+      event_own h step index (top_or_last top n) bytes (order_within n step (top_or_last top n) (none_first (order_refusal false n step (top_or_last top n)) _ none)) makes t told
   answer_own h sound (ask.Thread step key top) none bytes makes t told =
       let n = length h.steps in
-      thread_own h step key (top_of top n) bytes (order_within n step (top_of top n) (none_first (order_refusal false n step (top_of top n)) _ none)) makes t told
+      thread_own h step key (top_or_last top n) bytes (order_within n step (top_or_last top n) (none_first (order_refusal false n step (top_or_last top n)) _ none)) makes t told
   answer_own h sound (ask.Absent step key top) none bytes makes t told =
       let n = length h.steps in
-      absence_own h step key (top_of top n) bytes (order_within n step (top_of top n) (none_first (order_refusal false n step (top_of top n)) _ none)) makes t told
+      absence_own h step key (top_or_last top n) bytes (order_within n step (top_or_last top n) (none_first (order_refusal false n step (top_or_last top n)) _ none)) makes t told
   answer_own h sound (ask.Link step top) none bytes makes t told =
       let n = length h.steps in
-      link_own h step (top_of top n) bytes (link_within n step (top_of top n) (none_first (link_refusal false n step (top_of top n)) _ none)) makes t told
+      link_own h step (top_or_last top n) bytes (link_within n step (top_or_last top n) (none_first (link_refusal false n step (top_or_last top n)) _ none)) makes t told
   answer_own h sound (ask.Low step peer top) none bytes makes t told =
       let n = length h.steps in
-      low_own h step peer (top_of top n) bytes (order_within n step (top_of top n) (none_first (order_refusal false n step (top_of top n)) _ none)) makes t told
+      low_own h step peer (top_or_last top n) bytes (order_within n step (top_or_last top n) (none_first (order_refusal false n step (top_or_last top n)) _ none)) makes t told
   answer_own h sound (ask.High step peer top) none bytes makes t told =
       let n = length h.steps in
-      high_own h step peer (top_of top n) bytes (top_within n (top_of top n) (none_first (top_refusal false n (top_of top n)) _ none)) makes t told
+      high_own h step peer (top_or_last top n) bytes (top_within n (top_or_last top n) (none_first (top_refusal false n (top_or_last top n)) _ none)) makes t told
   answer_own h sound (ask.ThreadOut since) none bytes makes t told = message_own h since bytes makes t told
   answer_own h sound ask.Export none bytes makes t told =
       let file = reads-back h sound (passes (is_short h) (TooLong (told_size h)) none) in

@@ -4,11 +4,11 @@ use Rattle.std.specs.Prelude.{Option, Some, false, if◌then◌else◌}
 use Rattle.std.specs.Str.{bytes_eq}
 use Rattle.tw_base.specs.history.History.{History}
 use Rattle.tw_base.specs.kinds.Lists.{Each}
-use Rattle.tw_generate.specs.Schedules.{Trio, Who, alpha_name, beta_name, gamma_name, history_of, with_history}
+use Rattle.tw_generate.specs.Schedules.{Trio, Who, alpha_name, beta_name, gamma_name, trio_history, with_history}
 use Rattle.tw_generate.specs.Schedules.Who.{Alpha, Beta, Gamma}
-use Rattle.tw_generate.specs.Summing.{family as family_of}
+use Rattle.tw_generate.specs.Summing.{trio_family}
 use Rattle.tw_world.specs.Worlds.{Member, member_of, put_member}
-use Rattle.tw_laws.specs.ScheduledLines.{name_of}
+use Rattle.tw_laws.specs.ScheduledLines.{who_name}
 
 -- for each of them, the places of the lines that made its steps
 pub record Births : Type 0 where
@@ -31,7 +31,7 @@ abbrev pub serving : History → (births : List ℕ) → Member
 serving h births = record { history = h; births = births; waits = false }
 
 abbrev pub one_of : Who → Trio → Births → Member
-one_of who t b = serving (history_of who t) (births_of who b)
+one_of who t b = serving (trio_history who t) (births_of who b)
 
 abbrev pub members_of : Trio → Births → List Member
 members_of t b = one_of Alpha t b ∷ one_of Beta t b ∷ one_of Gamma t b ∷ []
@@ -41,17 +41,17 @@ pub record AreNamed (t : Trio) : Type 0 where
   pub beta : t.beta.name ≡ beta_name
   pub gamma : t.gamma.name ≡ gamma_name
 
-pub named : (who : Who) (t : Trio) → AreNamed t → (history_of who t).name ≡ name_of who
+pub named : (who : Who) (t : Trio) → AreNamed t → (trio_history who t).name ≡ who_name who
 named Alpha t names = names.alpha
 named Beta t names = names.beta
 named Gamma t names = names.gamma
 
-pub names-put : (who : Who) (t : Trio) (h : History) → h.name ≡ name_of who → AreNamed t → AreNamed (with_history who h t)
+pub names-put : (who : Who) (t : Trio) (h : History) → h.name ≡ who_name who → AreNamed t → AreNamed (with_history who h t)
 names-put Alpha t h is names = record { alpha = is; beta = names.beta; gamma = names.gamma }
 names-put Beta t h is names = record { alpha = names.alpha; beta = is; gamma = names.gamma }
 names-put Gamma t h is names = record { alpha = names.alpha; beta = names.beta; gamma = is }
 
-pub each-who : (P : History → Type 0) (who : Who) (t : Trio) → Each P (family_of t) → P (history_of who t)
+pub each-who : (P : History → Type 0) (who : Who) (t : Trio) → Each P (trio_family t) → P (trio_history who t)
 each-who P Alpha t all = all.0
 each-who P Beta t all = all.1.0
 each-who P Gamma t all = all.1.1.0
@@ -61,7 +61,7 @@ module _ (t : Trio) (b : Births) (names : AreNamed t) where
   abbrev finds : (m : Member) (rest : List Member) (name own : List ℕ) → Option Member
   finds m rest name own = if bytes_eq own name then Some m else member_of rest name
 
-  pub found : (who : Who) → member_of (members_of t b) (name_of who) ≡ Some (one_of who t b)
+  pub found : (who : Who) → member_of (members_of t b) (who_name who) ≡ Some (one_of who t b)
   found Alpha = ap (finds (one_of Alpha t b) (one_of Beta t b ∷ one_of Gamma t b ∷ []) alpha_name) names.alpha
   found Beta =
       ap (finds (one_of Alpha t b) (one_of Beta t b ∷ one_of Gamma t b ∷ []) beta_name) names.alpha
@@ -80,7 +80,7 @@ module _ (t : Trio) (b : Births) (names : AreNamed t) where
         → put_member (m ∷ rest) (serving h births) ≡ puts m rest one other
     put-first m rest one other is own = ap (λ n. puts m rest n h.name) is ∙ ap (puts m rest one) own
 
-    pub put : (who : Who) → h.name ≡ name_of who → put_member (members_of t b) (serving h births) ≡ members_of (with_history who h t) (with_births who births b)
+    pub put : (who : Who) → h.name ≡ who_name who → put_member (members_of t b) (serving h births) ≡ members_of (with_history who h t) (with_births who births b)
     put Alpha own = put-first (one_of Alpha t b) (one_of Beta t b ∷ one_of Gamma t b ∷ []) alpha_name alpha_name names.alpha own
     put Beta own =
         put-first (one_of Alpha t b) (one_of Beta t b ∷ one_of Gamma t b ∷ []) alpha_name beta_name names.alpha own

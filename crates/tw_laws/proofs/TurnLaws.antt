@@ -16,16 +16,16 @@ use Rattle.tw_words.specs.CommandLine.{command_of}
 use Rattle.tw_words.specs.declared.command.Command.{Command}
 use Rattle.tw_app.specs.declared.outcome.Outcome.{Outcome}
 use Rattle.tw_app.specs.declared.outcome.Outcome.TheVariants.{Made}
-use Rattle.tw_app.specs.Around.{Around, Outside, found_of}
+use Rattle.tw_app.specs.Around.{Around, Outside, found_around}
 use Rattle.tw_app.specs.Outcomes.{outcome_by}
-use Rattle.tw_app.specs.Running.{HaveNoForm, IsOutcomeOf, IsUntouched, work}
+use Rattle.tw_app.specs.Running.{HaveNoForm, IsDiskUntouched, IsOutcomeOf, work}
 use Rattle.tw_laws.specs.Published.{IsThreadOf}
-use Rattle.tw_laws.specs.Runs.{HasOneAuthenticator, HoldsOnly, end_of}
-use Rattle.tw_laws.specs.Runs.State.{Closed}
+use Rattle.tw_laws.specs.Runs.{HasOneAuthenticator, HoldsImagesOnly, end_of_run}
+use Rattle.tw_laws.specs.Runs.ServiceState.{Closed}
 use Rattle.tw_laws.proofs.Threads.{last_own}
 use Rattle.tw_laws.proofs.Wavering.{GoesOnFrom, Has, Wavers, ends, holds, one_for, same_has, wavers_at}
 use Rattle.tw_laws.specs.Publishing.{IsOutBy}
-use Rattle.tw_laws.specs.Turns.{AreTurnsFrom, HasOne, IsMadeFirst, IsMaking, IsOut, IsOutIn, IsRunOn, LeadsTo, Move, StartsAs, Turn, last_disk}
+use Rattle.tw_laws.specs.Turns.{AreTurnsFrom, HasOne, IsMadeFirst, IsMaking, IsOut, IsOutIn, IsRunOn, LeadsTo, StartsAs, Turn, TurnBehind, last_disk}
 use Rattle.tw_laws.specs.Turns.Turn.{Runs, StopsBefore, Serves}
 use Rattle.tw_laws.proofs.CommandTurns.{Behind, leaves, left_behind, same_made, made_undone, stands_wavers}
 
@@ -36,7 +36,7 @@ module _ {D : Type 0} (view : D → DiskView) (name : List ℕ)
 
   module _ (words : List (List ℕ)) (o : Outside D) (outcome : Outcome) (h : History) (waver : Wavers sha256 view name o.disk.before h) where
     -- what words come to, of a command or of no form
-    behind : (asked : Option Command) → MatchOption asked (HaveNoForm words outcome × IsUntouched view o) (λ command. (work view o command).does outcome)
+    behind : (asked : Option Command) → MatchOption asked (HaveNoForm words outcome × IsDiskUntouched view o) (λ command. (work view o command).does outcome)
         → Behind view name only_now as_it_reads o h (λ t. MatchOption asked ⊥ (λ command. IsOutBy command outcome t))
     behind None came =
         left_behind view name only_now as_it_reads o h waver (λ t. ⊥) (untouched_left view o.disk.before o.disk.after only_now came.1) (λ t told. told)
@@ -48,7 +48,7 @@ module _ {D : Type 0} (view : D → DiskView) (name : List ℕ)
       behind a.words a.outside outcome h (subst (λ (d : D). Wavers sha256 view name d h) (sym run.on) waver) (command_of a.words) run.ends.has
 
   -- the disk that is there behind a run, or what a crash then left
-  left_on : (after left : D) (now : History) → Wavers sha256 view name after now → (left ≡ after) ⊎ HoldsOnly view (view after).may_leave left → Wavers sha256 view name left now
+  left_on : (after left : D) (now : History) → Wavers sha256 view name after now → (left ≡ after) ⊎ HoldsImagesOnly view (view after).may_leave left → Wavers sha256 view name left now
   left_on after left now waver is =
       ⊎_elim (λ same. subst (λ (d : D). Wavers sha256 view name d now) (sym same) waver) (λ only. holds sha256 view name left (view after).may_leave now waver.1 only) is
 
@@ -77,18 +77,18 @@ module _ {D : Type 0} (view : D → DiskView) (name : List ℕ)
         }
     goes (Serves run) disk left h waver leads =
         let end = ends sha256 view name only_now (Closed disk) run h waver leads.0 in
-        let at = wavers_at sha256 view name only_now (end_of (Closed disk) run) end.now end.is in
+        let at = wavers_at sha256 view name only_now (end_of_run (Closed disk) run) end.now end.is in
         record { now = end.now; keeps = end.keeps; is = subst (λ (d : D). Wavers sha256 view name d end.now) (sym leads.1) at; tells = end.tells }
 
     -- ---- turns
 
-    record Ends (disk : D) (moves : List (Move D (Service D H g k))) (h : History) : Type 0 where
+    record Ends (disk : D) (moves : List (TurnBehind D (Service D H g k))) (h : History) : Type 0 where
       now : History
       keeps : Has sha256 view name h now
       is : Wavers sha256 view name (last_disk disk moves) now
       tells : (t : Thread) → IsOut disk moves t → IsThreadOf sha256 now t
 
-    and_then : (disk : D) (x : Move D (Service D H g k)) (moves : List (Move D (Service D H g k))) (h : History) → (first : Goes x.turn disk x.left h) → Ends x.left moves first.now → Ends disk (x ∷ moves) h
+    and_then : (disk : D) (x : TurnBehind D (Service D H g k)) (moves : List (TurnBehind D (Service D H g k))) (h : History) → (first : Goes x.turn disk x.left h) → Ends x.left moves first.now → Ends disk (x ∷ moves) h
     and_then disk x moves h first rest = record {
       now = rest.now;
       keeps = λ t own. rest.keeps t (first.keeps t own);
@@ -96,7 +96,7 @@ module _ {D : Type 0} (view : D → DiskView) (name : List ℕ)
       tells = λ t told. ⊎_elim (λ by. rest.keeps t (first.tells t by)) (λ later. rest.tells t later) told;
     }
 
-    all_turns : (disk : D) (moves : List (Move D (Service D H g k))) (h : History) → Wavers sha256 view name disk h → AreTurnsFrom view disk moves → Ends disk moves h
+    all_turns : (disk : D) (moves : List (TurnBehind D (Service D H g k))) (h : History) → Wavers sha256 view name disk h → AreTurnsFrom view disk moves → Ends disk moves h
     all_turns disk [] h waver turns = record { now = h; keeps = same_has sha256 view name h; is = waver; tells = λ t told. absurd told }
     all_turns disk (x ∷ moves) h waver turns =
         let first = goes x.turn disk x.left h waver turns.0 in
@@ -107,12 +107,12 @@ module _ {D : Type 0} (view : D → DiskView) (name : List ℕ)
     made : (turn : Turn D (Service D H g k)) (disk left : D) (image : Image) → (view disk).content ≡ Some image → IsMaking view name turn → LeadsTo view turn disk left → Goes turn disk left (no_history name)
     made (Runs a status (Made thread)) disk left image told is leads = of_result does.0 does.1 does.2
       where
-        does : IsOutcomeOf Made (λ r. InitComes (found_of view a.outside) name r × InitLeaves view a.outside.disk.before a.outside.disk.after name r) (Made thread)
+        does : IsOutcomeOf Made (λ r. InitComes (found_around view a.outside) name r × InitLeaves view a.outside.disk.before a.outside.disk.after name r) (Made thread)
         does =
-            subst (λ (asked : Option Command). MatchOption asked (HaveNoForm a.words (Made thread) × IsUntouched view a.outside) (λ command. (work view a.outside command).does (Made thread)))
+            subst (λ (asked : Option Command). MatchOption asked (HaveNoForm a.words (Made thread) × IsDiskUntouched view a.outside) (λ command. (work view a.outside command).does (Made thread)))
             is leads.0.ends.has
 
-        of_result : (r : Result Thread CommandFault) → InitComes (found_of view a.outside) name r × InitLeaves view a.outside.disk.before a.outside.disk.after name r
+        of_result : (r : Result Thread CommandFault) → InitComes (found_around view a.outside) name r × InitLeaves view a.outside.disk.before a.outside.disk.after name r
             → Made thread ≡ outcome_by Made r → Goes (Runs a status (Made thread)) disk left (no_history name)
         of_result (Ok first) may same =
             let rests = may.1.0.1 image (ap (λ (d : D). (view d).content) leads.0.on ∙ told) in
@@ -130,11 +130,11 @@ module _ {D : Type 0} (view : D → DiskView) (name : List ℕ)
 
     -- ---- the law
 
-    by_end : (disk : D) (moves : List (Move D (Service D H g k))) (first : History) → Ends disk moves first
+    by_end : (disk : D) (moves : List (TurnBehind D (Service D H g k))) (first : History) → Ends disk moves first
         → HasOneAuthenticator sha256 view name first (IsOut disk moves) (last_disk disk moves)
     by_end disk moves first end = one_for sha256 view name first (IsOut disk moves) (last_disk disk moves) end.now end.is end.keeps end.tells
 
-    from_making : (disk : D) (moves : List (Move D (Service D H g k))) (image : Image) → (view disk).content ≡ Some image → IsMadeFirst view name moves → AreTurnsFrom view disk moves
+    from_making : (disk : D) (moves : List (TurnBehind D (Service D H g k))) (image : Image) → (view disk).content ≡ Some image → IsMadeFirst view name moves → AreTurnsFrom view disk moves
         → Ends disk moves (no_history name)
     from_making disk [] image told is turns = absurd is
     from_making disk (x ∷ moves) image told is turns =
@@ -144,7 +144,7 @@ module _ {D : Type 0} (view : D → DiskView) (name : List ℕ)
 module _ {D H : Type 0} {g : _} {k : _} (view : D → DiskView)
     (only_now : (d : D) (image : Image) → (view d).left_since (view d).moment image → (view d).may_leave image)
     (as_it_reads : (d : D) (image : Image) → (view d).content ≡ Some image → (view d).may_leave image) where
-  pub one_authenticator : (disk : D) (first : History) (moves : List (Move D (Service D H g k))) → StartsAs view first disk moves → AreTurnsFrom view disk moves → HasOne view first disk moves
+  pub one_authenticator : (disk : D) (first : History) (moves : List (TurnBehind D (Service D H g k))) → StartsAs view first disk moves → AreTurnsFrom view disk moves → HasOne view first disk moves
   one_authenticator disk first moves starts turns =
       let name = first.name in
       let ends : Ends view name only_now as_it_reads disk moves first = ⊎_elim

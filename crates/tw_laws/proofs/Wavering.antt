@@ -10,13 +10,13 @@ use Rattle.tw_answers.specs.declared.refusal.Refusal.TheVariants.{DiskFault, Reo
 use Rattle.tw_service.specs.declared.service.Service.{Service}
 use Rattle.tw_service.specs.Machine.{Call, Reply, last_thread}
 use Rattle.tw_service.specs.Machine.Call.{CountSteps, TellHead, TellName}
-use Rattle.tw_service.specs.Serves.{HasSameDisk, Serves, disk_of, has_failed, head_of, name_of, thread_of}
+use Rattle.tw_service.specs.Serves.{HasSameDisk, Serves, disk_of, has_failed, head_of, head_thread, name_of}
 use Rattle.tw_service.specs.Stands.{StandsFor, StandsForOneOf}
 use Rattle.tw_service.proofs.Serving.{rest_for_good}
 use Rattle.tw_laws.specs.Published.{IsThreadOf}
-use Rattle.tw_laws.specs.Runs.{Begins, Event, HasAll, HasOneAuthenticator, Happening, HoldsOnly, IsAnswered, IsHead, IsKnown, IsPublished, IsRunFrom, IsTold, IsToldBy, Leads, State, disk_at, end_of}
-use Rattle.tw_laws.specs.Runs.Event.{Opens, StaysClosed, Answered, Closes, Crashes, CrashesIn}
-use Rattle.tw_laws.specs.Runs.State.{Closed, Open}
+use Rattle.tw_laws.specs.Runs.{BeginsHistory, ServiceEvent, HasAllKnown, HasOneAuthenticator, ServiceHappening, HoldsImagesOnly, IsCallAnswered, IsHead, IsKnown, IsServicePublished, IsServiceRunFrom, IsToldUnchanged, IsToldByEvent, LeadsByCall, ServiceState, disk_at_state, end_of_run}
+use Rattle.tw_laws.specs.Runs.ServiceEvent.{Opens, StaysClosed, Answered, Closes, Crashes, CrashesIn}
+use Rattle.tw_laws.specs.Runs.ServiceState.{Closed, Open}
 use Rattle.tw_laws.proofs.Threads.{last_own, next_has, next_name, own_once, told_own}
 
 module _ {D : Type 0} (dig : List ℕ → List ℕ) (view : D → DiskView) (name : List ℕ) where
@@ -30,7 +30,7 @@ module _ {D : Type 0} (dig : List ℕ → List ℕ) (view : D → DiskView) (nam
 
   -- the disk tells what it reads as, and that, and each image that a crash may leave, is such a one
   abbrev pub Wavers : D → History → Type 0
-  Wavers disk h = HoldsOnly view (GoesOnFrom h) disk
+  Wavers disk h = HoldsImagesOnly view (GoesOnFrom h) disk
 
   pub same_has : (h : History) → Has h h
   same_has h t own = own
@@ -47,7 +47,7 @@ module _ {D : Type 0} (dig : List ℕ → List ℕ) (view : D → DiskView) (nam
   )
 
   -- the disk holds images alone that go on
-  pub holds : (disk : D) (P : Image → Type 0) (h : History) → ((c : Image) → P c → GoesOnFrom h c) → HoldsOnly view P disk → Wavers disk h
+  pub holds : (disk : D) (P : Image → Type 0) (h : History) → ((c : Image) → P c → GoesOnFrom h c) → HoldsImagesOnly view P disk → Wavers disk h
   holds disk P h goes is = (record { image = is.0.image; told = is.0.told; has = goes is.0.image is.0.has }, λ c left. goes c (is.1 c left))
 
   -- what is published is of this history
@@ -55,7 +55,7 @@ module _ {D : Type 0} (dig : List ℕ → List ℕ) (view : D → DiskView) (nam
       → HasOneAuthenticator dig view name first Published last
   one_for first Published last h is keeps own =
       let tells : (t : Thread) → IsKnown dig view name first Published t → IsThreadOf dig h t = λ t known. ⊎_elim (λ of_first. keeps t of_first) (λ published. own t published) known in
-      let all : (c : Image) → GoesOnFrom h c → HasAll dig view name first Published c = λ c goes. (goes.0, goes.1, (λ t known. goes.2 t (tells t known))) in
+      let all : (c : Image) → GoesOnFrom h c → HasAllKnown dig view name first Published c = λ c goes. (goes.0, goes.1, (λ t known. goes.2 t (tells t known))) in
       record {
         one = λ t u told other same. own_once dig h t u (tells t told) (tells u other) same;
         at_end = (record { image = is.0.image; told = is.0.told; has = all is.0.image is.0.has }, λ c left. all c (is.1 c left));
@@ -66,18 +66,18 @@ module _ {D : Type 0} (dig : List ℕ → List ℕ) (view : D → DiskView) (nam
     pub record IsOpenAt (service : Service D H g k) (h : History) : Type 0 where
       disk : Wavers (disk_of service) h
       named : name_of service ≡ name
-      head : thread_of service ≡ last_thread dig h
+      head : head_thread service ≡ last_thread dig h
       serves : has_failed service ≡ false → Serves dig view service h
 
-    abbrev pub IsAt : State D (Service D H g k) → History → Type 0
+    abbrev pub IsAt : ServiceState D (Service D H g k) → History → Type 0
     IsAt (Closed disk) h = Wavers disk h
     IsAt (Open service) h = IsOpenAt service h
 
-    pub wavers_at : (at : State D (Service D H g k)) (h : History) → IsAt at h → Wavers (disk_at at) h
+    pub wavers_at : (at : ServiceState D (Service D H g k)) (h : History) → IsAt at h → Wavers (disk_at_state at) h
     wavers_at (Closed disk) h is = is
     wavers_at (Open service) h is = is.disk
 
-    head_is : (service : Service D H g k) (h : History) → Serves dig view service h → thread_of service ≡ last_thread dig h
+    head_is : (service : Service D H g k) (h : History) → Serves dig view service h → head_thread service ≡ last_thread dig h
     head_is service h served =
         let named = sym served.keeps.named in
         let step = served.keeps.whole.steps.step in
@@ -98,17 +98,17 @@ module _ {D : Type 0} (dig : List ℕ → List ℕ) (view : D → DiskView) (nam
 
     -- ---- what an event leads to
 
-    record Goes (event : Event) (behind : State D (Service D H g k)) (h : History) : Type 0 where
+    record Goes (event : ServiceEvent) (behind : ServiceState D (Service D H g k)) (h : History) : Type 0 where
       now : History
       keeps : Has h now
       is : IsAt behind now
-      tells : (t : Thread) → IsToldBy dig event t → IsThreadOf dig now t
+      tells : (t : Thread) → IsToldByEvent dig event t → IsThreadOf dig now t
 
     -- a state where nothing is told
-    wavering : (event : Event) (behind : State D (Service D H g k)) (h : History) → IsAt behind h → ((t : Thread) → IsToldBy dig event t → ⊥) → Goes event behind h
+    wavering : (event : ServiceEvent) (behind : ServiceState D (Service D H g k)) (h : History) → IsAt behind h → ((t : Thread) → IsToldByEvent dig event t → ⊥) → Goes event behind h
     wavering event behind h is none = record { now = h; keeps = same_has h; is = is; tells = λ t told. absurd (none t told) }
 
-    opens_at : (disk : D) (service : Service D H g k) (h : History) → Wavers disk h → Leads dig view Opens (Closed disk) (Open service) → Goes Opens (Open service) h
+    opens_at : (disk : D) (service : Service D H g k) (h : History) → Wavers disk h → LeadsByCall dig view Opens (Closed disk) (Open service) → Goes Opens (Open service) h
     opens_at disk service h is leads =
         let read = is.0 in
         let c = read.has.0 in
@@ -122,11 +122,11 @@ module _ {D : Type 0} (dig : List ℕ → List ℕ) (view : D → DiskView) (nam
       failed X r = Err r
 
       -- after a refusal the value has name and head as before
-      heads : (head_of new ≡ head_of old) × (name_of new ≡ name_of old) → thread_of new ≡ last_thread dig h
+      heads : (head_of new ≡ head_of old) × (name_of new ≡ name_of old) → head_thread new ≡ last_thread dig h
       heads kept =
           let named = kept.1 in
           let head = kept.0 in
-          let same : thread_of new ≡ thread_of old = λ j. record { from = named j; step = (head j).step; auth = (head j).auth } in
+          let same : head_thread new ≡ head_thread old = λ j. record { from = named j; step = (head j).step; auth = (head j).auth } in
           same ∙ is.head
 
       own_name : Serves dig view old h → h.name ≡ name
@@ -137,7 +137,7 @@ module _ {D : Type 0} (dig : List ℕ → List ℕ) (view : D → DiskView) (nam
           ⊎_elim (λ no. absurd cc) (λ s. s) (subst (λ (r : Result Reply Refusal). IfErr r (λ refusal. (refusal ≡ DiskFault) ⊎ HasSameDisk view old new)) reopen unwritten)
 
       -- an earlier call met a disk fault
-      stays_broken : (answer : Result Reply Refusal) → IsTrue (has_failed old) → IsAnswered dig view call answer old new → Goes (Answered call answer) (Open new) h
+      stays_broken : (answer : Result Reply Refusal) → IsTrue (has_failed old) → IsCallAnswered dig view call answer old new → Goes (Answered call answer) (Open new) h
       stays_broken answer failed a =
           let reopen = a.reopen failed in
           let same = unwritten_by answer reopen a.unwritten in
@@ -154,11 +154,11 @@ module _ {D : Type 0} (dig : List ℕ → List ℕ) (view : D → DiskView) (nam
               head = heads kept;
               serves = λ whole. let no = subst (λ b. IsTrue b) whole (a.broken.1 (inl failed)) in absurd cc;
             };
-            tells = λ t told. absurd (subst (λ (r : Result Reply Refusal). IsToldBy dig (Answered call r) t) reopen told);
+            tells = λ t told. absurd (subst (λ (r : Result Reply Refusal). IsToldByEvent dig (Answered call r) t) reopen told);
           }
 
       -- none did: a history is served
-      goes_on : (answer : Result Reply Refusal) → Serves dig view old h → IsAnswered dig view call answer old new → Goes (Answered call answer) (Open new) h
+      goes_on : (answer : Result Reply Refusal) → Serves dig view old h → IsCallAnswered dig view call answer old new → Goes (Answered call answer) (Open new) h
       goes_on (Ok reply) served a =
           let s = a.steps h served in
           record {
@@ -187,12 +187,12 @@ module _ {D : Type 0} (dig : List ℕ → List ℕ) (view : D → DiskView) (nam
           (λ on. wavering (Answered call (Err refusal)) (Open new) h (opened_at new h (own_name served) on.0) (λ t told. told))
           s.refused
 
-      answered_at : (b : Bool) → has_failed old ≡ b → (answer : Result Reply Refusal) → IsAnswered dig view call answer old new → Goes (Answered call answer) (Open new) h
+      answered_at : (b : Bool) → has_failed old ≡ b → (answer : Result Reply Refusal) → IsCallAnswered dig view call answer old new → Goes (Answered call answer) (Open new) h
       answered_at true failed answer a = stays_broken answer (subst (λ b. IsTrue b) (sym failed) refl) a
       answered_at false whole answer a = goes_on answer (is.serves whole) a
 
       -- what a crash in the midst of it leaves
-      images_of : (b : Bool) → has_failed old ≡ b → (answer : Result Reply Refusal) → IsAnswered dig view call answer old new
+      images_of : (b : Bool) → has_failed old ≡ b → (answer : Result Reply Refusal) → IsCallAnswered dig view call answer old new
           → (c : Image) → (view (disk_of new)).left_since (view (disk_of old)).moment c → GoesOnFrom h c
       images_of true failed answer a c left =
           let reopen = a.reopen (subst (λ b. IsTrue b) (sym failed) refl) in
@@ -203,7 +203,7 @@ module _ {D : Type 0} (dig : List ℕ → List ℕ) (view : D → DiskView) (nam
           one_of h s.next c (next_has dig call h s.next s.is_next) (subst (λ (n : List ℕ). StandsForOneOf dig n h s.next c) is.named (s.any_moment.each c left))
 
       -- it is told without the disk
-      told_at : (answer : Result Reply Refusal) → IsTold call answer old → new ≡ old → Goes (Answered call answer) (Open new) h
+      told_at : (answer : Result Reply Refusal) → IsToldUnchanged call answer old → new ≡ old → Goes (Answered call answer) (Open new) h
       told_at answer told same = record {
         now = h;
         keeps = same_has h;
@@ -211,15 +211,15 @@ module _ {D : Type 0} (dig : List ℕ → List ℕ) (view : D → DiskView) (nam
         tells = λ t by. told_thread call answer told t by;
       }
         where
-          told_thread : (call : Call) (answer : Result Reply Refusal) → IsTold call answer old → (t : Thread) → IsToldBy dig (Answered call answer) t → IsThreadOf dig h t
-          told_thread CountSteps answer told t by = absurd (subst (λ (r : Result Reply Refusal). IsToldBy dig (Answered CountSteps r) t) told by)
-          told_thread TellName answer told t by = absurd (subst (λ (r : Result Reply Refusal). IsToldBy dig (Answered TellName r) t) told by)
+          told_thread : (call : Call) (answer : Result Reply Refusal) → IsToldUnchanged call answer old → (t : Thread) → IsToldByEvent dig (Answered call answer) t → IsThreadOf dig h t
+          told_thread CountSteps answer told t by = absurd (subst (λ (r : Result Reply Refusal). IsToldByEvent dig (Answered CountSteps r) t) told by)
+          told_thread TellName answer told t by = absurd (subst (λ (r : Result Reply Refusal). IsToldByEvent dig (Answered TellName r) t) told by)
           told_thread TellHead answer told t by =
-              let one : t ≡ thread_of old = subst (λ (r : Result Reply Refusal). IsToldBy dig (Answered TellHead r) t) told by in
+              let one : t ≡ head_thread old = subst (λ (r : Result Reply Refusal). IsToldByEvent dig (Answered TellHead r) t) told by in
               subst (λ (u : Thread). IsThreadOf dig h u) (sym (one ∙ is.head)) (last_own dig h)
           told_thread _ answer told t by = absurd told
 
-    goes : (event : Event) (at behind : State D (Service D H g k)) (h : History) → IsAt at h → Leads dig view event at behind → Goes event behind h
+    goes : (event : ServiceEvent) (at behind : ServiceState D (Service D H g k)) (h : History) → IsAt at h → LeadsByCall dig view event at behind → Goes event behind h
     goes Opens (Closed disk) (Open service) h is leads = opens_at disk service h is leads
     goes StaysClosed (Closed disk) (Closed left) h is leads = wavering StaysClosed (Closed left) h
         (record { image = is.0.image; told = leads.0 ∙ is.0.told; has = is.0.has }, (λ c may. is.1 c (leads.1.now c may))) (λ t told. told)
@@ -234,17 +234,17 @@ module _ {D : Type 0} (dig : List ℕ → List ℕ) (view : D → DiskView) (nam
 
     -- ---- a run
 
-    pub record Ends (start : State D (Service D H g k)) (run : List (Happening D (Service D H g k))) (h : History) : Type 0 where
+    pub record Ends (start : ServiceState D (Service D H g k)) (run : List (ServiceHappening D (Service D H g k))) (h : History) : Type 0 where
       pub now : History
       pub keeps : Has h now
-      pub is : IsAt (end_of start run) now
-      pub tells : (t : Thread) → IsPublished dig start run t → IsThreadOf dig now t
+      pub is : IsAt (end_of_run start run) now
+      pub tells : (t : Thread) → IsServicePublished dig start run t → IsThreadOf dig now t
 
-    head_own : (at : State D (Service D H g k)) (h : History) → IsAt at h → (t : Thread) → IsHead at t → IsThreadOf dig h t
+    head_own : (at : ServiceState D (Service D H g k)) (h : History) → IsAt at h → (t : Thread) → IsHead at t → IsThreadOf dig h t
     head_own (Closed disk) h is t told = absurd told
     head_own (Open service) h is t told = subst (λ (u : Thread). IsThreadOf dig h u) (sym (told ∙ is.head)) (last_own dig h)
 
-    pub ends : (start : State D (Service D H g k)) (run : List (Happening D (Service D H g k))) (h : History) → IsAt start h → IsRunFrom dig view start run → Ends start run h
+    pub ends : (start : ServiceState D (Service D H g k)) (run : List (ServiceHappening D (Service D H g k))) (h : History) → IsAt start h → IsServiceRunFrom dig view start run → Ends start run h
     ends start [] h is leads = record { now = h; keeps = same_has h; is = is; tells = head_own start h is }
     ends start (x ∷ run) h is leads =
         let first = goes x.event start x.behind h is leads.0 in
@@ -257,12 +257,12 @@ module _ {D : Type 0} (dig : List ℕ → List ℕ) (view : D → DiskView) (nam
               (λ more. ⊎_elim (λ by. rest.keeps t (first.tells t by)) (λ later. rest.tells t later) more) told;
         }
 
-    begins : (start : State D (Service D H g k)) (h : History) → Begins dig view name h start → IsAt start h
+    begins : (start : ServiceState D (Service D H g k)) (h : History) → BeginsHistory dig view name h start → IsAt start h
     begins (Closed disk) h is = holds disk (λ i. StandsFor dig i name h) h (λ c stands. (h, stands, same_has h)) is
     begins (Open service) h is = opened_at service h is.0 is.1
 
-    pub one_authenticator : (start : State D (Service D H g k)) (h : History) (run : List (Happening D (Service D H g k))) → Begins dig view name h start → IsRunFrom dig view start run
-        → HasOneAuthenticator dig view name h (IsPublished dig start run) (disk_at (end_of start run))
+    pub one_authenticator : (start : ServiceState D (Service D H g k)) (h : History) (run : List (ServiceHappening D (Service D H g k))) → BeginsHistory dig view name h start → IsServiceRunFrom dig view start run
+        → HasOneAuthenticator dig view name h (IsServicePublished dig start run) (disk_at_state (end_of_run start run))
     one_authenticator start h run is leads =
         let end = ends start run h (begins start h is) leads in
-        one_for h (IsPublished dig start run) (disk_at (end_of start run)) end.now (wavers_at (end_of start run) end.now end.is) end.keeps end.tells
+        one_for h (IsServicePublished dig start run) (disk_at_state (end_of_run start run)) end.now (wavers_at (end_of_run start run) end.now end.is) end.keeps end.tells

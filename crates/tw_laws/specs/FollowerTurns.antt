@@ -8,7 +8,7 @@ use Rattle.tw_words.specs.declared.command.Command.TheVariants.{Offer}
 use Rattle.tw_app.specs.declared.outcome.Outcome.{Outcome}
 use Rattle.tw_app.specs.declared.outcome.Outcome.TheVariants.{Made}
 use Rattle.tw_app.specs.Around.{Around}
-use Rattle.tw_app.specs.Statuses.{AreOf}
+use Rattle.tw_app.specs.Statuses.{AreWordsOf}
 use Rattle.tw_laws.specs.Turns.{IsRunOn}
 
 -- What comes to a disk, as in `Turns`, but for services, which a list of heads doesn't serve.
@@ -19,38 +19,38 @@ pub data Run (D : Type 0) : Type 0 where
   Stopped : Around D → (status : ℕ) → Outcome → Run D
 
 -- a run, and the disk that is there behind it
-pub record Behind (D : Type 0) : Type 0 where
+pub record RunBehind (D : Type 0) : Type 0 where
   pub run : Run D
   pub left : D
 
 module _ {D : Type 0} (view : D → DiskView) where
   -- The run leads from one disk to the next: to the one that it hands back, or, where it or its machine stopped later, to one that holds images
   -- of that moment alone; where it stopped before its text, images of some moments since its start.
-  abbrev pub Leads : Run D → (disk left : D) → Type 0
-  Leads (Ran around status outcome) disk left =
+  abbrev pub LeadsByRun : Run D → (disk left : D) → Type 0
+  LeadsByRun (Ran around status outcome) disk left =
       IsRunOn view disk around status outcome × ((left ≡ around.outside.disk.after) ⊎ HoldsOnly view (view around.outside.disk.after).may_leave left)
-  Leads (Stopped around status outcome) disk left =
+  LeadsByRun (Stopped around status outcome) disk left =
       IsRunOn view disk around status outcome × HoldsOnly view ((view around.outside.disk.after).left_since (view disk).moment) left
 
-  abbrev pub AreRunsFrom : D → List (Behind D) → Type 0
+  abbrev pub AreRunsFrom : D → List (RunBehind D) → Type 0
   AreRunsFrom disk [] = Unit {0}
-  AreRunsFrom disk (x ∷ runs) = Leads x.run disk x.left × AreRunsFrom x.left runs
+  AreRunsFrom disk (x ∷ runs) = LeadsByRun x.run disk x.left × AreRunsFrom x.left runs
 
 -- the head is told: it is that of the line which `offer` writes
-abbrev pub IsToldBy : Command → Outcome → Thread → Type 0
-IsToldBy (Offer file) (Made thread) t = t ≡ thread
-IsToldBy command outcome t = ⊥
+abbrev pub IsToldByCommand : Command → Outcome → Thread → Type 0
+IsToldByCommand (Offer file) (Made thread) t = t ≡ thread
+IsToldByCommand command outcome t = ⊥
 
 abbrev pub IsToldIn : {D : Type 0} → Run D → Thread → Type 0
-IsToldIn (Ran around status outcome) t = AreOf (λ command. IsToldBy command outcome t) around.words
+IsToldIn (Ran around status outcome) t = AreWordsOf (λ command. IsToldByCommand command outcome t) around.words
 IsToldIn (Stopped around status outcome) t = ⊥
 
 -- in one of the runs
-abbrev pub IsTold : {D : Type 0} → List (Behind D) → Thread → Type 0
-IsTold [] t = ⊥
-IsTold (x ∷ runs) t = IsToldIn x.run t ⊎ IsTold runs t
+abbrev pub IsToldInRuns : {D : Type 0} → List (RunBehind D) → Thread → Type 0
+IsToldInRuns [] t = ⊥
+IsToldInRuns (x ∷ runs) t = IsToldIn x.run t ⊎ IsToldInRuns runs t
 
 -- the disk behind all of them
-abbrev pub last_of : {D : Type 0} → D → List (Behind D) → D
-last_of disk [] = disk
-last_of disk (x ∷ runs) = last_of x.left runs
+abbrev pub disk_behind_runs : {D : Type 0} → D → List (RunBehind D) → D
+disk_behind_runs disk [] = disk
+disk_behind_runs disk (x ∷ runs) = disk_behind_runs x.left runs

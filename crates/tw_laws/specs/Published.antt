@@ -20,7 +20,7 @@ use Rattle.tw_service.specs.Machine.Reply.{OfBytes, OfThread, OfReceipt, OfNumbe
 use Rattle.tw_skipproof.specs.declared.existence.Part.{Part}
 use Rattle.tw_tmap.specs.declared.map_file.HighFile.{HighFile}
 use Rattle.tw_tmap.specs.declared.map_file.LowFile.{LowFile}
-use Rattle.tw_tmap.specs.Checking.{low_part}
+use Rattle.tw_tmap.specs.Checking.{low_file_part}
 use Rattle.tw_tmap.specs.MapFiles.{high_layout, low_layout}
 
 -- the thread of the step before the one that the part opens
@@ -38,7 +38,7 @@ own_threads (Linked p) = record { from = p.service; step = p.step; auth = p.auth
 
 -- those that stand in the map files of a service
 abbrev pub low_threads : LowFile → List Thread
-low_threads f = option_map_or (λ p. thread_before (low_part f p) ∷ []) f.shown []
+low_threads f = option_map_or (λ p. thread_before (low_file_part f p) ∷ []) f.shown []
 
 abbrev pub high_threads : HighFile → List Thread
 high_threads f = record { from = f.service; step = f.top - 1; auth = f.opening.prev } ∷ []

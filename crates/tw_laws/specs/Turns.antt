@@ -7,16 +7,16 @@ use Rattle.tw_disk.specs.Disk.{DiskView}
 use Rattle.tw_disk.specs.Image.{Image}
 use Rattle.tw_service.specs.declared.service.Service.{Service}
 use Rattle.tw_service.specs.Stands.{no_history}
-use Rattle.tw_diskcmd.specs.Disks.{Stands}
+use Rattle.tw_diskcmd.specs.Disks.{StandsAtHistory}
 use Rattle.tw_words.specs.CommandLine.{command_of}
 use Rattle.tw_words.specs.declared.command.Command.TheVariants.{Init}
 use Rattle.tw_app.specs.declared.outcome.Outcome.{Outcome}
 use Rattle.tw_app.specs.declared.outcome.Outcome.TheVariants.{Made}
 use Rattle.tw_app.specs.Around.{Around}
-use Rattle.tw_app.specs.Running.{EndsAs}
-use Rattle.tw_app.specs.Statuses.{AreOf}
-use Rattle.tw_laws.specs.Runs.{Happening, HasOneAuthenticator, HoldsOnly, IsPublished, IsRunFrom, disk_at, end_of}
-use Rattle.tw_laws.specs.Runs.State.{Closed}
+use Rattle.tw_app.specs.Running.{EndsAsOutcome}
+use Rattle.tw_app.specs.Statuses.{AreWordsOf}
+use Rattle.tw_laws.specs.Runs.{HasOneAuthenticator, HoldsImagesOnly, IsServicePublished, IsServiceRunFrom, ServiceHappening, disk_at_state, end_of_run}
+use Rattle.tw_laws.specs.Runs.ServiceState.{Closed}
 use Rattle.tw_laws.specs.Publishing.{IsOutBy}
 
 -- What comes to a disk. A run of the program writes when its work on the disk is done: that it is stopped before that means that nothing is
@@ -27,21 +27,21 @@ pub data Turn (D S : Type 0) : Type 0 where
   -- it is stopped in its work, or its machine is, and nothing is out: status and outcome are those that it would have come to
   StopsBefore : Around D → (status : ℕ) → Outcome → Turn D S
   -- services are opened over the disk
-  Serves : List (Happening D S) → Turn D S
+  Serves : List (ServiceHappening D S) → Turn D S
 
 -- a turn, and the disk that is there behind it
-pub record Move (D S : Type 0) : Type 0 where
+pub record TurnBehind (D S : Type 0) : Type 0 where
   pub turn : Turn D S
   pub left : D
 
 -- the turns are of services as this one
-abbrev pub AreTurnsOf : {D S : Type 0} → S → List (Move D S) → Type 0
+abbrev pub AreTurnsOf : {D S : Type 0} → S → List (TurnBehind D S) → Type 0
 AreTurnsOf service moves = Unit {0}
 
 -- a run of the program on this disk
 pub record IsRunOn {D : Type 0} (view : D → DiskView) (disk : D) (around : Around D) (status : ℕ) (outcome : Outcome) : Type 0 where
   pub on : around.outside.disk.before ≡ disk
-  pub ends : EndsAs view around status outcome
+  pub ends : EndsAsOutcome view around status outcome
 
 module _ {D H : Type 0} {g : _} {k : _} (view : D → DiskView) where
   -- The turn leads from one disk to the next: to the one that the run hands back, or, where it or its machine stopped later, to one that
@@ -49,12 +49,12 @@ module _ {D H : Type 0} {g : _} {k : _} (view : D → DiskView) where
   -- one image, all of it stable, and a program that was killed may leave writes pending.
   abbrev pub LeadsTo : Turn D (Service D H g k) → (disk left : D) → Type 0
   LeadsTo (Runs around status outcome) disk left =
-      IsRunOn view disk around status outcome × ((left ≡ around.outside.disk.after) ⊎ HoldsOnly view (view around.outside.disk.after).may_leave left)
+      IsRunOn view disk around status outcome × ((left ≡ around.outside.disk.after) ⊎ HoldsImagesOnly view (view around.outside.disk.after).may_leave left)
   LeadsTo (StopsBefore around status outcome) disk left =
-      IsRunOn view disk around status outcome × HoldsOnly view ((view around.outside.disk.after).left_since (view disk).moment) left
-  LeadsTo (Serves run) disk left = IsRunFrom sha256 view (Closed disk) run × (left ≡ disk_at (end_of (Closed disk) run))
+      IsRunOn view disk around status outcome × HoldsImagesOnly view ((view around.outside.disk.after).left_since (view disk).moment) left
+  LeadsTo (Serves run) disk left = IsServiceRunFrom sha256 view (Closed disk) run × (left ≡ disk_at_state (end_of_run (Closed disk) run))
 
-  abbrev pub AreTurnsFrom : D → List (Move D (Service D H g k)) → Type 0
+  abbrev pub AreTurnsFrom : D → List (TurnBehind D (Service D H g k)) → Type 0
   AreTurnsFrom disk [] = Unit {0}
   AreTurnsFrom disk (x ∷ moves) = LeadsTo x.turn disk x.left × AreTurnsFrom x.left moves
 
@@ -64,32 +64,32 @@ module _ {D H : Type 0} {g : _} {k : _} (view : D → DiskView) where
   IsMaking name _ = ⊥
 
   -- so is the first one
-  abbrev pub IsMadeFirst : (name : List ℕ) → List (Move D (Service D H g k)) → Type 0
+  abbrev pub IsMadeFirst : (name : List ℕ) → List (TurnBehind D (Service D H g k)) → Type 0
   IsMadeFirst name [] = ⊥
   IsMadeFirst name (x ∷ moves) = IsMaking name x.turn
 
   -- the disk stands for this first history for good; or the first history has no step, and the first turn makes its service on a disk that
   -- tells its content
-  abbrev pub StartsAs : (first : History) → D → List (Move D (Service D H g k)) → Type 0
+  abbrev pub StartsAs : (first : History) → D → List (TurnBehind D (Service D H g k)) → Type 0
   StartsAs first disk moves =
-      Stands view disk first ⊎ ((image : Image) × ((view disk).content ≡ Some image) × (first ≡ no_history first.name) × IsMadeFirst first.name moves)
+      StandsAtHistory view disk first ⊎ ((image : Image) × ((view disk).content ≡ Some image) × (first ≡ no_history first.name) × IsMadeFirst first.name moves)
 
 -- the thread is published in the turn: by the text of what a run came to, or by a service
 abbrev pub IsOutIn : {D H : Type 0} {g : _} {k : _} → Turn D (Service D H g k) → D → Thread → Type 0
-IsOutIn (Runs around status outcome) disk t = AreOf (λ command. IsOutBy command outcome t) around.words
+IsOutIn (Runs around status outcome) disk t = AreWordsOf (λ command. IsOutBy command outcome t) around.words
 IsOutIn (StopsBefore around status outcome) disk t = ⊥
-IsOutIn (Serves run) disk t = IsPublished sha256 (Closed disk) run t
+IsOutIn (Serves run) disk t = IsServicePublished sha256 (Closed disk) run t
 
 -- in one of the turns
-abbrev pub IsOut : {D H : Type 0} {g : _} {k : _} → D → List (Move D (Service D H g k)) → Thread → Type 0
+abbrev pub IsOut : {D H : Type 0} {g : _} {k : _} → D → List (TurnBehind D (Service D H g k)) → Thread → Type 0
 IsOut disk [] t = ⊥
 IsOut disk (x ∷ moves) t = IsOutIn x.turn disk t ⊎ IsOut x.left moves t
 
 -- the disk behind all turns
-abbrev pub last_disk : {D S : Type 0} → D → List (Move D S) → D
+abbrev pub last_disk : {D S : Type 0} → D → List (TurnBehind D S) → D
 last_disk disk [] = disk
 last_disk disk (x ∷ moves) = last_disk x.left moves
 
 -- of the first history's threads and those published there is one of each step at most, and what the last disk may hold has all of them
-abbrev pub HasOne : {D H : Type 0} {g : _} {k : _} → (view : D → DiskView) → (first : History) → D → List (Move D (Service D H g k)) → Type 0
+abbrev pub HasOne : {D H : Type 0} {g : _} {k : _} → (view : D → DiskView) → (first : History) → D → List (TurnBehind D (Service D H g k)) → Type 0
 HasOne view first disk moves = HasOneAuthenticator sha256 view first.name first (IsOut disk moves) (last_disk disk moves)

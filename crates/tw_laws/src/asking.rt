@@ -3,7 +3,7 @@
 ghost use Rattle.tw_service.specs.Machine.Call.{Ask};
 ghost use Rattle.tw_service.specs.Machine.Reply.{OfBytes};
 ghost use Rattle.tw_base.specs.history.Questions.{MayAsk};
-ghost use Rattle.tw_laws.specs.Runs.{IsAnswered, replied};
+ghost use Rattle.tw_laws.specs.Runs.{IsCallAnswered, replied};
 
 use tw_answers::Refusal;
 use tw_base::{Bytes, Hasher, Question};
@@ -17,7 +17,7 @@ pub fn ask<D: Disk, H: Hasher>(
 ) -> Result<Bytes, Refusal>
     requires { MayAsk question.now }
     // Asking a question is a call of a run.
-    ensures { IsAnswered H.dig D.view (Ask question.now) (replied (λ bytes. OfBytes bytes) result) service.old service.new }
+    ensures { IsCallAnswered H.dig D.view (Ask question.now) (replied (λ bytes. OfBytes bytes) result) service.old service.new }
 {
     service.ask(question)
 }

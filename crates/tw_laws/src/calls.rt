@@ -13,7 +13,7 @@ ghost use Rattle.tw_service.specs.Machine.Call.{Append, Receive};
 ghost use Rattle.tw_service.specs.Machine.Reply.{OfReceipt, OfThread};
 ghost use Rattle.tw_service.specs.Serves.{Serves, disk_of};
 ghost use Rattle.tw_service.specs.Stands.{StandsFor, no_history};
-ghost use Rattle.tw_laws.specs.Runs.{IsAnswered, IsOpenedAs, StaysAs, replied};
+ghost use Rattle.tw_laws.specs.Runs.{IsCallAnswered, IsServiceOpened, StaysAs, replied};
 
 use std::alloc::Global;
 use tw_answers::Refusal;
@@ -41,7 +41,7 @@ pub fn init<D: Disk, H: Hasher>(
 /// Opens the service that a disk holds, by `Service::open`, with its answers.
 pub fn open<D: Disk, H: Hasher>(alloc: Global, disk: D) -> Result<Service<D, H>, (D, StoreFault)>
     // Opening a disk leads to the service of the history that it reads as, or leaves the disk as it was.
-    ensures { MatchResult result (λ s. IsOpenedAs H.dig D.view disk s) (λ e. StaysAs D.view disk e.0) }
+    ensures { MatchResult result (λ s. IsServiceOpened H.dig D.view disk s) (λ e. StaysAs D.view disk e.0) }
 {
     Service::<D, H>::open(alloc, disk)
 }
@@ -60,7 +60,7 @@ pub fn append<D: Disk, H: Hasher>(
     events: &EventList,
 ) -> Result<Thread, Refusal>
     // Adding a step is a call of a run.
-    ensures { IsAnswered H.dig D.view (Append events.now None) (replied (λ t. OfThread t) result) service.old service.new }
+    ensures { IsCallAnswered H.dig D.view (Append events.now None) (replied (λ t. OfThread t) result) service.old service.new }
 {
     service.append(events)
 }
@@ -73,7 +73,7 @@ pub fn append_at<D: Disk, H: Hasher>(
 ) -> Result<Thread, Refusal>
     requires { time ≤ LAST_TIME }
     // Adding a step at a time is a call of a run.
-    ensures { IsAnswered H.dig D.view (Append events.now (Some time)) (replied (λ t. OfThread t) result) service.old service.new }
+    ensures { IsCallAnswered H.dig D.view (Append events.now (Some time)) (replied (λ t. OfThread t) result) service.old service.new }
 {
     service.append_at(events, time)
 }
@@ -87,7 +87,7 @@ pub fn receive<D: Disk, H: Hasher>(
     ensures malformed { SpellsNothing message_layout bytes.now → IsErr result × (service.new ≡ service.old) }
     // Receiving a message is a call of a run, or finds no memory to read it, and changes nothing.
     ensures message { (m : Message) → Spells message_layout bytes.now m → ((result ≡ Err NoMemory) × (service.new ≡ service.old))
-        ⊎ IsAnswered H.dig D.view (Receive m None) (replied (λ r. OfReceipt r) result) service.old service.new }
+        ⊎ IsCallAnswered H.dig D.view (Receive m None) (replied (λ r. OfReceipt r) result) service.old service.new }
 {
     service.receive(bytes)
 }
@@ -103,7 +103,7 @@ pub fn receive_at<D: Disk, H: Hasher>(
     ensures malformed { SpellsNothing message_layout bytes.now → IsErr result × (service.new ≡ service.old) }
     // Receiving a message at a time is a call of a run, or finds no memory to read it, and changes nothing.
     ensures message { (m : Message) → Spells message_layout bytes.now m → ((result ≡ Err NoMemory) × (service.new ≡ service.old))
-        ⊎ IsAnswered H.dig D.view (Receive m (Some time)) (replied (λ r. OfReceipt r) result) service.old service.new }
+        ⊎ IsCallAnswered H.dig D.view (Receive m (Some time)) (replied (λ r. OfReceipt r) result) service.old service.new }
 {
     service.receive_at(bytes, time)
 }

@@ -5,7 +5,7 @@ ghost use Rattle.tw_follow.specs.DiskRuns.{KeepsAll};
 ghost use Rattle.tw_follow.specs.HeadLists.{Kept};
 ghost use Rattle.tw_follow.specs.Stands.{StandsFor};
 ghost use Rattle.tw_pages.specs.Runs.{HoldsOnly};
-ghost use Rattle.tw_laws.specs.FollowerTurns.{AreRunsFrom, IsTold, last_of};
+ghost use Rattle.tw_laws.specs.FollowerTurns.{AreRunsFrom, IsToldInRuns, disk_behind_runs};
 
 use tw_disk::Disk;
 
@@ -17,5 +17,5 @@ pub fn followed_laws<D: Disk>()
     // list to which some moves lead from the first one, whose steps rise, and which has the head of each line that `offer` wrote,
     // be it written whole or in part.
     ensures runs { (disk : D) (first : Kept) (runs : _) → HoldsOnly D.view (λ i. StandsFor sha256 i first) disk → AreRunsFrom D.view disk runs
-        → HoldsOnly D.view (KeepsAll sha256 first (IsTold runs)) (last_of disk runs) }
+        → HoldsOnly D.view (KeepsAll sha256 first (IsToldInRuns runs)) (disk_behind_runs disk runs) }
 {}

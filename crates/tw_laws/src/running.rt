@@ -5,7 +5,7 @@ ghost use Rattle.tw_base.specs.kinds.Lists.{Each};
 ghost use Rattle.tw_outside.specs.Asked.{asked};
 ghost use Rattle.tw_words.specs.CommandLine.{command_of};
 ghost use Rattle.tw_app.specs.Around.{around, outside, span};
-ghost use Rattle.tw_app.specs.Commands.{files_of};
+ghost use Rattle.tw_app.specs.Commands.{command_files};
 ghost use Rattle.tw_app.specs.declared.outcome.Outcome.{Outcome};
 ghost use Rattle.tw_laws.specs.Turns.{IsRunOn};
 
@@ -22,7 +22,7 @@ pub fn run_once<D: Disk, I: Inputs, S: Sink>(
     inputs: &mut I,
     out: &mut S,
 ) -> Ran<D>
-    requires { IfSome (command_of (map string_bytes words.now)) (λ command. Each (I.may_ask inputs.old) (files_of command)) }
+    requires { IfSome (command_of (map string_bytes words.now)) (λ command. Each (I.may_ask inputs.old) (command_files command)) }
     // Each run of the program comes to an outcome, and is one on the disk that it was handed, which it hands back.
     ensures { (outcome : Outcome) × IsRunOn D.view disk (around (map string_bytes words.now)
         (outside (asked (I.told inputs.old) (I.faults inputs.old) (I.faults inputs.new)) disk result.disk)

@@ -2,7 +2,7 @@
 
 ghost use Rattle.std.specs.Prelude.{ℕ, List};
 ghost use Rattle.tw_base.specs.history.History.{History};
-ghost use Rattle.tw_laws.specs.Runs.{Begins, HasOneAuthenticator, IsPublished, IsRunFrom, IsStateOf, disk_at, end_of};
+ghost use Rattle.tw_laws.specs.Runs.{BeginsHistory, HasOneAuthenticator, IsServicePublished, IsServiceRunFrom, IsStateOf, disk_at_state, end_of_run};
 
 use tw_base::Hasher;
 use tw_disk::Disk;
@@ -18,6 +18,6 @@ pub fn run_laws<D: Disk, H: Hasher>(service: &Service<D, H>)
     // published: a thread that `head` tells at some moment, that stands in an answer, or that is one of an exported
     // history. At the end the disk tells what it reads as; that, and each image that a crash may then leave, stands for a
     // history of that name which has all of them.
-    ensures runs { (start : _) (name : List ℕ) (h : History) (run : _) → IsStateOf service.now start → Begins H.dig D.view name h start →
-        IsRunFrom H.dig D.view start run → HasOneAuthenticator H.dig D.view name h (IsPublished H.dig start run) (disk_at (end_of start run)) }
+    ensures runs { (start : _) (name : List ℕ) (h : History) (run : _) → IsStateOf service.now start → BeginsHistory H.dig D.view name h start →
+        IsServiceRunFrom H.dig D.view start run → HasOneAuthenticator H.dig D.view name h (IsServicePublished H.dig start run) (disk_at_state (end_of_run start run)) }
 {}

@@ -3,7 +3,7 @@
 ghost use Rattle.std.specs.Prelude.{ℕ};
 ghost use Rattle.tw_generate.specs.Coming.{IsLedTo};
 ghost use Rattle.tw_generate.specs.Schedules.{Trio, schedule};
-ghost use Rattle.tw_laws.specs.ScheduledLines.{IsRunOf};
+ghost use Rattle.tw_laws.specs.ScheduledLines.{IsScriptRunOf};
 
 use tw_base::Hasher;
 use tw_generate::generate_laws;
@@ -16,7 +16,7 @@ pub fn scheduled_laws<H: Hasher>()
     // Where the schedule of a number, of up to 10,000 rounds, leads to three histories, lines of a script lead to a world of these
     // histories, and none of them is refused: lines that make the three services, and for each act the line that appends its
     // events, or those that send a message and deliver it.
-    ensures runs { (number rounds : ℕ) (t : Trio) → IsLedTo H.dig number rounds t → IsRunOf H.dig (schedule number rounds) t }
+    ensures runs { (number rounds : ℕ) (t : Trio) → IsLedTo H.dig number rounds t → IsScriptRunOf H.dig (schedule number rounds) t }
 {
     // By the laws of schedules, of worlds, and of the messages of histories.
     generate_laws::<H>();

@@ -21,7 +21,7 @@ ghost use Rattle.tw_msg.specs.declared.message.Message.{Message};
 ghost use Rattle.tw_msg.specs.declared.receipt.Receipt.{Receipt};
 ghost use Rattle.tw_msg.specs.HistoryMessages.{IsMessageOf, IsReceiptOf};
 ghost use Rattle.tw_archive.specs.Archives.{MayArchive};
-ghost use Rattle.tw_archive.specs.Judging.{judged, kept_auth, last_of, last_step};
+ghost use Rattle.tw_archive.specs.Judging.{judged_message, kept_auth, last_entry_step, last_of_peer};
 ghost use Rattle.tw_archive.specs.declared.judgement.Judgement.TheVariants.{Known};
 ghost use Rattle.tw_skiplist.specs.declared.head.Head.{Head};
 ghost use Rattle.tw_skiplist.specs.Keeping.{Keeps, archive_at};
@@ -35,7 +35,7 @@ ghost use Rattle.tw_base.specs.declared.history.question.Question.{Question};
 ghost use Rattle.tw_base.specs.history.Questions.{HasNames, MayAsk};
 ghost use Rattle.tw_service.specs.Questions.{AreInOrder, found_bytes, pages_refusal};
 ghost use Rattle.tw_service.specs.declared.receiving.Reception.TheVariants.{Archive, Known as ReceptionKnown};
-ghost use Rattle.tw_service.specs.EventSteps.{with_events};
+ghost use Rattle.tw_service.specs.EventSteps.{with_events_at};
 ghost use Rattle.tw_service.specs.Finds.{found_archived, found_receipt, found_reception, found_thread};
 ghost use Rattle.tw_service.specs.Machine.{IsStepOf, Makes, MakesLink, last_thread, receipt_by, received_as};
 ghost use Rattle.tw_service.specs.Machine.Call.{Receive};
@@ -77,7 +77,7 @@ pub fn finding_laws<H: Hasher>()
     // history with one more step of these events; so no page met is bad.
     ensures thread { (ps : Image) (h : History) (r : RootRecord) (events : List (List ℕ)) (time : Option ℕ) → KeepsWhole H.dig ps h r → 4 + length ps < 2 ^ 47 → MayRecord events →
         IsTimeWithinLimits time → append_refusal false r.head.step r.time events time ≡ None → r.head.step < LAST_STEP →
-        found_thread H.dig ps h.name r.head false r.time events time r.archive ≡ Is (Ok (last_thread H.dig (with_events h events time))) }
+        found_thread H.dig ps h.name r.head false r.time events time r.archive ≡ Is (Ok (last_thread H.dig (with_events_at h events time))) }
     // Where they keep a history, the path from its last step down to each earlier one is found, and is the history's.
     ensures path { (ps : Image) (h : History) (head : Head) (since : ℕ) → Keeps H.dig ps h head → since ≤ head.step →
         (path : Path) × (path_down H.dig ps head since ≡ Is (Ok path)) × IsPathOf H.dig h path.links (length h.steps) since }
@@ -92,10 +92,10 @@ pub fn finding_laws<H: Hasher>()
     // Where they keep a history whole, what becomes of a message is found as by the history's archive and times; so no page met
     // is bad.
     ensures received { (ps : Image) (h : History) (r : RootRecord) (m : Message) (time : Option ℕ) → KeepsWhole H.dig ps h r →
-        found_reception H.dig ps h.name r.head r.archive r.time m time ≡ Is (reception (length h.steps) (greatest_time h) time (judged H.dig (entries (tree h (length h.steps))) m)) }
+        found_reception H.dig ps h.name r.head r.archive r.time m time ≡ Is (reception (length h.steps) (greatest_time h) time (judged_message H.dig (entries (tree h (length h.steps))) m)) }
     // Where the history's archive has the message's thread, the receipt that is found is that of the step that received it.
     ensures receipt { (ps : Image) (h : History) (r : RootRecord) (m : Message) (archived : ℕ) → KeepsWhole H.dig ps h r →
-        judged H.dig (entries (tree h (length h.steps))) m ≡ Known archived → found_receipt H.dig ps h.name r.head archived m.thread ≡ Is (Ok (receipt_by H.dig h archived m.thread)) }
+        judged_message H.dig (entries (tree h (length h.steps))) m ≡ Known archived → found_receipt H.dig ps h.name r.head archived m.thread ≡ Is (Ok (receipt_by H.dig h archived m.thread)) }
     // Where the history is sound and may archive a thread, a receipt of the next step is found, whatever pages stand behind the
     // others; so no page met is bad.
     ensures archived { (ps : Image) (h : History) (r : RootRecord) (t : Thread) (time : Option ℕ) (tree_pages : Image) (grown : Root) → KeepsWhole H.dig ps h r → IsSound h →
@@ -130,8 +130,8 @@ pub fn receiving_laws<H: Hasher>()
     // archived, where the authenticator that is kept of that step is its history's, which has more steps, and where the table
     // has no refusal of a further step at that time.
     ensures accepts { (h peer : History) (since : ℕ) (m : Message) (time : Option ℕ) → IsSound h → peer.name ≢ h.name → IsMessageOf H.dig peer since m →
-        last_step (last_of (entries (tree h (length h.steps))) peer.name) ≡ since →
-        kept_auth H.dig peer.name (last_of (entries (tree h (length h.steps))) peer.name) ≡ auth H.dig peer since → since < length peer.steps →
+        last_entry_step (last_of_peer (entries (tree h (length h.steps))) peer.name) ≡ since →
+        kept_auth H.dig peer.name (last_of_peer (entries (tree h (length h.steps))) peer.name) ≡ auth H.dig peer since → since < length peer.steps →
         archive_refusal (length h.steps) (greatest_time h) time ≡ None → received_as H.dig h m time ≡ Archive }
     // A message of another service whose thread a sound history's archive has is known, at whatever time, whatever threads of its
     // service came later, and though there is no further step.
@@ -148,5 +148,5 @@ pub fn event_laws()
     // One more step of events, within the limits of a step and of a history, whose time, where it has one, isn't below the
     // greatest one so far, keeps a sound history sound.
     ensures { (h : History) (events : List (List ℕ)) (time : Option ℕ) → IsSound h → MayRecord events → IsTimeWithinLimits time →
-        clock_refusal (greatest_time h) time ≡ None → length h.steps < LAST_STEP → IsSound (with_events h events time) }
+        clock_refusal (greatest_time h) time ≡ None → length h.steps < LAST_STEP → IsSound (with_events_at h events time) }
 {}

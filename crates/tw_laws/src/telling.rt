@@ -5,7 +5,7 @@ ghost use Rattle.tw_msg.specs.Messages.{message_bytes};
 ghost use Rattle.tw_base.specs.declared.history.question.Question.TheVariants.{ThreadOut};
 ghost use Rattle.tw_service.specs.Machine.Call.{Ask, CountSteps, TellHead, TellName};
 ghost use Rattle.tw_service.specs.Machine.Reply.{OfBytes, OfName, OfNumber, OfThread};
-ghost use Rattle.tw_laws.specs.Runs.{IsAnswered, IsTold, replied};
+ghost use Rattle.tw_laws.specs.Runs.{IsCallAnswered, IsToldUnchanged, replied};
 
 use tw_answers::Refusal;
 use tw_base::{Hasher, Name, Thread};
@@ -16,7 +16,7 @@ use tw_service::Service;
 /// Tells the number of steps, by `Service::steps`.
 pub fn steps<D: Disk, H: Hasher>(service: &Service<D, H>) -> u64
     // Telling the number of steps is an event that changes nothing, after a disk fault too.
-    ensures { IsTold CountSteps (Ok (OfNumber result)) service.now }
+    ensures { IsToldUnchanged CountSteps (Ok (OfNumber result)) service.now }
 {
     service.steps()
 }
@@ -24,7 +24,7 @@ pub fn steps<D: Disk, H: Hasher>(service: &Service<D, H>) -> u64
 /// Tells the thread of the last step, by `Service::head`.
 pub fn head<D: Disk, H: Hasher>(service: &Service<D, H>) -> Thread
     // Telling the thread of the last step is an event that changes nothing, after a disk fault too.
-    ensures { IsTold TellHead (Ok (OfThread result)) service.now }
+    ensures { IsToldUnchanged TellHead (Ok (OfThread result)) service.now }
 {
     service.head()
 }
@@ -32,7 +32,7 @@ pub fn head<D: Disk, H: Hasher>(service: &Service<D, H>) -> Thread
 /// Tells the name, by `Service::name`.
 pub fn name<D: Disk, H: Hasher>(service: &Service<D, H>) -> Name
     // Telling the name is an event that changes nothing, after a disk fault too.
-    ensures { IsTold TellName (Ok (OfName result)) service.now }
+    ensures { IsToldUnchanged TellName (Ok (OfName result)) service.now }
 {
     service.name()
 }
@@ -43,7 +43,7 @@ pub fn thread_out<D: Disk, H: Hasher>(
     since: u64,
 ) -> Result<Message, Refusal>
     // Asking for a message is a call of a run.
-    ensures { IsAnswered H.dig D.view (Ask (ThreadOut since)) (replied (λ m. OfBytes (message_bytes m)) result) service.old service.new }
+    ensures { IsCallAnswered H.dig D.view (Ask (ThreadOut since)) (replied (λ m. OfBytes (message_bytes m)) result) service.old service.new }
 {
     service.thread_out(since)
 }

@@ -8,7 +8,7 @@ use Rattle.std.proofs.lemmas.List.Folds.{list_any_at}
 use Rattle.tw_base.specs.declared.kinds.limits.TheConstants.{LAST_STEP, MOST_ANCHORS}
 use Rattle.tw_base.specs.declared.history.thread.Thread.{Thread}
 use Rattle.tw_text.specs.Words.{is_number, word_number, is_number_within, is_digest}
-use Rattle.tw_msg.specs.AnchorsFile.{anchor, line_may_follow, is_good, line_at, AllGood, IsFirstBadLine, is_anchor, is_of, name_word, step_word, digest_word}
+use Rattle.tw_msg.specs.AnchorsFile.{anchor_on, line_may_follow, is_good, line_at, AllGood, IsFirstBadLine, is_anchor, is_of, name_word, step_word, digest_word}
 use Rattle.tw_base.specs.kinds.Names.{is_name_text}
 
 -- ---- tests
@@ -29,7 +29,7 @@ not_true true never = absurd (never refl)
 
 -- so many lines are read, each of them good, and these remain
 pub record IsRead (all remaining : List (List ℕ)) (anchors : List Thread) : Type 0 where
-  pub so_far : anchors ≡ map anchor (take (length anchors) all)
+  pub so_far : anchors ≡ map anchor_on (take (length anchors) all)
   pub rest : remaining ≡ drop (length anchors) all
   pub good : (i : ℕ) → i < length anchors → is_good all i ≡ true
   pub few : length anchors ≤ MOST_ANCHORS
@@ -58,20 +58,20 @@ good-next all remaining line anchors answer before follows =
 
 few-may_follow : (anchors : List Thread) (line : List ℕ) → line_may_follow anchors line ≡ true → length anchors < MOST_ANCHORS
 few-may_follow anchors line follows =
-    let anchor_too = both (leb (suc (length anchors)) MOST_ANCHORS && is_anchor line) (not (list_any (is_of (anchor line).from) anchors)) follows in
+    let anchor_too = both (leb (suc (length anchors)) MOST_ANCHORS && is_anchor line) (not (list_any (is_of (anchor_on line).from) anchors)) follows in
     leb-true (suc (length anchors)) MOST_ANCHORS (both (leb (suc (length anchors)) MOST_ANCHORS) (is_anchor line) anchor_too.0).0
 
 pub read_on : (all remaining : List (List ℕ)) (line : List ℕ) (anchors : List Thread) → IsRead all (line ∷ remaining) anchors →
-    line_may_follow anchors line ≡ true → IsRead all remaining (anchors ++ anchor line ∷ [])
+    line_may_follow anchors line ≡ true → IsRead all remaining (anchors ++ anchor_on line ∷ [])
 read_on all remaining line anchors before follows =
     let here = next all remaining line (length anchors) before.rest in
     let n = length anchors in
-    let count : length (anchors ++ anchor line ∷ []) ≡ suc n = omega (arith, length-append anchors (anchor line ∷ [])) in
+    let count : length (anchors ++ anchor_on line ∷ []) ≡ suc n = omega (arith, length-append anchors (anchor_on line ∷ [])) in
     let taken : take (suc n) all ≡ take n all ++ line ∷ [] = take-suc all n [] here.within ∙ ap (λ l. take n all ++ l ∷ []) here.here in
-    let mapped : map anchor (take (suc n) all) ≡ map anchor (take n all) ++ anchor line ∷ [] =
-    ap (map anchor) taken ∙ map-append anchor (take n all) (line ∷ []) in
+    let mapped : map anchor_on (take (suc n) all) ≡ map anchor_on (take n all) ++ anchor_on line ∷ [] =
+    ap (map anchor_on) taken ∙ map-append anchor_on (take n all) (line ∷ []) in
     record {
-      so_far = ap (λ found. found ++ anchor line ∷ []) before.so_far ∙ sym mapped ∙ ap (λ k. map anchor (take k all)) (sym count);
+      so_far = ap (λ found. found ++ anchor_on line ∷ []) before.so_far ∙ sym mapped ∙ ap (λ k. map anchor_on (take k all)) (sym count);
       rest = here.rest ∙ ap (λ k. drop k all) (sym count);
       good = λ i within. below_more (λ k. is_good all k ≡ true) n before.good (good-next all remaining line anchors true before follows) i
           (omega (arith, within, count));
@@ -80,7 +80,7 @@ read_on all remaining line anchors before follows =
 
 -- what is known once all lines are read
 pub record IsRead_through (all : List (List ℕ)) (anchors : List Thread) : Type 0 where
-  pub anchors_are : anchors ≡ map anchor all
+  pub anchors_are : anchors ≡ map anchor_on all
   pub good : AllGood all
   pub few : length anchors ≤ MOST_ANCHORS
 
@@ -90,35 +90,35 @@ all_read all anchors before =
     let sized : n ≡ length (take n all) = ap length before.so_far ∙ simp length-map in
     let whole : n ≡ length all = omega (arith, sized, length-take n all, ap length before.rest, length-drop n all) in
     record {
-      anchors_are = before.so_far ∙ ap (λ k. map anchor (take k all)) whole ∙ ap (map anchor) (take-length all);
+      anchors_are = before.so_far ∙ ap (λ k. map anchor_on (take k all)) whole ∙ ap (map anchor_on) (take-length all);
       good = λ i within. before.good i (omega (arith, whole, within));
       few = before.few;
     }
 
 -- a line that may follow has the service of none of the anchors
 other-may_follow : (anchors : List Thread) (line : List ℕ) (i : ℕ) (d : Thread) → line_may_follow anchors line ≡ true → i < length anchors →
-    (get_or anchors i d).from ≢ (anchor line).from
+    (get_or anchors i d).from ≢ (anchor_on line).from
 other-may_follow anchors line i d follows within same =
-    let of = is_of (anchor line).from in
+    let of = is_of (anchor_on line).from in
     let none = (both (leb (suc (length anchors)) MOST_ANCHORS && is_anchor line) (not (list_any of anchors)) follows).1 in
-    let equal : of (get_or anchors i d) ≡ true = (bytes_eq-Decides (get_or anchors i d).from (anchor line).from).1 same in
+    let equal : of (get_or anchors i d) ≡ true = (bytes_eq-Decides (get_or anchors i d).from (anchor_on line).from).1 same in
     let any : list_any of anchors ≡ true = list_any_at of anchors i d within equal in
     let wrong : false ≡ true = sym (ap not any) ∙ none in
     absurd (cc)
 
 -- good lines are of different services
-pub different-good : (all : List (List ℕ)) → AllGood all → AllPairs (λ a b. a.from ≢ b.from) (map anchor all)
+pub different-good : (all : List (List ℕ)) → AllGood all → AllPairs (λ a b. a.from ≢ b.from) (map anchor_on all)
 different-good all good i j d below within same =
-    let last : j < length all = omega (arith, within, length-map all anchor) in
+    let last : j < length all = omega (arith, within, length-map all anchor_on) in
     let first : i < length all = omega (arith, last, below) in
-    let sized : length (map anchor (take j all)) ≡ j = length-map (take j all) anchor ∙ length-take-le j all (omega (arith, last)) in
-    let inside : i < length (map anchor (take j all)) = omega (arith, sized, below) in
-    let earlier : get_or (map anchor (take j all)) i d ≡ get_or (map anchor all) i d =
-    get_or-map anchor (take j all) i [] d (omega (arith, below, length-take-le j all (omega (arith, last))))
-    ∙ ap anchor (get_or-take j all i [] below)
-    ∙ sym (get_or-map anchor all i [] d first) in
-    let later : get_or (map anchor all) j d ≡ anchor (line_at all j) = get_or-map anchor all j [] d last in
-    other-may_follow (map anchor (take j all)) (line_at all j) i d (good j last) inside
+    let sized : length (map anchor_on (take j all)) ≡ j = length-map (take j all) anchor_on ∙ length-take-le j all (omega (arith, last)) in
+    let inside : i < length (map anchor_on (take j all)) = omega (arith, sized, below) in
+    let earlier : get_or (map anchor_on (take j all)) i d ≡ get_or (map anchor_on all) i d =
+    get_or-map anchor_on (take j all) i [] d (omega (arith, below, length-take-le j all (omega (arith, last))))
+    ∙ ap anchor_on (get_or-take j all i [] below)
+    ∙ sym (get_or-map anchor_on all i [] d first) in
+    let later : get_or (map anchor_on all) j d ≡ anchor_on (line_at all j) = get_or-map anchor_on all j [] d last in
+    other-may_follow (map anchor_on (take j all)) (line_at all j) i d (good j last) inside
     (ap (λ t. t.from) earlier ∙ same ∙ ap (λ t. t.from) later)
 
 pub first_bad_line : (all remaining : List (List ℕ)) (line : List ℕ) (anchors : List Thread) → IsRead all (line ∷ remaining) anchors →

@@ -46,8 +46,8 @@ digest_word line = after_first is_blank (after_first is_blank line)
 abbrev pub is_anchor : List ℕ → Bool
 is_anchor line = is_name_text (name_word line) && is_number_within 1 LAST_STEP (step_word line) && is_digest (digest_word line)
 
-abbrev pub anchor : List ℕ → Thread
-anchor line = record {
+abbrev pub anchor_on : List ℕ → Thread
+anchor_on line = record {
   from = padded_name (name_word line);
   step = word_number (step_word line);
   auth = word_digest (digest_word line);
@@ -60,14 +60,14 @@ is_of service thread = bytes_eq thread.from service
 
 -- the line may follow those of these anchors: it is an anchor of another service, and one of at most 64
 abbrev pub line_may_follow : List Thread → (line : List ℕ) → Bool
-line_may_follow anchors line = nat_lt (length anchors) MOST_ANCHORS && is_anchor line && not (list_any (is_of (anchor line).from) anchors)
+line_may_follow anchors line = nat_lt (length anchors) MOST_ANCHORS && is_anchor line && not (list_any (is_of (anchor_on line).from) anchors)
 
 abbrev pub line_at : List (List ℕ) → ℕ → List ℕ
 line_at lines i = slice_index_or lines i []
 
 -- the line with this index may follow the lines before it
 abbrev pub is_good : List (List ℕ) → ℕ → Bool
-is_good lines i = line_may_follow (map anchor (take i lines)) (line_at lines i)
+is_good lines i = line_may_follow (map anchor_on (take i lines)) (line_at lines i)
 
 abbrev pub AllGood : List (List ℕ) → Type 0
 AllGood lines = (i : ℕ) → i < length lines → is_good lines i ≡ true

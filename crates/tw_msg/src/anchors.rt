@@ -2,7 +2,7 @@
 
 ghost use Rattle.std.specs.Prelude.{◌≡◌, ◌≢◌, ◌≤◌, ◌↔◌, length, map, IsTrue, IsSome, IfSome, IfOk, IfErr, ℕ};
 ghost use Rattle.std.specs.List.{AllPairs, list_any};
-ghost use Rattle.tw_msg.specs.AnchorsFile.{AllGood, anchor as anchor_of, is_anchor, is_of, lines, line_may_follow};
+ghost use Rattle.tw_msg.specs.AnchorsFile.{AllGood, anchor_on, is_anchor, is_of, lines, line_may_follow};
 ghost use Rattle.tw_text.specs.Words.{is_number_within, word_number};
 ghost use Rattle.tw_msg.specs.AnchorFaults.{TellsBadLine};
 
@@ -38,7 +38,7 @@ impl From<NoMemory> for AnchorFault {
 /// by one line feed, which the last may lack. An empty file has no anchors.
 pub fn read_anchors(alloc: Global, bytes: &[u8]) -> Result<Threads, AnchorFault>
     // A file of anchors is read as the threads of its lines.
-    ensures anchors { IfOk result (λ anchors. anchors ≡ map anchor_of (lines bytes.now)) }
+    ensures anchors { IfOk result (λ anchors. anchors ≡ map anchor_on (lines bytes.now)) }
     // It is read only where all its lines are good.
     ensures good { IfOk result (λ _. AllGood (lines bytes.now)) }
     // There are at most 64 anchors.
@@ -66,7 +66,7 @@ pub fn read_anchors(alloc: Global, bytes: &[u8]) -> Result<Threads, AnchorFault>
 /// The anchor of a line that may follow the lines of these.
 fn next_anchor(anchors: &[Thread], line: &[u8]) -> Option<Thread>
     ensures some { IsSome result ↔ IsTrue (line_may_follow anchors.now line.now) }
-    ensures value { IfSome result (λ anchor. anchor ≡ anchor_of line.now) }
+    ensures value { IfSome result (λ anchor. anchor ≡ anchor_on line.now) }
 {
     if anchors.len() as u64 >= MOST_ANCHORS {
         return None;
@@ -82,7 +82,7 @@ fn next_anchor(anchors: &[Thread], line: &[u8]) -> Option<Thread>
 /// The anchor of a line `NAME STEP HEX`.
 fn read_anchor(line: &[u8]) -> Option<Thread>
     ensures some { IsSome result ↔ IsTrue (is_anchor line.now) }
-    ensures value { IfSome result (λ anchor. anchor ≡ anchor_of line.now) }
+    ensures value { IfSome result (λ anchor. anchor ≡ anchor_on line.now) }
 {
     let (name, rest) = split_at_first(line, b' ');
     let (step, digest) = split_at_first(rest, b' ');

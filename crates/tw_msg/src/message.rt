@@ -71,7 +71,7 @@ pub fn read_message(alloc: Global, bytes: &[u8]) -> Result<Message, ReadFault>
 }
 
 /// Appends the message.
-#[tactic(auto, unfolding(crate::specs::Messages::message_codec, tw_skipproof::specs::Seen::paths))]
+#[tactic(auto, unfolding(crate::specs::Messages::message_codec, tw_skipproof::specs::Seen::paths_seen))]
 fn put_message(into: &mut Bytes, message: &Message) -> Result<(), NoMemory>
     ensures ok { OnOk result (into.new ≡ into.old ++ message_bytes message.now) }
     ensures fits { OnOk result (IsLinked message.now → message_codec.Fits message.now) }

@@ -11,8 +11,8 @@ use Rattle.tw_outside.specs.declared.mem_sink.MemSink.{MemSink}
 abbrev pub files_in : List StoredFile → Files
 files_in stored = from_entries (map (λ file. (string_bytes file.name, file.bytes.items)) stored)
 
-abbrev pub files_of : MemInputs → Files
-files_of inputs = files_in inputs.files.items
+abbrev pub mem_files : MemInputs → Files
+mem_files inputs = files_in inputs.files.items
 
 -- the reads that are to fail, counted from now
 abbrev pub failing_reads : MemInputs → List ℕ

@@ -1,7 +1,7 @@
 // Inputs that are read by their names.
 ghost use Rattle.std.specs.Prelude.{◌≡◌, ◌≤◌, ◌↔◌, ℕ, List, Option, length, IfOk, OnOk};
 ghost use Rattle.tw_base.specs.kinds.Faults.{HasCause};
-ghost use Rattle.tw_outside.specs.Files.{Files, Tells, IsThere, Came};
+ghost use Rattle.tw_outside.specs.Files.{Files, TellsBytes, IsThere, Came};
 
 use tw_base::Failed;
 
@@ -31,5 +31,5 @@ pub trait Inputs {
         ensures within { IfOk result (λ n. n ≤ length into.old) }
         // What came are the told file's bytes from the place on; where there is room for some, none come exactly at its
         // end.
-        ensures came { IfOk result (λ n. (bytes : List ℕ) → Tells (told self.old) name.now bytes → Came bytes at into.new n) };
+        ensures came { IfOk result (λ n. (bytes : List ℕ) → TellsBytes (told self.old) name.now bytes → Came bytes at into.new n) };
 }

@@ -27,11 +27,11 @@ pub struct MemInputs {
 }
 
 impl MemInputs {
-    ghost use Rattle.tw_outside.specs.Memory.{files_of, failing_reads, input_faults};
+    ghost use Rattle.tw_outside.specs.Memory.{mem_files, failing_reads, input_faults};
 
     /// Inputs without a file, of which no read is to fail. Takes no memory.
     pub fn new(alloc: Global) -> MemInputs
-        ensures files { files_of result ≡ map_of.empty }
+        ensures files { mem_files result ≡ map_of.empty }
         ensures failing { failing_reads result ≡ [] }
         ensures faults { input_faults result ≡ 0 }
     {
@@ -45,8 +45,8 @@ impl MemInputs {
 
     /// Gives a name its bytes, in place of those that it had.
     pub fn put(&mut self, name: &str, bytes: &[u8]) -> Result<(), NoMemory>
-        ensures ok { OnOk result (files_of self.new ≡ map_of.insert (files_of self.old) name.now bytes.now) }
-        ensures err { OnErr result (files_of self.new ≡ files_of self.old) }
+        ensures ok { OnOk result (mem_files self.new ≡ map_of.insert (mem_files self.old) name.now bytes.now) }
+        ensures err { OnErr result (mem_files self.new ≡ mem_files self.old) }
         ensures failing { failing_reads self.new ≡ failing_reads self.old }
         ensures faults { input_faults self.new ≡ input_faults self.old }
     {
@@ -60,7 +60,7 @@ impl MemInputs {
     pub fn fail(&mut self, k: u64) -> Result<(), NoMemory>
         ensures ok { OnOk result (failing_reads self.new ≡ failing_reads self.old ++ k ∷ []) }
         ensures err { OnErr result (failing_reads self.new ≡ failing_reads self.old) }
-        ensures files { files_of self.new ≡ files_of self.old }
+        ensures files { mem_files self.new ≡ mem_files self.old }
         ensures faults { input_faults self.new ≡ input_faults self.old }
     {
         self.failing.add(k)
@@ -69,11 +69,11 @@ impl MemInputs {
 
 impl MemInputs {
     ghost use Rattle.std.specs.Option.{option_map};
-    ghost use Rattle.tw_outside.specs.Memory.{files_of};
+    ghost use Rattle.tw_outside.specs.Memory.{mem_files};
 
     // The bytes of the named file.
     fn find(&self, name: &str) -> Option<&[u8]>
-        ensures { option_map (λ bytes. bytes.now) result ≡ map_of.get (files_of self.now) name.now }
+        ensures { option_map (λ bytes. bytes.now) result ≡ map_of.get (mem_files self.now) name.now }
     {
         for file in &self.files {
             if name == file.name.as_str() {
@@ -100,9 +100,9 @@ fn copy_from(bytes: &[u8], at: u64, into: &mut [u8]) -> usize
 
 impl Inputs for MemInputs {
     ghost use Rattle.std.specs.Prelude.{Some, ⊤};
-    ghost use Rattle.tw_outside.specs.Memory.{files_of, failing_reads, input_faults};
+    ghost use Rattle.tw_outside.specs.Memory.{mem_files, failing_reads, input_faults};
 
-    ghost told = { λ inputs. Some (files_of inputs) };
+    ghost told = { λ inputs. Some (mem_files inputs) };
 
     ghost faults = { input_faults };
 
@@ -110,13 +110,13 @@ impl Inputs for MemInputs {
 
     fn read(&mut self, name: &str, at: u64, into: &mut [u8]) -> Result<usize, Failed>
         // It fails exactly where the call is to fail, or the file isn't there.
-        ensures fails { IsErr result ↔ (IsTrue (fails_next (failing_reads self.old)) ⊎ IsNone (map_of.get (files_of self.old) name.now)) }
+        ensures fails { IsErr result ↔ (IsTrue (fails_next (failing_reads self.old)) ⊎ IsNone (map_of.get (mem_files self.old) name.now)) }
         ensures counted { failing_reads self.new ≡ after_call (failing_reads self.old) }
-        ensures kept { files_of self.new ≡ files_of self.old }
+        ensures kept { mem_files self.new ≡ mem_files self.old }
         ensures faults { OnOk result (input_faults self.new ≡ input_faults self.old) }
         ensures cause { HasCause (input_faults self.old) (input_faults self.new) result }
         ensures within { IfOk result (λ n. n ≤ length into.old) }
-        ensures came { IfOk result (λ n. (bytes : List ℕ) → map_of.get (files_of self.old) name.now ≡ Some bytes → Came bytes at into.new n) }
+        ensures came { IfOk result (λ n. (bytes : List ℕ) → map_of.get (mem_files self.old) name.now ≡ Some bytes → Came bytes at into.new n) }
     {
         let fails = self.failing.count_call();
         match self.find(name) {

@@ -6,7 +6,7 @@ use Rattle.tw_disk.specs.Image.{Image}
 use Rattle.tw_disk.proofs.Moments.{goes_on, leaves_weaker, no_call}
 use Rattle.tw_pages.specs.Slots.{IsBlank, IsTaken}
 use Rattle.tw_pages.specs.declared.open.StoreFault.{StoreFault}
-use Rattle.tw_pages.specs.Disks.{Adds, AddsSafe, IsLeft, IsOldOrBegun, Keeps, KeepsOrAdds, LeavesOldOrOneOf, LeavesOneOf, MayBegin, OneOf, ReadsAs, ReadsAsOneOf, Rests, Settles, Stands}
+use Rattle.tw_pages.specs.Disks.{Adds, AddsSafe, IsLeft, IsOldOrBegun, KeepsOrAdds, KeepsState, LeavesOldOrOneOf, LeavesOneOf, MayBegin, OneOf, ReadsAsOneOf, ReadsAsState, RestsAtState, Settles, StandsAtState}
 
 module _ {D : Type 0} (view : D → DiskView) where
   -- one run after another
@@ -26,7 +26,7 @@ module _ {D : Type 0} (view : D → DiskView) where
 
 module _ {S : Type 0} (IsOf : S → Image → Type 0) {D : Type 0} (view : D → DiskView) where
   -- a run that leaves nothing new, over a disk that reads the same at its end, keeps the state
-  pub kept_where : (old new : D) → ((s : S) → Stands IsOf view old s → IsLeft view old new) → Keeps IsOf view old new
+  pub kept_where : (old new : D) → ((s : S) → StandsAtState IsOf view old s → IsLeft view old new) → KeepsState IsOf view old new
   kept_where old new leaves = λ s. (
     λ stands. (
       leaves_weaker (view old) (view new) (view old).may_leave (IsOf s) stands.each (leaves s stands).1,
@@ -35,29 +35,29 @@ module _ {S : Type 0} (IsOf : S → Image → Type 0) {D : Type 0} (view : D →
     λ rests. record { stands = still s rests.stands; only = λ image left. rests.only image ((leaves s rests.stands).1.now image left) },
   )
     where
-      still : (s : S) → Stands IsOf view old s → Stands IsOf view new s
+      still : (s : S) → StandsAtState IsOf view old s → StandsAtState IsOf view new s
       still s stands = record {
         image = stands.image;
         told = (leaves s stands).0 ∙ stands.told;
         each = λ image left. stands.each image ((leaves s stands).1.now image left);
       }
 
-  pub left_keeps : (old new : D) → IsLeft view old new → Keeps IsOf view old new
+  pub left_keeps : (old new : D) → IsLeft view old new → KeepsState IsOf view old new
   left_keeps old new left = kept_where old new (λ s stands. left)
 
   -- the content of a disk that stands for a state stands for it
   module _ (as_it_reads : (d : D) (image : Image) → (view d).content ≡ Some image → (view d).may_leave image) where
-    pub content_stands : (d : D) (s : S) (stands : Stands IsOf view d s) → IsOf s stands.image
+    pub content_stands : (d : D) (s : S) (stands : StandsAtState IsOf view d s) → IsOf s stands.image
     content_stands d s stands = stands.each stands.image (as_it_reads d stands.image stands.told)
 
-    pub reads_as : (d : D) (s : S) → Stands IsOf view d s → ReadsAs IsOf (view d).content s
+    pub reads_as : (d : D) (s : S) → StandsAtState IsOf view d s → ReadsAsState IsOf (view d).content s
     reads_as d s stands = record { image = stands.image; told = stands.told; stands = content_stands d s stands }
 
     -- a disk that rests with the next state reads as it
-    pub rests_reads : (d : D) (s next : S) → Rests IsOf view d next → ReadsAsOneOf IsOf view d s next
+    pub rests_reads : (d : D) (s next : S) → RestsAtState IsOf view d next → ReadsAsOneOf IsOf view d s next
     rests_reads d s next rests = record { image = rests.stands.image; told = rests.stands.told; has = inr (content_stands d next rests.stands) }
 
-    pub rests_begun : (old d : D) (first : S) → Rests IsOf view d first → Reads (view d) (IsOldOrBegun IsOf view first old)
+    pub rests_begun : (old d : D) (first : S) → RestsAtState IsOf view d first → Reads (view d) (IsOldOrBegun IsOf view first old)
     rests_begun old d first rests = record { image = rests.stands.image; told = rests.stands.told; has = inr (inr (content_stands d first rests.stands)) }
 
     -- what is left as it was might have begun
@@ -68,21 +68,21 @@ module _ {S : Type 0} (IsOf : S → Image → Type 0) {D : Type 0} (view : D →
     )
 
     module _ (taken : (s : S) (image : Image) → IsOf s image → IsTaken image) where
-      has_store : (d : D) (s : S) (stands : Stands IsOf view d s) → IsTaken stands.image
+      has_store : (d : D) (s : S) (stands : StandsAtState IsOf view d s) → IsTaken stands.image
       has_store d s stands = taken s stands.image (content_stands d s stands)
 
       -- a run that keeps a store that is there keeps its state
       pub held_keeps : (old new : D)
           → ((image : Image) → (view old).content ≡ Some image → IsTaken image → ((view new).content ≡ Some image) × LeavesOnly (view old) (view new) (view old).may_leave)
-          → Keeps IsOf view old new
+          → KeepsState IsOf view old new
       held_keeps old new held = kept_where old new (λ s stands.
           let left = held stands.image stands.told (has_store old s stands) in (left.0 ∙ sym stands.told, left.1))
 
-      pub free_keeps : (old new : D) → ((image : Image) → (view old).content ≡ Some image → IsTaken image → ⊥) → Keeps IsOf view old new
+      pub free_keeps : (old new : D) → ((image : Image) → (view old).content ≡ Some image → IsTaken image → ⊥) → KeepsState IsOf view old new
       free_keeps old new free = kept_where old new (λ s stands. absurd (free stands.image stands.told (has_store old s stands)))
 
   -- a disk at rest that stands for a state
-  pub own_rest : (d : D) (s : S) → IsAtRest (view d) (IsOf s) → Rests IsOf view d s
+  pub own_rest : (d : D) (s : S) → IsAtRest (view d) (IsOf s) → RestsAtState IsOf view d s
   own_rest d s rest = record {
     stands = record { image = rest.image; told = rest.told; each = λ image left. subst (λ (i : Image). IsOf s i) (sym (rest.only image left)) rest.has };
     only = rest.only;
@@ -99,7 +99,7 @@ module _ {S : Type 0} (IsOf : S → Image → Type 0) {D : Type 0} (view : D →
   one_or_old old new s next left = leaves_weaker (view old) (view new) (OneOf IsOf s next) (OldOrOneOf old s next) (λ image one. inr one) left
 
   -- of a disk that stood for the state for good, what was left before stands for it
-  pub one_of : (old new : D) (s next : S) → Stands IsOf view old s → LeavesOldOrOneOf IsOf view old new s next → LeavesOnly (view old) (view new) (OneOf IsOf s next)
+  pub one_of : (old new : D) (s next : S) → StandsAtState IsOf view old s → LeavesOldOrOneOf IsOf view old new s next → LeavesOnly (view old) (view new) (OneOf IsOf s next)
   one_of old new s next stands left =
       leaves_weaker (view old) (view new) (OldOrOneOf old s next) (OneOf IsOf s next)
       (λ image. ⊎_elim (λ was. inl (stands.each image was)) (λ one. one)) left

@@ -4,11 +4,11 @@ use Rattle.tw_disk.specs.Image.{Image}
 use Rattle.tw_disk.specs.Disk.{DiskView, IsAtRest, LeavesOnly, Reads}
 use Rattle.tw_disk.proofs.Moments.{leaves_weaker}
 use Rattle.tw_pages.specs.Init.{first_opening, second_opening}
-use Rattle.tw_pages.specs.Init.{IsBlankOrNew as IsBlankOrNewStore}
-use Rattle.tw_pages.specs.StoreValue.{IsKept, disk_of, opening_of}
+use Rattle.tw_pages.specs.Init.{IsBlankOrRoot}
+use Rattle.tw_pages.specs.StoreValue.{IsKept, opening_of, store_disk}
 use Rattle.tw_pages.specs.Store.{Opening, OpensAs, used_of}
 use Rattle.tw_pages.specs.declared.store.Store.{Store}
-use Rattle.tw_pages.specs.Records.{HasRoot, IsBlankOrNew, IsWritten, RecordKind, Written, written}
+use Rattle.tw_pages.specs.Records.{HasRoot, IsBlankOrNew, IsWritten, RecordKind, Written, written_record}
 use Rattle.tw_pages.specs.Rests.{HasPages, RestsWith}
 
 module _ {R : Type 0} (kind : RecordKind R) (r : R) (first : kind.May 4 1 r) (second : kind.May 4 0 r) (root : List ℕ) (root_is : root ≡ kind.bytes r) where
@@ -18,8 +18,8 @@ module _ {R : Type 0} (kind : RecordKind R) (r : R) (first : kind.May 4 1 r) (se
   two_root : HasRoot kind (second_opening root) r
   two_root = record { spelled = root_is; may = second }
 
-  pub rests_new : {D : Type 0} {g : _} (view : D → DiskView) (store : Store D g) → IsAtRest (view (disk_of store)) (λ i. IsKept store i × (opening_of store i ≡ first_opening root))
-      → RestsWith view kind store (written r [])
+  pub rests_new : {D : Type 0} {g : _} (view : D → DiskView) (store : Store D g) → IsAtRest (view (store_disk store)) (λ i. IsKept store i × (opening_of store i ≡ first_opening root))
+      → RestsWith view kind store (written_record r [])
   rests_new view store rest =
       let o = sym rest.has.1 in
       record {
@@ -34,14 +34,14 @@ module _ {R : Type 0} (kind : RecordKind R) (r : R) (first : kind.May 4 1 r) (se
       }
 
   -- what is left of a store in the making
-  begun : (i : Image) → IsBlankOrNewStore root i → IsBlankOrNew kind r i
+  begun : (i : Image) → IsBlankOrRoot root i → IsBlankOrNew kind r i
   begun i made = ⊎_elim (λ blank. inl blank) (λ opens. inr (⊎_elim
       (λ one. record { opening = first_opening root; opens = one; has = one_root; pages_are = refl })
       (λ two. record { opening = second_opening root; opens = two; has = two_root; pages_are = refl }) opens)) made
 
-  pub leaves_new : (old new : DiskView) → LeavesOnly old new (λ i. old.may_leave i ⊎ IsBlankOrNewStore root i) → LeavesOnly old new (λ i. old.may_leave i ⊎ IsBlankOrNew kind r i)
-  leaves_new old new run = leaves_weaker old new (λ i. old.may_leave i ⊎ IsBlankOrNewStore root i) (λ i. old.may_leave i ⊎ IsBlankOrNew kind r i)
+  pub leaves_new : (old new : DiskView) → LeavesOnly old new (λ i. old.may_leave i ⊎ IsBlankOrRoot root i) → LeavesOnly old new (λ i. old.may_leave i ⊎ IsBlankOrNew kind r i)
+  leaves_new old new run = leaves_weaker old new (λ i. old.may_leave i ⊎ IsBlankOrRoot root i) (λ i. old.may_leave i ⊎ IsBlankOrNew kind r i)
       (λ i either. ⊎_elim (λ was. inl was) (λ made. inr (begun i made)) either) run
 
-  pub tells_new : (old new : DiskView) → Reads new (λ i. old.may_leave i ⊎ IsBlankOrNewStore root i) → Reads new (λ i. old.may_leave i ⊎ IsBlankOrNew kind r i)
+  pub tells_new : (old new : DiskView) → Reads new (λ i. old.may_leave i ⊎ IsBlankOrRoot root i) → Reads new (λ i. old.may_leave i ⊎ IsBlankOrNew kind r i)
   tells_new old new tells = record { image = tells.image; told = tells.told; has = ⊎_elim (λ was. inl was) (λ made. inr (begun tells.image made)) tells.has }

@@ -3,7 +3,7 @@ use Rattle.std.proofs.Common.{◌≡◌, inl, inr, ℕ, ◌+◌, ◌<◌, List, 
 use Rattle.std.proofs.lemmas.Bool.{cases_eq}
 use Rattle.tw_disk.specs.Image.{Image, page_at}
 use Rattle.tw_base.proofs.lemmas.format.PageLaws.{page-once}
-use Rattle.tw_pages.specs.Store.{Opening, Stands, OpensAs, IsBody, body_codec, used_of, spare_of}
+use Rattle.tw_pages.specs.Store.{Opening, StandsInImage, OpensAs, IsBody, body_codec, used_of, spare_of}
 use Rattle.tw_pages.proofs.Bodies.{body-lawful}
 use Rattle.tw_pages.proofs.Openings.{pages_of}
 
@@ -33,7 +33,7 @@ module _ (o p : Opening) (c : Image) (opens : OpensAs o c) (opens' : OpensAs p c
       let root = same_root _ _ _ _ _ _ _ _ here there in
       λ i. record { root = root i; generation = generation i; slot = is i; pages = pages i }
 
-  older_than : (q r : Opening) → OpensAs q c → Stands r c → r.slot ≡ spare_of q → r.generation < q.generation
+  older_than : (q r : Opening) → OpensAs q c → StandsInImage r c → r.slot ≡ spare_of q → r.generation < q.generation
   older_than q r opens_q stands other = elim opens_q.counts [
     | inl closed ↦ absurd (closed (ap (λ (k : ℕ). get_or (page_at c k) 0 0) (sym other) ∙ stands.gate))
     | inr older ↦

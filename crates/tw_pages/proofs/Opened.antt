@@ -5,8 +5,8 @@ use Rattle.std.specs.Option.{option_map}
 use Rattle.std.specs.Prelude.{Option, Some}
 use Rattle.tw_disk.specs.Image.{Image}
 use Rattle.tw_disk.specs.Disk.{DiskView, IsAtRest}
-use Rattle.tw_pages.specs.StoreValue.{IsKept, disk_of, opening_of, root_of, slot_of, staged_of}
-use Rattle.tw_pages.specs.Same.{list_of, pages_of}
+use Rattle.tw_pages.specs.StoreValue.{IsKept, opening_of, staged_of, store_disk, store_root, store_slot}
+use Rattle.tw_pages.specs.Same.{store_list, store_pages}
 use Rattle.tw_pages.specs.Store.{Opening, OpensAs, used_of}
 use Rattle.tw_pages.specs.declared.open.StoreFault.{StoreFault}
 use Rattle.tw_pages.specs.declared.open.StoreFault.TheVariants.{NotAStore}
@@ -14,11 +14,11 @@ use Rattle.tw_pages.specs.declared.store.Store.{Store}
 use Rattle.tw_pages.proofs.Once.{opens_once}
 use Rattle.tw_pages.proofs.NotRefused.{not_refused}
 use Rattle.tw_pages.proofs.StillKept.{kept_opens}
-use Rattle.tw_pages.specs.Records.{HasRoot, IsNotOpenedFor, IsOnce, IsWritten, RecordKind, Written, written}
+use Rattle.tw_pages.specs.Records.{HasRoot, IsNotOpenedFor, IsOnce, IsWritten, RecordKind, Written, written_record}
 use Rattle.tw_pages.specs.Rests.{HasPages, RestsWith}
 
-module _ {D R : Type 0} {g : _} (view : D → DiskView) (kind : RecordKind R) (store : Store D g) (c : Image) (at : IsAtRest (view (disk_of store)) (λ i. (i ≡ c) × IsKept store i))
-    (root : List ℕ) (root_is : root ≡ root_of store) (used : ℕ) (counted : used ≡ used_of (opening_of store c)) (generation : ℕ) (generation_is : generation ≡ store.generation) where
+module _ {D R : Type 0} {g : _} (view : D → DiskView) (kind : RecordKind R) (store : Store D g) (c : Image) (at : IsAtRest (view (store_disk store)) (λ i. (i ≡ c) × IsKept store i))
+    (root : List ℕ) (root_is : root ≡ store_root store) (used : ℕ) (counted : used ≡ used_of (opening_of store c)) (generation : ℕ) (generation_is : generation ≡ store.generation) where
   abbrev here : Opening
   here = opening_of store c
 
@@ -28,10 +28,10 @@ module _ {D R : Type 0} {g : _} (view : D → DiskView) (kind : RecordKind R) (s
   opens : OpensAs here c
   opens = kept_opens view store c kept
 
-  told_still : (view (disk_of store)).content ≡ Some c
+  told_still : (view (store_disk store)).content ≡ Some c
   told_still = at.told ∙ ap (λ (i : Image). Some i) at.has.0
 
-  pub stable : IsAtRest (view (disk_of store)) (λ i. i ≡ c)
+  pub stable : IsAtRest (view (store_disk store)) (λ i. i ≡ c)
   stable = record { image = at.image; told = at.told; only = at.only; has = at.has.0 }
 
   rests_at : (w : Written R) → HasPages kind store w c → RestsWith view kind store w
@@ -43,7 +43,7 @@ module _ {D R : Type 0} {g : _} (view : D → DiskView) (kind : RecordKind R) (s
     no_root : (r : R) → HasRoot kind here r → ⊥
     no_root r has = none r (root_is ∙ has.spelled) (subst (λ n. kind.May n generation r) (sym counted) (subst (λ n. kind.May (used_of here) n r) (sym generation_is) has.may))
 
-    pub refused : IsNotOpenedFor kind c (NotAStore (slot_of store))
+    pub refused : IsNotOpenedFor kind c (NotAStore (store_slot store))
     refused = inr (here, opens, no_root, refl)
 
     pub none_written : (w : Written R) → IsWritten kind w c → ⊥
@@ -55,15 +55,15 @@ module _ {D R : Type 0} {g : _} (view : D → DiskView) (kind : RecordKind R) (s
     has_root : HasRoot kind here r
     has_root = record { spelled = sym root_is ∙ is; may = subst (λ n. kind.May n store.generation r) counted (subst (λ n. kind.May used n r) generation_is may) }
 
-    pub opens_with : IsWritten kind (written r here.pages) c
+    pub opens_with : IsWritten kind (written_record r here.pages) c
     opens_with = record { opening = here; opens = opens; has = has_root; pages_are = refl }
 
-    pub rests : RestsWith view kind store (written r here.pages)
-    rests = rests_at (written r here.pages) (record { kept = kept; has = has_root; pages_are = refl })
+    pub rests : RestsWith view kind store (written_record r here.pages)
+    rests = rests_at (written_record r here.pages) (record { kept = kept; has = has_root; pages_are = refl })
 
-    pub list : staged_of store ≡ [] → list_of view store ≡ Some here.pages
+    pub list : staged_of store ≡ [] → store_list view store ≡ Some here.pages
     list clean =
-        ap (λ (o : Option Image). option_map (pages_of store) o) told_still
+        ap (λ (o : Option Image). option_map (store_pages store) o) told_still
         ∙ ap (λ (staged : Image). Some (here.pages ++ staged)) clean
         ∙ ap (λ (pages : Image). Some pages) (append-nil here.pages)
 

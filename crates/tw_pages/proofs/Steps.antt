@@ -5,8 +5,8 @@ use Rattle.std.proofs.lemmas.List.{get_or-replicate, get_or_append_left, get_or-
 use Rattle.tw_disk.specs.Image.{Image, Torn, put, page_at}
 use Rattle.tw_disk.specs.PutSteps.{length-put, page_at-put_same, page_at-put_other}
 use Rattle.tw_disk.proofs.Puts.{torn_put}
-use Rattle.tw_pages.specs.Store.{Opening, Stands, IsClosed, IsOlder, OpensAs, OpensAlone, OpensAboveOlder, OpensAsEither, used_of, spare_of, body_page, open_gate_page, closed_gate_page, IsBody}
-use Rattle.tw_pages.specs.CommitSteps.{IsReady, Holds, IsNext}
+use Rattle.tw_pages.specs.Store.{Opening, StandsInImage, IsClosed, IsOlder, OpensAs, OpensAlone, OpensAboveOlder, OpensAsEither, used_of, spare_of, body_page, open_gate_page, closed_gate_page, IsBody}
+use Rattle.tw_pages.specs.CommitSteps.{IsReady, HoldsPages, IsNext}
 
 -- the same body on a disk of no fewer pages
 pub body_moved : (count count' : ℕ) (page page' : List ℕ) (generation used : ℕ) (root : List ℕ) → page' ≡ page → count ≤ count' → IsBody count page generation used root → IsBody count' page' generation used root
@@ -25,7 +25,7 @@ module _ (o : Opening) (page : ℕ) (d c : Image) (torn : Torn page d c) where
   committed : IsElsewhere o page → (k : ℕ) → k < length o.pages → 4 + k ≢ page
   committed elsewhere k lt = ⊎_elim (λ low. (λ is. absurd (omega arith))) (λ high. (λ is. absurd (omega arith))) elsewhere.no_page
 
-  pub stands_elsewhere : IsElsewhere o page → Stands o d → Stands o c
+  pub stands_elsewhere : IsElsewhere o page → StandsInImage o d → StandsInImage o c
   stands_elsewhere elsewhere s = record {
     which = s.which;
     room = omega (arith, s.room, torn.no_shorter);
@@ -68,7 +68,7 @@ module _ (o : Opening) (page : ℕ) (d c : Image) (torn : Torn page d c) where
   }
 
 -- the spare gate closed
-pub closed : (o : Opening) (gate : ℕ) (c : Image) → gate ≡ spare_of o → Stands o c → OpensAlone o (put gate closed_gate_page c)
+pub closed : (o : Opening) (gate : ℕ) (c : Image) → gate ≡ spare_of o → StandsInImage o c → OpensAlone o (put gate closed_gate_page c)
 unfolding closed_gate_page
 closed o gate c is stands =
     let low : o.slot < 2 = stands.which in
@@ -82,7 +82,7 @@ closed o gate c is stands =
     }
 
 -- the spare body written
-pub readied : (old new : Opening) (staged : Image) (page : ℕ) (c : Image) → page ≡ 2 + spare_of old → IsNext old staged new → OpensAlone old c → Holds (used_of old) staged c
+pub readied : (old new : Opening) (staged : Image) (page : ℕ) (c : Image) → page ≡ 2 + spare_of old → IsNext old staged new → OpensAlone old c → HoldsPages (used_of old) staged c
     → IsReady old new (put page (body_page new.generation (used_of new) new.root) c)
 readied old new staged page c is step opens holds =
     let low : old.slot < 2 = opens.stands.which in
@@ -152,7 +152,7 @@ opened_put old new d ready =
     opened old new d (put new.slot open_gate_page d) ready (torn_put new.slot open_gate_page d fits) (ap (λ (p : List ℕ). get_or p 0 0) (page_at-put_same new.slot open_gate_page d fits))
 
 -- one page more
-pub holds_more : (used at i : ℕ) (staged : Image) (page : List ℕ) (c : Image) → at ≡ used + i → i < length staged → page ≡ get_or staged i [] → Holds used (take i staged) c → Holds used (take (i + 1) staged) (put at page c)
+pub holds_more : (used at i : ℕ) (staged : Image) (page : List ℕ) (c : Image) → at ≡ used + i → i < length staged → page ≡ get_or staged i [] → HoldsPages used (take i staged) c → HoldsPages used (take (i + 1) staged) (put at page c)
 holds_more used at i staged page c is lt read holds =
     let size : length (take i staged) ≡ i = length-take-le i staged (omega arith) in
     let more : length (take (i + 1) staged) ≡ i + 1 = length-take-le (i + 1) staged (omega arith) in

@@ -3,7 +3,7 @@ use Rattle.std.proofs.Common.{◌≡◌, ◌⊎◌, ℕ, List, [], ◌∷◌, re
 use Rattle.tw_disk.specs.Disk.{DiskView, IsAtRest, IsSameDisk}
 use Rattle.tw_disk.specs.Image.{Image}
 use Rattle.tw_pages.specs.Disks.{OneOf}
-use Rattle.tw_pages.specs.Runs.{Acted, Event, GoesOnFrom, Happening, HoldsOnly, IsPublished, IsRunFrom, IsShown, IsToldBy, Laws, Leads, State, Values, Wavers, disk_at, end_of}
+use Rattle.tw_pages.specs.Runs.{Acted, Event, GoesOnFrom, Happening, HoldsOnly, IsPublished, IsRunFrom, IsShown, IsToldBy, Laws, LeadsByEvent, State, Values, Wavers, disk_at, end_of}
 use Rattle.tw_pages.specs.Runs.Event.{Acts, Closes, Crashes, CrashesIn, Opens, StaysClosed}
 use Rattle.tw_pages.specs.Runs.State.{Closed, Open}
 
@@ -106,7 +106,7 @@ module _ {D V A S T : Type 0} (view : D → DiskView) (values : Values D V A) (I
       let read = is.0 in
       record { now = read.has.0; goes_on = read.has.2; is = opened_at v read.has.0 (laws.opens disk v read.image read.has.0 opened read.told read.has.1); tells = λ t told. absurd told }
 
-  goes : (event : Event A) (at behind : State D V) (s : S) → IsAt at s → Leads view values event at behind → Goes event behind s
+  goes : (event : Event A) (at behind : State D V) (s : S) → IsAt at s → LeadsByEvent view values event at behind → Goes event behind s
   goes Opens (Closed disk) (Open v) s is leads = opens_at disk v s is leads
   goes StaysClosed (Closed disk) (Closed left) s is leads = wavering StaysClosed (Closed left) s
       (record { image = is.0.image; told = leads.0 ∙ is.0.told; has = is.0.has }, (λ c may. is.1 c (leads.1.now c may))) (λ t told. told)

@@ -6,7 +6,7 @@ use Rattle.tw_disk.specs.declared.limits.TheConstants.{FIRST_PAGE}
 use Rattle.tw_pages.specs.declared.limits.TheConstants.{FIRST_BODY}
 
 -- these pages stand in it one after another
-pub record Holds (at : ℕ) (pages : Image) (c : Image) : Type 0 where
+pub record HoldsPages (at : ℕ) (pages : Image) (c : Image) : Type 0 where
   pub room : at + length pages ≤ length c
   pub each : (k : ℕ) → k < length pages → page_at c (at + k) ≡ page_at pages k
 

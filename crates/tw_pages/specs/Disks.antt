@@ -24,7 +24,7 @@ OneOf IsOf s next image = IsOf s image ⊎ IsOf next image
 
 module _ {S : Type 0} (IsOf : S → Image → Type 0) where
   -- what the disk reads as is told, and stands for the state
-  pub record ReadsAs (found : Option Image) (s : S) : Type 0 where
+  pub record ReadsAsState (found : Option Image) (s : S) : Type 0 where
     pub image : Image
     pub told : found ≡ Some image
     pub stands : IsOf s image
@@ -32,24 +32,24 @@ module _ {S : Type 0} (IsOf : S → Image → Type 0) where
   module _ {D : Type 0} (view : D → DiskView) where
     -- the disk stands for the state for good: its content is told, and each image that a crash now may leave, of which the content is
     -- one, stands for it
-    pub record Stands (disk : D) (s : S) : Type 0 where
+    pub record StandsAtState (disk : D) (s : S) : Type 0 where
       pub image : Image
       pub told : (view disk).content ≡ Some image
       pub each : (i : Image) → (view disk).may_leave i → IsOf s i
 
     -- the same, and a crash now leaves nothing but the content
-    pub record Rests (disk : D) (s : S) : Type 0 where
-      pub stands : Stands disk s
+    pub record RestsAtState (disk : D) (s : S) : Type 0 where
+      pub stands : StandsAtState disk s
       pub only : Only stands.image (view disk).may_leave
 
     -- the state that the disk stood for stands in each image that a crash since the start may leave, and now for good, at rest where it
     -- was at rest
-    abbrev pub Keeps : (old new : D) → Type 0
-    Keeps old new = (s : S) → (Stands old s → LeavesOnly (view old) (view new) (IsOf s) × Stands new s) × (Rests old s → Rests new s)
+    abbrev pub KeepsState : (old new : D) → Type 0
+    KeepsState old new = (s : S) → (StandsAtState old s → LeavesOnly (view old) (view new) (IsOf s) × StandsAtState new s) × (RestsAtState old s → RestsAtState new s)
 
     -- the disk has become stable: it stands for the state that it read as, at rest
     abbrev pub Settles : (old new : D) → Type 0
-    Settles old new = (s : S) → ReadsAs (view old).content s → Rests new s
+    Settles old new = (s : S) → ReadsAsState (view old).content s → RestsAtState new s
 
     -- each image since is one that a crash might have left before, or stands for this state or for the next one
     abbrev pub LeavesOldOrOneOf : (old new : D) → (s next : S) → Type 0
@@ -62,11 +62,11 @@ module _ {S : Type 0} (IsOf : S → Image → Type 0) where
     -- each image since is one that a crash might have left before, or stands for one of the two; and where the disk stood for this state
     -- for good, each stands for one of the two
     abbrev pub LeavesOneOf : (old new : D) → (s next : S) → Type 0
-    LeavesOneOf old new s next = LeavesOldOrOneOf old new s next × (Stands old s → LeavesOnly (view old) (view new) (OneOf IsOf s next))
+    LeavesOneOf old new s next = LeavesOldOrOneOf old new s next × (StandsAtState old s → LeavesOnly (view old) (view new) (OneOf IsOf s next))
 
     -- of a state that the disk read as, with writes pending or not, there is a next one, and this holds of both
     abbrev pub OfNext : (Next : S → S → Type 0) → (old : D) → (P : (s next : S) → Type 0) → Type 0
-    OfNext Next old P = (s : S) → ReadsAs (view old).content s → (next : S) × Next s next × P s next
+    OfNext Next old P = (s : S) → ReadsAsState (view old).content s → (next : S) × Next s next × P s next
 
     -- it is kept or the next one comes: the content is told still and stands for one of the two, and so do the images
     abbrev pub KeepsOrAdds : (Next : S → S → Type 0) → (old new : D) → Type 0
@@ -74,7 +74,7 @@ module _ {S : Type 0} (IsOf : S → Image → Type 0) where
 
     -- the next one comes: the disk now stands for it, at rest
     abbrev pub Adds : (Next : S → S → Type 0) → (old new : D) → Type 0
-    Adds Next old new = OfNext Next old (λ s next. Rests new next × LeavesOneOf old new s next)
+    Adds Next old new = OfNext Next old (λ s next. RestsAtState new next × LeavesOneOf old new s next)
 
     -- Of a state that the disk read as, each image since is one that a crash might have left before, and the content is told still and
     -- stands for it; or there is something of which this holds, as a file has events or a message, and each image stands for the state
@@ -82,9 +82,9 @@ module _ {S : Type 0} (IsOf : S → Image → Type 0) where
     -- the disk stood for for good, each image stands for it, or for one of the two.
     abbrev pub AddsSafe : {X : Type 0} → (Has : X → Type 0) → (Next : X → S → S → Type 0) → (old new : D) → Type 0
     AddsSafe {X} Has Next old new = (s : S) →
-        (ReadsAs (view old).content s → (LeavesOnly (view old) (view new) (view old).may_leave × ReadsAs (view new).content s)
+        (ReadsAsState (view old).content s → (LeavesOnly (view old) (view new) (view old).may_leave × ReadsAsState (view new).content s)
         ⊎ ((x : X) × Has x × (next : S) × Next x s next × LeavesOldOrOneOf old new s next × ReadsAsOneOf new s next))
-        × (Stands old s → LeavesOnly (view old) (view new) (IsOf s)
+        × (StandsAtState old s → LeavesOnly (view old) (view new) (IsOf s)
         ⊎ ((x : X) × Has x × (next : S) × Next x s next × LeavesOnly (view old) (view new) (OneOf IsOf s next)))
 
     -- an image that a crash might have left before, or a blank one, or one that stands for this first state
@@ -97,5 +97,5 @@ module _ {S : Type 0} (IsOf : S → Image → Type 0) where
         (image : Image) → (view old).content ≡ Some image → LeavesOnly (view old) (view new) (IsOldOrBegun first old) × Reads (view new) (IsOldOrBegun first old)
 
     -- the same, and now it stands for that state, at rest
-    abbrev pub Begins : (first : S) → (old new : D) → Type 0
-    Begins first old new = MayBegin first old new × ((image : Image) → (view old).content ≡ Some image → Rests new first)
+    abbrev pub BeginsState : (first : S) → (old new : D) → Type 0
+    BeginsState first old new = MayBegin first old new × ((image : Image) → (view old).content ≡ Some image → RestsAtState new first)

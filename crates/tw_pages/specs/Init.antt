@@ -11,5 +11,5 @@ first_opening root = record { root = root; generation = 1; slot = 0; pages = [] 
 abbrev pub second_opening : List ℕ → Opening
 second_opening root = record { root = root; generation = 0; slot = 1; pages = [] }
 
-abbrev pub IsBlankOrNew : List ℕ → Image → Type 0
-IsBlankOrNew root c = IsBlank c ⊎ (OpensAs (first_opening root) c ⊎ OpensAs (second_opening root) c)
+abbrev pub IsBlankOrRoot : List ℕ → Image → Type 0
+IsBlankOrRoot root c = IsBlank c ⊎ (OpensAs (first_opening root) c ⊎ OpensAs (second_opening root) c)

@@ -12,8 +12,8 @@ pub record Written (R : Type 0) : Type 0 where
   pub root : R
   pub pages : Image
 
-abbrev pub written : {R : Type 0} → R → Image → Written R
-written root pages = record { root = root; pages = pages }
+abbrev pub written_record : {R : Type 0} → R → Image → Written R
+written_record root pages = record { root = root; pages = pages }
 
 -- what an image is served as: the store of this record and these pages, or, for this reason, none
 pub data Served (R : Type 0) : Type 0 where
@@ -53,4 +53,4 @@ module _ {R : Type 0} (kind : RecordKind R) where
 
   -- no store was begun, or it has this record and no page
   abbrev pub IsBlankOrNew : R → Image → Type 0
-  IsBlankOrNew root image = IsBlank image ⊎ IsWritten (written root []) image
+  IsBlankOrNew root image = IsBlank image ⊎ IsWritten (written_record root []) image

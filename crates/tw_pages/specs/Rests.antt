@@ -2,7 +2,7 @@
 use Rattle.std.specs.Prelude.{◌≡◌, ℕ, List}
 use Rattle.tw_disk.specs.Disk.{DiskView, IsAtRest}
 use Rattle.tw_disk.specs.Image.{Image}
-use Rattle.tw_pages.specs.StoreValue.{IsKept, disk_of, opening_of}
+use Rattle.tw_pages.specs.StoreValue.{IsKept, opening_of, store_disk}
 use Rattle.tw_pages.specs.declared.store.Store.{Store}
 use Rattle.tw_pages.specs.Records.{HasRoot, RecordKind, Written}
 
@@ -14,4 +14,4 @@ pub record HasPages {D R : Type 0} {g : _} (kind : RecordKind R) (store : Store 
 
 -- the disk tells its content, which is such an image, and a crash now leaves nothing else
 abbrev pub RestsWith : {D R : Type 0} {g : _} → (view : D → DiskView) → RecordKind R → Store D g → Written R → Type 0
-RestsWith view kind store w = IsAtRest (view (disk_of store)) (HasPages kind store w)
+RestsWith view kind store w = IsAtRest (view (store_disk store)) (HasPages kind store w)

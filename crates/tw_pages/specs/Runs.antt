@@ -43,19 +43,19 @@ module _ {D V A : Type 0} (view : D → DiskView) (values : Values D V A) where
 
   -- The event leads from one state to another. After a crash the disk holds images of that moment alone, or, in the midst of a call, of some
   -- moments since its start: one, all of it stable, where power was lost, or with writes pending, where the program was killed.
-  abbrev pub Leads : Event A → (old new : State D V) → Type 0
-  Leads Opens (Closed disk) (Open value) = values.IsOpenedAs disk value
-  Leads StaysClosed (Closed disk) (Closed left) = IsLeft view disk left
-  Leads (Acts a) (Open old) (Open new) = values.Does a old new
-  Leads Closes (Open value) (Closed disk) = disk ≡ values.disk_of value
-  Leads Crashes old (Closed disk) = HoldsOnly view (view (disk_at old)).may_leave disk
-  Leads (CrashesIn a) (Open old) (Closed disk) =
+  abbrev pub LeadsByEvent : Event A → (old new : State D V) → Type 0
+  LeadsByEvent Opens (Closed disk) (Open value) = values.IsOpenedAs disk value
+  LeadsByEvent StaysClosed (Closed disk) (Closed left) = IsLeft view disk left
+  LeadsByEvent (Acts a) (Open old) (Open new) = values.Does a old new
+  LeadsByEvent Closes (Open value) (Closed disk) = disk ≡ values.disk_of value
+  LeadsByEvent Crashes old (Closed disk) = HoldsOnly view (view (disk_at old)).may_leave disk
+  LeadsByEvent (CrashesIn a) (Open old) (Closed disk) =
       (new : V) × values.Does a old new × HoldsOnly view ((view (values.disk_of new)).left_since (view (values.disk_of old)).moment) disk
-  Leads _ _ _ = ⊥
+  LeadsByEvent _ _ _ = ⊥
 
   abbrev pub IsRunFrom : (start : State D V) → List (Happening D V A) → Type 0
   IsRunFrom start [] = Unit {0}
-  IsRunFrom start (x ∷ run) = Leads x.event start x.behind × IsRunFrom x.behind run
+  IsRunFrom start (x ∷ run) = LeadsByEvent x.event start x.behind × IsRunFrom x.behind run
 
 -- what there is at the end of a run
 abbrev pub end_of : {D V A : Type 0} → (start : State D V) → List (Happening D V A) → State D V

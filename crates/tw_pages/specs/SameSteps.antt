@@ -7,7 +7,7 @@ use Rattle.tw_disk.specs.Image.{Image}
 use Rattle.tw_disk.specs.Disk.{DiskView}
 use Rattle.tw_disk.specs.DiskSteps.{same_disk, same_disk_on}
 use Rattle.tw_pages.specs.declared.store.Store.{Store}
-use Rattle.tw_pages.specs.Same.{pages_of, count_of, IsSameStore}
+use Rattle.tw_pages.specs.Same.{store_pages, store_count, IsSameStore}
 use Rattle.tw_disk.specs.declared.limits.TheConstants.{FIRST_PAGE}
 
 module _ {D : Type 0} {g : _} (view : D → DiskView) where
@@ -24,14 +24,14 @@ module _ {D : Type 0} {g : _} (view : D → DiskView) where
     disk = same_disk_on (view a.disk) (view b.disk) (view c.disk) first.disk second.disk;
   }
 
-  pub told_pages : (s : Store D g) (count : Option ℕ) (image : Option Image) (pages : Image) → ((c : Image) → image ≡ Some c → count ≡ Some (length c)) → IsSomeAnd count (λ n. s.used ≤ n) → 4 ≤ s.used → option_map (pages_of s) image ≡ Some pages → count_of s ≡ 4 + length pages
+  pub told_pages : (s : Store D g) (count : Option ℕ) (image : Option Image) (pages : Image) → ((c : Image) → image ≡ Some c → count ≡ Some (length c)) → IsSomeAnd count (λ n. s.used ≤ n) → 4 ≤ s.used → option_map (store_pages s) image ≡ Some pages → store_count s ≡ 4 + length pages
   told_pages s count None pages told room low is = cc
   told_pages s count (Some c) pages told room low is =
-      let same : pages_of s c ≡ pages = cc in
+      let same : store_pages s c ≡ pages = cc in
       let P : Option ℕ → Type 0 = λ o. IsSomeAnd o (λ n. s.used ≤ n) in
       let fits : s.used ≤ length c = subst P (told c refl) room in
       omega (arith, ap length same, length-append (take (s.used - FIRST_PAGE) (drop FIRST_PAGE c)) s.staged.items, length-take (s.used - FIRST_PAGE) (drop FIRST_PAGE c), length-drop FIRST_PAGE c)
 
 -- the first four pages are counted
-pub counts_first : {D : Type 0} {g : _} (s : Store D g) → 4 ≤ s.used → 4 ≤ count_of s
+pub counts_first : {D : Type 0} {g : _} (s : Store D g) → 4 ≤ s.used → 4 ≤ store_count s
 counts_first s low = omega (arith, low)

@@ -53,7 +53,7 @@ pub record IsBody (count : ℕ) (page : List ℕ) (generation used : ℕ) (root 
   pub room : used ≤ count
 
 -- the image has this body in its slot, with the gate open, and all the pages
-pub record Stands (o : Opening) (c : Image) : Type 0 where
+pub record StandsInImage (o : Opening) (c : Image) : Type 0 where
   pub which : o.slot < 2
   pub room : used_of o ≤ length c
   pub gate : slice_index (page_at c o.slot) 0 ≡ 1
@@ -70,17 +70,17 @@ pub record IsOlder (o : Opening) (c : Image) : Type 0 where
 
 -- the image opens as this: either the other gate is closed, or its body is older
 pub record OpensAs (o : Opening) (c : Image) : Type 0 where
-  pub stands : Stands o c
+  pub stands : StandsInImage o c
   pub counts : IsClosed (spare_of o) c ⊎ IsOlder o c
 
 -- the same, with the other gate closed
 pub record OpensAlone (o : Opening) (c : Image) : Type 0 where
-  pub stands : Stands o c
+  pub stands : StandsInImage o c
   pub closed : IsClosed (spare_of o) c
 
 -- the same, with an older body behind the other gate, open or not
 pub record OpensAboveOlder (o : Opening) (c : Image) : Type 0 where
-  pub stands : Stands o c
+  pub stands : StandsInImage o c
   pub older : IsOlder o c
 
 -- one or the other

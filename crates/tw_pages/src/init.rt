@@ -6,7 +6,7 @@ ghost use Rattle.tw_base.specs.kinds.Faults.{Rose};
 ghost use Rattle.tw_disk.specs.Disk.{LeavesOnly, IsAtRest, IsRun};
 ghost use Rattle.tw_pages.specs.Store.{OpensAboveOlder};
 ghost use Rattle.tw_pages.specs.InitSteps.{BothClosed, HasBodies, IsUnmade};
-ghost use Rattle.tw_pages.specs.Init.{first_opening, IsBlankOrNew};
+ghost use Rattle.tw_pages.specs.Init.{first_opening, IsBlankOrRoot};
 ghost use Rattle.tw_pages.specs.Slots.{IsBlank, IsTaken};
 ghost use Rattle.tw_disk.specs.declared.limits.TheConstants.{FIRST_PAGE};
 ghost use Rattle.tw_pages.specs.declared.limits.TheConstants.{MOST_ROOT_BYTES};
@@ -64,7 +64,7 @@ pub(crate) fn write_open_gates<D: Disk>(disk: &mut D) -> Result<(), Failed>
         → IsAtRest (D.view disk.new) (OpensAboveOlder (first_opening root))) }
     ensures images { (root : List ℕ) → IsAtRest (D.view disk.old) (λ c. BothClosed c
         × HasBodies root c)
-        → LeavesOnly (D.view disk.old) (D.view disk.new) (IsBlankOrNew root) }
+        → LeavesOnly (D.view disk.old) (D.view disk.new) (IsBlankOrRoot root) }
     ensures run { IsRun (D.view disk.old) (D.view disk.new) result }
 {
     write_pair_durably(disk, 0, &open_gate(), 1, &open_gate())?;
@@ -119,7 +119,7 @@ pub(crate) fn make<D: Disk>(disk: &mut D, short: bool, root: &[u8]) -> Result<()
     ensures made { OnOk result (IsAtRest (D.view disk.old) (IsUnmade short)
         → IsAtRest (D.view disk.new) (OpensAboveOlder (first_opening root.now))) }
     ensures images { IsAtRest (D.view disk.old) (IsUnmade short)
-        → LeavesOnly (D.view disk.old) (D.view disk.new) (IsBlankOrNew root.now) }
+        → LeavesOnly (D.view disk.old) (D.view disk.new) (IsBlankOrRoot root.now) }
     ensures room { OnOk result (IsSomeAnd (D.view disk.new).count (λ n. FIRST_PAGE ≤ n)) }
     ensures run { IsRun (D.view disk.old) (D.view disk.new) result }
 {

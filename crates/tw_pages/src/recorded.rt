@@ -5,11 +5,11 @@ ghost use Rattle.tw_base.specs.kinds.Faults.{Rose};
 ghost use Rattle.tw_disk.specs.Disk.{IsAtRest, LeavesOnly, Reads};
 ghost use Rattle.tw_disk.specs.Image.{Image};
 ghost use Rattle.tw_disk.specs.declared.limits.TheConstants.{FIRST_PAGE, NUMBER_LIMIT};
-ghost use Rattle.tw_pages.specs.Same.{count_of, list_of};
+ghost use Rattle.tw_pages.specs.Same.{store_count, store_list};
 ghost use Rattle.tw_pages.specs.Slots.{IsTaken};
-ghost use Rattle.tw_pages.specs.StoreValue.{disk_of, generation_of, is_broken, staged_of, used_of};
+ghost use Rattle.tw_pages.specs.StoreValue.{generation_of, is_broken, staged_of, store_disk, store_used};
 ghost use Rattle.tw_pages.specs.declared.open.StoreFault.{StoreFault as Fault};
-ghost use Rattle.tw_pages.specs.Records.{IsBlankOrNew, IsNotOpenedFor, IsOnce, IsOneOf, IsWritten, Written, written};
+ghost use Rattle.tw_pages.specs.Records.{IsBlankOrNew, IsNotOpenedFor, IsOnce, IsOneOf, IsWritten, Written, written_record};
 ghost use Rattle.tw_pages.specs.Rests.{RestsWith};
 
 use crate::open::StoreFault;
@@ -36,11 +36,11 @@ impl<D: Disk, R: Record> Recorded<D, R> {
         requires begun { (R.kind H.dig).May FIRST_PAGE 0 root }
         // A new store has the record and no pages, at rest.
         ensures rests { IfOk result (λ s. (c : Image) → (D.view disk).content ≡ Some c
-            → RestsWith D.view (R.kind H.dig) s.store (written root [])) }
+            → RestsWith D.view (R.kind H.dig) s.store (written_record root [])) }
         // It has nothing staged, and has met no failed device call.
         ensures clean { IfOk result (λ s. (s.root ≡ root) × (staged_of s.store ≡ []) × (is_broken s.store ≡ false)) }
         // It has the first four pages alone, and generation 1.
-        ensures numbers { IfOk result (λ s. (count_of s.store ≡ FIRST_PAGE) × (generation_of s.store ≡ 1)) }
+        ensures numbers { IfOk result (λ s. (store_count s.store ≡ FIRST_PAGE) × (generation_of s.store ≡ 1)) }
 
         // `Taken` only where a store is there.
         ensures taken { IfErr result (λ e. e.1 ≡ StoreFault.Taken → (c : Image) → (D.view disk).content ≡ Some c
@@ -56,7 +56,7 @@ impl<D: Disk, R: Record> Recorded<D, R> {
         // `DiskFault` only where the disk's count of faults rose.
         ensures fault { IfErr result (λ e. e.1 ≡ StoreFault.DiskFault → Rose (D.view disk).faults (D.view e.0).faults) }
         // Whatever it answers, the count of faults hasn't fallen.
-        ensures later { MatchResult result (λ s. (D.view disk).faults ≤ (D.view (disk_of s.store)).faults) (λ e. (D.view disk).faults ≤ (D.view e.0).faults) }
+        ensures later { MatchResult result (λ s. (D.view disk).faults ≤ (D.view (store_disk s.store)).faults) (λ e. (D.view disk).faults ≤ (D.view e.0).faults) }
 
         // Where a store is there, nothing is written, whatever the answer.
         ensures held { (c : Image) → (D.view disk).content ≡ Some c → IsTaken c
@@ -65,7 +65,7 @@ impl<D: Disk, R: Record> Recorded<D, R> {
 
         // A crash while a store is made leaves what it might have left before, a blank disk, or the new store.
         ensures any_moment { IfOk result (λ s. (c : Image) → (D.view disk).content ≡ Some c
-            → LeavesOnly (D.view disk) (D.view (disk_of s.store)) (λ i. (D.view disk).may_leave i
+            → LeavesOnly (D.view disk) (D.view (store_disk s.store)) (λ i. (D.view disk).may_leave i
             ⊎ IsBlankOrNew (R.kind H.dig) root i)) }
         // Where making fails, a crash leaves such images alone too.
         ensures any_moment_err { IfErr result (λ e. (c : Image) → (D.view disk).content ≡ Some c
@@ -90,12 +90,12 @@ impl<D: Disk, R: Record> Recorded<D, R> {
             → MatchResult result (λ s. (s.root ≡ w.root) × RestsWith D.view (R.kind H.dig) s.store w) (λ e. e.1 ≡ StoreFault.DiskFault) }
         // Whatever is opened is such a store, which the disk read as; and it is at rest over what that was.
         ensures opened { IfOk result (λ s. (c : Image) → (D.view disk).content ≡ Some c
-            → (ps : Image) × (list_of D.view s.store ≡ Some ps) × IsWritten (R.kind H.dig) (written s.root ps) c
-            × RestsWith D.view (R.kind H.dig) s.store (written s.root ps) × IsAtRest (D.view (disk_of s.store)) (λ i. i ≡ c)) }
+            → (ps : Image) × (store_list D.view s.store ≡ Some ps) × IsWritten (R.kind H.dig) (written_record s.root ps) c
+            × RestsWith D.view (R.kind H.dig) s.store (written_record s.root ps) × IsAtRest (D.view (store_disk s.store)) (λ i. i ≡ c)) }
         // It has nothing staged, and has met no failed device call.
         ensures clean { IfOk result (λ s. (staged_of s.store ≡ []) × (is_broken s.store ≡ false)) }
         // Over every disk the record may stand in a store of the value's used pages and generation.
-        ensures may { IfOk result (λ s. (R.kind H.dig).May (count_of s.store) (generation_of s.store) s.root) }
+        ensures may { IfOk result (λ s. (R.kind H.dig).May (store_count s.store) (generation_of s.store) s.root) }
 
         // A refusal comes only where its reason stands.
         ensures refused { IfErr result (λ e. (c : Image) → (D.view disk).content ≡ Some c
@@ -104,16 +104,16 @@ impl<D: Disk, R: Record> Recorded<D, R> {
         ensures exact { (c : Image) (fault : Fault) → (D.view disk).content ≡ Some c → IsNotOpenedFor (R.kind H.dig) c fault
             → IsErrAnd result (λ e. (e.1 ≡ fault) ⊎ (e.1 ≡ StoreFault.DiskFault)) }
         // Whatever it answers, the disk reads as before.
-        ensures unchanged { MatchResult result (λ s. (D.view (disk_of s.store)).content ≡ (D.view disk).content) (λ e. (D.view e.0).content ≡ (D.view disk).content) }
+        ensures unchanged { MatchResult result (λ s. (D.view (store_disk s.store)).content ≡ (D.view disk).content) (λ e. (D.view e.0).content ≡ (D.view disk).content) }
         // Opening never answers `Taken` or `NoMemory`.
         ensures answers { IfErr result (λ e. (e.1 ≢ StoreFault.Taken) × (e.1 ≢ StoreFault.NoMemory)) }
         // `DiskFault` only where the disk's count of faults rose.
         ensures fault { IfErr result (λ e. e.1 ≡ StoreFault.DiskFault → Rose (D.view disk).faults (D.view e.0).faults) }
         // Whatever it answers, the count of faults hasn't fallen.
-        ensures later { MatchResult result (λ s. (D.view disk).faults ≤ (D.view (disk_of s.store)).faults) (λ e. (D.view disk).faults ≤ (D.view e.0).faults) }
+        ensures later { MatchResult result (λ s. (D.view disk).faults ≤ (D.view (store_disk s.store)).faults) (λ e. (D.view disk).faults ≤ (D.view e.0).faults) }
 
         // A crash since the start leaves nothing else than before: opening writes nothing.
-        ensures any_moment { IfOk result (λ s. LeavesOnly (D.view disk) (D.view (disk_of s.store)) (D.view disk).may_leave) }
+        ensures any_moment { IfOk result (λ s. LeavesOnly (D.view disk) (D.view (store_disk s.store)) (D.view disk).may_leave) }
         // Where opening fails, it wrote nothing either.
         ensures any_moment_err { IfErr result (λ e. LeavesOnly (D.view disk) (D.view e.0) (D.view disk).may_leave) }
     {
@@ -136,29 +136,29 @@ impl<D: Disk, R: Record> Recorded<D, R> {
 
         // Of a store at rest with its record, whatever its pages keep, each image that a crash since may leave opens with that record and
         // those pages, or with the next record and the staged pages behind them.
-        ensures any_moment { (ps all : Image) → RestsWith D.view (R.kind H.dig) self.old.store (written self.old.root ps) → list_of D.view self.old.store ≡ Some all
-            → (R.kind H.dig).May (count_of self.old.store) (generation_of self.old.store + 1) next
-            → LeavesOnly (D.view (disk_of self.old.store)) (D.view (disk_of self.new.store)) (IsOneOf (R.kind H.dig) (written self.old.root ps) (written next all)) }
+        ensures any_moment { (ps all : Image) → RestsWith D.view (R.kind H.dig) self.old.store (written_record self.old.root ps) → store_list D.view self.old.store ≡ Some all
+            → (R.kind H.dig).May (store_count self.old.store) (generation_of self.old.store + 1) next
+            → LeavesOnly (D.view (store_disk self.old.store)) (D.view (store_disk self.new.store)) (IsOneOf (R.kind H.dig) (written_record self.old.root ps) (written_record next all)) }
         // The content is told still, after a disk fault too, and is such an image.
-        ensures told { (ps all : Image) → RestsWith D.view (R.kind H.dig) self.old.store (written self.old.root ps) → list_of D.view self.old.store ≡ Some all
-            → (R.kind H.dig).May (count_of self.old.store) (generation_of self.old.store + 1) next
-            → Reads (D.view (disk_of self.new.store)) (IsOneOf (R.kind H.dig) (written self.old.root ps) (written next all)) }
+        ensures told { (ps all : Image) → RestsWith D.view (R.kind H.dig) self.old.store (written_record self.old.root ps) → store_list D.view self.old.store ≡ Some all
+            → (R.kind H.dig).May (store_count self.old.store) (generation_of self.old.store + 1) next
+            → Reads (D.view (store_disk self.new.store)) (IsOneOf (R.kind H.dig) (written_record self.old.root ps) (written_record next all)) }
         // After `Ok` it is the latter, at rest.
-        ensures done { OnOk result ((ps all : Image) → RestsWith D.view (R.kind H.dig) self.old.store (written self.old.root ps) → list_of D.view self.old.store ≡ Some all
-            → (R.kind H.dig).May (count_of self.old.store) (generation_of self.old.store + 1) next
-            → RestsWith D.view (R.kind H.dig) self.new.store (written next all)) }
+        ensures done { OnOk result ((ps all : Image) → RestsWith D.view (R.kind H.dig) self.old.store (written_record self.old.root ps) → store_list D.view self.old.store ≡ Some all
+            → (R.kind H.dig).May (store_count self.old.store) (generation_of self.old.store + 1) next
+            → RestsWith D.view (R.kind H.dig) self.new.store (written_record next all)) }
 
         // After `Ok` the value has the next record and one generation more, and has met no failed device call.
         ensures root { OnOk result ((self.new.root ≡ next) × (generation_of self.new.store ≡ generation_of self.old.store + 1)
-            × (count_of self.new.store ≡ count_of self.old.store) × (is_broken self.new.store ≡ false)) }
+            × (store_count self.new.store ≡ store_count self.old.store) × (is_broken self.new.store ≡ false)) }
         // After a failure it has the record that it had.
         ensures kept { OnErr result ((self.new.root ≡ self.old.root) × (generation_of self.new.store ≡ generation_of self.old.store)
-            × (used_of self.new.store ≡ used_of self.old.store)) }
+            × (store_used self.new.store ≡ store_used self.old.store)) }
         // Whatever the answer, nothing is staged any more.
         ensures clean { staged_of self.new.store ≡ [] }
         // It fails only where the disk's count of faults rose, which hasn't fallen.
-        ensures fault { OnErr result (Rose (D.view (disk_of self.old.store)).faults (D.view (disk_of self.new.store)).faults) }
-        ensures later { (D.view (disk_of self.old.store)).faults ≤ (D.view (disk_of self.new.store)).faults }
+        ensures fault { OnErr result (Rose (D.view (store_disk self.old.store)).faults (D.view (store_disk self.new.store)).faults) }
+        ensures later { (D.view (store_disk self.old.store)).faults ≤ (D.view (store_disk self.new.store)).faults }
     {
         let bytes = next.bytes::<H>();
         match self.store.commit(bytes.as_slice()) {
@@ -175,7 +175,7 @@ impl<D: Disk, R: Record> Recorded<D, R> {
 
     /// Gives the disk back. What is staged is dropped.
     pub fn close(self) -> D
-        ensures disk { result ≡ disk_of self.store }
+        ensures disk { result ≡ store_disk self.store }
         // Where the store is at rest with a record and pages, so is the disk, for good.
         ensures rests { (dig : List ℕ → List ℕ) (w : Written R) → RestsWith D.view (R.kind dig) self.store w
             → IsAtRest (D.view result) (IsWritten (R.kind dig) w) }

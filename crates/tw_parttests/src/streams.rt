@@ -1,6 +1,6 @@
 // The loops over inputs and sinks in memory that give and take little at a time, and fail in mid-stream.
 ghost use Rattle.std.specs.Prelude.{Some, ⊤};
-ghost use Rattle.tw_outside.specs.Memory.{files_of, input_faults, bytes_taken, sink_faults};
+ghost use Rattle.tw_outside.specs.Memory.{mem_files, input_faults, bytes_taken, sink_faults};
 
 use std::test::Fail;
 use tw_base::Failed;
@@ -13,7 +13,7 @@ struct ShortInputs {
 }
 
 impl Inputs for ShortInputs {
-    ghost told = { λ inputs. Some (files_of inputs.inner) };
+    ghost told = { λ inputs. Some (mem_files inputs.inner) };
 
     ghost faults = { λ inputs. input_faults inputs.inner };
 

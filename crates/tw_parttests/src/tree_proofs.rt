@@ -2,7 +2,7 @@
 
 ghost use Rattle.std.specs.Prelude.{IfOk};
 ghost use Rattle.tw_base.specs.history.Tree.{IsRising, entries};
-ghost use Rattle.tw_tree.specs.TreeMeaning.{tree_of};
+ghost use Rattle.tw_tree.specs.TreeMeaning.{meant_tree};
 
 use std::alloc::Global;
 use std::process::Abort;
@@ -53,7 +53,7 @@ fn the_proof_of_an_only_entry(rt: HostRuntime) -> Result<(), Fail> {
 /// A tree of the entries of the odd steps below twice the count, which were put in in an order that
 /// goes round by this stride.
 fn tree_by(rt: &impl Abort, alloc: Global, stride: u64, count: u64) -> Result<Tree, Fail>
-    ensures { IfOk result (λ tree. IsRising (entries (tree_of tree))) }
+    ensures { IfOk result (λ tree. IsRising (entries (meant_tree tree))) }
 {
     let mut tree = Tree::empty();
     for i in 0..41 {
@@ -95,7 +95,7 @@ fn answer_of(entries: &[Entry], ask: &Ask) -> Shown {
 
 /// What the tree's own proof shows; `Wrong` where none is made.
 fn shown_by(alloc: Global, tree: &Tree, ask: &Ask) -> Result<Shown, ProveFault>
-    requires { IsRising (entries (tree_of tree.now)) }
+    requires { IsRising (entries (meant_tree tree.now)) }
 {
     match prove::<Weak>(alloc, tree, ask) {
         Ok(proof) => Ok(check::<Weak>(&label::<Weak>(tree), ask, &proof)),
@@ -112,7 +112,7 @@ fn compare(
     listed: &[Entry],
     ask: &Ask,
 ) -> Result<(), ProveFault>
-    requires { IsRising (entries (tree_of tree.now)) }
+    requires { IsRising (entries (meant_tree tree.now)) }
 {
     let shown = shown_by(alloc, tree, ask)?;
     assert_eq!(rt; shown, answer_of(listed, ask));
@@ -121,7 +121,7 @@ fn compare(
 
 /// The four questions about the steps 0 to 83 are answered as by the list.
 fn compare_all(rt: &impl Abort, alloc: Global, tree: &Tree) -> Result<(), Fail>
-    requires { IsRising (entries (tree_of tree.now)) }
+    requires { IsRising (entries (meant_tree tree.now)) }
 {
     let listed = list(alloc, tree)?;
     for step in 0..84 {

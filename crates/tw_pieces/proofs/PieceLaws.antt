@@ -10,7 +10,7 @@ use Rattle.tw_pieces.specs.declared.resumed.Resumed.{Resumed}
 use Rattle.tw_base.specs.kinds.Bytes.{AreBytes}
 use Rattle.tw_base.specs.format.Formats.{Format, GoesOn, IsFront, IsPlace, Spells, SpellsNothing, then_by}
 use Rattle.tw_base.specs.format.Formats.Format.{Done, Byte}
-use Rattle.tw_pieces.specs.Resuming.{Goes, IsSoFar, StandsBehind, StaysFront}
+use Rattle.tw_pieces.specs.Resuming.{GoesInPieces, IsSoFar, StandsBehind, StaysFront}
 use Rattle.tw_base.proofs.lemmas.kinds.ByteLemmas.{AreBytes-append}
 use Rattle.tw_base.proofs.lemmas.format.FormatLaws.{some_word, spells_then}
 
@@ -144,7 +144,7 @@ module _ {S X : Type 0} (rest : S → Format X) (whole : Format X) where
 
   -- a piece after which the segment can neither end nor break
   pub so_far-waits : (r next : Resumed S) (pieces piece : List ℕ) → next.state ≡ r.state → next.held ≡ r.held ++ piece → next.taken ≡ r.taken → next.until ≡ r.until
-      → AreBytes piece → length (r.held ++ piece) < r.until → IsSoFar rest whole r pieces → Goes rest whole (pieces ++ piece) (Ok next)
+      → AreBytes piece → length (r.held ++ piece) < r.until → IsSoFar rest whole r pieces → GoesInPieces rest whole (pieces ++ piece) (Ok next)
   so_far-waits r next pieces piece state held taken until are few s = (all, so_far-front next (pieces ++ piece) all)
     where
       stays : StaysFront (rest r.state) (r.held ++ piece) r.until
@@ -163,9 +163,9 @@ module _ {S X : Type 0} (rest : S → Format X) (whole : Format X) where
 
   -- what goes on from what was taken and held goes on from the pieces
   pub goes-again : (r : Resumed S) (pieces piece : List ℕ) (result : Result (Resumed S) ReadFault) (s : IsSoFar rest whole r pieces)
-      → Goes rest whole (s.taken ++ (r.held ++ piece)) result → Goes rest whole (pieces ++ piece) result
+      → GoesInPieces rest whole (s.taken ++ (r.held ++ piece)) result → GoesInPieces rest whole (pieces ++ piece) result
   goes-again r pieces piece result s g =
-      let P : List ℕ → Type 0 = λ w. Goes rest whole w result in
+      let P : List ℕ → Type 0 = λ w. GoesInPieces rest whole w result in
       subst P (sym (ap (λ w. w ++ piece) s.are ∙ append_assoc s.taken r.held piece)) g
 
   module _ (first : Format X) (before held : List ℕ) (at count : ℕ) (state : S) (counts : count ≡ length before) (b : StandsBehind whole before first) (within : at ≤ length held)
@@ -181,7 +181,7 @@ module _ {S X : Type 0} (rest : S → Format X) (whole : Format X) where
 
     -- the segment at hand has a front
     pub settles-front : (next : Resumed S) (slice : List ℕ) → next.taken ≡ count + at → slice ≡ drop at held → next.held ≡ drop at held
-        → (next.state ≡ state) × StaysFront (rest state) slice next.until → Goes rest whole (before ++ held) (Ok next)
+        → (next.state ≡ state) × StaysFront (rest state) slice next.until → GoesInPieces rest whole (before ++ held) (Ok next)
     settles-front next slice stands is rest_is found = (all, so_far-front next (before ++ held) all)
       where
         all : IsSoFar rest whole next (before ++ held)
@@ -191,7 +191,7 @@ module _ {S X : Type 0} (rest : S → Format X) (whole : Format X) where
 
     -- it breaks
     pub settles-broken : (slice : List ℕ) (place bad : ℕ) → bad ≡ count + (at + place) → slice ≡ drop at held → (place < length slice) × IsPlace (rest state) slice place
-        → Goes rest whole (before ++ held) (Err (Malformed bad))
+        → GoesInPieces rest whole (before ++ held) (Err (Malformed bad))
     settles-broken slice place bad stands is found =
         let P : List ℕ → Type 0 = λ w. IsPlace (rest state) w place in
         let Q : List ℕ → Type 0 = λ w. IsPlace whole w (length (before ++ take at held) + place) in

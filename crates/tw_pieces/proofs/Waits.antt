@@ -19,8 +19,8 @@ use Rattle.tw_base.proofs.lemmas.format.CodecSizes.{length-joined}
 use Rattle.tw_pieces.proofs.SegmentLaws.{TakesAny, any-stays, labels-any, sized-stays, then_kind, then_pair, then_seen}
 use Rattle.tw_skipproof.specs.declared.opening.Opening.{Opening}
 use Rattle.tw_skipproof.specs.declared.path.Link.{Link}
-use Rattle.tw_skipproof.specs.Codecs.{count_codec, event_codec, link_codec, opening_codec}
-use Rattle.tw_pieces.specs.PieceSteps.{Roots, StaysUntil, body_codec, roots_codec, sizes_codec}
+use Rattle.tw_skipproof.specs.Codecs.{count_codec, event_part_codec, link_codec, opening_codec}
+use Rattle.tw_pieces.specs.PieceSteps.{Roots, StaysUntil, roots_codec, sized_body_codec, sizes_codec}
 use Rattle.tw_skipproof.proofs.LawfulCodecs.{count-lawful, link-lawful}
 
 -- ---- a link
@@ -122,18 +122,18 @@ sizes-nothing : (count : ℕ) → SpellsNothing (sizes_codec count).format []
 unfolding sizes_codec pair number_codec number
 sizes-nothing count r s = s
 
-body-lawful : (count : ℕ) (s : ℕ × ℕ) → Lawful (body_codec count s)
-unfolding body_codec
+body-lawful : (count : ℕ) (s : ℕ × ℕ) → Lawful (sized_body_codec count s)
+unfolding sized_body_codec
 body-lawful count s = search lawful depth 20
 
 -- any bytes of its size are an event with its path
-body-any : (count : ℕ) (s : ℕ × ℕ) → TakesAny (body_codec count s).format (s.1 + 32 * path_length count s.0)
-unfolding body_codec pair bytes_codec labels_codec many
+body-any : (count : ℕ) (s : ℕ × ℕ) → TakesAny (sized_body_codec count s).format (s.1 + 32 * path_length count s.0)
+unfolding sized_body_codec pair bytes_codec labels_codec many
 body-any count s = record {
   any = λ word are size. (
       let rest = labels-any (path_length count s.0) (drop s.1 word) (AreBytes-drop s.1 word are) (omega (arith, size, length-drop s.1 word)) in
       let d : List ℕ × List (List ℕ) = (take s.1 word, rest.0) in
-      let P : List ℕ → Type 0 = λ w. Spells (body_codec count s).format w d in (
+      let P : List ℕ → Type 0 = λ w. Spells (sized_body_codec count s).format w d in (
         d,
         subst P (ap (λ w. take s.1 word ++ w) rest.1 ∙ take-append-drop s.1 word)
             ((body-lawful count s).spells d ((length-take-le s.1 word (omega (arith, size)), AreBytes-take s.1 word are), (rest.2, rest.3))),
@@ -151,8 +151,8 @@ flat_event count =
     then_by (number_codec 4 0 (count - 1)).format (λ index. then_by (number_codec 4 0 MOST_EVENT_BYTES).format (λ n. then_by (bytes_codec n).format (λ event.
     then_by (labels_codec (path_length count index)).format (λ path. Done (record { index = index; event = event; path = path })))))
 
-event-flat : (count : ℕ) → (event_codec count).format ≡ flat_event count
-unfolding event_codec seen flat_event sized_codec
+event-flat : (count : ℕ) → (event_part_codec count).format ≡ flat_event count
+unfolding event_part_codec seen flat_event sized_codec
 event-flat count =
     let labels = λ (index : ℕ) (event : List ℕ). labels_codec (path_length count index) in
     let fields = λ (index : ℕ). pair (sized_codec 4 0 MOST_EVENT_BYTES) (labels index) in
@@ -161,18 +161,18 @@ event-flat count =
     then_pair (sized_codec 4 0 MOST_EVENT_BYTES) (labels index) (λ y. Done (record { index = index; event = y.0; path = y.1 }))
     ∙ then_kind length (number_codec 4 0 MOST_EVENT_BYTES) bytes_codec (λ event. then_by (labels index event).format (λ path. Done (record { index = index; event = event; path = path })))) k))
 
-sizes-flat : (count : ℕ) → then_by (sizes_codec count).format (λ s. then_by (body_codec count s).format (λ d. Done (event_of s d))) ≡ flat_event count
-unfolding sizes_codec body_codec flat_event
+sizes-flat : (count : ℕ) → then_by (sizes_codec count).format (λ s. then_by (sized_body_codec count s).format (λ d. Done (event_of s d))) ≡ flat_event count
+unfolding sizes_codec sized_body_codec flat_event
 sizes-flat count =
-    then_pair (number_codec 4 0 (count - 1)) (λ index. number_codec 4 0 MOST_EVENT_BYTES) (λ s. then_by (body_codec count s).format (λ d. Done (event_of s d)))
+    then_pair (number_codec 4 0 (count - 1)) (λ index. number_codec 4 0 MOST_EVENT_BYTES) (λ s. then_by (sized_body_codec count s).format (λ d. Done (event_of s d)))
     ∙ (λ k. then_by (number_codec 4 0 (count - 1)).format (λ index. then_by (number_codec 4 0 MOST_EVENT_BYTES).format (λ n.
     then_pair (bytes_codec n) (λ event. labels_codec (path_length count index)) (λ d. Done (event_of (index, n) d)) k)))
 
 pub event-waits : (count : ℕ) (held : List ℕ) (after until : ℕ) (s : ℕ × ℕ) → count ≤ MOST_EVENTS → AreBytes held
-    → (sizes_codec count).read held 0 ≡ Ok (record { value = s; after = after }) → until ≡ after + (s.1 + 32 * path_length count s.0) → StaysUntil (event_codec count).format held until
+    → (sizes_codec count).read held 0 ≡ Ok (record { value = s; after = after }) → until ≡ after + (s.1 + 32 * path_length count s.0) → StaysUntil (event_part_codec count).format held until
 event-waits count held after until s few are e is short =
     let P : Format EventPart → Type 0 = λ f. StaysFront f held until in
-    let Q : ℕ → Type 0 = λ n. StaysFront (then_by (sizes_codec count).format (λ s. then_by (body_codec count s).format (λ d. Done (event_of s d)))) held n in
+    let Q : ℕ → Type 0 = λ n. StaysFront (then_by (sizes_codec count).format (λ s. then_by (sized_body_codec count s).format (λ d. Done (event_of s d)))) held n in
     subst P (sizes-flat count ∙ sym (event-flat count))
-    (subst Q (sym is) (sized-stays (sizes_codec count) (sizes-lawful count few) (sizes-nothing count) (λ s. (body_codec count s).format) (λ s. s.1 + 32 * path_length count s.0) (body-any count)
+    (subst Q (sym is) (sized-stays (sizes_codec count) (sizes-lawful count few) (sizes-nothing count) (λ s. (sized_body_codec count s).format) (λ s. s.1 + 32 * path_length count s.0) (body-any count)
     (λ s d. Done (event_of s d)) (λ s d. tt) held after s are e (omega (arith, is, short))))

@@ -13,10 +13,10 @@ module _ {S : Type 0} where
   IsSpent (Spent broken) = Unit {0}
 
   -- no word goes on behind the pieces, as the reader knows it
-  abbrev pub is_broken : Fed S → Bool
-  is_broken (Reading r) = false
-  is_broken (Broken place) = true
-  is_broken (Spent broken) = broken
+  abbrev pub is_reader_broken : Fed S → Bool
+  is_reader_broken (Reading r) = false
+  is_reader_broken (Broken place) = true
+  is_reader_broken (Spent broken) = broken
 
 module _ {S X : Type 0} (rest : S → Format X) (whole : Format X) where
   -- the reader was fed these pieces: they are a front of a word, and it goes on from them; or they break at this place; or no

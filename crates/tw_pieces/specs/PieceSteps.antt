@@ -20,8 +20,8 @@ unfoldable pub sizes_codec : (count : ℕ) → Codec (ℕ × ℕ)
 sizes_codec count = pair (number_codec 4 0 (count - 1)) (λ index. number_codec 4 0 MOST_EVENT_BYTES)
 
 -- the event and its path, behind them
-unfoldable pub body_codec : (count : ℕ) → ℕ × ℕ → Codec (List ℕ × List (List ℕ))
-body_codec count s = pair (bytes_codec s.1) (λ event. labels_codec (path_length count s.0))
+unfoldable pub sized_body_codec : (count : ℕ) → ℕ × ℕ → Codec (List ℕ × List (List ℕ))
+sized_body_codec count s = pair (bytes_codec s.1) (λ event. labels_codec (path_length count s.0))
 
 module _ {X : Type 0} where
   -- while they are fewer than so many, the bytes are a front, with any bytes behind

@@ -23,9 +23,9 @@ module _ {X : Type 0} where
       → IsFront f (held ++ more) × (0 < length (held ++ more) → SpellsNothing f (held ++ more))
 
   -- the value, where no more bytes may follow
-  abbrev pub EndsAs : Format X → Option X → Type 0
-  EndsAs f (Some x) = Spells f [] x
-  EndsAs f None = SpellsNothing f []
+  abbrev pub EndsAsFormat : Format X → Option X → Type 0
+  EndsAsFormat f (Some x) = Spells f [] x
+  EndsAsFormat f None = SpellsNothing f []
 
 module _ {S : Type 0} where
   -- reading what is held failed: it breaks before its end, or is a front
@@ -51,7 +51,7 @@ module _ {S X : Type 0} (rest : S → Format X) where
     pub stays : StaysFront (rest r.state) r.held r.until
 
   -- where all pieces so far are the front of a word, the reader goes on from them; else it tells the first bad place
-  abbrev pub Goes : (whole : Format X) (pieces : List ℕ) → Result (Resumed S) ReadFault → Type 0
-  Goes whole pieces (Ok r) = IsSoFar whole r pieces × IsFront whole pieces
-  Goes whole pieces (Err (Malformed place)) = (place < length pieces) × IsPlace whole pieces place
-  Goes whole pieces (Err NoMemory) = Unit {0}
+  abbrev pub GoesInPieces : (whole : Format X) (pieces : List ℕ) → Result (Resumed S) ReadFault → Type 0
+  GoesInPieces whole pieces (Ok r) = IsSoFar whole r pieces × IsFront whole pieces
+  GoesInPieces whole pieces (Err (Malformed place)) = (place < length pieces) × IsPlace whole pieces place
+  GoesInPieces whole pieces (Err NoMemory) = Unit {0}

@@ -20,7 +20,7 @@ pub enum Fed<S> {
 impl<S: Segments> Fed<S> {
     ghost use Rattle.std.specs.Prelude.{◌≡◌, ◌↔◌, ℕ, List, [], ◌++◌, IsTrue, Err, OnErr, OnOk};
     ghost use Rattle.tw_base.specs.declared.kinds.failure.ReadFault.TheVariants.{NoMemory as WantOfMemory};
-    ghost use Rattle.tw_pieces.specs.Feeding.{HasFed, IsSpent, is_broken};
+    ghost use Rattle.tw_pieces.specs.Feeding.{HasFed, IsSpent, is_reader_broken};
     ghost use Rattle.tw_base.specs.format.Formats.{Format, IsFront, ReadsAs};
     ghost use Rattle.tw_pieces.specs.Resuming.{StaysFront};
 
@@ -41,13 +41,13 @@ impl<S: Segments> Fed<S> {
         // The reader was fed what it was fed before, and then the piece.
         ensures fed { (whole : Format S.Whole) (pieces : List ℕ) → HasFed S.rest whole self.old pieces → HasFed S.rest whole self.new (pieces ++ piece.now) }
         // Where no memory was left, this is known from now on, and of whether the pieces break what was known before.
-        ensures spends { OnErr result (IsSpent self.new × (is_broken self.new ≡ is_broken self.old)) }
+        ensures spends { OnErr result (IsSpent self.new × (is_reader_broken self.new ≡ is_reader_broken self.old)) }
         // Else memory was left for each piece so far.
         ensures unspent { OnOk result (IsSpent self.new → ⊥) }
         // Behind a piece for which no memory was left none is taken.
         ensures spent { IsSpent self.old → OnOk result ⊥ }
         // Pieces behind a bad byte change nothing.
-        ensures still { IsTrue (is_broken self.old) → self.new ≡ self.old }
+        ensures still { IsTrue (is_reader_broken self.old) → self.new ≡ self.old }
     {
         match mem::replace(self, Fed::Spent { broken: false }) {
             Fed::Reading(reader) => match reader.feed(alloc, piece) {
@@ -66,7 +66,7 @@ impl<S: Segments> Fed<S> {
 
     /// Whether no word goes on behind the pieces, as the reader knows it.
     pub fn is_broken(&self) -> bool
-        ensures told { result ≡ is_broken self.now }
+        ensures told { result ≡ is_reader_broken self.now }
         // While memory was left for each piece, it is so exactly where they are no front of a word.
         ensures exact { (whole : Format S.Whole) (pieces : List ℕ) → HasFed S.rest whole self.now pieces → (IsSpent self.now → ⊥) →
             IsTrue result ↔ (IsFront whole pieces → ⊥) }

@@ -19,7 +19,7 @@ pub struct Resumed<S> {
 
 impl<S: Segments> Resumed<S> {
     ghost use Rattle.tw_base.specs.format.Formats.{Format, ReadsAs};
-    ghost use Rattle.tw_pieces.specs.Resuming.{Goes, IsSoFar, StaysFront};
+    ghost use Rattle.tw_pieces.specs.Resuming.{GoesInPieces, IsSoFar, StaysFront};
 
     /// No bytes yet.
     pub fn begin(alloc: Global, state: S) -> Self
@@ -39,7 +39,7 @@ impl<S: Segments> Resumed<S> {
     /// have 2^64 bytes or more, too many for their count.
     pub fn feed(self, alloc: Global, piece: &[u8]) -> Result<Self, ReadFault>
         // A piece is refused exactly where all that came so far is no front of a word, with the place.
-        ensures { (whole : Format S.Whole) (pieces : List ℕ) → IsSoFar S.rest whole self pieces → Goes S.rest whole (pieces ++ piece.now) result }
+        ensures { (whole : Format S.Whole) (pieces : List ℕ) → IsSoFar S.rest whole self pieces → GoesInPieces S.rest whole (pieces ++ piece.now) result }
     {
         let Resumed {
             state,

@@ -3,7 +3,7 @@
 
 ghost use Rattle.std.specs.Prelude.{◌≡◌, ℕ, ◌+◌, ◌<◌, ◌≤◌, ◌^◌, List, [], ◌++◌, length, drop, IfOk};
 ghost use Rattle.tw_base.specs.format.Formats.{Format};
-ghost use Rattle.tw_pieces.specs.Resuming.{Attempts, EndsAs, Goes, Misses, StandsBehind, StaysFront};
+ghost use Rattle.tw_pieces.specs.Resuming.{Attempts, EndsAsFormat, GoesInPieces, Misses, StandsBehind, StaysFront};
 
 use crate::resumed::Resumed;
 use std::alloc::Global;
@@ -33,7 +33,7 @@ pub trait Segments: Drop + Sized {
 
     /// The value, where nothing more follows.
     fn whole(self) -> Option<Self::Whole>
-        ensures { EndsAs (rest self) result };
+        ensures { EndsAsFormat (rest self) result };
 }
 
 /// What was found where reading the bytes that are held of a segment failed.
@@ -68,7 +68,7 @@ pub(crate) fn settle<S: Segments>(
     taken: u64,
 ) -> Result<Resumed<S>, ReadFault>
     requires { taken + length held < 2 ^ 64 }
-    ensures { (whole : Format S.Whole) (before : List ℕ) → taken ≡ length before → StandsBehind whole before (S.rest state) → Goes S.rest whole (before ++ held) result }
+    ensures { (whole : Format S.Whole) (before : List ℕ) → taken ≡ length before → StandsBehind whole before (S.rest state) → GoesInPieces S.rest whole (before ++ held) result }
 {
     let mut state = state;
     let mut at = 0;

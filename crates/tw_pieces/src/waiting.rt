@@ -5,7 +5,7 @@
 ghost use Rattle.std.specs.Prelude.{◌<◌, ◌≤◌, length, IfOk};
 ghost use Rattle.tw_base.specs.declared.kinds.limits.TheConstants.{LAST_STEP, MOST_EVENTS, MOST_EVENT_BYTES};
 ghost use Rattle.tw_base.specs.format.Taking.{Takes};
-ghost use Rattle.tw_skipproof.specs.Codecs.{event_codec, link_codec, opening_codec};
+ghost use Rattle.tw_skipproof.specs.Codecs.{event_part_codec, link_codec, opening_codec};
 ghost use Rattle.tw_pieces.specs.PieceSteps.{StaysUntil, roots_codec, sizes_codec};
 
 use tw_base::limits::MOST_EVENT_BYTES;
@@ -72,7 +72,7 @@ pub fn event_until(held: &[u8], count: u32) -> usize
     requires some { 1 ≤ count }
     requires few { count ≤ MOST_EVENTS }
     // While fewer bytes are held than are told, none of them can be the last of the event's part, and none can be wrong.
-    ensures { StaysUntil (event_codec count).format held.now result }
+    ensures { StaysUntil (event_part_codec count).format held.now result }
 {
     let mut at = 0;
     match take_sizes(held, &mut at, count) {

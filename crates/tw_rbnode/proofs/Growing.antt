@@ -3,7 +3,7 @@ use Rattle.std.proofs.Common.{◌≡◌, ◌≢◌, ℕ, ◌+◌, ◌-◌, ◌<�
 use Rattle.std.proofs.lemmas.Option.{same_Some}
 use Rattle.std.proofs.lemmas.Bool.{le-leb, lt-leb}
 use Rattle.tw_rbnode.specs.declared.links.Link.{Link}
-use Rattle.tw_rbnode.specs.Shape.{Shape, Empty, Node, size, is_red, recoloured, join_left, join_right, grown}
+use Rattle.tw_rbnode.specs.Shape.{Shape, Empty, Node, size, is_red, recoloured, join_left, join_right, grown_shape}
 use Rattle.tw_rbnode.specs.Slots.{slot_of, link, At, SameOutside, IsTree, bump, Gap, IsGap}
 use Rattle.tw_rbnode.proofs.Places.{At-frame, at_node, seen, left_tree, right_tree, JoinsLeft, JoinsRight, no_way}
 use Rattle.tw_rbnode.proofs.RedBlack.{size_grown}
@@ -60,7 +60,7 @@ recoloured_at f g1 g2 g base (Node true a b) (Node true u v) at node left right 
     )
 
 abbrev pub Grows : (f g : ℕ → Option Link) (low high : ℕ) (t : Shape) (place top : ℕ) → Type 0
-Grows f g low high t place top = IsTree g low (grown (place - low) t) top × SameOutside f g low (high + 1)
+Grows f g low high t place top = IsTree g low (grown_shape (place - low) t) top × SameOutside f g low (high + 1)
 
 -- the empty place itself
 pub grows_leaf : (f g : ℕ → Option Link) (low high : ℕ) (t : Shape) (at place : ℕ) → IsGap f low high t at place → at ≡ 0 →
@@ -164,25 +164,25 @@ gap_node f low high (Node red l r) at place gap some = (red, l, r, gap)
 pub left_joined : (f f1 f2 : ℕ → Option Link) (low high : ℕ) (red : Bool) (l r : Shape) (at place left : ℕ) (node : Link) →
     IsGap f low high (Node red l r) at place → f at ≡ Some node → place < at →
     ((t : Shape) → IsGap f low (at - 2) t node.left place → Grows f f1 low (at - 2) t place left) →
-    f2 at ≡ Some (link node.red left node.right) → ((k : ℕ) → k ≢ at → f2 k ≡ f1 k) → IsTree f2 low (Node red (grown (place - low) l) r) at
+    f2 at ≡ Some (link node.red left node.right) → ((k : ℕ) → k ≢ at → f2 k ≡ f1 k) → IsTree f2 low (Node red (grown_shape (place - low) l) r) at
 left_joined f f1 f2 low high red l r at place left node gap n before call there others =
     let o = on_left f low high red l r at place node gap n before in
     let done = call l o.gap in
-    let more : size (grown (place - low) l) ≡ size l + 1 = size_grown (place - low) l in
+    let more : size (grown_shape (place - low) l) ≡ size l + 1 = size_grown (place - low) l in
     let at_is : at ≡ low + size l + 2 = o.at_is in
-    let at_here : at ≡ low + size (grown (place - low) l) + 1 = omega arith in
+    let at_here : at ≡ low + size (grown_shape (place - low) l) + 1 = omega arith in
     record {
       blank = others 0 (omega arith) ∙ done.0.blank;
       top_is = at_here;
-      at = at_node f2 low red (grown (place - low) l) r at left node.right at_here done.0.top_is o.right_is (there ∙ ap (λ b. Some (link b left node.right)) (sym o.red_is))
-          (At-frame f1 f2 low (grown (place - low) l) done.0.at (λ k p q. others k (omega arith)))
+      at = at_node f2 low red (grown_shape (place - low) l) r at left node.right at_here done.0.top_is o.right_is (there ∙ ap (λ b. Some (link b left node.right)) (sym o.red_is))
+          (At-frame f1 f2 low (grown_shape (place - low) l) done.0.at (λ k p q. others k (omega arith)))
           (At-frame f f2 at r o.at_right (λ k p q. others k (omega arith) ∙ done.1 k (inr (omega arith))));
     }
 
 pub right_joined : (f f1 f2 : ℕ → Option Link) (low high : ℕ) (red : Bool) (l r : Shape) (at place right : ℕ) (node : Link) →
     IsGap f low high (Node red l r) at place → f at ≡ Some node → at ≤ place →
     ((t : Shape) → IsGap f at high t node.right place → Grows f f1 at high t place right) →
-    f2 at ≡ Some (link node.red node.left right) → ((k : ℕ) → k ≢ at → f2 k ≡ f1 k) → IsTree f2 low (Node red l (grown (place - at) r)) at
+    f2 at ≡ Some (link node.red node.left right) → ((k : ℕ) → k ≢ at → f2 k ≡ f1 k) → IsTree f2 low (Node red l (grown_shape (place - at) r)) at
 right_joined f f1 f2 low high red l r at place right node gap n before call there others =
     let o = on_right f low high red l r at place node gap n before in
     let done = call r o.gap in
@@ -190,9 +190,9 @@ right_joined f f1 f2 low high red l r at place right node gap n before call ther
     record {
       blank = others 0 (omega arith) ∙ done.0.blank;
       top_is = at_is;
-      at = at_node f2 low red l (grown (place - at) r) at node.left right at_is o.left_is done.0.top_is (there ∙ ap (λ b. Some (link b node.left right)) (sym o.red_is))
+      at = at_node f2 low red l (grown_shape (place - at) r) at node.left right at_is o.left_is done.0.top_is (there ∙ ap (λ b. Some (link b node.left right)) (sym o.red_is))
           (At-frame f f2 low l o.at_left (λ k p q. others k (omega arith) ∙ done.1 k (inl (omega arith))))
-          (At-frame f1 f2 at (grown (place - at) r) done.0.at (λ k p q. others k (omega arith)));
+          (At-frame f1 f2 at (grown_shape (place - at) r) done.0.at (λ k p q. others k (omega arith)));
     }
 
 pub grows_left : (f f1 f2 f3 : ℕ → Option Link) (low high : ℕ) (t : Shape) (at place left result : ℕ) (node : Link) →
@@ -205,13 +205,13 @@ grows_left f f1 f2 f3 low high Empty at place left result node gap some n before
 grows_left f f1 f2 f3 low high (Node red l r) at place left result node gap some n before call there others mend =
     let o = on_left f low high red l r at place node gap n before in
     let done = call l o.gap in
-    let joined = mend low red (grown (place - low) l) r (left_joined f f1 f2 low high red l r at place left node gap n before call there others) in
-    let more : size (grown (place - low) l) ≡ size l + 1 = size_grown (place - low) l in
+    let joined = mend low red (grown_shape (place - low) l) r (left_joined f f1 f2 low high red l r at place left node gap n before call there others) in
+    let more : size (grown_shape (place - low) l) ≡ size l + 1 = size_grown (place - low) l in
     let at_is : at ≡ low + size l + 2 = o.at_is in
     let near : place ≤ at - 2 = o.gap.to_high in
     let whole : high ≡ low + (size l + 1 + size r) = gap.high_is in
     let goes : nat_le (place - low) (size l) ≡ true = le-leb (place - low) (size l) (omega arith) in
-    let P : Bool → Type 0 = λ b. IsTree f3 low (cond b (join_left red (grown (place - low) l) r) (join_right red l (grown (place - low - (size l + 1)) r))) result in (
+    let P : Bool → Type 0 = λ b. IsTree f3 low (cond b (join_left red (grown_shape (place - low) l) r) (join_right red l (grown_shape (place - low - (size l + 1)) r))) result in (
       subst P (sym goes) joined.0,
       λ k. elim [
         | inl below ↦ joined.1 k (inl below) ∙ others k (omega arith) ∙ done.1 k (inl below)
@@ -229,14 +229,14 @@ grows_right f f1 f2 f3 low high Empty at place right result node gap some n befo
 grows_right f f1 f2 f3 low high (Node red l r) at place right result node gap some n before call there others mend =
     let o = on_right f low high red l r at place node gap n before in
     let done = call r o.gap in
-    let joined = mend low red l (grown (place - at) r) (right_joined f f1 f2 low high red l r at place right node gap n before call there others) in
-    let more : size (grown (place - at) r) ≡ size r + 1 = size_grown (place - at) r in
+    let joined = mend low red l (grown_shape (place - at) r) (right_joined f f1 f2 low high red l r at place right node gap n before call there others) in
+    let more : size (grown_shape (place - at) r) ≡ size r + 1 = size_grown (place - at) r in
     let at_is : at ≡ low + size l + 1 = o.at_is in
     let whole : high ≡ low + (size l + 1 + size r) = gap.high_is in
     let goes : nat_le (place - low) (size l) ≡ false = lt-leb (place - low) (size l) (omega arith) in
     let same : place - at ≡ place - low - (size l + 1) = omega arith in
-    let Q : ℕ → Type 0 = λ p. IsTree f3 low (join_right red l (grown p r)) result in
-    let P : Bool → Type 0 = λ b. IsTree f3 low (cond b (join_left red (grown (place - low) l) r) (join_right red l (grown (place - low - (size l + 1)) r))) result in (
+    let Q : ℕ → Type 0 = λ p. IsTree f3 low (join_right red l (grown_shape p r)) result in
+    let P : Bool → Type 0 = λ b. IsTree f3 low (cond b (join_left red (grown_shape (place - low) l) r) (join_right red l (grown_shape (place - low - (size l + 1)) r))) result in (
       subst P (sym goes) (subst Q same joined.0),
       λ k. elim [
         | inl below ↦ joined.1 k (inl below) ∙ others k (omega arith) ∙ done.1 k (inl (omega arith))

@@ -11,7 +11,7 @@ use Rattle.tw_base.specs.history.Limits.{IsEntryInRange}
 use Rattle.tw_rbnode.specs.declared.child.Child.{Child}
 use Rattle.tw_rbnode.specs.declared.links.Link.{Link}
 use Rattle.tw_rbnode.specs.declared.slot.Slot.{Slot}
-use Rattle.tw_rbnode.specs.NodeBytes.{Held, held_of, links_of, node_codec, slot_codec, slots_with}
+use Rattle.tw_rbnode.specs.NodeBytes.{Held, held_of, links_of, page_node_codec, slot_codec, slots_with}
 use Rattle.tw_rbnode.specs.Page.{IsNode, TreePage}
 use Rattle.tw_rbnode.specs.Shape.{Shape, size}
 use Rattle.tw_rbnode.specs.Slots.{IsTree, link, slot_of}
@@ -97,8 +97,8 @@ pub record Fitting (level : ℕ) (h : Held) : Type 0 where
   pub places : length h.1.1 ≡ length h.1.0 + 1
   pub ranges : Each (λ (s : Slot). IsEntryInRange s.entry) h.1.0
 
-pub node-fitting : (level : ℕ) (h : Held) → node_codec.Fits (level, h) → Fitting level h
-unfolding node_codec behind pair by_kind number_codec many
+pub node-fitting : (level : ℕ) (h : Held) → page_node_codec.Fits (level, h) → Fitting level h
+unfolding page_node_codec behind pair by_kind number_codec many
 node-fitting level h fits = record {
   low = fits.0.1;
   some = omega (arith, fits.1.0.0);

@@ -4,7 +4,7 @@ use Rattle.std.specs.Prelude.{◌==◌, if◌then◌else◌}
 use Rattle.tw_base.specs.format.Codecs.{many, nothing, number_codec, pair}
 use Rattle.tw_base.proofs.lemmas.format.CodecLaws.{Lawful, lawful, lawful-by_kind, lawful-many, lawful-nothing, lawful-number, lawful-pair}
 use Rattle.tw_base.proofs.lemmas.history.EntryCodecLaws.{entry-lawful}
-use Rattle.tw_rbnode.specs.NodeBytes.{Held, child_codec, colour_codec, counted_codec, held_codec, node_codec, slot_codec}
+use Rattle.tw_rbnode.specs.NodeBytes.{Held, child_codec, colour_codec, counted_codec, held_codec, page_node_codec, slot_codec}
 
 colour-kind : (n : ℕ) (red : Bool) → n ≤ 1 → (n == 1) ≡ red → (if red then 1 else 0) ≡ n
 colour-kind zero red few is = grind arith
@@ -35,6 +35,6 @@ pub counted-lawful : Lawful counted_codec
 unfolding number_codec
 counted-lawful = lawful-by_kind (λ (h : Held). length h.1.0) (number_codec 1 1 24) held_codec (search lawful) (λ n fits. held-lawful n fits.0 fits.1) (λ n h _ fits. held-count n h fits)
 
-pub node-lawful : Lawful node_codec
-unfolding node_codec
+pub node-lawful : Lawful page_node_codec
+unfolding page_node_codec
 node-lawful = search (lawful, counted-lawful) depth 20

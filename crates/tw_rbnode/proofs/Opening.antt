@@ -1,7 +1,7 @@
 -- A new slot among the slots of a tree.
 use Rattle.std.proofs.Common.{◌≡◌, ◌≢◌, ℕ, ◌+◌, ◌<◌, ◌≤◌, Bool, false, Option, Some, refl, sym, ap, ◌∙◌, subst, ◌⊎◌, inl, inr, arith}
 use Rattle.tw_rbnode.specs.declared.links.Link.{Link}
-use Rattle.tw_rbnode.specs.Shape.{Shape, Empty, Node, size, blacken, grown}
+use Rattle.tw_rbnode.specs.Shape.{Shape, Empty, Node, size, blacken, grown_shape}
 use Rattle.tw_rbnode.specs.Slots.{slot_of, link, At, IsTree, bump, bumped, Gap, IsGap}
 use Rattle.tw_rbnode.proofs.Places.{At-frame, at_node, seen}
 use Rattle.tw_rbnode.proofs.Growing.{bump_before, bump_behind}
@@ -113,5 +113,5 @@ pub slot_some : (base : ℕ) (t : Shape) → 0 < size t → base < slot_of base 
 slot_some base Empty h = absurd (omega arith)
 slot_some base (Node red l r) h = omega arith
 
-pub grown_top : (f : ℕ → Option Link) (p : ℕ) (t : Shape) (top : ℕ) → IsTree f 0 (grown p t) top → 0 < top
-grown_top f p t top tree = omega (arith, slot_some 0 (grown p t) (omega (arith, size_grown p t)), tree.top_is)
+pub grown_top : (f : ℕ → Option Link) (p : ℕ) (t : Shape) (top : ℕ) → IsTree f 0 (grown_shape p t) top → 0 < top
+grown_top f p t top tree = omega (arith, slot_some 0 (grown_shape p t) (omega (arith, size_grown p t)), tree.top_is)

@@ -5,7 +5,7 @@ use Rattle.tw_base.specs.format.PageBytes.{IsPageOf}
 use Rattle.tw_base.proofs.lemmas.format.PageLaws.{page-once}
 use Rattle.tw_rbnode.specs.declared.links.Link.{Link}
 use Rattle.tw_rbnode.specs.declared.slot.Slot.{Slot}
-use Rattle.tw_rbnode.specs.NodeBytes.{Held, fields_of, links_of, node_codec, slots_with}
+use Rattle.tw_rbnode.specs.NodeBytes.{Held, fields_of, links_of, page_node_codec, slots_with}
 use Rattle.tw_rbnode.specs.Page.{IsNode, TreePage}
 use Rattle.tw_rbnode.specs.Shape.{Shape}
 use Rattle.tw_rbnode.specs.Slots.{IsTree, link, slot_of}
@@ -23,9 +23,9 @@ own t xs top is e = record {
       ap (λ (ys : List Link). slice_get ys k) is ∙ ap (slice_get (link false 0 0 ∷ xs)) (let s : suc k ≡ 0 + k + 1 = omega arith in s));
 }
 
-pub once : (bytes : List ℕ) (p q : TreePage) → IsNode p → IsNode q → IsPageOf node_codec bytes (fields_of p) → IsPageOf node_codec bytes (fields_of q) → p ≡ q
+pub once : (bytes : List ℕ) (p q : TreePage) → IsNode p → IsNode q → IsPageOf page_node_codec bytes (fields_of p) → IsPageOf page_node_codec bytes (fields_of q) → p ≡ q
 once bytes p q np nq isp isq =
-    let e : fields_of p ≡ fields_of q = page-once node_codec node-lawful bytes (fields_of p) (fields_of q) isp isq in
+    let e : fields_of p ≡ fields_of q = page-once page_node_codec node-lawful bytes (fields_of p) (fields_of q) isp isq in
     let level : p.level ≡ q.level = ap (λ (f : ℕ × Held). f.0) e in
     let top : slot_of 0 p.shape ≡ slot_of 0 q.shape = ap (λ (f : ℕ × Held). f.1.0) e in
     let slots : slots_with (links_of 0 p.shape) p.entries ≡ slots_with (links_of 0 q.shape) q.entries = ap (λ (f : ℕ × Held). f.1.1.0) e in

@@ -11,7 +11,7 @@ use Rattle.tw_base.specs.history.Limits.{IsEntryInRange}
 use Rattle.tw_rbnode.specs.declared.child.Child.{Child}
 use Rattle.tw_rbnode.specs.Shape.{Shape, Empty, Node, size, IsEven, IsRedBlack, insert}
 use Rattle.tw_rbnode.specs.Slots.{slot_of, At, IsTree}
-use Rattle.tw_rbnode.specs.Page.{TreePage, IsBetween, IsNode, tree_of}
+use Rattle.tw_rbnode.specs.Page.{TreePage, IsBetween, IsNode, shape_of}
 use Rattle.tw_rbnode.specs.Answers.{more_children, more_entries}
 use Rattle.tw_rbnode.proofs.Rising.{Each-with, Rising-with}
 use Rattle.tw_rbnode.proofs.RedBlack.{size_insert, insert_lawful}
@@ -19,8 +19,8 @@ use Rattle.tw_rbnode.proofs.RedBlack.{size_insert, insert_lawful}
 not_zero : (n : ℕ) → 0 < n → nat_eq n 0 ≡ false
 not_zero n h = grind arith
 
-tree_of_at : (n : ℕ) (f : ℕ → Option Link) (base : ℕ) (t : Shape) → size t < n → At f base t → tree_of n f (slot_of base t) ≡ t
-unfolding tree_of
+tree_of_at : (n : ℕ) (f : ℕ → Option Link) (base : ℕ) (t : Shape) → size t < n → At f base t → shape_of n f (slot_of base t) ≡ t
+unfolding shape_of
 tree_of_at zero f base t h at = absurd (omega arith)
 tree_of_at (suc n) f base Empty h at = refl
 tree_of_at (suc n) f base (Node red l r) h at =
@@ -30,17 +30,17 @@ tree_of_at (suc n) f base (Node red l r) h at =
     let er = tree_of_at n f (base + size l + 1) r (omega arith) at.2 in
     rw some (rw here (rw (el, er) refl))
 
-pub tree_of_tree : (f : ℕ → Option Link) (t : Shape) (top : ℕ) → IsTree f 0 t top → size t ≤ 24 → tree_of 25 f top ≡ t
-tree_of_tree f t top tree few = ap (tree_of 25 f) tree.top_is ∙ tree_of_at 25 f 0 t (omega arith) tree.at
+pub tree_of_tree : (f : ℕ → Option Link) (t : Shape) (top : ℕ) → IsTree f 0 t top → size t ≤ 24 → shape_of 25 f top ≡ t
+tree_of_tree f t top tree few = ap (shape_of 25 f) tree.top_is ∙ tree_of_at 25 f 0 t (omega arith) tree.at
 
 abbrev pub page_of : ℕ → (ℕ → Option Link) → ℕ → List Entry → List Child → TreePage
-page_of level f top entries children = record { level = level; shape = tree_of 25 f top; entries = entries; children = children }
+page_of level f top entries children = record { level = level; shape = shape_of 25 f top; entries = entries; children = children }
 
 pub whole_node : (f : ℕ → Option Link) (t : Shape) (top level : ℕ) (entries : List Entry) (children : List Child) → IsTree f 0 t top → size t ≡ length entries →
     length children ≡ length entries + 1 → 0 < length entries → length entries ≤ 24 → IsRedBlack t → level ≤ 10 → IsRising entries → Each IsEntryInRange entries →
-    IsTree f 0 (tree_of 25 f top) top × IsNode (page_of level f top entries children)
+    IsTree f 0 (shape_of 25 f top) top × IsNode (page_of level f top entries children)
 whole_node f t top level entries children tree sized places some most law low rising ranges =
-    let same : tree_of 25 f top ≡ t = tree_of_tree f t top tree (omega arith) in
+    let same : shape_of 25 f top ≡ t = tree_of_tree f t top tree (omega arith) in
     let P : Shape → Type 0 = λ s. IsTree f 0 s top × IsNode (record { level = level; shape = s; entries = entries; children = children }) in
     subst P (sym same) (tree, record { sized = sized; places = places; some = some; most = most; lawful = law; level = low; rising = rising; ranges = ranges })
 
@@ -88,19 +88,19 @@ more_ranges kept es all place e same is ranges range =
 -- the page with one more entry
 pub one_more : (f g : ℕ → Option Link) (top new_top level : ℕ) (entries more : List Entry) (children sides : List Child) (place : ℕ) (entry : Entry) (left right : Child) →
     IsNode (page_of level f top entries children) → IsEntryInRange entry → IsBetween entries place (key_of entry) → length entries < 24 →
-    IsTree g 0 (insert place (tree_of 25 f top)) new_top →
+    IsTree g 0 (insert place (shape_of 25 f top)) new_top →
     more ≡ more_entries entries place entry → sides ≡ more_children children place left right →
-    IsTree g 0 (tree_of 25 g new_top) new_top × IsNode (page_of level g new_top more sides)
+    IsTree g 0 (shape_of 25 g new_top) new_top × IsNode (page_of level g new_top more sides)
 one_more f g top new_top level entries more children sides place entry left right node range stands room tree em es =
-    let sized : size (tree_of 25 f top) ≡ length entries = node.sized in
+    let sized : size (shape_of 25 f top) ≡ length entries = node.sized in
     let places : length children ≡ length entries + 1 = node.places in
     let there : place ≤ length entries = stands.there in
     let count : length more ≡ length entries + 1 =
     omega (arith, ap length em, with_size entries (entry ∷ []) place there) in
     let sides_count : length sides ≡ length entries + 2 =
     omega (arith, ap length es, with_size_children children (left ∷ right ∷ []) place (omega arith)) in
-    whole_node g (insert place (tree_of 25 f top)) new_top level more sides tree (omega (arith, size_insert place (tree_of 25 f top))) (omega arith) (omega arith) (omega arith)
-    (insert_lawful place (tree_of 25 f top) node.lawful) node.level
+    whole_node g (insert place (shape_of 25 f top)) new_top level more sides tree (omega (arith, size_insert place (shape_of 25 f top))) (omega arith) (omega arith) (omega arith)
+    (insert_lawful place (shape_of 25 f top) node.lawful) node.level
     (subst IsRising (sym em) (Rising-with entries place entry node.rising stands.above stands.below))
     (subst (Each IsEntryInRange) (sym em) (Each-with IsEntryInRange entries place (entry ∷ []) node.ranges (range, tt)))
 

@@ -2,7 +2,7 @@
 use Rattle.std.proofs.Common.{◌≡◌, ℕ, ◌+◌, ◌-◌, ◌*◌, ◌^◌, ◌≤◌, Bool, true, false, cond, refl, sym, ap, ◌∙◌, subst, ◌⊎◌, inl, inr, arith, max, nat_le}
 use Rattle.std.proofs.Math.Nat.{max-le, pow-le-pow_right}
 use Rattle.std.proofs.lemmas.Nat.{pow-add}
-use Rattle.tw_rbnode.specs.Shape.{Shape, Empty, Node, size, is_red, blacken, IsEven, IsRedBlack, recoloured, outer_left, inner_left, over_red_left, over_left, join_left, outer_right, inner_right, over_red_right, over_right, join_right, grown, insert, depth}
+use Rattle.tw_rbnode.specs.Shape.{Shape, Empty, Node, size, is_red, blacken, IsEven, IsRedBlack, recoloured, outer_left, inner_left, over_red_left, over_left, join_left, outer_right, inner_right, over_red_right, over_right, join_right, grown_shape, insert, depth}
 
 -- one more for a red root
 abbrev pub one_if : Bool → ℕ
@@ -89,23 +89,23 @@ over_right_even k l (Node false x y) el a = (k, refl, el, a)
 over_right_even k l (Node true x y) el a = over_red_right_even k l x y a.0 el a.1 a.2
 
 -- a node more keeps the number of black nodes, and below a black node all of the law
-pub grown_even : (h p : ℕ) (t : Shape) → IsEven h t → (is_red t ≡ false → IsEven h (grown p t)) × IsAlmost h (grown p t)
+pub grown_even : (h p : ℕ) (t : Shape) → IsEven h t → (is_red t ≡ false → IsEven h (grown_shape p t)) × IsAlmost h (grown_shape p t)
 grown_even h p Empty e = (λ _. (refl, refl, e, e), (inl refl, e, e))
 grown_even h p (Node true l r) e =
     let left = grown_even h p l e.2 in
     let right = grown_even h (p - (size l + 1)) r e.3 in
-    let cases : (b : Bool) → IsAlmost h (cond b (Node true (grown p l) r) (Node true l (grown (p - (size l + 1)) r))) =
+    let cases : (b : Bool) → IsAlmost h (cond b (Node true (grown_shape p l) r) (Node true l (grown_shape (p - (size l + 1)) r))) =
     elim [ true ↦ (inr e.1, left.0 e.0, e.3) | false ↦ (inl e.0, e.2, right.0 e.1) ]
     in (λ x. absurd (let clash : true ≡ false = x in cc), cases (nat_le p (size l)))
 grown_even h p (Node false l r) e =
     let left = grown_even e.0 p l e.2 in
     let right = grown_even e.0 (p - (size l + 1)) r e.3 in
-    let cases : (b : Bool) → IsEven (e.0 + 1) (cond b (over_left (grown p l) r) (over_right l (grown (p - (size l + 1)) r))) =
-    elim [ true ↦ over_left_even e.0 (grown p l) r left.1 e.3 | false ↦ over_right_even e.0 l (grown (p - (size l + 1)) r) e.2 right.1 ]
+    let cases : (b : Bool) → IsEven (e.0 + 1) (cond b (over_left (grown_shape p l) r) (over_right l (grown_shape (p - (size l + 1)) r))) =
+    elim [ true ↦ over_left_even e.0 (grown_shape p l) r left.1 e.3 | false ↦ over_right_even e.0 l (grown_shape (p - (size l + 1)) r) e.2 right.1 ]
     in
-    let P : ℕ → Type 0 = λ n. IsEven n (grown p (Node false l r)) in
-    let even : IsEven h (grown p (Node false l r)) = subst P (sym e.1) (cases (nat_le p (size l))) in
-    (λ _. even, even_almost h (grown p (Node false l r)) even)
+    let P : ℕ → Type 0 = λ n. IsEven n (grown_shape p (Node false l r)) in
+    let even : IsEven h (grown_shape p (Node false l r)) = subst P (sym e.1) (cases (nat_le p (size l))) in
+    (λ _. even, even_almost h (grown_shape p (Node false l r)) even)
 
 blacken_lawful : (h : ℕ) (t : Shape) → IsAlmost h t → IsRedBlack (blacken t)
 blacken_lawful h Empty e = (refl, h, e)
@@ -113,7 +113,7 @@ blacken_lawful h (Node true l r) e = (refl, h + 1, (h, refl, e.1, e.2))
 blacken_lawful h (Node false l r) e = (refl, h, e)
 
 pub insert_lawful : (p : ℕ) (t : Shape) → IsRedBlack t → IsRedBlack (insert p t)
-insert_lawful p t law = blacken_lawful law.1 (grown p t) (grown_even law.1 p t law.2).1
+insert_lawful p t law = blacken_lawful law.1 (grown_shape p t) (grown_even law.1 p t law.2).1
 
 size_blacken : (t : Shape) → size (blacken t) ≡ size t
 size_blacken Empty = refl
@@ -167,19 +167,19 @@ pub size_join_right : (red : Bool) (l r : Shape) → size (join_right red l r) �
 size_join_right true l r = refl
 size_join_right false l r = size_over_right l r
 
-pub size_grown : (p : ℕ) (t : Shape) → size (grown p t) ≡ size t + 1
+pub size_grown : (p : ℕ) (t : Shape) → size (grown_shape p t) ≡ size t + 1
 size_grown p Empty = omega arith
 size_grown p (Node red l r) =
-    let left = size_join_left red (grown p l) r in
-    let right = size_join_right red l (grown (p - (size l + 1)) r) in
+    let left = size_join_left red (grown_shape p l) r in
+    let right = size_join_right red l (grown_shape (p - (size l + 1)) r) in
     let left_one = size_grown p l in
     let right_one = size_grown (p - (size l + 1)) r in
-    let cases : (b : Bool) → size (cond b (join_left red (grown p l) r) (join_right red l (grown (p - (size l + 1)) r))) ≡ size l + 1 + size r + 1 =
+    let cases : (b : Bool) → size (cond b (join_left red (grown_shape p l) r) (join_right red l (grown_shape (p - (size l + 1)) r))) ≡ size l + 1 + size r + 1 =
     elim [ true ↦ omega (arith, left, left_one) | false ↦ omega (arith, right, right_one) ]
     in cases (nat_le p (size l))
 
 pub size_insert : (p : ℕ) (t : Shape) → size (insert p t) ≡ size t + 1
-size_insert p t = size_blacken (grown p t) ∙ size_grown p t
+size_insert p t = size_blacken (grown_shape p t) ∙ size_grown p t
 
 -- black nodes make for many nodes
 black_size : (h : ℕ) (t : Shape) → IsEven h t → 2 ^ h ≤ size t + 1

@@ -19,8 +19,8 @@ use Rattle.tw_rbnode.specs.declared.child.Child.{Child}
 use Rattle.tw_rbnode.specs.declared.links.Link.{Link}
 use Rattle.tw_rbnode.specs.declared.slot.Slot.{Slot}
 use Rattle.tw_rbnode.specs.Children.{IsChildAt}
-use Rattle.tw_rbnode.specs.NodeBytes.{Held, LiesBelow, MayStand, fields_of, links_of, node_codec, slots_with}
-use Rattle.tw_rbnode.specs.Page.{TreePage, tree_of}
+use Rattle.tw_rbnode.specs.NodeBytes.{Held, LiesBelow, MayStand, fields_of, links_of, page_node_codec, slots_with}
+use Rattle.tw_rbnode.specs.Page.{TreePage, shape_of}
 use Rattle.tw_rbnode.specs.Shape.{Shape, Empty, Node, IsEven, IsRedBlack, is_red, size}
 use Rattle.tw_rbnode.specs.Slots.{IsTree, link, slot_of}
 use Rattle.tw_rbnode.specs.Tests.{all_are, are_children, are_links_of, are_rising, height_in, height_over, is_child, is_link, is_red_black, may_stand, page_of}
@@ -136,7 +136,7 @@ module _ (dig : List ℕ → List ℕ) (page : ℕ) where
       (all-decides (is_child dig page f.0) (λ c. IsChildAt dig f.0 c × LiesBelow page f.0 c) (child-decides dig page f.0) f.1.1.1)))
 
   -- fields that pass are those of their page, and it may stand there
-  pub passed-stands : (f : ℕ × Held) → node_codec.Fits f → may_stand dig page f ≡ true → MayStand dig page (page_of f) × (fields_of (page_of f) ≡ f)
+  pub passed-stands : (f : ℕ × Held) → page_node_codec.Fits f → may_stand dig page f ≡ true → MayStand dig page (page_of f) × (fields_of (page_of f) ≡ f)
   passed-stands f fits sure =
       let fitting = node-fitting f.0 f.1 fits in
       let test = (passes f).0 sure in
@@ -174,7 +174,7 @@ module _ (dig : List ℕ → List ℕ) (page : ℕ) where
         top_is = refl;
         at = links-at f 0 p.shape (λ k l. ap (λ (ys : List Link). slice_get ys k) (sym links) ∙ ap f (let s : suc k ≡ 0 + k + 1 = omega arith in s));
       } in
-      let shape : tree_of 25 f (slot_of 0 p.shape) ≡ p.shape = tree_of_tree f p.shape (slot_of 0 p.shape) tree (omega (arith, node.sized, node.most)) in
+      let shape : shape_of 25 f (slot_of 0 p.shape) ≡ p.shape = tree_of_tree f p.shape (slot_of 0 p.shape) tree (omega (arith, node.sized, node.most)) in
       let entries : map (λ (s : Slot). s.entry) (slots_with (links_of 0 p.shape) p.entries) ≡ p.entries = slots-entries (links_of 0 p.shape) p.entries count in
       let same : page_of (fields_of p) ≡ p = λ i. record { level = p.level; shape = shape i; entries = entries i; children = p.children } in (
         same,

@@ -25,9 +25,9 @@ IsFound es key (At slot) = HasKey es slot key
 IsFound es key (Between place) = IsBetween es place key
 
 -- the slot is one of them, or the place one beside them
-abbrev pub IsThere : List Entry → Found → Type 0
-IsThere es (At slot) = (0 < slot) × (slot ≤ length es)
-IsThere es (Between place) = place ≤ length es
+abbrev pub IsThereAsFound : List Entry → Found → Type 0
+IsThereAsFound es (At slot) = (0 < slot) × (slot ≤ length es)
+IsThereAsFound es (Between place) = place ≤ length es
 
 -- the entries with one more at the place
 abbrev pub more_entries : List Entry → (place : ℕ) → Entry → List Entry

@@ -39,8 +39,8 @@ abbrev pub counted_codec : Codec Held
 counted_codec = by_kind (λ h. length h.1.0) (number_codec 1 1 MOST_KEYS) held_codec
 
 -- a tree page: 3, the level, the number of its keys, the root slot, the slots in the order of their keys, and the children in order
-unfoldable pub node_codec : Codec (ℕ × Held)
-node_codec = behind (3 ∷ []) (pair (number_codec 1 0 TOP_LEVEL) (λ level. counted_codec))
+unfoldable pub page_node_codec : Codec (ℕ × Held)
+page_node_codec = behind (3 ∷ []) (pair (number_codec 1 0 TOP_LEVEL) (λ level. counted_codec))
 
 -- ---- what a page has there
 

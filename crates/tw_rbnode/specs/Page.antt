@@ -22,9 +22,9 @@ pub record TreePage : Type 0 where
 -- ---- shapes as lists, from which they are read back
 
 -- the nodes of a shape, both sides before the node
-abbrev pub written : Shape → List (Option Bool) → List (Option Bool)
-written Empty rest = None ∷ rest
-written (Node red l r) rest = written l (written r (Some red ∷ rest))
+abbrev pub written_shape : Shape → List (Option Bool) → List (Option Bool)
+written_shape Empty rest = None ∷ rest
+written_shape (Node red l r) rest = written_shape l (written_shape r (Some red ∷ rest))
 
 abbrev pub over_two : Bool → List Shape → List Shape
 over_two red [] = []
@@ -36,22 +36,22 @@ read_back [] under = under
 read_back (None ∷ rest) under = read_back rest (Empty ∷ under)
 read_back (Some red ∷ rest) under = read_back rest (over_two red under)
 
-pub read_back-written : (t : Shape) (rest : List (Option Bool)) (under : List Shape) → read_back (written t rest) under ≡ read_back rest (t ∷ under)
+pub read_back-written : (t : Shape) (rest : List (Option Bool)) (under : List Shape) → read_back (written_shape t rest) under ≡ read_back rest (t ∷ under)
 read_back-written Empty rest under = refl
 read_back-written (Node red l r) rest under =
-    read_back-written l (written r (Some red ∷ rest)) under ∙ read_back-written r (Some red ∷ rest) (l ∷ under)
+    read_back-written l (written_shape r (Some red ∷ rest)) under ∙ read_back-written r (Some red ∷ rest) (l ∷ under)
 
 abbrev pub first_of_list : List Shape → Shape
 first_of_list [] = Empty
 first_of_list (t ∷ ts) = t
 
 abbrev pub coded_shape : Coded Shape
-coded_shape = code_by (List (Option Bool)) (coded_list (coded_option coded_bool)) (λ t. written t []) (λ xs. first_of_list (read_back xs [])) (λ t. ap first_of_list (read_back-written t [] []))
+coded_shape = code_by (List (Option Bool)) (coded_list (coded_option coded_bool)) (λ t. written_shape t []) (λ xs. first_of_list (read_back xs [])) (λ t. ap first_of_list (read_back-written t [] []))
 
 -- the tree that slots hold, to a depth
-unfoldable pub tree_of : ℕ → (ℕ → Option Link) → ℕ → Shape
-tree_of zero f slot = Empty
-tree_of (suc depth) f slot = cond (nat_eq slot 0) Empty (elim (f slot) [ None ↦ Empty | Some x ↦ Node x.red (tree_of depth f x.left) (tree_of depth f x.right) ])
+unfoldable pub shape_of : ℕ → (ℕ → Option Link) → ℕ → Shape
+shape_of zero f slot = Empty
+shape_of (suc depth) f slot = cond (nat_eq slot 0) Empty (elim (f slot) [ None ↦ Empty | Some x ↦ Node x.red (shape_of depth f x.left) (shape_of depth f x.right) ])
 
 -- ---- what a page is
 

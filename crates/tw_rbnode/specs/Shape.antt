@@ -84,13 +84,13 @@ join_right true l r = Node true l r
 join_right false l r = over_right l r
 
 -- the tree with a red node at its empty place, recoloured and turned on the way up
-abbrev pub grown : ℕ → Shape → Shape
-grown p Empty = Node true Empty Empty
-grown p (Node red l r) = cond (nat_le p (size l)) (join_left red (grown p l) r) (join_right red l (grown (p - (size l + 1)) r))
+abbrev pub grown_shape : ℕ → Shape → Shape
+grown_shape p Empty = Node true Empty Empty
+grown_shape p (Node red l r) = cond (nat_le p (size l)) (join_left red (grown_shape p l) r) (join_right red l (grown_shape (p - (size l + 1)) r))
 
 -- the same with a black root
 abbrev pub insert : ℕ → Shape → Shape
-insert p t = blacken (grown p t)
+insert p t = blacken (grown_shape p t)
 
 -- the most nodes on a way down
 abbrev pub depth : Shape → ℕ

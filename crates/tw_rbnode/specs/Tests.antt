@@ -10,7 +10,7 @@ use Rattle.tw_rbnode.specs.declared.child.Child.{Child}
 use Rattle.tw_rbnode.specs.declared.links.Link.{Link}
 use Rattle.tw_rbnode.specs.declared.slot.Slot.{Slot}
 use Rattle.tw_rbnode.specs.NodeBytes.{Held, links_of}
-use Rattle.tw_rbnode.specs.Page.{TreePage, tree_of}
+use Rattle.tw_rbnode.specs.Page.{TreePage, shape_of}
 use Rattle.tw_rbnode.specs.Shape.{Shape, Empty, Node, is_red}
 use Rattle.tw_rbnode.specs.Slots.{link, slot_of}
 
@@ -22,7 +22,7 @@ all_are test (x ∷ xs) = test x && all_are test xs
 abbrev pub page_of : ℕ × Held → TreePage
 page_of f = record {
   level = f.0;
-  shape = tree_of 25 (slice_get (link false 0 0 ∷ map (λ (s : Slot). s.link) f.1.1.0)) f.1.0;
+  shape = shape_of 25 (slice_get (link false 0 0 ∷ map (λ (s : Slot). s.link) f.1.1.0)) f.1.0;
   entries = map (λ (s : Slot). s.entry) f.1.1.0;
   children = f.1.1.1;
 }

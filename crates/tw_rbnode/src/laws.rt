@@ -5,7 +5,7 @@ ghost use Rattle.tw_base.specs.history.Auth.{tree_label};
 ghost use Rattle.tw_base.specs.history.Tree.{Tree, entries};
 ghost use Rattle.tw_base.specs.format.Codecs.{IsUnambiguous};
 ghost use Rattle.tw_base.specs.format.PageBytes.{IsPageOf};
-ghost use Rattle.tw_rbnode.specs.NodeBytes.{fields_of, node_codec};
+ghost use Rattle.tw_rbnode.specs.NodeBytes.{fields_of, page_node_codec};
 ghost use Rattle.tw_rbnode.specs.Page.{IsNode, TreePage};
 ghost use Rattle.tw_rbnode.specs.Trees.{labels_of, page_label, page_tree, woven};
 
@@ -24,7 +24,7 @@ pub fn page_tree_laws<H: Hasher>()
 /// What the bytes of pages spell; its clauses are the theorem. The function itself does nothing.
 pub fn page_spelling_laws()
     // What a page has in its bytes has one spelling.
-    ensures one { IsUnambiguous node_codec }
+    ensures one { IsUnambiguous page_node_codec }
     // Bytes are those of one page at most, so what is written is read as the same page.
-    ensures once { (bytes : List ℕ) (p q : TreePage) → IsNode p → IsNode q → IsPageOf node_codec bytes (fields_of p) → IsPageOf node_codec bytes (fields_of q) → p ≡ q }
+    ensures once { (bytes : List ℕ) (p q : TreePage) → IsNode p → IsNode q → IsPageOf page_node_codec bytes (fields_of p) → IsPageOf page_node_codec bytes (fields_of q) → p ≡ q }
 {}

@@ -1,7 +1,7 @@
 // The tree of a page, in slots: slots stand in the order of their keys.
 
 ghost use Rattle.std.specs.Prelude.{◌≡◌, ◌≢◌, ℕ, ◌+◌, ◌-◌, ◌<◌, ◌≤◌, slice_get, Bool, true, false, Option, Some, IfSome, IfNone};
-ghost use Rattle.tw_rbnode.specs.Shape.{Shape, Node, Empty, size, is_red, recoloured, join_left, join_right, grown, insert, IsEven};
+ghost use Rattle.tw_rbnode.specs.Shape.{Shape, Node, Empty, size, is_red, recoloured, join_left, join_right, grown_shape, insert, IsEven};
 ghost use Rattle.tw_rbnode.specs.declared.links.Link.{Link};
 ghost use Rattle.tw_rbnode.specs.Slots.{IsTree, IsGap, SameOutside, link, bump, bumped};
 
@@ -188,7 +188,7 @@ fn settle_right(links: &mut [Link; 26], at: u8) -> u8
 fn grow(links: &mut [Link; 26], low: u8, high: u8, at: u8, place: u8) -> u8
     requires { (t : Shape) × (IsGap (slice_get links.old) low high t at place) }
     ensures { (t : Shape) → IsGap (slice_get links.old) low high t at place →
-        IsTree (slice_get links.new) low (grown (place - low) t) result × SameOutside (slice_get links.old) (slice_get links.new) low (high + 1) }
+        IsTree (slice_get links.new) low (grown_shape (place - low) t) result × SameOutside (slice_get links.old) (slice_get links.new) low (high + 1) }
 {
     if at == 0 {
         put(

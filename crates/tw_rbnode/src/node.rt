@@ -28,17 +28,17 @@ pub struct RbNode {
 impl Model for RbNode {
     ghost use Rattle.std.specs.Prelude.{◌≡◌, ◌≤◌, ℕ, slice_get, List, length};
     ghost use Rattle.std.specs.Coded.{codes};
-    ghost use Rattle.tw_rbnode.specs.Page.{TreePage, IsNode, tree_of, coded_shape};
+    ghost use Rattle.tw_rbnode.specs.Page.{TreePage, IsNode, shape_of, coded_shape};
     ghost use Rattle.tw_rbnode.specs.Slots.{IsTree};
 
     ghost Value = { TreePage };
 
     ghost coded = { Prim.hlevel (codes, coded_shape) };
 
-    ghost view = { λ s. record { level = s.level; shape = tree_of 25 (slice_get s.links) s.top; entries = s.entries.items; children = s.children.items } };
+    ghost view = { λ s. record { level = s.level; shape = shape_of 25 (slice_get s.links) s.top; entries = s.entries.items; children = s.children.items } };
 
-    ghost invariant = { λ s. IsTree (slice_get s.links) 0 (tree_of 25 (slice_get s.links) s.top) s.top
-        × IsNode (record { level = s.level; shape = tree_of 25 (slice_get s.links) s.top; entries = s.entries.items; children = s.children.items }) };
+    ghost invariant = { λ s. IsTree (slice_get s.links) 0 (shape_of 25 (slice_get s.links) s.top) s.top
+        × IsNode (record { level = s.level; shape = shape_of 25 (slice_get s.links) s.top; entries = s.entries.items; children = s.children.items }) };
 }
 
 /// Where a key is among the keys of a page.

@@ -10,7 +10,7 @@ ghost use Rattle.tw_base.specs.history.Tree.{IsRising};
 ghost use Rattle.tw_base.specs.format.PageBytes.{IsPageOf};
 ghost use Rattle.tw_base.specs.history.Limits.{IsEntryInRange};
 ghost use Rattle.tw_rbnode.specs.Children.{IsChildAt};
-ghost use Rattle.tw_rbnode.specs.NodeBytes.{LiesBelow, MayStand, child_codec, colour_codec, counted_codec, fields_of, held_codec, held_of, node_codec, slot_codec};
+ghost use Rattle.tw_rbnode.specs.NodeBytes.{LiesBelow, MayStand, child_codec, colour_codec, counted_codec, fields_of, held_codec, held_of, page_node_codec, slot_codec};
 ghost use Rattle.tw_rbnode.specs.Page.{IsNode, TreePage};
 ghost use Rattle.tw_rbnode.specs.declared.limits.TheConstants.{MOST_KEYS, TOP_LEVEL};
 
@@ -140,10 +140,10 @@ fn take_counted(bytes: &[u8], at: &mut u64) -> Result<Held, ReadFault>
 }
 
 /// Takes what the bytes of a page have.
-#[tactic(auto, unfolding(crate::specs::NodeBytes::node_codec, tw_base::specs::format::Seen::records))]
+#[tactic(auto, unfolding(crate::specs::NodeBytes::page_node_codec, tw_base::specs::format::Seen::records))]
 fn take_fields(bytes: &[u8], at: &mut u64) -> Result<PageFields, ReadFault>
     requires { at.old ≤ length bytes.now }
-    ensures takes { Takes node_codec (λ f. (f.level, (f.held.top, (f.held.slots.items, f.held.children.items)))) bytes.now at.old at.new result }
+    ensures takes { Takes page_node_codec (λ f. (f.level, (f.held.top, (f.held.slots.items, f.held.children.items)))) bytes.now at.old at.new result }
     ensures memory { IfErr result (λ fault. fault ≢ ReadFault.NoMemory) }
 {
     take_text(bytes, at, &[3])?;
@@ -260,8 +260,8 @@ fn node_of(level: u8, held: Held) -> Option<RbNode>
 pub fn read_node<H: Hasher>(bytes: &Page, page: u64) -> Option<RbNode>
     // The answer is the page whose spelling the bytes are, with a red-black tree, keys that rise, and children of its level, which
     // lie below it; None is answered exactly where there is none.
-    ensures { MatchOption result ((p : TreePage) → MayStand H.dig page p → IsPageOf node_codec bytes.now (fields_of p) → ⊥)
-        (λ n. MayStand H.dig page n × IsPageOf node_codec bytes.now (fields_of n)) }
+    ensures { MatchOption result ((p : TreePage) → MayStand H.dig page p → IsPageOf page_node_codec bytes.now (fields_of p) → ⊥)
+        (λ n. MayStand H.dig page n × IsPageOf page_node_codec bytes.now (fields_of n)) }
 {
     let mut at = 0;
     let read = take_fields(bytes, &mut at);

@@ -1,7 +1,7 @@
 // The nodes of a page above a slot or a place.
 
 ghost use Rattle.std.specs.Prelude.{◌≡◌, ◌+◌, ◌*◌, ◌<◌, ◌≤◌, ◌++◌, ◌∷◌, [], ℕ, length, slice_get, take};
-ghost use Rattle.tw_rbnode.specs.Answers.{IsThere};
+ghost use Rattle.tw_rbnode.specs.Answers.{IsThereAsFound};
 ghost use Rattle.tw_rbnode.specs.Shape.{Shape, size, depth};
 ghost use Rattle.tw_rbnode.specs.Slots.{IsTree};
 ghost use Rattle.tw_rbnode.specs.Trees.{above_at, labels_of, mark_of as mark_of_found, nodes_above};
@@ -37,7 +37,7 @@ impl WayDown {
 /// The page's nodes above the slot or the place, nearest first, at most 9: each with the label of its side to which the way doesn't
 /// lead. The slot is from 1 to the number of keys, the place from 0 to it.
 pub fn way<H: Hasher>(node: &RbNode, at: &Found) -> WayDown
-    requires { IsThere node.now.entries at.now }
+    requires { IsThereAsFound node.now.entries at.now }
     // The nodes are those of the page's tree above the slot or the place, nearest first, each with the label of its other side.
     ensures nodes { take result.count result.nodes ≡ nodes_above H.dig node.now at.now }
     // There are at most 9 nodes.

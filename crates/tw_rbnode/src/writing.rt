@@ -6,7 +6,7 @@ ghost use Rattle.tw_base.specs.kinds.Lists.{Each};
 ghost use Rattle.tw_base.specs.format.PageBytes.{IsPageOf};
 ghost use Rattle.tw_base.specs.history.EntryCodec.{entry_codec};
 ghost use Rattle.tw_base.specs.history.Limits.{IsEntryInRange};
-ghost use Rattle.tw_rbnode.specs.NodeBytes.{child_codec, fields_of, links_of, node_codec, slot_codec, slots_with};
+ghost use Rattle.tw_rbnode.specs.NodeBytes.{child_codec, fields_of, links_of, page_node_codec, slot_codec, slots_with};
 
 use crate::child::Child;
 use crate::kept::Kept;
@@ -112,7 +112,7 @@ fn slots_in(links: &[Link; 26], entries: &[Kept]) -> ArrayVec<Slot, 24>
 /// The bytes of the page. Takes no memory.
 pub fn write_node(node: &RbNode) -> Page
     // The bytes are those that the format gives the page, and they may be read.
-    ensures { IsPageOf node_codec result (fields_of node.now) }
+    ensures { IsPageOf page_node_codec result (fields_of node.now) }
 {
     let mut page = PageFront::new();
     page.put(&[3]);

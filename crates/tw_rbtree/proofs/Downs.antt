@@ -15,7 +15,7 @@ use Rattle.tw_disk.specs.Image.{Image}
 use Rattle.tw_disk.proofs.FoundLaws.{in_turn, is_on, same_found}
 use Rattle.tw_rbnode.specs.declared.node.Found.{Found as Spot}
 use Rattle.tw_rbnode.specs.declared.node.Found.TheVariants.{At, Between}
-use Rattle.tw_rbnode.specs.Answers.{IsThere}
+use Rattle.tw_rbnode.specs.Answers.{IsThereAsFound}
 use Rattle.tw_rbnode.specs.Page.{IsNode, TreePage}
 use Rattle.tw_rbnode.specs.Trees.{nodes_above}
 use Rattle.tw_rbtree.specs.declared.fault.TreeFault.{TreeFault}
@@ -28,23 +28,23 @@ use Rattle.tw_rbtree.specs.declared.seeking.Sought.{Sought}
 use Rattle.tw_rbtree.specs.Beside.{IsSoughtBy}
 use Rattle.tw_rbtree.specs.Downs.{IsSoughtIn}
 use Rattle.tw_rbtree.specs.Growing.{grows_above, grows_from, grows_if, grows_of, all_full, is_full}
-use Rattle.tw_rbtree.specs.Paths.{found_path, proof_in, shown_above, shown_at, shown_from, shown_of, way_nodes, way_proof, with_above}
+use Rattle.tw_rbtree.specs.Paths.{found_tree_path, proof_in, shown_above, shown_at, shown_from, shown_of, way_nodes, way_proof, with_above}
 use Rattle.tw_rbtree.specs.Reading.{child_in, fits, node_in}
-use Rattle.tw_rbtree.specs.Ways.{Stop, child_page, down_at, down_in, end_from, end_of, nowhere, seek, way, way_from}
+use Rattle.tw_rbtree.specs.Ways.{Stop, child_page, down_at, down_in, end_from, end_of_way, nowhere, seek, way, way_from}
 use Rattle.tw_rbtree.proofs.Besides.{seek-beside}
 use Rattle.tw_rbtree.proofs.PageLaws.{IsSpotOf, seek-there}
 use Rattle.tw_rbtree.proofs.WayLaws.{here, on_each, on_way, way-at, way-empty, way-goes, way-leaf, way-root}
 
-is_there : (es : List Entry) (spot : Spot) → IsSpotOf 0 (length es) spot → IsThere es spot
+is_there : (es : List Entry) (spot : Spot) → IsSpotOf 0 (length es) spot → IsThereAsFound es spot
 is_there es (At slot) h = (h.0, omega (arith, h.1))
 is_there es (Between place) h = omega (arith, h.1)
 
 -- the slot or place to which a question leads is there
-pub sought-there : (ask : Ask) (low high : Option Entry) (es : List Entry) (s : Sought) → s ≡ seek ask 0 low high es → IsThere es s.at
+pub sought-there : (ask : Ask) (low high : Option Entry) (es : List Entry) (s : Sought) → s ≡ seek ask 0 low high es → IsThereAsFound es s.at
 sought-there ask low high es s same = is_there es s.at (subst (λ (x : Sought). IsSpotOf 0 (length es) x.at) (sym same) (seek-there ask 0 low high es))
 
-pub sought-place : (ask : Ask) (low high : Option Entry) (es : List Entry) (s : Sought) (place : ℕ) → s ≡ seek ask 0 low high es → s.at ≡ Between place → IsThere es (Between place)
-sought-place ask low high es s place same at = subst (IsThere es) at (sought-there ask low high es s same)
+pub sought-place : (ask : Ask) (low high : Option Entry) (es : List Entry) (s : Sought) (place : ℕ) → s ≡ seek ask 0 low high es → s.at ≡ Between place → IsThereAsFound es (Between place)
+sought-place ask low high es s place same at = subst (IsThereAsFound es) at (sought-there ask low high es s same)
 
 pub sought-in : (ask : Ask) (low high : Option Entry) (p : TreePage) (s : Sought) → s ≡ seek ask 0 low high p.entries → IsNode p → IsSoughtIn ask low high p s
 sought-in ask low high p s same node =
@@ -141,13 +141,13 @@ as_is (Bad page) = refl
 pub end-down : (dig : List ℕ → List ℕ) (ps : Image) (ask : Ask) (low high : Option Entry) (p : TreePage) → end_from dig ps ask p.level low high p ≡ (down_in dig ps ask low high p >>= end_on dig ps ask)
 unfolding end_from
 end-down dig ps ask low high p =
-    way-down dig ps ask (end_of nowhere) p (λ s. s) (λ s. s) (λ s x. x) low high (λ slot at. refl) (λ place at. refl) (λ r stops. refl)
-    ∙ on_each (down_in dig ps ask low high p) (on_down dig ps ask (end_of nowhere) p (λ s. s) (λ s. s) (λ s x. x)) (end_on dig ps ask) by
+    way-down dig ps ask (end_of_way nowhere) p (λ s. s) (λ s. s) (λ s x. x) low high (λ slot at. refl) (λ place at. refl) (λ r stops. refl)
+    ∙ on_each (down_in dig ps ask low high p) (on_down dig ps ask (end_of_way nowhere) p (λ s. s) (λ s. s) (λ s x. x)) (end_on dig ps ask) by
   where
-    by : (d : Down) → on_down dig ps ask (end_of nowhere) p (λ s. s) (λ s. s) (λ s x. x) d ≡ end_on dig ps ask d
+    by : (d : Down) → on_down dig ps ask (end_of_way nowhere) p (λ s. s) (λ s. s) (λ s x. x) d ≡ end_on dig ps ask d
     by (Met s) = refl
     by (Leaf s place) = refl
-    by (Child s place q) = as_is (way_from dig ps ask q.level s.low s.high q >>= (λ stops. Is (end_of nowhere stops)))
+    by (Child s place q) = as_is (way_from dig ps ask q.level s.low s.high q >>= (λ stops. Is (end_of_way nowhere stops)))
 
 pub ruleset ends_down = (end-down)
 
@@ -169,7 +169,7 @@ shown-one dig s = ap (λ (proof : TreeProof). record { met = s.sought.met; proof
 
 shown-more : (dig : List ℕ → List ℕ) (s r : Stop) (stops : List Stop) → shown_of dig (s ∷ r ∷ stops) ≡ shown_above dig s.page s.sought (shown_of dig (r ∷ stops))
 unfolding way_proof way_nodes
-shown-more dig s r stops = ap (λ (proof : TreeProof). record { met = (end_of nowhere (r ∷ stops)).met; proof = proof }) (proof-above dig (r ∷ stops) (way_nodes dig (r ∷ stops)) (nodes_above dig s.page s.sought.at))
+shown-more dig s r stops = ap (λ (proof : TreeProof). record { met = (end_of_way nowhere (r ∷ stops)).met; proof = proof }) (proof-above dig (r ∷ stops) (way_nodes dig (r ∷ stops)) (nodes_above dig s.page s.sought.at))
 
 abbrev pub shown_on : (dig : List ℕ → List ℕ) (ps : Image) (ask : Ask) → TreePage → Down → Found Shown
 shown_on dig ps ask p (Met s) = Is (shown_above dig p s (shown_at dig p s))
@@ -191,12 +191,12 @@ shown-down dig ps ask low high p =
     by (Leaf s place) = refl
     by (Child s place q) = refl
 
-pub path-empty : (dig : List ℕ → List ℕ) (ps : Image) (ask : Ask) (root : Root) → root.page ≡ 0 → found_path dig ps ask root ≡ Is (record { met = None; proof = Gap [] })
-unfolding found_path way_proof way_nodes
+pub path-empty : (dig : List ℕ → List ℕ) (ps : Image) (ask : Ask) (root : Root) → root.page ≡ 0 → found_tree_path dig ps ask root ≡ Is (record { met = None; proof = Gap [] })
+unfolding found_tree_path way_proof way_nodes
 path-empty dig ps ask root none = is_on (way dig ps ask root) (λ stops. Is (shown_of dig stops)) [] (way-empty dig ps ask root none)
 
-pub path-root : (dig : List ℕ → List ℕ) (ps : Image) (ask : Ask) (root : Root) → (root.page ≡ 0 → ⊥) → found_path dig ps ask root ≡ (node_in dig ps root.page >>= (λ p. shown_from dig ps ask p.level None None p))
-unfolding found_path shown_from
+pub path-root : (dig : List ℕ → List ℕ) (ps : Image) (ask : Ask) (root : Root) → (root.page ≡ 0 → ⊥) → found_tree_path dig ps ask root ≡ (node_in dig ps root.page >>= (λ p. shown_from dig ps ask p.level None None p))
+unfolding found_tree_path shown_from
 path-root dig ps ask root some =
     ap (λ (w : Found (List Stop)). w >>= (λ stops. Is (shown_of dig stops))) (way-root dig ps ask root some)
     ∙ in_turn (node_in dig ps root.page) (λ p. way_from dig ps ask p.level None None p) (λ stops. Is (shown_of dig stops))
@@ -258,7 +258,7 @@ module _ (dig : List ℕ → List ℕ) (ps : Image) (key : Key) (low high : Opti
   grows-down =
       let s = seek (Absent key) 0 low high p.entries in
       way-down dig ps (Absent key) grows_of p (λ s. Err Present) (λ s. Ok (is_full p)) (λ s. grows_above p) low high
-      (λ slot at. met-at slot s.at s.met (is_full p) at at_seek) (λ place at. none-at place s.at s.met (is_full p) at at_seek) (λ r stops. more-at r stops (end_of nowhere (r ∷ stops)).met)
+      (λ slot at. met-at slot s.at s.met (is_full p) at at_seek) (λ place at. none-at place s.at s.met (is_full p) at at_seek) (λ r stops. more-at r stops (end_of_way nowhere (r ∷ stops)).met)
       ∙ on_each (down_in dig ps (Absent key) low high p) (on_down dig ps (Absent key) grows_of p (λ s. Err Present) (λ s. Ok (is_full p)) (λ s. grows_above p)) (grows_on dig ps key p) by
     where
       by : (d : Down) → on_down dig ps (Absent key) grows_of p (λ s. Err Present) (λ s. Ok (is_full p)) (λ s. grows_above p) d ≡ grows_on dig ps key p d

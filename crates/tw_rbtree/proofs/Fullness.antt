@@ -17,8 +17,8 @@ use Rattle.tw_rbnode.specs.Page.{TreePage}
 use Rattle.tw_rbtree.specs.Answers.{found_insert, insert_at, overflows}
 use Rattle.tw_rbtree.specs.Growing.{all_full, is_full}
 use Rattle.tw_rbtree.specs.Reading.{node_in}
-use Rattle.tw_rbtree.specs.Standing.{IsRootTree, IsTreeBelow, IsTreePage, StandsFor, any_page}
-use Rattle.tw_rbtree.specs.Ways.{Stop, end_of, nowhere, way, way_from}
+use Rattle.tw_rbtree.specs.Standing.{IsRootTree, IsTreeBelow, IsTreePage, StandsForTree, any_page}
+use Rattle.tw_rbtree.specs.Ways.{Stop, end_of_way, nowhere, way, way_from}
 use Rattle.tw_rbtree.proofs.PageLaws.{root-is}
 use Rattle.tw_rbtree.proofs.RootWays.{root-way}
 use Rattle.tw_rbtree.proofs.SizeLaws.{page-count, below-count}
@@ -59,7 +59,7 @@ module _ (dig : List ℕ → List ℕ) (ps : Image) where
       by (s ∷ xs) e =
           let parts = and_parts (all_full (s ∷ xs)) (s.page.level == TOP_LEVEL) e in (level_is s.page.level parts.1, keys_are (length s.page.entries) (head_full s xs parts.0))
 
-  never-full : (root : Root) (t : Tree) (ask : Ask) (stops : List Stop) → StandsFor dig ps root t → length (entries t) < 2 ^ 40 → way dig ps ask root ≡ Is stops → overflows stops ≡ true → ⊥
+  never-full : (root : Root) (t : Tree) (ask : Ask) (stops : List Stop) → StandsForTree dig ps root t → length (entries t) < 2 ^ 40 → way dig ps ask root ≡ Is stops → overflows stops ≡ true → ⊥
   never-full root t ask stops stands few found over = by stands.tree
     where
       by : IsRootTree dig any_page ps root.page t → ⊥
@@ -73,12 +73,12 @@ module _ (dig : List ℕ → List ℕ) (ps : Image) where
           omega (arith, count, few)
 
   -- so an insert finds the key there, or a new root
-  pub insert-finds : (root : Root) (t : Tree) (key : Key) → StandsFor dig ps root t → length (entries t) < 2 ^ 40 → found_insert dig ps root key ≡ insert_at root (entry_with (entries t) key) false
+  pub insert-finds : (root : Root) (t : Tree) (key : Key) → StandsForTree dig ps root t → length (entries t) < 2 ^ 40 → found_insert dig ps root key ≡ insert_at root (entry_with (entries t) key) false
   unfolding found_insert
   insert-finds root t key stands few =
       let w = root-way dig ps (Absent key) root t stands in
-      is_on (way dig ps (Absent key) root) (λ stops. insert_at root (end_of nowhere stops).met (overflows stops)) w.stops w.found
-      ∙ ap (λ (b : Bool). insert_at root (end_of nowhere w.stops).met b) (not_over (overflows w.stops) refl) ∙ ap (λ (o : Option Entry). insert_at root o false) (sym w.tells)
+      is_on (way dig ps (Absent key) root) (λ stops. insert_at root (end_of_way nowhere stops).met (overflows stops)) w.stops w.found
+      ∙ ap (λ (b : Bool). insert_at root (end_of_way nowhere w.stops).met b) (not_over (overflows w.stops) refl) ∙ ap (λ (o : Option Entry). insert_at root o false) (sym w.tells)
     where
       not_over : (b : Bool) → overflows (root-way dig ps (Absent key) root t stands).stops ≡ b → b ≡ false
       not_over false e = refl

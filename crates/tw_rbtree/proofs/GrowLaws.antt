@@ -23,7 +23,7 @@ use Rattle.tw_rbnode.specs.declared.node.Added.{Added}
 use Rattle.tw_rbnode.specs.declared.node.Added.TheVariants.{One as OnePage, Two as TwoPages}
 use Rattle.tw_rbnode.specs.declared.node.Found.{Found as Spot}
 use Rattle.tw_rbnode.specs.declared.node.Found.TheVariants.{At, Between}
-use Rattle.tw_rbnode.specs.Answers.{IsThere}
+use Rattle.tw_rbnode.specs.Answers.{IsThereAsFound}
 use Rattle.tw_rbnode.specs.Children.{IsChildAt}
 use Rattle.tw_rbnode.specs.Page.{IsBetween, IsNode, TreePage}
 use Rattle.tw_rbnode.specs.Trees.{woven}
@@ -162,7 +162,7 @@ module _ (dig : List ℕ → List ℕ) (ask : Ask) (low high : Option Entry) (p 
   at_seek = ap (λ (s : Sought). s.at) (sym down.here) ∙ at ∙ ap (λ (n : ℕ). Between n) (let same : place ≡ 0 + place = omega arith in same)
 
   pub place-room : place ≤ length p.entries
-  place-room = subst (IsThere p.entries) at down.there
+  place-room = subst (IsThereAsFound p.entries) at down.there
 
   goes : (m : Entry) → is_above d.low m ≡ true → is_below d.high m ≡ true → Goes low high p.entries place m
   goes m above below =

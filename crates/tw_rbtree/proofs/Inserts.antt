@@ -15,7 +15,7 @@ use Rattle.tw_rbtree.specs.declared.fault.TreeFault.{TreeFault}
 use Rattle.tw_rbtree.specs.Answers.{found_insert, insert_at, overflows}
 use Rattle.tw_rbtree.specs.Growing.{all_full, grows_from, grows_if, grows_of}
 use Rattle.tw_rbtree.specs.Reading.{node_in}
-use Rattle.tw_rbtree.specs.Ways.{Stop, end_of, nowhere, way, way_from}
+use Rattle.tw_rbtree.specs.Ways.{Stop, end_of_way, nowhere, way, way_from}
 use Rattle.tw_rbtree.proofs.WayLaws.{here, on_each, on_way, way-empty, way-root}
 
 -- what becomes of the root's page
@@ -25,7 +25,7 @@ top_of root p (Ok all) = when (not (all && (p.level == TOP_LEVEL))) root.page (O
 
 module _ (dig : List ℕ → List ℕ) (ps : Image) (root : Root) (key : Key) where
   abbrev of_way : List Stop → Found (Result (Unit {0}) TreeFault)
-  of_way stops = insert_at root (end_of nowhere stops).met (overflows stops)
+  of_way stops = insert_at root (end_of_way nowhere stops).met (overflows stops)
 
   pub insert-empty : root.page ≡ 0 → found_insert dig ps root key ≡ Is (Ok tt)
   unfolding found_insert
@@ -45,7 +45,7 @@ module _ (dig : List ℕ → List ℕ) (ps : Image) (root : Root) (key : Key) wh
       by_page : (p : TreePage) → (way_from dig ps (Absent key) p.level None None p >>= of_way) ≡ ((way_from dig ps (Absent key) p.level None None p >>= (λ stops. Is (grows_of stops))) >>= top_of root p)
       by_page p =
           on_way dig ps (Absent key) of_way (λ stops. top_of root p (grows_of stops)) p.level None None p
-          (λ stops. met p (here dig ps (Absent key) None None p ∷ stops) (end_of nowhere (here dig ps (Absent key) None None p ∷ stops)).met)
+          (λ stops. met p (here dig ps (Absent key) None None p ∷ stops) (end_of_way nowhere (here dig ps (Absent key) None None p ∷ stops)).met)
           ∙ sym (in_turn (way_from dig ps (Absent key) p.level None None p) (λ stops. Is (grows_of stops)) (top_of root p))
 
 pub ruleset insert_roots = (insert-empty, insert-root)

@@ -6,11 +6,11 @@ use Rattle.tw_base.specs.format.PageBytes.{IsPageOf}
 use Rattle.tw_base.specs.history.Tree.{Tree}
 use Rattle.tw_disk.specs.Image.{Image, page_at}
 use Rattle.tw_rbnode.specs.declared.child.Child.{Child}
-use Rattle.tw_rbnode.specs.NodeBytes.{fields_of, node_codec}
+use Rattle.tw_rbnode.specs.NodeBytes.{fields_of, page_node_codec}
 use Rattle.tw_rbnode.specs.Page.{TreePage}
 use Rattle.tw_rbnode.specs.Trees.{page_tree}
 use Rattle.tw_rbtree.specs.Reading.{IsPageAt}
-use Rattle.tw_rbtree.specs.Standing.{AreTrees, HasNamed, IsRootTree, IsTreeBelow, IsTreePage, Named, OfPage, StandsFor, StandsWith, any_page}
+use Rattle.tw_rbtree.specs.Standing.{AreTrees, HasNamed, IsRootTree, IsTreeBelow, IsTreePage, Named, OfPage, StandsForTree, StandsWith, any_page}
 use Rattle.tw_rbtree.proofs.PageLaws.{one_page}
 
 pub trees-map : (R S : Child → Tree → Type 0) → ((c : Child) (t : Tree) → R c t → S c t) → (cs : List Child) (ts : List Tree) → AreTrees R cs ts → AreTrees S cs ts
@@ -35,7 +35,7 @@ module _ (dig : List ℕ → List ℕ) (Has : OfPage) (ps more : Image) where
         low = is.low;
         below = omega (arith, is.below, length-append ps more);
         may_stand = is.may_stand;
-        bytes = subst (λ (b : List ℕ). IsPageOf node_codec b (fields_of p)) (sym same) is.bytes;
+        bytes = subst (λ (b : List ℕ). IsPageOf page_node_codec b (fields_of p)) (sym same) is.bytes;
       }
 
   pub tree_page-kept : (R S : Child → Tree → Type 0) → ((c : Child) (t : Tree) → R c t → S c t) → (level least page : ℕ) (t : Tree) → IsTreePage dig Has ps R level least page t → IsTreePage dig Has (ps ++ more) S level least page t
@@ -118,10 +118,10 @@ module _ (dig : List ℕ → List ℕ) (Has : OfPage) (ps : Image) where
   pub below-any : (level : ℕ) (c : Child) (t : Tree) → IsTreeBelow dig Has ps level c t → IsTreeBelow dig any_page ps level c t
   below-any level c t is = below-turned dig Has any_page ps (λ page t has. tt) level c t is
 
-  pub stands-any : (root : Root) (t : Tree) → StandsWith dig Has ps root t → StandsFor dig ps root t
+  pub stands-any : (root : Root) (t : Tree) → StandsWith dig Has ps root t → StandsForTree dig ps root t
   stands-any root t stands = stands-turned dig Has any_page ps (λ page t has. tt) root t stands
 
 -- where no page is named, the pages stand with the names for what they stand for
-pub stands-unnamed : (dig : List ℕ → List ℕ) (named : Named) (ps : Image) → named.below ≡ 0 → (root : Root) (t : Tree) → StandsFor dig ps root t → StandsWith dig (HasNamed named) ps root t
+pub stands-unnamed : (dig : List ℕ → List ℕ) (named : Named) (ps : Image) → named.below ≡ 0 → (root : Root) (t : Tree) → StandsForTree dig ps root t → StandsWith dig (HasNamed named) ps root t
 stands-unnamed dig named ps none root t stands =
     stands-turned dig any_page (HasNamed named) ps (λ page t has. λ (under : page < named.below). absurd (omega (arith, none, under))) root t stands

@@ -19,7 +19,7 @@ use Rattle.tw_rbtree.specs.declared.new_node.NewNode.{NewNode}
 use Rattle.tw_rbtree.specs.declared.new_node.Side.{Side}
 use Rattle.tw_rbtree.specs.declared.new_node.Side.TheVariants.{Empty as NoTree, Old}
 use Rattle.tw_rbtree.specs.FaultWords.{tree_faults}
-use Rattle.tw_rbtree.specs.Listing.{IsPartAt, IsSplit, Listed, ListsAt, child_listed, is_old, listed, listed_at, node_behind, part_listed, part_of}
+use Rattle.tw_rbtree.specs.Listing.{IsPartAt, IsSplit, Listed, ListsAt, child_listed, is_old, listed, listed_at, node_behind, part_listed, part_of_shape}
 use Rattle.tw_rbtree.specs.Reading.{child_in, node_in}
 use Rattle.tw_rbtree.specs.Ways.{child_page}
 use Rattle.tw_disk.proofs.FoundLaws.{bad_ends}
@@ -28,47 +28,47 @@ use Rattle.tw_rbtree.proofs.WayLaws.{on_each}
 
 -- ---- parts of a page's tree
 
-no-part : (base : ℕ) (t : Shape) → part_of 0 base t ≡ Empty
-unfolding part_of
+no-part : (base : ℕ) (t : Shape) → part_of_shape 0 base t ≡ Empty
+unfolding part_of_shape
 no-part base Empty = refl
 no-part base (Node red l r) = rw (other 0 (base + size l + 1) (omega arith)) (rw (before 0 (base + size l + 1) (omega arith)) (no-part base l))
 
 module _ (slot base : ℕ) (red : Bool) (l r : Shape) where
   abbrev Same : ℕ → Shape → Type 0
-  Same inner t = (below_at slot base (Node red l r) ≡ below_at slot inner t) × (part_of slot base (Node red l r) ≡ part_of slot inner t)
+  Same inner t = (below_at slot base (Node red l r) ≡ below_at slot inner t) × (part_of_shape slot base (Node red l r) ≡ part_of_shape slot inner t)
 
-  below-here : slot ≡ base + size l + 1 → (below_at slot base (Node red l r) ≡ (slot_of base l, slot_of (base + size l + 1) r)) × (part_of slot base (Node red l r) ≡ Node red l r)
-  unfolding below_at part_of
+  below-here : slot ≡ base + size l + 1 → (below_at slot base (Node red l r) ≡ (slot_of base l, slot_of (base + size l + 1) r)) × (part_of_shape slot base (Node red l r) ≡ Node red l r)
+  unfolding below_at part_of_shape
   below-here h = (rw (same slot (base + size l + 1) h) refl, rw (same slot (base + size l + 1) h) refl)
 
   below-left : slot < base + size l + 1 → Same base l
-  unfolding below_at part_of
+  unfolding below_at part_of_shape
   below-left h = (
     rw (other slot (base + size l + 1) (omega (arith, h))) (rw (before slot (base + size l + 1) h) refl),
     rw (other slot (base + size l + 1) (omega (arith, h))) (rw (before slot (base + size l + 1) h) refl),
   )
 
   below-right : base + size l + 1 < slot → Same (base + size l + 1) r
-  unfolding below_at part_of
+  unfolding below_at part_of_shape
   below-right h = (
     rw (other slot (base + size l + 1) (omega (arith, h))) (rw (not_before slot (base + size l + 1) (omega (arith, h))) refl),
     rw (other slot (base + size l + 1) (omega (arith, h))) (rw (not_before slot (base + size l + 1) (omega (arith, h))) refl),
   )
 
 -- the part with the root slot of a part is that part
-pub part-is : (p : TreePage) (base end top : ℕ) (t : Shape) → IsPartAt p base end top t → part_of top 0 p.shape ≡ t
-part-is p base end top Empty is = ap (λ (n : ℕ). part_of n 0 p.shape) is.top_is ∙ no-part 0 p.shape
+pub part-is : (p : TreePage) (base end top : ℕ) (t : Shape) → IsPartAt p base end top t → part_of_shape top 0 p.shape ≡ t
+part-is p base end top Empty is = ap (λ (n : ℕ). part_of_shape n 0 p.shape) is.top_is ∙ no-part 0 p.shape
 part-is p base end top (Node red l r) is = (is.part top (omega (arith, is.top_is)) (omega (arith, is.top_is))).1 ∙ (below-here top base red l r is.top_is).1
 
-own-part : (p : TreePage) (base end top : ℕ) (t : Shape) → IsPartAt p base end top t → IsPartAt p base end top (part_of top 0 p.shape)
+own-part : (p : TreePage) (base end top : ℕ) (t : Shape) → IsPartAt p base end top t → IsPartAt p base end top (part_of_shape top 0 p.shape)
 own-part p base end top t is = subst (IsPartAt p base end top) (sym (part-is p base end top t is)) is
 
 -- the whole tree of a page is a part of it
-pub whole-part : (p : TreePage) (end top : ℕ) → top ≡ slot_of 0 p.shape → end ≡ length p.entries → IsNode p → IsPartAt p 0 end top (part_of top 0 p.shape)
+pub whole-part : (p : TreePage) (end top : ℕ) → top ≡ slot_of 0 p.shape → end ≡ length p.entries → IsNode p → IsPartAt p 0 end top (part_of_shape top 0 p.shape)
 whole-part p end top top_is end_is node = own-part p 0 end top p.shape (record { part = λ slot low high. (refl, refl); top_is = top_is; end_is = omega (arith, end_is, node.sized); room = omega (arith, end_is) })
 
 -- the part with the root slot of the tree is the tree
-whole-is : (t : Shape) → part_of (slot_of 0 t) 0 t ≡ t
+whole-is : (t : Shape) → part_of_shape (slot_of 0 t) 0 t ≡ t
 whole-is Empty = no-part 0 Empty
 whole-is (Node red l r) = (below-here (0 + size l + 1) 0 red l r refl).1
 
@@ -87,7 +87,7 @@ parts-of p base end top ls rs (Node red l r) some is sides =
     let at : top ≡ base + size l + 1 = is.top_is in
     let own : (ls, rs) ≡ (slot_of base l, slot_of (base + size l + 1) r) = sides ∙ (is.part top (omega (arith, at)) (omega (arith, at))).0 ∙ (below-here top base red l r at).0 in
     let right_top : rs ≡ slot_of top r = ap (λ (x : ℕ × ℕ). x.1) own ∙ ap (λ (n : ℕ). slot_of n r) (sym at) in
-    let through : (slot inner : ℕ) (u : Shape) → base < slot → slot ≤ base + size (Node red l r) → Same slot base red l r inner u → (below_at slot 0 p.shape ≡ below_at slot inner u) × (part_of slot 0 p.shape ≡ part_of slot inner u) =
+    let through : (slot inner : ℕ) (u : Shape) → base < slot → slot ≤ base + size (Node red l r) → Same slot base red l r inner u → (below_at slot 0 p.shape ≡ below_at slot inner u) × (part_of_shape slot 0 p.shape ≡ part_of_shape slot inner u) =
     λ (slot inner : ℕ) (u : Shape) (low : base < slot) (high : slot ≤ base + size (Node red l r)) (same : Same slot base red l r inner u).
     let whole = is.part slot low high in (whole.0 ∙ same.0, whole.1 ∙ same.1) in
     record {
@@ -104,7 +104,7 @@ parts-of p base end top ls rs (Node red l r) some is sides =
       };
       right = record {
         part = λ slot low high.
-            subst (λ (n : ℕ). (below_at slot 0 p.shape ≡ below_at slot n r) × (part_of slot 0 p.shape ≡ part_of slot n r)) (sym at)
+            subst (λ (n : ℕ). (below_at slot 0 p.shape ≡ below_at slot n r) × (part_of_shape slot 0 p.shape ≡ part_of_shape slot n r)) (sym at)
             (through slot (base + size l + 1) r (omega (arith, low, at)) (omega (arith, high, at)) (below-right slot base red l r (omega (arith, low, at))));
         top_is = right_top;
         end_is = omega (arith, at, is.end_is);
@@ -173,7 +173,7 @@ module _ (dig : List ℕ → List ℕ) (ps : Image) (since : ℕ) (p : TreePage)
 
   at-place : top ≡ 0 → part_listed dig ps since p page low high base top nodes ≡ child_listed dig ps since p.level p low high base nodes
   unfolding part_listed
-  at-place none = listed-empty child p.entries page low high base nodes (part_of top 0 p.shape) (ap (λ (n : ℕ). part_of n 0 p.shape) none ∙ no-part 0 p.shape)
+  at-place none = listed-empty child p.entries page low high base nodes (part_of_shape top 0 p.shape) (ap (λ (n : ℕ). part_of_shape n 0 p.shape) none ∙ no-part 0 p.shape)
 
   pub part-leaf : top ≡ 0 → p.level ≡ 0 → part_listed dig ps since p page low high base top nodes ≡ Is (record { nodes = nodes; side = NoTree })
   part-leaf none leaf = at-place none ∙ listed-leaf dig ps since p low high base nodes p.level leaf
@@ -195,13 +195,13 @@ module _ (dig : List ℕ → List ℕ) (ps : Image) (since : ℕ) (p : TreePage)
           ap (λ (n : ℕ). listed_at (child_listed dig ps since n q) q.entries (child_page p base) low high 0 q.shape nodes) (sym (child-level dig ps (p.level - 1) low high (child_page p base) q e))
           ∙ ap (λ (t : Shape). listed_at (child_listed dig ps since q.level q) q.entries (child_page p base) low high 0 t nodes) (sym (whole-is q.shape))
 
-  part-node : (end ls rs : ℕ) (e : Entry) → top ≢ 0 → IsPartAt p base end top (part_of top 0 p.shape) → (ls, rs) ≡ below_at top 0 p.shape → slice_get p.entries (top - 1) ≡ Some e
+  part-node : (end ls rs : ℕ) (e : Entry) → top ≢ 0 → IsPartAt p base end top (part_of_shape top 0 p.shape) → (ls, rs) ≡ below_at top 0 p.shape → slice_get p.entries (top - 1) ≡ Some e
       → part_listed dig ps since p page low high base top nodes ≡ (part_listed dig ps since p 0 low (Some e) base ls nodes
       >>= (λ left. part_listed dig ps since p 0 (Some e) high top rs left.nodes >>= (λ right. Is (node_behind (Some e) page left.side right))))
   unfolding part_listed
   part-node end ls rs e some is sides there =
-      let parts = parts-of p base end top ls rs (part_of top 0 p.shape) some is sides in
-      listed-node child p.entries page low high base nodes parts.red parts.l parts.r top e parts.at_is there (part_of top 0 p.shape) parts.is
+      let parts = parts-of p base end top ls rs (part_of_shape top 0 p.shape) some is sides in
+      listed-node child p.entries page low high base nodes parts.red parts.l parts.r top e parts.at_is there (part_of_shape top 0 p.shape) parts.is
       ∙ (λ i. listed_at child p.entries 0 low (Some e) base (sym (part-is p base (top - 1) ls parts.l parts.left) i) nodes
       >>= (λ left. listed_at child p.entries 0 (Some e) high top (sym (part-is p top end rs parts.r parts.right) i) left.nodes >>= (λ right. Is (node_behind (Some e) page left.side right))))
 
@@ -217,15 +217,15 @@ pub stopped-left : (value : Side → Listed) (fault : TreeFault) (result : Resul
 stopped-left value fault result left all next is says same = subst (λ (r : Result Side TreeFault). AnswersAs tree_faults value r all) (sym same) (says-left (tree_faults fault) left all next is says)
 
 -- a part taken apart
-pub is-split : (p : TreePage) (part before behind : Part) (e : Entry) → part.top ≢ 0 → IsPartAt p part.base part.end part.top (part_of part.top 0 p.shape) → (before.top, behind.top) ≡ below_at part.top 0 p.shape
+pub is-split : (p : TreePage) (part before behind : Part) (e : Entry) → part.top ≢ 0 → IsPartAt p part.base part.end part.top (part_of_shape part.top 0 p.shape) → (before.top, behind.top) ≡ below_at part.top 0 p.shape
     → slice_get p.entries (part.top - 1) ≡ Some e → before.base ≡ part.base → before.end ≡ part.top - 1 → behind.base ≡ part.top → behind.end ≡ part.end → IsSplit p part (record { before = before; entry = e; behind = behind })
 is-split p part before behind e some is sides there b0 b1 c0 c1 =
-    let parts = parts-of p part.base part.end part.top before.top behind.top (part_of part.top 0 p.shape) some is sides in
+    let parts = parts-of p part.base part.end part.top before.top behind.top (part_of_shape part.top 0 p.shape) some is sides in
     let left = own-part p part.base (part.top - 1) before.top parts.l parts.left in
     let right = own-part p part.top part.end behind.top parts.r parts.right in
     record {
-      before = subst (λ (n : ℕ). IsPartAt p n before.end before.top (part_of before.top 0 p.shape)) (sym b0) (subst (λ (n : ℕ). IsPartAt p part.base n before.top (part_of before.top 0 p.shape)) (sym b1) left);
-      behind = subst (λ (n : ℕ). IsPartAt p n behind.end behind.top (part_of behind.top 0 p.shape)) (sym c0) (subst (λ (n : ℕ). IsPartAt p part.top n behind.top (part_of behind.top 0 p.shape)) (sym c1) right);
+      before = subst (λ (n : ℕ). IsPartAt p n before.end before.top (part_of_shape before.top 0 p.shape)) (sym b0) (subst (λ (n : ℕ). IsPartAt p part.base n before.top (part_of_shape before.top 0 p.shape)) (sym b1) left);
+      behind = subst (λ (n : ℕ). IsPartAt p n behind.end behind.top (part_of_shape behind.top 0 p.shape)) (sym c0) (subst (λ (n : ℕ). IsPartAt p part.top n behind.top (part_of_shape behind.top 0 p.shape)) (sym c1) right);
       order = (b0, omega (arith, b1, parts.at_is), omega (arith, b1, c0, parts.at_is), omega (arith, c0, parts.at_is, parts.right.end_is), c1);
       lists = λ dig ps since page low high nodes.
           part-node dig ps since p page low high part.base part.top nodes part.end before.top behind.top e some is sides there
@@ -254,7 +254,7 @@ module _ (dig : List ℕ → List ℕ) (ps : Image) (since : ℕ) (root : Root) 
   listed-parts e =
       listed-root e
       ∙ on_each (node_in dig ps root.page) (λ p. listed_at (child_listed dig ps since p.level p) p.entries root.page None None 0 p.shape [] >>= (λ all. Is all.nodes))
-      (λ p. listed_at (child_listed dig ps since p.level p) p.entries root.page None None 0 (part_of (slot_of 0 p.shape) 0 p.shape) [] >>= (λ all. Is all.nodes))
+      (λ p. listed_at (child_listed dig ps since p.level p) p.entries root.page None None 0 (part_of_shape (slot_of 0 p.shape) 0 p.shape) [] >>= (λ all. Is all.nodes))
       (λ p. ap (λ (t : Shape). listed_at (child_listed dig ps since p.level p) p.entries root.page None None 0 t [] >>= (λ (all : Listed). Is all.nodes)) (sym (whole-is p.shape)))
 
 pub ruleset roots_listed = (listed-none, listed-parts)

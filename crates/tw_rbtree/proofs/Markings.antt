@@ -22,7 +22,7 @@ use Rattle.tw_rbtree.specs.declared.new_node.Side.TheVariants.{Empty as NoTree, 
 use Rattle.tw_rbtree.specs.Listing.{Listed, ListsAt, child_listed, is_old, listed, listed_at, node_behind}
 use Rattle.tw_rbtree.specs.Planting.{IsMarked}
 use Rattle.tw_rbtree.specs.Reading.{IsPageAt, child_in, fits, node_in}
-use Rattle.tw_rbtree.specs.Standing.{AreTrees, IsRootTree, IsTreeBelow, IsTreePage, StandsFor, StandsWith, any_page}
+use Rattle.tw_rbtree.specs.Standing.{AreTrees, IsRootTree, IsTreeBelow, IsTreePage, StandsForTree, StandsWith, any_page}
 use Rattle.tw_rbtree.specs.Ways.{child_page}
 use Rattle.tw_rbtree.proofs.Keeping.{below-turned}
 use Rattle.tw_rbtree.proofs.ListLaws.{below_found, is-new, is-old, listed-empty, listed-leaf, listed-node, listed-old, listed-on, listed-root}
@@ -180,7 +180,7 @@ module _ (dig : List ℕ → List ℕ) (ps : Image) (since : ℕ) where
             (inner.more, (λ d there. subst (λ (x : Child). Below all.nodes (suc level) x t) (some_child c.child d (sym c.there ∙ there)) whole))
       ]
 
-  pub root-marks : (root : Root) (t : Tree) (nodes : List NewNode) → StandsFor dig ps root t → root.page ≢ 0 → since ≤ root.page → listed dig ps since root ≡ Is nodes → StandsWith dig (IsMarked since nodes) ps root t
+  pub root-marks : (root : Root) (t : Tree) (nodes : List NewNode) → StandsForTree dig ps root t → root.page ≢ 0 → since ≤ root.page → listed dig ps since root ≡ Is nodes → StandsWith dig (IsMarked since nodes) ps root t
   root-marks root t nodes stands some new found = record { rising = stands.rising; label = stands.label; tree = by stands.tree }
     where
       older : ((root.page == 0) || is_old root.page since) ≡ false

@@ -17,7 +17,7 @@ use Rattle.tw_rbtree.specs.declared.seeking.Sought.{Sought}
 use Rattle.tw_base.specs.declared.kinds.limits.TheConstants.{PAGE_SIZE}
 use Rattle.tw_base.specs.format.PageBytes.{IsPageOf}
 use Rattle.tw_disk.proofs.SpelledLaws.{Spelt, is-spelled, page-is, spelled-bad}
-use Rattle.tw_rbnode.specs.NodeBytes.{Held, MayStand, fields_of, node_codec}
+use Rattle.tw_rbnode.specs.NodeBytes.{Held, MayStand, fields_of, page_node_codec}
 use Rattle.tw_rbnode.specs.Tests.{may_stand, page_of}
 use Rattle.tw_rbnode.proofs.NodeCodecs.{node-lawful}
 use Rattle.tw_rbnode.proofs.Tests.{passed-stands, stands-passed}
@@ -25,41 +25,41 @@ use Rattle.tw_rbtree.specs.Reading.{IsPageAt, child_in, fits, is_above, is_below
 use Rattle.tw_rbtree.specs.Ways.{seek}
 
 module _ (dig : List ℕ → List ℕ) where
-  pub bytes-are : (page : ℕ) (bytes : List ℕ) (p : TreePage) → MayStand dig page p → IsPageOf node_codec bytes (fields_of p) → node_from dig page bytes ≡ Is p
+  pub bytes-are : (page : ℕ) (bytes : List ℕ) (p : TreePage) → MayStand dig page p → IsPageOf page_node_codec bytes (fields_of p) → node_from dig page bytes ≡ Is p
   unfolding node_from
   bytes-are page bytes p stands is =
       let own = stands-passed dig page p stands in
-      is_on (spelled page PAGE_SIZE node_codec bytes) (λ f. when (may_stand dig page f) page (page_of f)) (fields_of p) (page-is page node_codec node-lawful bytes (fields_of p) is)
+      is_on (spelled page PAGE_SIZE page_node_codec bytes) (λ f. when (may_stand dig page f) page (page_of f)) (fields_of p) (page-is page page_node_codec node-lawful bytes (fields_of p) is)
       ∙ ap (λ (b : Bool). when b page (page_of (fields_of p))) own.1 ∙ ap (λ (q : TreePage). Is q) own.0
 
-  pub bytes-none : (page : ℕ) (bytes : List ℕ) → ((p : TreePage) → MayStand dig page p → IsPageOf node_codec bytes (fields_of p) → ⊥) → node_from dig page bytes ≡ Bad page
+  pub bytes-none : (page : ℕ) (bytes : List ℕ) → ((p : TreePage) → MayStand dig page p → IsPageOf page_node_codec bytes (fields_of p) → ⊥) → node_from dig page bytes ≡ Bad page
   unfolding node_from
-  bytes-none page bytes none = by (spelled page PAGE_SIZE node_codec bytes) refl
+  bytes-none page bytes none = by (spelled page PAGE_SIZE page_node_codec bytes) refl
     where
-      test : (f : ℕ × Held) → Spelt PAGE_SIZE node_codec bytes f → (b : Bool) → may_stand dig page f ≡ b → when b page (page_of f) ≡ Bad page
+      test : (f : ℕ × Held) → Spelt PAGE_SIZE page_node_codec bytes f → (b : Bool) → may_stand dig page f ≡ b → when b page (page_of f) ≡ Bad page
       test f spelt false e = refl
       test f spelt true e =
           let own = passed-stands dig page f spelt.fits e in
-          absurd (none (page_of f) own.0 (subst (λ (g : ℕ × Held). IsPageOf node_codec bytes g) (sym own.1) (record { bytes = spelt.bytes_are; fits = spelt.fits })))
+          absurd (none (page_of f) own.0 (subst (λ (g : ℕ × Held). IsPageOf page_node_codec bytes g) (sym own.1) (record { bytes = spelt.bytes_are; fits = spelt.fits })))
 
-      by : (found : Found (ℕ × Held)) → spelled page PAGE_SIZE node_codec bytes ≡ found → (found >>= (λ f. when (may_stand dig page f) page (page_of f))) ≡ Bad page
-      by (Bad q) e = ap (λ (s : Found (ℕ × Held)). s >>= (λ f. when (may_stand dig page f) page (page_of f))) (sym e ∙ spelled-bad page PAGE_SIZE node_codec node-lawful bytes q e)
-      by (Is f) e = test f (is-spelled page PAGE_SIZE node_codec node-lawful bytes f e) (may_stand dig page f) refl
+      by : (found : Found (ℕ × Held)) → spelled page PAGE_SIZE page_node_codec bytes ≡ found → (found >>= (λ f. when (may_stand dig page f) page (page_of f))) ≡ Bad page
+      by (Bad q) e = ap (λ (s : Found (ℕ × Held)). s >>= (λ f. when (may_stand dig page f) page (page_of f))) (sym e ∙ spelled-bad page PAGE_SIZE page_node_codec node-lawful bytes q e)
+      by (Is f) e = test f (is-spelled page PAGE_SIZE page_node_codec node-lawful bytes f e) (may_stand dig page f) refl
 
-  pub are-bytes : (page : ℕ) (bytes : List ℕ) (p : TreePage) → node_from dig page bytes ≡ Is p → MayStand dig page p × IsPageOf node_codec bytes (fields_of p)
+  pub are-bytes : (page : ℕ) (bytes : List ℕ) (p : TreePage) → node_from dig page bytes ≡ Is p → MayStand dig page p × IsPageOf page_node_codec bytes (fields_of p)
   unfolding node_from
-  are-bytes page bytes p found = by (spelled page PAGE_SIZE node_codec bytes) refl found
+  are-bytes page bytes p found = by (spelled page PAGE_SIZE page_node_codec bytes) refl found
     where
-      test : (f : ℕ × Held) → Spelt PAGE_SIZE node_codec bytes f → (b : Bool) → may_stand dig page f ≡ b → when b page (page_of f) ≡ Is p → MayStand dig page p × IsPageOf node_codec bytes (fields_of p)
+      test : (f : ℕ × Held) → Spelt PAGE_SIZE page_node_codec bytes f → (b : Bool) → may_stand dig page f ≡ b → when b page (page_of f) ≡ Is p → MayStand dig page p × IsPageOf page_node_codec bytes (fields_of p)
       test f spelt false e is = cc
       test f spelt true e is =
           let own = passed-stands dig page f spelt.fits e in
-          subst (λ (q : TreePage). MayStand dig page q × IsPageOf node_codec bytes (fields_of q)) (same_found (page_of f) p is)
-          (own.0, subst (λ (g : ℕ × Held). IsPageOf node_codec bytes g) (sym own.1) (record { bytes = spelt.bytes_are; fits = spelt.fits }))
+          subst (λ (q : TreePage). MayStand dig page q × IsPageOf page_node_codec bytes (fields_of q)) (same_found (page_of f) p is)
+          (own.0, subst (λ (g : ℕ × Held). IsPageOf page_node_codec bytes g) (sym own.1) (record { bytes = spelt.bytes_are; fits = spelt.fits }))
 
-      by : (s : Found (ℕ × Held)) → spelled page PAGE_SIZE node_codec bytes ≡ s → (s >>= (λ f. when (may_stand dig page f) page (page_of f))) ≡ Is p → MayStand dig page p × IsPageOf node_codec bytes (fields_of p)
+      by : (s : Found (ℕ × Held)) → spelled page PAGE_SIZE page_node_codec bytes ≡ s → (s >>= (λ f. when (may_stand dig page f) page (page_of f))) ≡ Is p → MayStand dig page p × IsPageOf page_node_codec bytes (fields_of p)
       by (Bad q) e is = cc
-      by (Is f) e is = test f (is-spelled page PAGE_SIZE node_codec node-lawful bytes f e) (may_stand dig page f) refl is
+      by (Is f) e is = test f (is-spelled page PAGE_SIZE page_node_codec node-lawful bytes f e) (may_stand dig page f) refl is
 
   module _ (ps : Image) where
     pub one_page : (page : ℕ) (p q : TreePage) → IsPageAt dig ps page p → IsPageAt dig ps page q → p ≡ q

@@ -26,7 +26,7 @@ use Rattle.tw_rbnode.specs.Trees.{above_at, label_at, mark_of, node_above, sides
 use Rattle.tw_rbnode.proofs.Descents.{before, not_before, other, same}
 use Rattle.tw_rbnode.proofs.TreeLabels.{label-tree}
 use Rattle.tw_rbnode.proofs.TreeLists.{get-some}
-use Rattle.tw_treeproof.specs.Making.{ancestor, place_of, proof_at, way_up}
+use Rattle.tw_treeproof.specs.Making.{ancestor, place_of_ask, proof_at, way_up}
 use Rattle.tw_treeproof.specs.Ways.{has_asked_key, is_left}
 use Rattle.tw_treeproof.proofs.Ways.{way-here, way-left, way-right}
 use Rattle.tw_rbtree.specs.declared.seeking.Sought.{Sought}
@@ -159,10 +159,10 @@ module _ (dig : List ℕ → List ℕ) (es : List Entry) (trees : List Tree) (as
 
   -- the way in a tree ends with these nodes above this place
   abbrev pub Leads : Tree → List Ancestor → Tree → Type 0
-  Leads t up place = (way_up dig ask t ≡ up) × (place_of ask t ≡ place)
+  Leads t up place = (way_up dig ask t ≡ up) × (place_of_ask ask t ≡ place)
 
   leads-as : (t s : Tree) (up : List Ancestor) (place : Tree) → t ≡ s → Leads s up place → Leads t up place
-  leads-as t s up place e leads = (ap (way_up dig ask) e ∙ leads.0, ap (place_of ask) e ∙ leads.1)
+  leads-as t s up place e leads = (ap (way_up dig ask) e ∙ leads.0, ap (place_of_ask ask) e ∙ leads.1)
 
   -- on to a place of the page
   module _ (place : ℕ) (guides : GuidesAll ask (2 * place + 1) es) where
@@ -172,18 +172,18 @@ module _ (dig : List ℕ → List ℕ) (es : List Entry) (trees : List Tree) (as
     abbrev up_to : (base : ℕ) → Shape → List Ancestor
     up_to base t = way_up dig ask below ++ above_at dig es (map (tree_label dig) trees) (2 * place + 1) base t
 
-    pub leads-between : (base : ℕ) (t : Shape) → base ≤ place → place ≤ base + size t → base + size t ≤ length es → Leads (tree_at es trees base t) (up_to base t) (place_of ask below)
+    pub leads-between : (base : ℕ) (t : Shape) → base ≤ place → place ≤ base + size t → base + size t ≤ length es → Leads (tree_at es trees base t) (up_to base t) (place_of_ask ask below)
     unfolding above_at
     leads-between base Empty from to room =
         let at : base ≡ place = omega (arith, from, to) in
-        leads-as (tree_at es trees base Empty) below (way_up dig ask below ++ []) (place_of ask below) (leaf-tree base ∙ ap (λ (n : ℕ). slice_index_or trees n NoEntry) at)
+        leads-as (tree_at es trees base Empty) below (way_up dig ask below ++ []) (place_of_ask ask below) (leaf-tree base ∙ ap (λ (n : ℕ). slice_index_or trees n NoEntry) at)
         (sym (append-nil (way_up dig ask below)), refl)
     leads-between base (Node red l r) from to room =
         let here = get-some es trees es (base + size l) (omega (arith, room)) in
         let e = here.0 in
         let guide : Guide ask (2 * place + 1) (base + size l) e = guides (base + size l) e here.1 in
         let cases : (place ≤ base + size l) ⊎ (base + size l < place) = grind arith in
-        leads-as (tree_at es trees base (Node red l r)) (Branch (tree_at es trees base l) e (tree_at es trees (base + size l + 1) r)) (up_to base (Node red l r)) (place_of ask below)
+        leads-as (tree_at es trees base (Node red l r)) (Branch (tree_at es trees base l) e (tree_at es trees (base + size l + 1) r)) (up_to base (Node red l r)) (place_of_ask ask below)
         (node-tree base red l r e here.1) (
         elim cases [
           | inl near ↦
@@ -213,10 +213,10 @@ module _ (dig : List ℕ → List ℕ) (es : List Entry) (trees : List Tree) (as
 
     -- the way ends at a node with these sides
     abbrev pub Meets : Tree → List Ancestor → (List ℕ × List ℕ) → Type 0
-    Meets t up sides = (way_up dig ask t ≡ up) × ((above : List Ancestor) → proof_at dig (place_of ask t) above ≡ OfEntry sides.0 sides.1 above)
+    Meets t up sides = (way_up dig ask t ≡ up) × ((above : List Ancestor) → proof_at dig (place_of_ask ask t) above ≡ OfEntry sides.0 sides.1 above)
 
     meets-as : (t s : Tree) (up : List Ancestor) (sides : List ℕ × List ℕ) → t ≡ s → Meets s up sides → Meets t up sides
-    meets-as t s up sides e meets = (ap (way_up dig ask) e ∙ meets.0, λ above. ap (λ (x : Tree). proof_at dig (place_of ask x) above) e ∙ meets.1 above)
+    meets-as t s up sides e meets = (ap (way_up dig ask) e ∙ meets.0, λ above. ap (λ (x : Tree). proof_at dig (place_of_ask ask x) above) e ∙ meets.1 above)
 
     pub leads-slot : (base : ℕ) (t : Shape) → base < slot → slot ≤ base + size t → base + size t ≤ length es
         → Meets (tree_at es trees base t) (above_at dig es (map (tree_label dig) trees) (2 * slot) base t) (the_sides base t)

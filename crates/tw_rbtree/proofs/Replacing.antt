@@ -14,7 +14,7 @@ use Rattle.tw_rbnode.specs.Page.{IsBetween, IsNode, TreePage}
 use Rattle.tw_rbnode.specs.Trees.{woven}
 use Rattle.tw_rbtree.specs.declared.inserting.Grown.{Grown}
 use Rattle.tw_rbtree.specs.declared.inserting.Grown.TheVariants.{One, Two}
-use Rattle.tw_rbtree.specs.Growing.{AddedAreNodes, AddedLists, IsOver, IsWith, SidesList}
+use Rattle.tw_rbtree.specs.Growing.{AddedAreNodes, AddedLists, IsOverLevel, IsWith, SidesList}
 use Rattle.tw_rbtree.specs.Standing.{AreTrees, IsTreeBelow, OfPage}
 use Rattle.tw_rbtree.proofs.Adding.{cut-woven, two-children, with-child}
 use Rattle.tw_rbtree.proofs.Standings.{map-count, trees-count}
@@ -94,7 +94,7 @@ module _ (dig : List ℕ → List ℕ) (Has : OfPage) (now : Image) (level : ℕ
 
   module _ (c : Child) (t : Tree) (is : IsTreeBelow dig Has now level c t) (lists : entries t ≡ with_entry (slice_index_or (map entries ts) place []) entry)
       (new : TreePage) (new_level : new.level ≡ p.level) (new_entries : new.entries ≡ p.entries) (new_children : new.children ≡ (take place p.children ++ c ∷ []) ++ drop (place + 1) p.children) where
-    pub one-over : IsOver dig Has now level (length p.entries) new (with_entry (woven (map entries ts) p.entries) entry)
+    pub one-over : IsOverLevel dig Has now level (length p.entries) new (with_entry (woven (map entries ts) p.entries) entry)
     one-over = record {
       level_is = new_level ∙ level_is;
       least_keys = omega (arith, ap length new_entries);

@@ -23,7 +23,7 @@ use Rattle.tw_rbtree.specs.declared.fault.TreeFault.TheVariants.{Present}
 use Rattle.tw_rbtree.specs.Growing.{IsChildTree, all_full, grows_from, grows_if, grows_of}
 use Rattle.tw_rbtree.specs.Reading.{lie_between, node_in}
 use Rattle.tw_rbtree.specs.Standing.{AreTrees, IsRootTree, IsTreeBelow, IsTreePage, OfPage, StandsWith}
-use Rattle.tw_rbtree.specs.Ways.{end_of, nowhere, way_from}
+use Rattle.tw_rbtree.specs.Ways.{end_of_way, nowhere, way_from}
 use Rattle.tw_rbtree.proofs.Keeping.{stands-any}
 use Rattle.tw_rbtree.proofs.PageLaws.{root-is}
 use Rattle.tw_rbtree.proofs.RootWays.{all_between, root-way}
@@ -74,7 +74,7 @@ module _ (dig : List ℕ → List ℕ) (Has : OfPage) (ps : Image) (root : Root)
       sym (way-root dig ps (Absent (key_of entry)) root some ∙ is_on (node_in dig ps root.page) (λ q. way_from dig ps (Absent (key_of entry)) q.level None None q) p first) ∙ w.found in
       let ends : grows_of w.stops ≡ Ok two =
       same_found (grows_of w.stops) (Ok two) (sym (is_on (way_from dig ps (Absent (key_of entry)) p.level None None p) (λ stops. Is (grows_of stops)) w.stops found) ∙ grows) in
-      let absent : entry_with (entries t) (key_of entry) ≡ None = w.tells ∙ none (end_of nowhere w.stops).met (all_full w.stops) ends in
+      let absent : entry_with (entries t) (key_of entry) ≡ None = w.tells ∙ none (end_of_way nowhere w.stops).met (all_full w.stops) ends in
       let leaf = has-leaf entry t (with_leaf t entry) stands.rising absent refl in
       subst IsRising leaf.list leaf.rising
     where

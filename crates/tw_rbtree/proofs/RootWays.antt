@@ -18,13 +18,13 @@ use Rattle.tw_disk.proofs.FoundLaws.{is_on}
 use Rattle.tw_rbnode.specs.Page.{TreePage}
 use Rattle.tw_rbnode.specs.Trees.{page_tree}
 use Rattle.tw_base.proofs.lemmas.history.Asked.{or-none}
-use Rattle.tw_treeproof.specs.Making.{IsSo, place_of, proof_at, proof_of, way_up}
+use Rattle.tw_treeproof.specs.Making.{IsSo, place_of_ask, proof_at, proof_of, way_up}
 use Rattle.tw_rbtree.specs.declared.seeking.Sought.{Sought}
 use Rattle.tw_rbtree.specs.Answers.{IsSoAt}
 use Rattle.tw_rbtree.specs.Paths.{proof_of_way, way_nodes, way_proof}
 use Rattle.tw_rbtree.specs.Reading.{levels_in, node_in}
-use Rattle.tw_rbtree.specs.Standing.{IsRootTree, IsTreeBelow, IsTreePage, StandsFor, any_page}
-use Rattle.tw_rbtree.specs.Ways.{Stop, end_of, found_after, found_before, found_with, nowhere, way, way_end, way_from}
+use Rattle.tw_rbtree.specs.Standing.{IsRootTree, IsTreeBelow, IsTreePage, StandsForTree, any_page}
+use Rattle.tw_rbtree.specs.Ways.{Stop, end_of_way, found_after, found_before, found_with, nowhere, way, way_end, way_from}
 use Rattle.tw_rbtree.proofs.PageLaws.{root-is}
 use Rattle.tw_rbtree.proofs.SizeLaws.{root-count}
 use Rattle.tw_rbtree.proofs.Standings.{WayIn, way-in}
@@ -40,7 +40,7 @@ module _ (dig : List ℕ → List ℕ) (ps : Image) (ask : Ask) (root : Root) wh
   pub record RootWay (t : Tree) : Type 0 where
     pub stops : List Stop
     pub found : way dig ps ask root ≡ Is stops
-    pub tells : Tells ask (entries t) None None (end_of nowhere stops)
+    pub tells : Tells ask (entries t) None None (end_of_way nowhere stops)
     pub proof : proof_of_way dig stops ≡ proof_of dig t ask
     pub levels : ℕ
     pub levels_is : levels_in dig ps root.page ≡ Is levels
@@ -67,7 +67,7 @@ module _ (dig : List ℕ → List ℕ) (ps : Image) (ask : Ask) (root : Root) wh
       ap level_by (let t : (root.page == 0) ≡ false = grind arith in t) ∙ is_on (node_in dig ps root.page) (λ (q : TreePage). Is (q.level + 1)) p found ∙ ap (λ (n : ℕ). Is (n + 1)) is
 
   empty_way : root.page ≡ 0 → RootWay NoEntry
-  unfolding way_nodes way_proof way_up place_of
+  unfolding way_nodes way_proof way_up place_of_ask
   empty_way none = record { levels_is = no_levels none; stops = []; found = way-empty dig ps ask root none; tells = nothing_tells ask; proof = refl; levels = 0; few = omega arith; many = λ (h : 0 < 0). absurd (omega (arith, h)); up = refl }
 
   page_way : (t : Tree) → IsRising (entries t) → (level : ℕ) → IsTreePage dig any_page ps (IsTreeBelow dig any_page ps level) level 1 root.page t → RootWay t
@@ -92,10 +92,10 @@ module _ (dig : List ℕ → List ℕ) (ps : Image) (ask : Ask) (root : Root) wh
             let same : level + 1 - 1 ≡ level = omega arith in
             subst (λ (n : ℕ). 2 * 13 ^ n ≤ length (entries (page_tree p is.trees)) + 1) (sym same) (subst (λ (x : Tree). 2 * 13 ^ level ≤ length (entries x) + 1) is.tree_is count);
         up = w.up;
-        proof = w.proof (way_nodes dig (w.first ∷ w.rest)) ∙ ap (λ (up : List Ancestor). proof_at dig (place_of ask (page_tree p is.trees)) up) w.up;
+        proof = w.proof (way_nodes dig (w.first ∷ w.rest)) ∙ ap (λ (up : List Ancestor). proof_at dig (place_of_ask ask (page_tree p is.trees)) up) w.up;
       })
 
-  pub root-way : (t : Tree) → StandsFor dig ps root t → RootWay t
+  pub root-way : (t : Tree) → StandsForTree dig ps root t → RootWay t
   root-way t stands = by stands.tree
     where
       by : IsRootTree dig any_page ps root.page t → RootWay t
@@ -104,31 +104,31 @@ module _ (dig : List ℕ → List ℕ) (ps : Image) (ask : Ask) (root : Root) wh
 
 module _ (dig : List ℕ → List ℕ) (ps : Image) (root : Root) (t : Tree) where
   abbrev Last : List Stop → Found Sought
-  Last stops = Is (end_of nowhere stops)
+  Last stops = Is (end_of_way nowhere stops)
 
-  end-is : (ask : Ask) (stops : List Stop) → way dig ps ask root ≡ Is stops → way_end dig ps ask root ≡ Is (end_of nowhere stops)
+  end-is : (ask : Ask) (stops : List Stop) → way dig ps ask root ≡ Is stops → way_end dig ps ask root ≡ Is (end_of_way nowhere stops)
   unfolding way_end
   end-is ask stops found = is_on (way dig ps ask root) Last stops found
 
-  module _ (key : Key) (stands : StandsFor dig ps root t) where
+  module _ (key : Key) (stands : StandsForTree dig ps root t) where
     pub with-found : found_with dig ps root key ≡ Is (entry_with (entries t) key)
     unfolding found_with
     with-found =
         let w = root-way dig ps (Absent key) root t stands in
-        is_on (way_end dig ps (Absent key) root) (λ end. Is end.met) (end_of nowhere w.stops) (end-is (Absent key) w.stops w.found) ∙ ap (λ (o : Option Entry). Is o) (sym w.tells)
+        is_on (way_end dig ps (Absent key) root) (λ end. Is end.met) (end_of_way nowhere w.stops) (end-is (Absent key) w.stops w.found) ∙ ap (λ (o : Option Entry). Is o) (sym w.tells)
 
     pub before-found : found_before dig ps root key ≡ Is (last_below (entries t) key)
     unfolding found_before
     before-found =
         let w = root-way dig ps (Below key) root t stands in
-        is_on (way_end dig ps (Below key) root) (λ end. Is end.low) (end_of nowhere w.stops) (end-is (Below key) w.stops w.found)
+        is_on (way_end dig ps (Below key) root) (λ end. Is end.low) (end_of_way nowhere w.stops) (end-is (Below key) w.stops w.found)
         ∙ ap (λ (o : Option Entry). Is o) (sym w.tells ∙ or-none (last_below (entries t) key))
 
     pub after-found : found_after dig ps root key ≡ Is (first_above (entries t) key)
     unfolding found_after
     after-found =
         let w = root-way dig ps (Above key) root t stands in
-        is_on (way_end dig ps (Above key) root) (λ end. Is end.high) (end_of nowhere w.stops) (end-is (Above key) w.stops w.found)
+        is_on (way_end dig ps (Above key) root) (λ end. Is end.high) (end_of_way nowhere w.stops) (end-is (Above key) w.stops w.found)
         ∙ ap (λ (o : Option Entry). Is o) (sym w.tells ∙ or-none (first_above (entries t) key))
 
   pub so-found : (ask : Ask) (end : Sought) → Tells ask (entries t) None None end → (IsSo (entries t) ask → IsSoAt ask end.met) × (IsSoAt ask end.met → IsSo (entries t) ask)

@@ -10,12 +10,12 @@ use Rattle.tw_base.specs.history.Tree.{Tree, entries}
 use Rattle.tw_disk.specs.Image.{Image, page_at}
 use Rattle.tw_rbnode.specs.declared.child.Child.{Child}
 use Rattle.tw_rbnode.specs.Children.{HasChildren}
-use Rattle.tw_rbnode.specs.NodeBytes.{LiesBelow, fields_of, node_codec}
+use Rattle.tw_rbnode.specs.NodeBytes.{LiesBelow, fields_of, page_node_codec}
 use Rattle.tw_rbnode.specs.Page.{IsNode, TreePage}
 use Rattle.tw_rbnode.specs.Trees.{page_tree}
 use Rattle.tw_rbnode.proofs.TreeLabels.{page-label}
 use Rattle.tw_rbnode.proofs.TreeLists.{page-list}
-use Rattle.tw_rbtree.specs.Growing.{IsChildTree, IsOver, IsStaged}
+use Rattle.tw_rbtree.specs.Growing.{IsChildTree, IsOverLevel, IsStaged}
 use Rattle.tw_rbtree.specs.Reading.{IsPageAt}
 use Rattle.tw_rbtree.specs.Standing.{AreTrees, HasNamed, IsTreeBelow, Named, OfPage}
 use Rattle.tw_rbtree.proofs.Keeping.{below-kept, tree_page-kept, trees-map}
@@ -36,7 +36,7 @@ module _ (dig : List ℕ → List ℕ) (Has : OfPage) where
   lies_below ps page (suc level) zero is at (c ∷ cs) (t ∷ ts) are = absurd (omega (arith, is))
   lies_below ps page (suc level) (suc own) is at (c ∷ cs) (t ∷ ts) are = (omega (arith, at, are.0.1.at.below), lies_below ps page (suc level) (suc own) is at cs ts are.1)
 
-  pub over-kept : (ps more : Image) (level least : ℕ) (p : TreePage) (es : List Entry) → IsOver dig Has ps level least p es → IsOver dig Has (ps ++ more) level least p es
+  pub over-kept : (ps more : Image) (level least : ℕ) (p : TreePage) (es : List Entry) → IsOverLevel dig Has ps level least p es → IsOverLevel dig Has (ps ++ more) level least p es
   over-kept ps more level least p es over = record {
     level_is = over.level_is;
     least_keys = over.least_keys;
@@ -51,7 +51,7 @@ module _ (dig : List ℕ → List ℕ) (Has : OfPage) where
 
   -- a page that is staged over trees is a tree
   pub staged-tree : (ps : Image) (bytes : List ℕ) (used level least : ℕ) (p : TreePage) (c : Child) (es : List Entry) → ((page : ℕ) (t : Tree) → used ≤ page → Has page t) → used ≡ 4 + length ps → IsStaged dig used p c
-      → IsPageOf node_codec bytes (fields_of p) → IsNode p → HasChildren dig p → IsOver dig Has ps level least p es
+      → IsPageOf page_node_codec bytes (fields_of p) → IsNode p → HasChildren dig p → IsOverLevel dig Has ps level least p es
       → (t : Tree) × IsChildTree dig Has (ps ++ bytes ∷ []) level least c t × (entries t ≡ es)
   staged-tree ps bytes used level least p c es new at staged spelled node kinds over =
       let count : length over.trees ≡ length p.children = trees-count (IsTreeBelow dig Has ps level) p.children over.trees over.are_trees in
@@ -62,7 +62,7 @@ module _ (dig : List ℕ → List ℕ) (Has : OfPage) where
         low = omega (arith, own);
         below = omega (arith, own, length-append ps (bytes ∷ []));
         may_stand = record { node = node; children = kinds; below = lies_below ps c.page level p.level over.level_is own p.children over.trees over.are_trees };
-        bytes = subst (λ (b : List ℕ). IsPageOf node_codec b (fields_of p)) (sym there) spelled;
+        bytes = subst (λ (b : List ℕ). IsPageOf page_node_codec b (fields_of p)) (sym there) spelled;
       } in (
         page_tree p over.trees,
         (

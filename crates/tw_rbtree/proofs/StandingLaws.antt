@@ -21,7 +21,7 @@ use Rattle.tw_rbnode.proofs.TreeLists.{page-list}
 use Rattle.tw_rbtree.specs.declared.seeking.Sought.{Sought}
 use Rattle.tw_treeproof.specs.Ways.{has_asked_key, is_left}
 use Rattle.tw_rbtree.specs.Reading.{child_in, node_in}
-use Rattle.tw_rbtree.specs.Standing.{AreTrees, IsRootTree, IsTreeBelow, IsTreePage, StandsFor, any_page}
+use Rattle.tw_rbtree.specs.Standing.{AreTrees, IsRootTree, IsTreeBelow, IsTreePage, StandsForTree, any_page}
 use Rattle.tw_rbtree.specs.Ways.{Stop, child_page, seek, way, way_from, way_on}
 use Rattle.tw_rbtree.proofs.Standings.{trees-count}
 use Rattle.tw_rbtree.proofs.WayLaws.{into, on_each}
@@ -51,7 +51,7 @@ module _ (dig : List ℕ → List ℕ) (ps : Image) where
   below-ranges zero c t is = subst (λ (x : Tree). Each IsEntryInRange (entries x)) (sym is) tt
   below-ranges (suc level) c t is = page-ranges (IsTreeBelow dig any_page ps level) (below-ranges level) level 12 c.page t is.1
 
-  pub stands-ranges : (root : Root) (t : Tree) → StandsFor dig ps root t → Each IsEntryInRange (entries t)
+  pub stands-ranges : (root : Root) (t : Tree) → StandsForTree dig ps root t → Each IsEntryInRange (entries t)
   stands-ranges root t stands = by stands.tree
     where
       by : IsRootTree dig any_page ps root.page t → Each IsEntryInRange (entries t)

@@ -22,13 +22,13 @@ use Rattle.tw_rbnode.specs.Children.{HasChildren, IsChildAt}
 use Rattle.tw_rbnode.specs.Page.{IsNode, TreePage}
 use Rattle.tw_rbnode.specs.Trees.{above_at, labels_of, mark_of, nodes_above, page_tree, sides_at, woven}
 use Rattle.tw_rbnode.proofs.TreeLists.{page-list}
-use Rattle.tw_treeproof.specs.Making.{place_of, proof_at, way_up}
+use Rattle.tw_treeproof.specs.Making.{place_of_ask, proof_at, way_up}
 use Rattle.tw_treeproof.specs.Ways.{has_asked_key, is_left}
 use Rattle.tw_rbtree.specs.declared.seeking.Sought.{Sought}
 use Rattle.tw_rbtree.specs.Paths.{proof_in, way_nodes, way_proof}
 use Rattle.tw_rbtree.specs.Reading.{IsPageAt, child_in, fits, lie_between}
 use Rattle.tw_rbtree.specs.Standing.{AreTrees, IsTreeBelow, any_page, OfPage}
-use Rattle.tw_rbtree.specs.Ways.{Stop, child_page, end_of, seek, way_from}
+use Rattle.tw_rbtree.specs.Ways.{Stop, child_page, end_of_way, seek, way_from}
 use Rattle.tw_rbtree.proofs.PageLaws.{IsSpotOf, child-is, seek-there}
 use Rattle.tw_rbtree.proofs.PageWays.{Guides, from_first, leads-between, leads-slot, seek-guides}
 use Rattle.tw_rbtree.proofs.SizeLaws.{page-short}
@@ -121,10 +121,10 @@ module _ (dig : List ℕ → List ℕ) (ps : Image) (ask : Ask) where
     pub first : Stop
     pub rest : List Stop
     pub found : way_from dig ps ask level low high p ≡ Is (first ∷ rest)
-    pub tells : Tells ask (entries t) low high (end_of first.sought rest)
+    pub tells : Tells ask (entries t) low high (end_of_way first.sought rest)
     pub few : length (way_nodes dig (first ∷ rest)) ≤ 9 * (level + 1)
     pub up : way_nodes dig (first ∷ rest) ≡ way_up dig ask t
-    pub proof : (above : List Ancestor) → way_proof dig (first ∷ rest) above ≡ proof_at dig (place_of ask t) above
+    pub proof : (above : List Ancestor) → way_proof dig (first ∷ rest) above ≡ proof_at dig (place_of_ask ask t) above
 
   module _ (level : ℕ) (low high : Option Entry) (page : ℕ) (p : TreePage) (ts : List Tree) (there : IsPageAt dig ps page p) (level_is : p.level ≡ level)
       (are : AreTrees (IsTreeBelow dig any_page ps level) p.children ts) (rising : IsRising (entries (page_tree p ts))) (lie : Each (LiesBetween low high) (entries (page_tree p ts))) where
@@ -173,12 +173,12 @@ module _ (dig : List ℕ → List ℕ) (ps : Image) (ask : Ask) where
       slot_there = subst (IsSpotOf 0 (length p.entries)) spot spot_there
 
       meets : (way_up dig ask (page_tree p ts) ≡ nodes_above dig p (At slot))
-          × ((above : List Ancestor) → proof_at dig (place_of ask (page_tree p ts)) above ≡ proof_in dig p (At slot) above)
+          × ((above : List Ancestor) → proof_at dig (place_of_ask ask (page_tree p ts)) above ≡ proof_in dig p (At slot) above)
       meets =
           let ls : labels_of p.children ≡ map (tree_label dig) ts = labels in
           let guides = from_first ask (2 * slot) p.entries (subst (λ (x : Spot). Guides ask (mark_of x) 0 p.entries) spot (seek-guides ask 0 low high p.entries node.rising)) in
           subst (λ (l : List (List ℕ)). (way_up dig ask (page_tree p ts) ≡ above_at dig p.entries l (2 * slot) 0 p.shape)
-          × ((above : List Ancestor) → proof_at dig (place_of ask (page_tree p ts)) above ≡ OfEntry (sides_at dig p.entries l slot 0 p.shape).0 (sides_at dig p.entries l slot 0 p.shape).1 above)) (sym ls)
+          × ((above : List Ancestor) → proof_at dig (place_of_ask ask (page_tree p ts)) above ≡ OfEntry (sides_at dig p.entries l slot 0 p.shape).0 (sides_at dig p.entries l slot 0 p.shape).1 above)) (sym ls)
           (leads-slot dig p.entries ts ask slot guides 0 p.shape (omega (arith, slot_there.0)) (omega (arith, slot_there.1, node.sized)) (omega (arith, node.sized)))
 
       pub way_slot : WayIn level low high p (page_tree p ts)
@@ -207,12 +207,12 @@ module _ (dig : List ℕ → List ℕ) (ps : Image) (ask : Ask) where
       child_there = tree-at (IsTreeBelow dig any_page ps level) p.children ts are place (omega (arith, place_there.1, node.places))
 
       leads : (way_up dig ask (page_tree p ts) ≡ way_up dig ask (slice_index_or ts place NoEntry) ++ nodes_above dig p (Between place))
-          × (place_of ask (page_tree p ts) ≡ place_of ask (slice_index_or ts place NoEntry))
+          × (place_of_ask ask (page_tree p ts) ≡ place_of_ask ask (slice_index_or ts place NoEntry))
       leads =
           let ls : labels_of p.children ≡ map (tree_label dig) ts = labels in
           let guides = from_first ask (2 * place + 1) p.entries (subst (λ (x : Spot). Guides ask (mark_of x) 0 p.entries) spot (seek-guides ask 0 low high p.entries node.rising)) in
           subst (λ (l : List (List ℕ)). (way_up dig ask (page_tree p ts) ≡ way_up dig ask (slice_index_or ts place NoEntry) ++ above_at dig p.entries l (2 * place + 1) 0 p.shape)
-          × (place_of ask (page_tree p ts) ≡ place_of ask (slice_index_or ts place NoEntry))) (sym ls)
+          × (place_of_ask ask (page_tree p ts) ≡ place_of_ask ask (slice_index_or ts place NoEntry))) (sym ls)
           (leads-between dig p.entries ts ask place guides 0 p.shape (omega arith) (omega (arith, place_there.1, node.sized)) (omega (arith, node.sized)))
 
       tells_below : (end : Sought) → Tells ask (entries (slice_index_or ts place NoEntry)) (seek ask 0 low high p.entries).low (seek ask 0 low high p.entries).high end → Tells ask (entries (page_tree p ts)) low high end
@@ -227,7 +227,7 @@ module _ (dig : List ℕ → List ℕ) (ps : Image) (ask : Ask) where
           (picked-between ask high 0 low (map entries ts) p.entries lists_count rises lies place spot)
 
       pub way_empty_place : level ≡ 0 → slice_index_or ts place NoEntry ≡ NoEntry → WayIn level low high p (page_tree p ts)
-      unfolding way_nodes way_proof way_up place_of
+      unfolding way_nodes way_proof way_up place_of_ask
       way_empty_place leaf none = record {
         first = here dig ps ask low high p;
         rest = [];
@@ -237,7 +237,7 @@ module _ (dig : List ℕ → List ℕ) (ps : Image) (ask : Ask) where
             (tells-nothing ask (seek ask 0 low high p.entries) (met-none ask 0 low high p.entries place spot)));
         few = omega (arith, page-short dig p (seek ask 0 low high p.entries).at node);
         up = ap (λ (x : Spot). nodes_above dig p x) spot ∙ sym (leads.0 ∙ ap (λ (b : Tree). way_up dig ask b ++ nodes_above dig p (Between place)) none);
-        proof = λ above. ap (λ (x : Spot). proof_in dig p x above) spot ∙ sym (ap (λ (b : Tree). proof_at dig b above) (leads.1 ∙ ap (place_of ask) none));
+        proof = λ above. ap (λ (x : Spot). proof_in dig p x above) spot ∙ sym (ap (λ (b : Tree). proof_at dig b above) (leads.1 ∙ ap (place_of_ask ask) none));
       }
 
       pub way_below : (lower : ℕ) → level ≡ suc lower → (q : TreePage) → child_in dig ps lower (seek ask 0 low high p.entries).low (seek ask 0 low high p.entries).high (child_page p place) ≡ Is q
@@ -251,7 +251,7 @@ module _ (dig : List ℕ → List ℕ) (ps : Image) (ask : Ask) where
             ∙ is_on (child_in dig ps lower (seek ask 0 low high p.entries).low (seek ask 0 low high p.entries).high (child_page p place))
             (λ r. way_from dig ps ask lower (seek ask 0 low high p.entries).low (seek ask 0 low high p.entries).high r >>= (λ stops. Is (here dig ps ask low high p ∷ stops))) q child
             ∙ is_on (way_from dig ps ask lower (seek ask 0 low high p.entries).low (seek ask 0 low high p.entries).high q) (λ stops. Is (here dig ps ask low high p ∷ stops)) (on.first ∷ on.rest) on.found;
-        tells = tells_below (end_of on.first.sought on.rest) on.tells;
+        tells = tells_below (end_of_way on.first.sought on.rest) on.tells;
         few =
             omega (
               arith,

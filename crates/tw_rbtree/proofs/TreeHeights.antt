@@ -12,7 +12,7 @@ use Rattle.tw_rbnode.specs.Shape.{Shape, Empty, Node, depth, size}
 use Rattle.tw_rbnode.specs.Trees.{page_tree, tree_at}
 use Rattle.tw_rbnode.proofs.RedBlack.{depth_at_most}
 use Rattle.tw_treeproof.specs.Making.{height}
-use Rattle.tw_rbtree.specs.Standing.{AreTrees, IsRootTree, IsTreeBelow, IsTreePage, StandsFor, any_page}
+use Rattle.tw_rbtree.specs.Standing.{AreTrees, IsRootTree, IsTreeBelow, IsTreePage, StandsForTree, any_page}
 
 height-empty : height NoEntry ≡ 0
 unfolding height
@@ -57,7 +57,7 @@ module _ (dig : List ℕ → List ℕ) (ps : Image) where
   below-height zero c t is = subst (λ (x : Tree). height x ≤ 8 * 0) (sym is) (omega (arith, height-empty))
   below-height (suc level) c t is = omega (arith, page-height (IsTreeBelow dig any_page ps level) (8 * level) (below-height level) level 12 c.page t is.1)
 
-  pub stands-height : (root : Root) (t : Tree) → StandsFor dig ps root t → height t ≤ 99
+  pub stands-height : (root : Root) (t : Tree) → StandsForTree dig ps root t → height t ≤ 99
   stands-height root t stands = by stands.tree
     where
       by : IsRootTree dig any_page ps root.page t → height t ≤ 99

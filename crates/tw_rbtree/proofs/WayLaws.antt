@@ -15,7 +15,7 @@ use Rattle.tw_rbnode.specs.declared.node.Found.TheVariants.{At, Between}
 use Rattle.tw_rbnode.specs.Page.{TreePage}
 use Rattle.tw_rbtree.specs.declared.seeking.Sought.{Sought}
 use Rattle.tw_rbtree.specs.Reading.{child_in, node_in}
-use Rattle.tw_rbtree.specs.Ways.{Stop, child_page, end_from, end_of, nowhere, seek, stop_in, way, way_end, way_from, way_on}
+use Rattle.tw_rbtree.specs.Ways.{Stop, child_page, end_from, end_of_way, nowhere, seek, stop_in, way, way_end, way_from, way_on}
 
 module _ {X Y : Type 0} where
   pub on_each : (one : Found X) (f g : X → Found Y) → ((x : X) → f x ≡ g x) → (one >>= f) ≡ (one >>= g)
@@ -85,13 +85,13 @@ module _ (dig : List ℕ → List ℕ) (ps : Image) (ask : Ask) where
 
   pub end-empty : (root : Root) → root.page ≡ 0 → way_end dig ps ask root ≡ Is nowhere
   unfolding way_end
-  end-empty root e = is_on (way dig ps ask root) (λ stops. Is (end_of nowhere stops)) [] (way-empty root e)
+  end-empty root e = is_on (way dig ps ask root) (λ stops. Is (end_of_way nowhere stops)) [] (way-empty root e)
 
   pub end-root : (root : Root) → (root.page ≡ 0 → ⊥) → way_end dig ps ask root ≡ (node_in dig ps root.page >>= (λ p. end_from dig ps ask p.level None None p))
   unfolding way_end end_from
   end-root root e =
-      ap (λ (found : Found (List Stop)). found >>= (λ stops. Is (end_of nowhere stops))) (way-root root e)
-      ∙ in_turn (node_in dig ps root.page) (λ p. way_from dig ps ask p.level None None p) (λ stops. Is (end_of nowhere stops))
+      ap (λ (found : Found (List Stop)). found >>= (λ stops. Is (end_of_way nowhere stops))) (way-root root e)
+      ∙ in_turn (node_in dig ps root.page) (λ p. way_from dig ps ask p.level None None p) (λ stops. Is (end_of_way nowhere stops))
 
 -- where the way from a root ends, for the function that goes it
 pub ruleset root_ends = (end-empty, end-root)

@@ -16,7 +16,7 @@ use Rattle.tw_rbtree.specs.declared.fault.TreeFault.TheVariants.{Present, Untrue
 use Rattle.tw_rbtree.specs.declared.proving.Shown.{Shown}
 use Rattle.tw_rbtree.specs.FaultWords.{tree_faults}
 use Rattle.tw_rbtree.specs.Growing.{all_full}
-use Rattle.tw_rbtree.specs.Ways.{Stop, end_of, nowhere, way}
+use Rattle.tw_rbtree.specs.Ways.{Stop, end_of_way, nowhere, way}
 
 module _ {T : Type 0} where
   -- these two faults are not answered
@@ -52,4 +52,4 @@ insert_at root (Some e) over = Is (Err Present)
 insert_at root None over = when (not over) root.page (Ok tt)
 
 unfoldable pub found_insert : (dig : List ℕ → List ℕ) → Image → Root → Key → Found (Result (Unit {0}) TreeFault)
-found_insert dig pages root key = way dig pages (HasNone key) root >>= (λ stops. insert_at root (end_of nowhere stops).met (overflows stops))
+found_insert dig pages root key = way dig pages (HasNone key) root >>= (λ stops. insert_at root (end_of_way nowhere stops).met (overflows stops))

@@ -3,7 +3,7 @@ use Rattle.std.specs.Prelude.{◌≡◌, ℕ, ◌+◌, List, true, Option}
 use Rattle.tw_base.specs.declared.history.thread.Entry.{Entry}
 use Rattle.tw_base.specs.declared.history.tree_proof.Ask.{Ask}
 use Rattle.tw_rbnode.specs.declared.node.Found.TheVariants.{Between}
-use Rattle.tw_rbnode.specs.Answers.{IsThere}
+use Rattle.tw_rbnode.specs.Answers.{IsThereAsFound}
 use Rattle.tw_rbnode.specs.Children.{HasChildren}
 use Rattle.tw_rbnode.specs.Page.{IsNode, TreePage}
 use Rattle.tw_rbtree.specs.Beside.{AreBeside, IsSoughtBy}
@@ -17,7 +17,7 @@ use Rattle.tw_rbtree.specs.Ways.{seek}
 pub record IsSoughtIn (ask : Ask) (low high : Option Entry) (p : TreePage) (s : Sought) : Type 0 where
   pub here : s ≡ seek ask 0 low high p.entries
   pub node : IsNode p
-  pub there : IsThere p.entries s.at
+  pub there : IsThereAsFound p.entries s.at
   pub beside : AreBeside ask low high → IsSoughtBy ask s
 
 -- a way ends in a page of level 0, or goes on into one of the level one lower, between the entries beside it

@@ -26,7 +26,7 @@ use Rattle.tw_rbtree.specs.declared.inserting.Grown.TheVariants.{One, Two}
 use Rattle.tw_rbtree.specs.declared.limits.TheConstants.{LEAST_KEYS}
 use Rattle.tw_rbtree.specs.Reading.{is_above, is_below}
 use Rattle.tw_rbtree.specs.Standing.{AreTrees, IsTreeBelow, IsTreePage, OfPage}
-use Rattle.tw_rbtree.specs.Ways.{Stop, end_of, nowhere, way_from}
+use Rattle.tw_rbtree.specs.Ways.{Stop, end_of_way, nowhere, way_from}
 
 -- the page has no room for one key more
 abbrev pub is_full : TreePage → Bool
@@ -45,7 +45,7 @@ grows_if None full = Ok full
 
 -- the same of a way
 abbrev pub grows_of : List Stop → Result Bool TreeFault
-grows_of stops = grows_if (end_of nowhere stops).met (all_full stops)
+grows_of stops = grows_if (end_of_way nowhere stops).met (all_full stops)
 
 -- and of a way below a page
 abbrev pub grows_above : TreePage → Result Bool TreeFault → Result Bool TreeFault
@@ -128,7 +128,7 @@ module _ (dig : List ℕ → List ℕ) (Has : OfPage) (pages : Image) where
       (l : Tree) × (r : Tree) × IsChildTree level LEAST_KEYS left l × IsChildTree level LEAST_KEYS right r × (entries l ++ middle ∷ entries r ≡ es)
 
   -- a page over children that are trees
-  pub record IsOver (level least : ℕ) (p : TreePage) (listed : List Entry) : Type 0 where
+  pub record IsOverLevel (level least : ℕ) (p : TreePage) (listed : List Entry) : Type 0 where
     pub level_is : p.level ≡ level
     pub least_keys : least ≤ length p.entries
     pub trees : List Tree
@@ -136,6 +136,6 @@ module _ (dig : List ℕ → List ℕ) (Has : OfPage) (pages : Image) where
     pub lists : woven (map entries trees) p.entries ≡ listed
 
   abbrev pub AddedLists : (level least : ℕ) → List Entry → Added → Type 0
-  AddedLists level least es (OnePage p) = IsOver level least p es
+  AddedLists level least es (OnePage p) = IsOverLevel level least p es
   AddedLists level least es (TwoPages first middle second) =
-      (fs : List Entry) × (ss : List Entry) × IsOver level LEAST_KEYS first fs × IsOver level LEAST_KEYS second ss × (fs ++ middle ∷ ss ≡ es)
+      (fs : List Entry) × (ss : List Entry) × IsOverLevel level LEAST_KEYS first fs × IsOverLevel level LEAST_KEYS second ss × (fs ++ middle ∷ ss ≡ es)

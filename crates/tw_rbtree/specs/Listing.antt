@@ -60,33 +60,33 @@ module _ (dig : List ℕ → List ℕ) (pages : Image) (since : ℕ) where
       else (node_in dig pages root.page >>= (λ p. listed_at (child_listed p.level p) p.entries root.page None None 0 p.shape [] >>= (λ all. Is all.nodes)))
 
 -- the part of a page's tree that has this root slot, where the tree's slots begin behind base; none is that of slot 0
-unfoldable pub part_of : (top base : ℕ) → Shape → Shape
-part_of top base Empty = Empty
-part_of top base (Node red l r) =
+unfoldable pub part_of_shape : (top base : ℕ) → Shape → Shape
+part_of_shape top base Empty = Empty
+part_of_shape top base (Node red l r) =
     if top == base + size l + 1 then Node red l r
-    else (if nat_lt top (base + size l + 1) then part_of top base l else part_of top (base + size l + 1) r)
+    else (if nat_lt top (base + size l + 1) then part_of_shape top base l else part_of_shape top (base + size l + 1) r)
 
 -- the nodes of the part of a page that has this root slot, whose slots begin behind base, and of the pages below it
 unfoldable pub part_listed : (dig : List ℕ → List ℕ) → Image → (since : ℕ) → TreePage → (page : ℕ) → (low high : Option Entry) → (base top : ℕ) → List NewNode → Found Listed
 part_listed dig pages since p page low high base top nodes =
-    listed_at (child_listed dig pages since p.level p) p.entries page low high base (part_of top 0 p.shape) nodes
+    listed_at (child_listed dig pages since p.level p) p.entries page low high base (part_of_shape top 0 p.shape) nodes
 
 -- the tree behind base is a part of the page's tree
-abbrev pub IsPartOf : Shape → (base : ℕ) → Shape → Type 0
-IsPartOf whole base t =
-    (slot : ℕ) → base < slot → slot ≤ base + size t → (below_at slot 0 whole ≡ below_at slot base t) × (part_of slot 0 whole ≡ part_of slot base t)
+abbrev pub IsPartOfShape : Shape → (base : ℕ) → Shape → Type 0
+IsPartOfShape whole base t =
+    (slot : ℕ) → base < slot → slot ≤ base + size t → (below_at slot 0 whole ≡ below_at slot base t) × (part_of_shape slot 0 whole ≡ part_of_shape slot base t)
 
 -- the part of the page's tree in the slots above a base up to an end, with this root slot
 pub record IsPartAt (p : TreePage) (base end top : ℕ) (t : Shape) : Type 0 where
-  pub part : IsPartOf p.shape base t
+  pub part : IsPartOfShape p.shape base t
   pub top_is : top ≡ slot_of base t
   pub end_is : end ≡ base + size t
   pub room : end ≤ length p.entries
 
 -- a part of a page, taken apart at its root slot: what is listed of it is what is listed of the two parts beside the slot, and then its node
 pub record IsSplit (p : TreePage) (part : Part) (s : Split) : Type 0 where
-  pub before : IsPartAt p s.before.base s.before.end s.before.top (part_of s.before.top 0 p.shape)
-  pub behind : IsPartAt p s.behind.base s.behind.end s.behind.top (part_of s.behind.top 0 p.shape)
+  pub before : IsPartAt p s.before.base s.before.end s.before.top (part_of_shape s.before.top 0 p.shape)
+  pub behind : IsPartAt p s.behind.base s.behind.end s.behind.top (part_of_shape s.behind.top 0 p.shape)
   pub order : (s.before.base ≡ part.base) × (part.base ≤ s.before.end) × (s.before.end < s.behind.base) × (s.behind.base ≤ part.end) × (s.behind.end ≡ part.end)
   pub lists : (dig : List ℕ → List ℕ) (pages : Image) (since page : ℕ) (low high : Option Entry) (nodes : List NewNode) → part_listed dig pages since p page low high part.base part.top nodes
       ≡ (part_listed dig pages since p 0 low (Some s.entry) s.before.base s.before.top nodes

@@ -15,7 +15,7 @@ use Rattle.tw_rbnode.specs.Page.{TreePage}
 use Rattle.tw_rbnode.specs.Trees.{labels_of, nodes_above, sides_at}
 use Rattle.tw_rbtree.specs.declared.proving.Shown.{Shown}
 use Rattle.tw_rbtree.specs.declared.seeking.Sought.{Sought}
-use Rattle.tw_rbtree.specs.Ways.{Stop, end_of, nowhere, way, way_from}
+use Rattle.tw_rbtree.specs.Ways.{Stop, end_of_way, nowhere, way, way_from}
 
 -- a proof with more nodes above its place
 abbrev pub with_above : TreeProof → List Ancestor → TreeProof
@@ -44,7 +44,7 @@ module _ (dig : List ℕ → List ℕ) where
 
   -- what a way shows: the entry at its end, none at an empty place, and the proof of what is there
   abbrev pub shown_of : List Stop → Shown
-  shown_of stops = record { met = (end_of nowhere stops).met; proof = proof_of_way stops }
+  shown_of stops = record { met = (end_of_way nowhere stops).met; proof = proof_of_way stops }
 
   -- the same of what stands in the last page, without the nodes above it
   abbrev pub shown_at : TreePage → Sought → Shown
@@ -59,5 +59,5 @@ module _ (dig : List ℕ → List ℕ) where
     unfoldable pub shown_from : (level : ℕ) → (low high : Option Entry) → TreePage → Found Shown
     shown_from level low high p = way_from dig pages ask level low high p >>= (λ stops. Is (shown_of stops))
 
-    unfoldable pub found_path : Root → Found Shown
-    found_path root = way dig pages ask root >>= (λ stops. Is (shown_of stops))
+    unfoldable pub found_tree_path : Root → Found Shown
+    found_tree_path root = way dig pages ask root >>= (λ stops. Is (shown_of stops))

@@ -11,7 +11,7 @@ use Rattle.tw_disk.specs.Image.{Image}
 use Rattle.tw_rbnode.specs.declared.node.Added.{Added}
 use Rattle.tw_rbnode.specs.declared.node.Added.TheVariants.{One as OnePage, Two as TwoPages}
 use Rattle.tw_rbnode.specs.declared.node.Found.TheVariants.{Between}
-use Rattle.tw_rbnode.specs.NodeBytes.{fields_of, node_codec}
+use Rattle.tw_rbnode.specs.NodeBytes.{fields_of, page_node_codec}
 use Rattle.tw_rbnode.specs.Page.{IsNode, TreePage}
 use Rattle.tw_rbnode.specs.Trees.{page_label}
 use Rattle.tw_rbtree.specs.declared.inserting.Grown.{Grown}
@@ -22,7 +22,7 @@ use Rattle.tw_rbtree.specs.Ways.{Stop, way}
 -- the bytes are those of this tree page
 pub record IsBytesOf (bytes : List ℕ) (p : TreePage) : Type 0 where
   pub node : IsNode p
-  pub spelled : IsPageOf node_codec bytes (fields_of p)
+  pub spelled : IsPageOf page_node_codec bytes (fields_of p)
 
 -- what is added is these pages: the one, or the two from left to right
 abbrev pub ArePages : Added → Image → Type 0

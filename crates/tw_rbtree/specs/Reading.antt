@@ -9,7 +9,7 @@ use Rattle.tw_disk.specs.Found.Found.{Is}
 use Rattle.tw_disk.specs.Image.{Image, page_at}
 use Rattle.tw_base.specs.declared.kinds.limits.TheConstants.{PAGE_SIZE}
 use Rattle.tw_base.specs.format.PageBytes.{IsPageOf}
-use Rattle.tw_rbnode.specs.NodeBytes.{MayStand, fields_of, node_codec}
+use Rattle.tw_rbnode.specs.NodeBytes.{MayStand, fields_of, page_node_codec}
 use Rattle.tw_rbnode.specs.Page.{TreePage}
 use Rattle.tw_rbnode.specs.Tests.{may_stand, page_of}
 use Rattle.tw_rbtree.specs.declared.limits.TheConstants.{LEAST_KEYS}
@@ -19,7 +19,7 @@ pub record IsPageAt (dig : List ℕ → List ℕ) (pages : Image) (page : ℕ) (
   pub low : FIRST_PAGE ≤ page
   pub below : page < FIRST_PAGE + length pages
   pub may_stand : MayStand dig page p
-  pub bytes : IsPageOf node_codec (page_at pages (page - FIRST_PAGE)) (fields_of p)
+  pub bytes : IsPageOf page_node_codec (page_at pages (page - FIRST_PAGE)) (fields_of p)
 
 -- the entry lies above this one; above none all do
 abbrev pub is_above : Option Entry → Entry → Bool
@@ -41,7 +41,7 @@ fits level low high p = (p.level == level && nat_le LEAST_KEYS (length p.entries
 
 -- the tree page whose fields these bytes spell, if it may stand under this number
 unfoldable pub node_from : (dig : List ℕ → List ℕ) → (page : ℕ) → List ℕ → Found TreePage
-node_from dig page bytes = spelled page PAGE_SIZE node_codec bytes >>= (λ f. when (may_stand dig page f) page (page_of f))
+node_from dig page bytes = spelled page PAGE_SIZE page_node_codec bytes >>= (λ f. when (may_stand dig page f) page (page_of f))
 
 module _ (dig : List ℕ → List ℕ) (pages : Image) where
   -- the tree page of this number; any may be a root page

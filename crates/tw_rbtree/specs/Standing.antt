@@ -60,5 +60,5 @@ module _ (dig : List ℕ → List ℕ) (Has : OfPage) (pages : Image) where
     pub label : root.label ≡ tree_label dig t
     pub tree : IsRootTree root.page t
 
-abbrev pub StandsFor : (dig : List ℕ → List ℕ) → Image → Root → Tree → Type 0
-StandsFor dig pages root t = StandsWith dig any_page pages root t
+abbrev pub StandsForTree : (dig : List ℕ → List ℕ) → Image → Root → Tree → Type 0
+StandsForTree dig pages root t = StandsWith dig any_page pages root t

@@ -36,9 +36,9 @@ pub record Stop : Type 0 where
   pub sought : Sought
 
 -- where the way ends
-abbrev pub end_of : Sought → List Stop → Sought
-end_of here [] = here
-end_of here (s ∷ stops) = end_of s.sought stops
+abbrev pub end_of_way : Sought → List Stop → Sought
+end_of_way here [] = here
+end_of_way here (s ∷ stops) = end_of_way s.sought stops
 
 -- the number of the page at a place
 abbrev pub child_page : TreePage → (place : ℕ) → ℕ
@@ -73,10 +73,10 @@ module _ (dig : List ℕ → List ℕ) (pages : Image) (ask : Ask) where
 
   -- where the way from a page down ends, and where the way from the root does
   unfoldable pub end_from : (level : ℕ) → (low high : Option Entry) → TreePage → Found Sought
-  end_from level low high p = way_from level low high p >>= (λ stops. Is (end_of nowhere stops))
+  end_from level low high p = way_from level low high p >>= (λ stops. Is (end_of_way nowhere stops))
 
   unfoldable pub way_end : Root → Found Sought
-  way_end root = way root >>= (λ stops. Is (end_of nowhere stops))
+  way_end root = way root >>= (λ stops. Is (end_of_way nowhere stops))
 
 -- ---- what is found of a key: its entry where the way to it ends, and the nearest entries on the left and on the right of the ways beside it
 module _ (dig : List ℕ → List ℕ) (pages : Image) (root : Root) (key : Key) where

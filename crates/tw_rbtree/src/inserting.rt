@@ -13,7 +13,7 @@ ghost use Rattle.tw_disk.specs.Answers.{AddsBy, AnswersOr};
 ghost use Rattle.tw_disk.specs.Image.{Image};
 ghost use Rattle.tw_disk.specs.Pages.{OnlyAdds};
 ghost use Rattle.tw_rbnode.specs.Children.{AddedHasChildren, HasChildren, IsChildAt};
-ghost use Rattle.tw_rbnode.specs.NodeBytes.{fields_of, node_codec};
+ghost use Rattle.tw_rbnode.specs.NodeBytes.{fields_of, page_node_codec};
 ghost use Rattle.tw_rbnode.specs.Page.{IsBetween, IsNode};
 ghost use Rattle.tw_rbnode.specs.Trees.{woven};
 ghost use Rattle.tw_rbtree.specs.Answers.{NeverUntrue, found_insert};
@@ -21,7 +21,7 @@ ghost use Rattle.tw_rbtree.specs.FaultWords.{tree_faults};
 ghost use Rattle.tw_rbtree.specs.Growing.{AddedAreNodes, AddedLists, GrownLists, IsGrownIn, IsLast, IsStaged, IsStagedAs, IsWith, LiesIn, MayGoInto, SidesList, grows_from, is_full, is_two, leaf_of};
 ghost use Rattle.tw_rbtree.specs.Putting.{ArePages, AreRegrown, IsRegrown, IsTop, PutsIn};
 ghost use Rattle.tw_rbtree.specs.Reading.{is_above, is_below, lie_between};
-ghost use Rattle.tw_rbtree.specs.Standing.{AreTrees, IsTreeBelow, HasNamed, Named, StandsFor, StandsWith};
+ghost use Rattle.tw_rbtree.specs.Standing.{AreTrees, IsTreeBelow, HasNamed, Named, StandsForTree, StandsWith};
 ghost use Rattle.tw_rbtree.specs.Ways.{Stop, way_from};
 ghost use Rattle.tw_rbtree.specs.declared.inserting.Grown.TheVariants.{Two};
 ghost use Rattle.tw_rbtree.specs.declared.limits.TheConstants.{MOST_STAGED};
@@ -66,7 +66,7 @@ fn stage_node<P: Pages, H: Hasher>(pages: &mut P, node: &RbNode) -> Result<Child
     requires { (P.view pages.old).used < 2 ^ 48 - 4 }
     ensures node { IsNode node.now }
     ensures staged { IfOk result (λ c. IsStaged H.dig ((P.view pages.old).used) node.now c) }
-    ensures put { IfOk result (λ c. (bytes : List ℕ) × IsPageOf node_codec bytes (fields_of node.now)
+    ensures put { IfOk result (λ c. (bytes : List ℕ) × IsPageOf page_node_codec bytes (fields_of node.now)
         × ((P.view pages.new).list ≡ option_map (λ ps. ps ++ bytes ∷ []) (P.view pages.old).list)) }
     ensures used { IfOk result (λ c. (P.view pages.new).used ≡ (P.view pages.old).used + 1) }
     ensures few { (P.view pages.new).used ≤ (P.view pages.old).used + 1 }
@@ -286,9 +286,9 @@ pub fn insert<P: Pages, H: Hasher>(
         IfOk result (λ new. (now : Image) × (grown : Tree) × ((P.view pages.new).list ≡ Some now)
         × StandsWith H.dig (HasNamed named) now new grown × (entries grown ≡ with_entry (entries t) entry)) }
     // The same where nothing is named: pages that stand for a tree then stand for one with the new entry in its place.
-    ensures plain { (ps : Image) → (P.view pages.old).list ≡ Some ps → (t : Tree) → StandsFor H.dig ps root.now t →
+    ensures plain { (ps : Image) → (P.view pages.old).list ≡ Some ps → (t : Tree) → StandsForTree H.dig ps root.now t →
         IfOk result (λ new. (now : Image) × (grown : Tree) × ((P.view pages.new).list ≡ Some now)
-        × StandsFor H.dig now new grown × (entries grown ≡ with_entry (entries t) entry)) }
+        × StandsForTree H.dig now new grown × (entries grown ≡ with_entry (entries t) entry)) }
     // The pages that are staged are those of the way down to the entry's place, as it is found, each as one page or two with what stands
     // below it now, and a new root's page above them where the way's first page is two now, or there was no page; and no others. So what
     // stands beside the way is named as before, whatever it keeps.

@@ -6,7 +6,7 @@ ghost use Rattle.tw_rbnode.specs.Page.{IsNode};
 ghost use Rattle.tw_rbnode.specs.Slots.{slot_of};
 ghost use Rattle.tw_rbtree.specs.FaultWords.{tree_faults};
 ghost use Rattle.tw_rbtree.specs.Reading.{child_in};
-ghost use Rattle.tw_rbtree.specs.Listing.{IsPartAt, IsSplit, is_old as is_old_page, listed, part_listed, part_of};
+ghost use Rattle.tw_rbtree.specs.Listing.{IsPartAt, IsSplit, is_old as is_old_page, listed, part_listed, part_of_shape};
 
 use crate::descending::child_page;
 use crate::fault::TreeFault;
@@ -28,7 +28,7 @@ pub(crate) struct Part {
 
 /// The whole tree of a page.
 fn whole(node: &RbNode) -> Part
-    ensures part { IsPartAt node.now result.base result.end result.top (part_of result.top 0 node.now.shape) }
+    ensures part { IsPartAt node.now result.base result.end result.top (part_of_shape result.top 0 node.now.shape) }
     ensures base { result.base ≡ 0 }
     ensures top { result.top ≡ slot_of 0 node.now.shape }
 {
@@ -50,7 +50,7 @@ pub(crate) struct Split {
 /// The part of a page, taken apart at its root slot.
 fn take_apart(node: &RbNode, part: Part) -> Split
     requires some { part.top ≢ 0 }
-    requires part { IsPartAt node.now part.base part.end part.top (part_of part.top 0 node.now.shape) }
+    requires part { IsPartAt node.now part.base part.end part.top (part_of_shape part.top 0 node.now.shape) }
     ensures { IsSplit node.now part result }
 {
     let entry = entry_at(node, part.top);
@@ -129,7 +129,7 @@ fn list_part<P: Pages, H: Hasher>(
     low: &Option<Entry>,
     high: &Option<Entry>,
 ) -> Result<Side, TreeFault>
-    requires { IsPartAt node.now part.base part.end part.top (part_of part.top 0 node.now.shape) }
+    requires { IsPartAt node.now part.base part.end part.top (part_of_shape part.top 0 node.now.shape) }
     ensures reads { ReadsPages tree_faults P.view P.same pages.old pages.new (λ side. record { nodes = nodes.new; side = side }) result
         (λ ps. part_listed H.dig ps since node.now page low.now high.now part.base part.top nodes.old) }
 {

@@ -2,14 +2,14 @@
 
 ghost use Rattle.std.specs.Prelude.{◌≡◌, ◌+◌, ◌*◌, ◌≤◌, ◌++◌, ◌↔◌, IfOk, IsTrue, OnOk, [], length, take};
 ghost use Rattle.tw_disk.specs.Answers.{ReadsBy, ReadsPages};
-ghost use Rattle.tw_rbnode.specs.Answers.{IsThere};
+ghost use Rattle.tw_rbnode.specs.Answers.{IsThereAsFound};
 ghost use Rattle.tw_rbnode.specs.Trees.{nodes_above};
 ghost use Rattle.tw_base.specs.kinds.Lists.{Each};
 ghost use Rattle.tw_treeproof.specs.Answers.{ancestors_of};
 ghost use Rattle.tw_treeproof.specs.Limits.{IsAncestorInRange};
 ghost use Rattle.tw_rbtree.specs.Answers.{AnswersPath, IsSoAt, NeverPresent};
 ghost use Rattle.tw_rbtree.specs.FaultWords.{tree_faults};
-ghost use Rattle.tw_rbtree.specs.Paths.{found_path, proof_in, shown_above, shown_at, shown_from, with_above};
+ghost use Rattle.tw_rbtree.specs.Paths.{found_tree_path, proof_in, shown_above, shown_at, shown_from, with_above};
 
 use crate::descending::{Down, descend};
 use crate::fault::TreeFault;
@@ -67,7 +67,7 @@ fn with_way(proof: TreeProof, way: &WayDown) -> Result<TreeProof, NoMemory>
 
 /// The proof of what stands in this slot or place of a page, without the nodes above it.
 fn proof_there<H: Hasher>(alloc: Global, node: &RbNode, at: &Found) -> TreeProof
-    requires { IsThere node.now.entries at.now }
+    requires { IsThereAsFound node.now.entries at.now }
     ensures { result ≡ proof_in H.dig node.now at.now [] }
 {
     let ancestors = AncestorList::new(alloc);
@@ -87,7 +87,7 @@ fn proof_there<H: Hasher>(alloc: Global, node: &RbNode, at: &Found) -> TreeProof
 /// What was shown further down, with the nodes of this page above the slot or place.
 #[tactic(auto, using(crate::proofs::Besides::ranges_above))]
 fn with_page<H: Hasher>(shown: Shown, node: &RbNode, at: &Found) -> Result<Shown, NoMemory>
-    requires { IsThere node.now.entries at.now }
+    requires { IsThereAsFound node.now.entries at.now }
     ensures shown { IfOk result (λ new. new ≡ record { met = shown.met; proof = with_above shown.proof (nodes_above H.dig node.now at.now) }) }
     ensures few { IfOk result (λ new. length (ancestors_of new.proof) ≤ length (ancestors_of shown.proof) + 9) }
     ensures ranges { Each IsAncestorInRange (ancestors_of shown.proof) → IfOk result (λ new. Each IsAncestorInRange (ancestors_of new.proof)) }
@@ -101,7 +101,7 @@ fn with_page<H: Hasher>(shown: Shown, node: &RbNode, at: &Found) -> Result<Shown
 
 /// What is shown at the end of a way in this page.
 fn end_in<H: Hasher>(alloc: Global, node: &RbNode, here: &Sought) -> Result<Shown, NoMemory>
-    requires { IsThere node.now.entries here.now.at }
+    requires { IsThereAsFound node.now.entries here.now.at }
     ensures shown { IfOk result (λ shown. shown ≡ shown_above H.dig node.now here.now (shown_at H.dig node.now here.now)) }
     ensures few { IfOk result (λ shown. length (ancestors_of shown.proof) ≤ 9) }
     ensures ranges { IfOk result (λ shown. Each IsAncestorInRange (ancestors_of shown.proof)) }
@@ -147,7 +147,7 @@ fn show<P: Pages, H: Hasher>(
     root: &Root,
     ask: &Ask,
 ) -> Result<Shown, TreeFault>
-    ensures reads { ReadsPages tree_faults P.view P.same pages.old pages.new (λ x. x) result (λ ps. found_path H.dig ps ask.now root.now) }
+    ensures reads { ReadsPages tree_faults P.view P.same pages.old pages.new (λ x. x) result (λ ps. found_tree_path H.dig ps ask.now root.now) }
     ensures few { IfOk result (λ shown. length (ancestors_of shown.proof) ≤ 99) }
     ensures ranges { IfOk result (λ shown. Each IsAncestorInRange (ancestors_of shown.proof)) }
 {
@@ -185,7 +185,7 @@ pub fn path<P: Pages, H: Hasher>(
     // pages the answer is what is found in them, whatever they keep, a disk fault and want of memory excepted: the nodes
     // above the end of the way down and what is there, `Untrue` where what is asked isn't so there, or `BadPage` with the first
     // page met that doesn't fit the way.
-    ensures reads { ReadsBy tree_faults P.view P.same pages.old pages.new result (NeverPresent result) (AnswersPath ask.now) (λ ps. found_path H.dig ps ask.now root.now) }
+    ensures reads { ReadsBy tree_faults P.view P.same pages.old pages.new result (NeverPresent result) (AnswersPath ask.now) (λ ps. found_tree_path H.dig ps ask.now root.now) }
     // Over any pages, told or not, a proof has at most 99 nodes above its place.
     ensures few { IfOk result (λ proof. length (ancestors_of proof) ≤ 99) }
     // Their entries have steps within 1 to 2^40 - 1.

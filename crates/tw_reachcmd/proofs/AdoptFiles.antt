@@ -30,16 +30,16 @@ use Rattle.tw_adopt.specs.declared.adopted.AdoptFault.{AdoptFault}
 use Rattle.tw_adopt.specs.declared.adopted.AdoptFault.TheVariants.{Part, Stranger, Differs, NoMemory}
 use Rattle.tw_adopt.specs.declared.adopted.Adopted.{Adopted}
 use Rattle.tw_adopt.specs.declared.receiving.Receiving.{Receiving}
-use Rattle.tw_adopt.specs.Adopting.{AreGood, IsAdoption, IsFault, IsFirstFault, IsGood, IsOther, Shows, ShowsNone, furthest}
+use Rattle.tw_adopt.specs.Adopting.{AreGood, IsAdoptFault, IsAdoption, IsFirstFault, IsGood, IsOther, ShowsNoReceiving, ShowsReceiving, furthest}
 use Rattle.tw_adopt.proofs.AdoptionLaws.{adoption-binds}
 use Rattle.tw_adopt.proofs.Fronts.{short-first_steps}
-use Rattle.tw_filecmd.specs.Showing.{BreaksRule, IsBadByte, IsFileOf, OfHistory}
+use Rattle.tw_filecmd.specs.Showing.{BreaksRule, IsBadByte, IsHistoryFileOf, OfHistory}
 use Rattle.tw_filecmd.proofs.AnchorFronts.{file_limit}
 use Rattle.tw_filecmd.proofs.FormatFronts.{whole_below, whole_or_broken, word_is_whole}
 use Rattle.tw_filecmd.proofs.ProofFronts.{verdict_behind}
 use Rattle.tw_reachcmd.specs.declared.adopting.Taken.{Taken}
 use Rattle.tw_reachcmd.specs.declared.adopting.Taken.TheVariants.{File, Fault}
-use Rattle.tw_reachcmd.specs.Adopting.{AdoptComes, IsTaken, IsToldOf}
+use Rattle.tw_reachcmd.specs.Adopting.{AdoptComes, IsAdoptionTaken, IsTakenOf}
 use Rattle.tw_reachcmd.specs.AdoptReading.{AreReadTo, IsHistoryIn, TakenIs, TakenUnder}
 use Rattle.tw_reachcmd.specs.Anchors.{AreAnchorsOf}
 use Rattle.tw_reachcmd.specs.Held.{TellAll}
@@ -79,8 +79,8 @@ module _ (anchors : List Thread) (h : History) where
     whole : (p : Proof) → Spells proof_layout front p → front ≡ bytes
     whole p spelled = word_is_whole proof_layout file_limit proof-short front bytes read p spelled
 
-    shows_of : (r : Receiving) → Shows sha256 anchors h front r → Shows sha256 anchors h bytes r
-    shows_of r shows = subst (λ (b : List ℕ). Shows sha256 anchors h b r) (whole shows.0.0 shows.0.1) shows
+    shows_of : (r : Receiving) → ShowsReceiving sha256 anchors h front r → ShowsReceiving sha256 anchors h bytes r
+    shows_of r shows = subst (λ (b : List ℕ). ShowsReceiving sha256 anchors h b r) (whole shows.0.0 shows.0.1) shows
 
     good_of : (r : Receiving) → IsGood sha256 anchors h front r → IsGood sha256 anchors h bytes r
     good_of r good = (shows_of r good.0, good.1)
@@ -103,9 +103,9 @@ module _ (anchors : List Thread) (h : History) where
           (verdict_behind front (drop file_limit bytes) broken.0 sha256 anchors false (No reason) is)
     ]
 
-    fault_of : (number : ℕ) (fault : AdoptFault) → IsFault sha256 anchors h number front fault → IsFault sha256 anchors h number bytes fault
+    fault_of : (number : ℕ) (fault : AdoptFault) → IsAdoptFault sha256 anchors h number front fault → IsAdoptFault sha256 anchors h number bytes fault
     fault_of number (Part n reason) is = (is.0, rejected_of reason is.1)
-    fault_of number (Stranger n) is = (is.0, subst (λ (b : List ℕ). ShowsNone sha256 anchors h b) (whole is.1.0.0 is.1.0.1) is.1)
+    fault_of number (Stranger n) is = (is.0, subst (λ (b : List ℕ). ShowsNoReceiving sha256 anchors h b) (whole is.1.0.0 is.1.0.1) is.1)
     fault_of number (Differs n step held found) is = (is.0, other_of step held found is.1)
     fault_of number NoMemory is = is
 
@@ -134,7 +134,7 @@ module _ (anchors : List Thread) (h : History) where
 
     -- what comes of the proofs that were read is what all that their files hold comes to
     taken_of : (files read : List (List ℕ)) (taken : Taken) → IsSound h → AreReadTo told file_limit files read → TakenIs anchors h read (Ok taken)
-        → IsTaken told anchors files taken h
+        → IsAdoptionTaken told anchors files taken h
     taken_of files read (Fault fault) sound are is = λ all tells. fault_all 1 files read all fault are tells is
     taken_of files read (File bytes) sound are is = record {
       adopted = is.0;
@@ -154,7 +154,7 @@ IsWithin number count (Differs n step held found) = (number ≤ n) × (n < numbe
 IsWithin number count NoMemory = ⊥
 
 module _ (anchors : List Thread) (h : History) where
-  within-one : (number count : ℕ) (bytes : List ℕ) (fault : AdoptFault) → IsFault sha256 anchors h number bytes fault → IsWithin number (suc count) fault
+  within-one : (number count : ℕ) (bytes : List ℕ) (fault : AdoptFault) → IsAdoptFault sha256 anchors h number bytes fault → IsWithin number (suc count) fault
   within-one number count bytes (Part n reason) is = (let at = is.0 in omega (arith, at), let at = is.0 in omega (arith, at))
   within-one number count bytes (Stranger n) is = (let at = is.0 in omega (arith, at), let at = is.0 in omega (arith, at))
   within-one number count bytes (Differs n step held found) is = (let at = is.0 in omega (arith, at), let at = is.0 in omega (arith, at), is.1.differs)
@@ -171,11 +171,11 @@ module _ (anchors : List Thread) (h : History) where
   within-all number (bytes ∷ proofs) fault (inl here) = within-one number (length proofs) bytes fault here
   within-all number (bytes ∷ proofs) fault (inr later) = within-more number (length proofs) fault (within-all (number + 1) proofs fault later.2)
 
-  told_of : (proofs : List (List ℕ)) (taken : Taken) (count : ℕ) → length proofs ≡ count → TakenIs anchors h proofs (Ok taken) → IsToldOf count taken
+  told_of : (proofs : List (List ℕ)) (taken : Taken) (count : ℕ) → length proofs ≡ count → TakenIs anchors h proofs (Ok taken) → IsTakenOf count taken
   told_of proofs (File bytes) count size is = tt
   told_of proofs (Fault fault) count size is = by fault (within-all 1 proofs fault is)
     where
-      by : (fault : AdoptFault) → IsWithin 1 (length proofs) fault → IsToldOf count (Fault fault)
+      by : (fault : AdoptFault) → IsWithin 1 (length proofs) fault → IsTakenOf count (Fault fault)
       by (Part n reason) of = (let low = of.0 in omega (arith, low), let high = of.1 in omega (arith, high, size))
       by (Stranger n) of = (let low = of.0 in omega (arith, low), let high = of.1 in omega (arith, high, size))
       by (Differs n step held found) of = (let low = of.0 in omega (arith, low), let high = of.1 in omega (arith, high, size), of.2)
@@ -211,7 +211,7 @@ under_lines file lines h proofs held (Err (command.Unserved cause)) are is = abs
 -- ---- the history
 
 -- the file that spells a history is no longer than the limit
-pub short_file : (bytes : List ℕ) (h : History) → IsFileOf bytes h → length (history_bytes h) ≤ MOST_HISTORY_BYTES
+pub short_file : (bytes : List ℕ) (h : History) → IsHistoryFileOf bytes h → length (history_bytes h) ≤ MOST_HISTORY_BYTES
 short_file bytes h is = subst (λ (b : List ℕ). length b ≤ MOST_HISTORY_BYTES) (written-as history_codec history-lawful bytes h is.spelled) is.short
 
 -- beside none before it
@@ -254,11 +254,11 @@ module _ (a : Asked) (history anchors : List ℕ) (proofs : List (List ℕ)) (by
   refuses_history (command.Refused refusal) is = absurd is
   refuses_history (command.Unserved cause) is = absurd is
 
-  module _ (h : History) (is_file : IsFileOf bytes h) where
+  module _ (h : History) (is_file : IsHistoryFileOf bytes h) where
     of_history : (P : History → Type 0) → P h → OfHistory a.told history P
     of_history P holds = record {
       there = there;
-      holds = λ all tells. (h, subst (λ (b : List ℕ). IsFileOf b h) (all_read bytes all (read all tells) is_file.short) is_file, holds);
+      holds = λ all tells. (h, subst (λ (b : List ℕ). IsHistoryFileOf b h) (all_read bytes all (read all tells) is_file.short) is_file, holds);
     }
 
     -- it holds one
@@ -268,7 +268,7 @@ module _ (a : Asked) (history anchors : List ℕ) (proofs : List (List ℕ)) (by
       comes.0,
       anchors_held a.told anchors lines anchors_there anchors_read comes.0 comes.1,
       each,
-      of_history (IsTaken a.told comes.0 proofs taken) (taken_of comes.0 h a.told proofs given taken is_file.sound are comes.2),
+      of_history (IsAdoptionTaken a.told comes.0 proofs taken) (taken_of comes.0 h a.told proofs given taken is_file.sound are comes.2),
       told_of comes.0 h given taken (length proofs) (read-count a.told file_limit proofs given are) comes.2,
     )
     takes given (Err (command.Unreadable (BadLine named number))) anchors_read are is =

@@ -13,7 +13,7 @@ use Rattle.tw_base.specs.declared.kinds.failure.InputFault.TheVariants.{Failed, 
 use Rattle.tw_base.specs.kinds.Faults.{Rose}
 use Rattle.tw_base.specs.kinds.Lists.{Each}
 use Rattle.tw_outside.specs.Asked.{Asked, asked}
-use Rattle.tw_outside.specs.Files.{Files, IsReadTo, IsThere, Tells}
+use Rattle.tw_outside.specs.Files.{Files, IsReadTo, IsThere, TellsBytes}
 use Rattle.tw_outside.proofs.Counting.{Rose-earlier}
 use Rattle.tw_text.specs.Faults.{fault_of_input}
 use Rattle.tw_text.specs.declared.fault.CommandFault.{CommandFault}
@@ -38,7 +38,7 @@ use Rattle.tw_reachcmd.specs.Anchors.{IsNoAnchors}
 use Rattle.tw_reachcmd.specs.declared.histories.Family.{Family}
 use Rattle.tw_reachcmd.specs.Auditing.{AuditComes, IsAudited, UnderComes, finding_answer}
 use Rattle.tw_reachcmd.specs.Histories.{HoldHistories, HoldNoHistories, IsOfFiles}
-use Rattle.tw_reachcmd.specs.Reading.{AreRead, AreSoFar, IsReadAudited}
+use Rattle.tw_reachcmd.specs.Reading.{AreHistoriesRead, AreSoFar, IsReadAudited}
 use Rattle.tw_reachcmd.specs.Fronts.{IsFarFront}
 use Rattle.tw_reachcmd.proofs.EvidenceFiles.{bad_line_of}
 
@@ -60,7 +60,7 @@ module _ (family : List History) (anchors : List Thread) where
   answer_behind front more broken (Err (fault.NotHeld held found)) is = absurd (nothing_here proof_layout front more broken is.0.0 is.0.1)
 
   -- what an audit of first bytes answers, at which no proof goes on or which are all, is what one of the file does
-  pub answer_of_file : (told : Option Files) (file front bytes : List ℕ) → IsFarFront told file front → Tells told file bytes → (r : Result Finding AuditFault)
+  pub answer_of_file : (told : Option Files) (file front bytes : List ℕ) → IsFarFront told file front → TellsBytes told file bytes → (r : Result Finding AuditFault)
       → IsAudit sha256 family anchors front r → IsAudit sha256 family anchors bytes r
   answer_of_file told file front bytes far tells r is = elim (far.far bytes tells) [
     | inl whole ↦ subst (λ b. IsAudit sha256 family anchors b r) whole is
@@ -82,7 +82,7 @@ module _ (family : List History) (anchors : List Thread) where
 
 -- ---- the histories
 
-module _ (told : Option Files) (files : List (List ℕ)) (f : Family) (there : Each (IsThere told) files) (are : AreRead told files f) where
+module _ (told : Option Files) (files : List (List ℕ)) (f : Family) (there : Each (IsThere told) files) (are : AreHistoriesRead told files f) where
   pub hold_histories : (family : List History) → family ≡ f.histories → f.bad ≡ None → HoldHistories told files family × AllSound family
   hold_histories family same none = subst (λ hs. HoldHistories told files hs × AllSound hs) (sym same) (
     record { there = there; are = λ all tells. subst (λ (bad : Option BadInput). AreSoFar files all f.histories bad) none (are.so_far all tells).1 },
@@ -100,7 +100,7 @@ module _ (told : Option Files) (files : List (List ℕ)) (f : Family) (there : E
 
 -- of what was read of the proof and of the histories
 pub under_of : (a : Asked) (proof : List ℕ) (anchors : List Thread) (histories : List (List ℕ)) (front : List ℕ) (f : Family) (r : Result Audited CommandFault)
-    → IsThere a.told proof → IsFarFront a.told proof front → Each (IsThere a.told) histories → AreRead a.told histories f
+    → IsThere a.told proof → IsFarFront a.told proof front → Each (IsThere a.told) histories → AreHistoriesRead a.told histories f
     → IsReadAudited anchors front f r → UnderComes a proof anchors histories r
 under_of a proof anchors histories front f (Ok audited) there far each are comes =
     let held = hold_histories a.told histories f each are f.histories refl comes.0 in

@@ -14,7 +14,7 @@ use Rattle.tw_evidence.proofs.EvidenceCodec.{link-is-proof, thread-is-proof}
 use Rattle.tw_evidence.proofs.EvidenceSizes.{evidence-size}
 use Rattle.tw_filecmd.proofs.AnchorFronts.{file_limit}
 use Rattle.tw_filecmd.proofs.FormatFronts.{none_is_none, word_is_whole}
-use Rattle.tw_reachcmd.specs.Held.{Holds, HoldsNone}
+use Rattle.tw_reachcmd.specs.Held.{FileHolds, HoldsNone}
 
 pub thread-short : (word : List ℕ) (t : ThreadProof) → Spells thread_proof_layout word t → length word < file_limit
 thread-short word t spelled = let size = proof-size word (Archived t) (thread-is-proof word t spelled) in omega (arith, size)
@@ -28,7 +28,7 @@ evidence-short word e spelled =
 
 module _ {X : Type 0} (layout : Format X) (short : (word : List ℕ) (x : X) → Spells layout word x → length word < file_limit)
     (told : Option Files) (file all : List ℕ) (there : IsThere told file) (read : IsReadTo told file file_limit all) where
-  pub holds : (x : X) → Spells layout all x → Holds layout told file x
+  pub holds : (x : X) → Spells layout all x → FileHolds layout told file x
   holds x spelled = record {
     there = there;
     bytes = all;

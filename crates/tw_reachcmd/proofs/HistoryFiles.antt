@@ -25,7 +25,7 @@ use Rattle.tw_reachcmd.specs.declared.histories.HistoryRefusal.TheVariants.{Bad,
 use Rattle.tw_reachcmd.proofs.TellingAll.{ends_with}
 use Rattle.tw_reachcmd.specs.Held.{TellAll}
 use Rattle.tw_reachcmd.specs.Histories.{AreHistories, HasBadHistory, IsBadBeside, IsBadByteBeside, IsHistoryBeside, IsOfFiles}
-use Rattle.tw_reachcmd.specs.Reading.{AreRead, AreSoFar, IsAloneBeside, IsReadBeside, IsRefusalOf, left_by}
+use Rattle.tw_reachcmd.specs.Reading.{AreHistoriesRead, AreSoFar, IsAloneBeside, IsHistoryRefusalOf, IsReadBeside, left_by}
 
 -- ---- a service that one of them is of
 
@@ -53,7 +53,7 @@ some_of (h ∷ family) service is none = by (bytes_eq h.name service) is none (s
 -- ---- bytes that hold no history beside others
 
 pub refused_beside : (left : ℕ) (before : List History) (file bytes : List ℕ) (why : HistoryFault) (refusal : HistoryRefusal) → left ≤ MOST_HISTORY_BYTES
-    → length bytes ≤ left → ReadsHistory bytes (Err why) → IsRefusalOf file why refusal → IsReadBeside left before file bytes (Err refusal)
+    → length bytes ≤ left → ReadsHistory bytes (Err why) → IsHistoryRefusalOf file why refusal → IsReadBeside left before file bytes (Err refusal)
 refused_beside left before file bytes (fault.TooLong count) refusal few short read is = absurd (let long = read.0 in omega (arith, few, short, long))
 refused_beside left before file bytes (fault.Malformed place) refusal few short read is =
     subst (λ (r : HistoryRefusal). IsReadBeside left before file bytes (Err r)) (sym is) (refl, inr (inl (short, read.1, read.2)))
@@ -70,7 +70,7 @@ alone_comes left before file bytes h (Err (Bad bad)) short spelled sound is =
 alone_comes left before file bytes h (Err NoMemory) short spelled sound is = tt
 
 -- before the first file
-pub nothing_read : (told : Option Files) (f : Family) → f.histories ≡ [] → f.bad ≡ None → f.left ≡ MOST_HISTORY_BYTES → AreRead told [] f
+pub nothing_read : (told : Option Files) (f : Family) → f.histories ≡ [] → f.bad ≡ None → f.left ≡ MOST_HISTORY_BYTES → AreHistoriesRead told [] f
 nothing_read told f none fine all_left = record {
   sound = subst (λ hs. AllSound hs) (sym none) tt;
   few = omega (arith, all_left);
@@ -169,7 +169,7 @@ module _ (told : Option Files) where
       inr (later.0, later.1, bad-more (left - length first) (before ++ later.0 ∷ []) files all file bytes bad later.2)
 
   -- of what was read alike, the same is known
-  pub known_of : (fs : List (List ℕ)) (old new : Family) → old.histories ≡ new.histories → old.bad ≡ new.bad → old.left ≡ new.left → AreRead told fs old → AreRead told fs new
+  pub known_of : (fs : List (List ℕ)) (old new : Family) → old.histories ≡ new.histories → old.bad ≡ new.bad → old.left ≡ new.left → AreHistoriesRead told fs old → AreHistoriesRead told fs new
   known_of fs old new histories bad left are = record {
     sound = subst (λ hs. AllSound hs) histories are.sound;
     few = subst (λ k. k ≤ MOST_HISTORY_BYTES) left are.few;
@@ -183,7 +183,7 @@ module _ (told : Option Files) where
 
   -- ---- what is known of the files read so far
 
-  module _ (files : List (List ℕ)) (file read : List ℕ) (f : Family) (is_read : IsReadTo told file (f.left + 1) read) (are : AreRead told files f) where
+  module _ (files : List (List ℕ)) (file read : List ℕ) (f : Family) (is_read : IsReadTo told file (f.left + 1) read) (are : AreHistoriesRead told files f) where
     abbrev left_after : ℕ
     left_after = f.left - length read
 
@@ -202,7 +202,7 @@ module _ (told : Option Files) where
     few_after = omega (arith, are.few)
 
     -- behind a file that holds none
-    pub read_behind : is_some f.bad ≡ true → AreRead told (files ++ file ∷ []) (record { histories = f.histories; bad = f.bad; left = f.left - length read })
+    pub read_behind : is_some f.bad ≡ true → AreHistoriesRead told (files ++ file ∷ []) (record { histories = f.histories; bad = f.bad; left = f.left - length read })
     read_behind is = record { sound = are.sound; few = few_after; of_files = of_more files file f.bad are.of_files; so_far = over (λ all. AreSoFar (files ++ file ∷ []) all f.histories f.bad) by }
       where
         by : (front : List (List ℕ)) (bytes : List ℕ) → TellAll told files front → read ≡ take (f.left + 1) bytes
@@ -224,7 +224,7 @@ module _ (told : Option Files) where
 
     -- one that holds a history
     pub read_history : is_some f.bad ≡ false → (h : History) → IsHistoryBeside f.left f.histories read h
-        → AreRead told (files ++ file ∷ []) (record { histories = f.histories ++ h ∷ []; bad = f.bad; left = f.left - length read })
+        → AreHistoriesRead told (files ++ file ∷ []) (record { histories = f.histories ++ h ∷ []; bad = f.bad; left = f.left - length read })
     read_history is h beside = record {
       sound = Each-append IsSound f.histories (h ∷ []) are.sound (beside.sound, tt);
       few = few_after;
@@ -247,7 +247,7 @@ module _ (told : Option Files) where
 
     -- the first that holds none
     pub read_bad : is_some f.bad ≡ false → (bad : BadInput) → IsBadBeside f.left f.histories file read bad
-        → AreRead told (files ++ file ∷ []) (record { histories = f.histories; bad = Some bad; left = f.left - length read })
+        → AreHistoriesRead told (files ++ file ∷ []) (record { histories = f.histories; bad = Some bad; left = f.left - length read })
     read_bad is bad is_bad = record {
       sound = are.sound;
       few = few_after;

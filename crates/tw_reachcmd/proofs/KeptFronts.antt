@@ -7,7 +7,7 @@ use Rattle.sha2.specs.Sha256.{sha256}
 use Rattle.tw_base.specs.declared.history.thread.Thread.{Thread}
 use Rattle.tw_base.specs.declared.kinds.hasher.Sha.{Sha}
 use Rattle.tw_base.specs.format.Formats.{IsFront}
-use Rattle.tw_outside.specs.Files.{Files, Tells}
+use Rattle.tw_outside.specs.Files.{Files, TellsBytes}
 use Rattle.tw_outside.proofs.Fronts.{front_grows}
 use Rattle.tw_pieces.specs.Feeding.{IsSpent}
 use Rattle.tw_chain.specs.Proofs.{proof_layout}
@@ -29,7 +29,7 @@ module _ (told : Option Files) (file : List ℕ) (anchors : List Thread) where
   -- one piece more
   pub fed_of_more : (old new : Verifier Sha) (front longer piece read : List ℕ) (came : ℕ)
       → IsFed sha256 anchors false new (front ++ piece) → (IsSpent new.fed → ⊥) → came ≤ length read → piece ≡ take came read
-      → longer ≡ front ++ take came read → ((bytes : List ℕ) → Tells told file bytes → take came read ≡ take came (drop (length front) bytes))
+      → longer ≡ front ++ take came read → ((bytes : List ℕ) → TellsBytes told file bytes → take came read ≡ take came (drop (length front) bytes))
       → IsFedOf told file anchors old front → IsFedOf told file anchors new longer
   fed_of_more old new front longer piece read came feeds unspent fits is grown given before = record {
     of_file = λ bytes tells. front_grows bytes front read longer came (before.of_file bytes tells) fits (given bytes tells) grown;
@@ -39,7 +39,7 @@ module _ (told : Option Files) (file : List ℕ) (anchors : List Thread) where
 
   module _ (v : Verifier Sha) (front : List ℕ) (fed : IsFedOf told file anchors v front) where
     -- the file has no more
-    pub far_all : (count : ℕ) → length front ≡ count → ((bytes : List ℕ) → Tells told file bytes → length bytes ≤ count) → IsFarFront told file front
+    pub far_all : (count : ℕ) → length front ≡ count → ((bytes : List ℕ) → TellsBytes told file bytes → length bytes ≤ count) → IsFarFront told file front
     far_all count size none = record {
       of_file = fed.of_file;
       far = λ bytes tells. inl (fed.of_file bytes tells ∙ take_all (length front) bytes (omega (arith, none bytes tells, size)));

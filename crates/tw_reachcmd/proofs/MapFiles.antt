@@ -15,9 +15,9 @@ use Rattle.tw_tmap.specs.MapFiles.{high_layout, low_layout}
 use Rattle.tw_tmap.proofs.MapSizes.{high-size, low-size}
 use Rattle.tw_filecmd.proofs.AnchorFronts.{file_limit}
 use Rattle.tw_reachcmd.specs.declared.maps.MapFiles.{MapFiles}
-use Rattle.tw_reachcmd.specs.Held.{Holds}
+use Rattle.tw_reachcmd.specs.Held.{FileHolds}
 use Rattle.tw_reachcmd.specs.Maps.{CheckMapComes, HoldMaps}
-use Rattle.tw_reachcmd.specs.Parts.{IsPart}
+use Rattle.tw_reachcmd.specs.Parts.{IsPartRead}
 use Rattle.tw_reachcmd.specs.ReadMaps.{AreMapsOf, MapsCome}
 use Rattle.tw_reachcmd.proofs.EvidenceFiles.{anchors_held, bad_line_of}
 use Rattle.tw_reachcmd.proofs.FileFronts.{holds, holds_none}
@@ -35,12 +35,12 @@ high-short word h spelled =
 module _ (a : Asked) (low one : List ℕ) (low_there : IsThere a.told low) (low_read : IsReadTo a.told low file_limit one)
     (high other : List ℕ) (high_there : IsThere a.told high) (high_read : IsReadTo a.told high file_limit other)
     (anchors : List ℕ) (there : IsThere a.told anchors) where
-  hold_low : (l : LowFile) → Spells low_layout one l → Holds low_layout a.told low l
+  hold_low : (l : LowFile) → Spells low_layout one l → FileHolds low_layout a.told low l
   hold_low l spelled = holds low_layout low-short a.told low one low_there low_read l spelled
 
   -- ---- the first of both that holds none of its kind
 
-  low_refused : (fault : CommandFault) → IsPart low_layout low one (Err fault) → CheckMapComes a low high anchors (Err fault)
+  low_refused : (fault : CommandFault) → IsPartRead low_layout low one (Err fault) → CheckMapComes a low high anchors (Err fault)
   low_refused (Unreadable (BadByte named place)) is =
       inl (is.0, holds_none low_layout low-short a.told low one low_there low_read place is.1.0 is.1.1, high_there, there)
   low_refused NoMemory is = tt
@@ -51,7 +51,7 @@ module _ (a : Asked) (low one : List ℕ) (low_there : IsThere a.told low) (low_
   low_refused (Refused refusal) is = absurd is
   low_refused (Unserved cause) is = absurd is
 
-  high_refused : (l : LowFile) (fault : CommandFault) → Spells low_layout one l → IsPart high_layout high other (Err fault)
+  high_refused : (l : LowFile) (fault : CommandFault) → Spells low_layout one l → IsPartRead high_layout high other (Err fault)
       → CheckMapComes a low high anchors (Err fault)
   high_refused l (Unreadable (BadByte named place)) spelled is =
       inr (

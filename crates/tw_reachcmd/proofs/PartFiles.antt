@@ -19,7 +19,7 @@ use Rattle.tw_filecmd.proofs.AnchorFronts.{file_limit}
 use Rattle.tw_reachcmd.specs.declared.accusing.Accused.{Accused}
 use Rattle.tw_reachcmd.specs.declared.accusing.Accused.TheVariants.{Whole}
 use Rattle.tw_reachcmd.specs.Accusing.{AccuseComes, HoldParts, PartsMake}
-use Rattle.tw_reachcmd.specs.Parts.{ArePairOf, IsPart, LinkedCome}
+use Rattle.tw_reachcmd.specs.Parts.{ArePairOf, IsPartRead, LinkedCome}
 use Rattle.tw_reachcmd.proofs.FileFronts.{holds, holds_none, link-short, thread-short}
 
 -- ---- what was read has a spelling
@@ -64,7 +64,7 @@ module _ (a : Asked) (first one : List ℕ) (first_there : IsThere a.told first)
   )
 
   -- the first of both files that holds no proof
-  first_refused : (link : Option (List ℕ)) (fault : CommandFault) → IfSome link (IsThere a.told) → IsPart thread_proof_layout first one (Err fault)
+  first_refused : (link : Option (List ℕ)) (fault : CommandFault) → IfSome link (IsThere a.told) → IsPartRead thread_proof_layout first one (Err fault)
       → AccuseComes a first second link (Err fault)
   first_refused link (Unreadable (BadByte named place)) link_there is =
       inl (is.0, holds_none thread_proof_layout thread-short a.told first one first_there first_read place is.1.0 is.1.1, second_there, link_there)
@@ -77,7 +77,7 @@ module _ (a : Asked) (first one : List ℕ) (first_there : IsThere a.told first)
   first_refused link (Unserved cause) link_there is = absurd is
 
   second_refused : (link : Option (List ℕ)) (p : ThreadProof) (fault : CommandFault) → IfSome link (IsThere a.told) → Spells thread_proof_layout one p
-      → IsPart thread_proof_layout second other (Err fault) → AccuseComes a first second link (Err fault)
+      → IsPartRead thread_proof_layout second other (Err fault) → AccuseComes a first second link (Err fault)
   second_refused link p (Unreadable (BadByte named place)) link_there spelled is =
       inr (inl (
         (p, holds thread_proof_layout thread-short a.told first one first_there first_read p spelled),
@@ -115,7 +115,7 @@ module _ (a : Asked) (first one : List ℕ) (first_there : IsThere a.told first)
 
     -- both proofs are read, and the link is none
     refuses_link : (p q : ThreadProof) (fault : CommandFault) → Spells thread_proof_layout one p → Spells thread_proof_layout other q
-        → IsPart link_proof_layout file between (Err fault) → AccuseComes a first second (Some file) (Err fault)
+        → IsPartRead link_proof_layout file between (Err fault) → AccuseComes a first second (Some file) (Err fault)
     refuses_link p q (Unreadable (BadByte named place)) p_spelled q_spelled is =
         inr (inr (
           (p, holds thread_proof_layout thread-short a.told first one first_there first_read p p_spelled),

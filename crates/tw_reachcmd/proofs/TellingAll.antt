@@ -1,7 +1,7 @@
 -- What inputs tell of files, and of one file more.
 use Rattle.std.proofs.Common.{◌≡◌, ℕ, List, [], ◌∷◌, ◌++◌, refl, ap}
 use Rattle.std.specs.Prelude.{Option}
-use Rattle.tw_outside.specs.Files.{Files, Tells}
+use Rattle.tw_outside.specs.Files.{Files, TellsBytes}
 use Rattle.tw_reachcmd.specs.Held.{TellAll}
 
 -- the bytes of all files, and those of the last one
@@ -10,7 +10,7 @@ pub record EndsWith (told : Option Files) (files all : List (List ℕ)) (file : 
   pub bytes : List ℕ
   pub is : all ≡ front ++ bytes ∷ []
   pub tells_front : TellAll told files front
-  pub tells : Tells told file bytes
+  pub tells : TellsBytes told file bytes
 
 pub ends_with : (told : Option Files) (files all : List (List ℕ)) (file : List ℕ) → TellAll told (files ++ file ∷ []) all → EndsWith told files all file
 ends_with told [] [] file tells = absurd tells

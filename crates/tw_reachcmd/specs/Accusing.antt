@@ -17,7 +17,7 @@ use Rattle.tw_evidence.specs.declared.fork.ForkVerdict.TheVariants.{Yes}
 use Rattle.tw_evidence.specs.Accusing.{Accuses}
 use Rattle.tw_evidence.specs.Evidence.{evidence_layout, link_proof_layout, thread_proof_layout}
 use Rattle.tw_evidence.specs.Forks.{IsForkVerdict, ShowsFork, fork_of}
-use Rattle.tw_reachcmd.specs.Held.{Holds, HoldsNone}
+use Rattle.tw_reachcmd.specs.Held.{FileHolds, HoldsNone}
 use Rattle.tw_reachcmd.specs.declared.accusing.Accused.{Accused}
 use Rattle.tw_reachcmd.specs.declared.accusing.Accused.TheVariants.{Whole, Unfit}
 
@@ -27,23 +27,23 @@ module _ (told : Option Files) (first second : List ℕ) (link : Option (List �
   -- where a link is named, its file holds it
   abbrev pub HoldsLink : Option (List ℕ) → Option LinkProof → Type 0
   HoldsLink None None = Unit {0}
-  HoldsLink (Some file) (Some l) = Holds link_proof_layout told file l
+  HoldsLink (Some file) (Some l) = FileHolds link_proof_layout told file l
   HoldsLink _ _ = ⊥
 
   -- the files hold the proofs of two received threads, and the link, where one is named
   pub record HoldParts (one other : ThreadProof) (between : Option LinkProof) : Type 0 where
-    pub one_held : Holds thread_proof_layout told first one
-    pub other_held : Holds thread_proof_layout told second other
+    pub one_held : FileHolds thread_proof_layout told first one
+    pub other_held : FileHolds thread_proof_layout told second other
     pub link_held : HoldsLink link between
 
   -- all files are there, and the first that holds no part of its kind is of this name, and no such part at this place
-  abbrev pub HasBadPart : (named : List ℕ) (place : ℕ) → Type 0
-  HasBadPart named place =
+  abbrev pub HasBadLinkFile : (named : List ℕ) (place : ℕ) → Type 0
+  HasBadLinkFile named place =
       ((named ≡ first) × HoldsNone thread_proof_layout told first place × IsThere told second × IfSome link (IsThere told))
-      ⊎ (((one : ThreadProof) × Holds thread_proof_layout told first one)
+      ⊎ (((one : ThreadProof) × FileHolds thread_proof_layout told first one)
       × ((named ≡ second) × HoldsNone thread_proof_layout told second place × IfSome link (IsThere told)))
-      ⊎ (((one : ThreadProof) × Holds thread_proof_layout told first one)
-      × ((other : ThreadProof) × Holds thread_proof_layout told second other)
+      ⊎ (((one : ThreadProof) × FileHolds thread_proof_layout told first one)
+      × ((other : ThreadProof) × FileHolds thread_proof_layout told second other)
       × ((file : List ℕ) × (link ≡ Some file) × (named ≡ file) × HoldsNone link_proof_layout told file place))
 
 -- ---- what they come to
@@ -66,7 +66,7 @@ abbrev pub AccuseComes : Asked → (first second : List ℕ) → (link : Option 
 AccuseComes a first second link (Ok accused) =
     (one : ThreadProof) × (other : ThreadProof) × (between : Option LinkProof)
     × (HoldParts a.told first second link one other between × PartsMake one other between accused)
-AccuseComes a first second link (Err (Unreadable (BadByte named place))) = HasBadPart a.told first second link named place
+AccuseComes a first second link (Err (Unreadable (BadByte named place))) = HasBadLinkFile a.told first second link named place
 AccuseComes a first second link (Err InputFault) = Rose a.before a.after
 AccuseComes a first second link (Err NoMemory) = Unit {0}
 AccuseComes a first second link _ = ⊥

@@ -8,7 +8,7 @@ use Rattle.tw_outside.specs.Files.{Files, IsReadTo}
 use Rattle.tw_text.specs.declared.fault.CommandFault.{CommandFault}
 use Rattle.tw_text.specs.declared.fault.CommandFault.TheVariants.{Unreadable, NoMemory}
 use Rattle.tw_text.specs.declared.refusal.BadInput.TheVariants.{BadByte, Unsound}
-use Rattle.tw_filecmd.specs.Showing.{BreaksRule, IsBadByte, IsFileOf}
+use Rattle.tw_filecmd.specs.Showing.{BreaksRule, IsBadByte, IsHistoryFileOf}
 use Rattle.tw_adopt.specs.declared.adopted.Adopted.{Adopted}
 use Rattle.tw_adopt.specs.Adopting.{IsAdoption, IsFirstFault}
 use Rattle.tw_reachcmd.specs.Anchors.{AreAnchorsOf, IsNoAnchors}
@@ -23,7 +23,7 @@ AreReadTo told limit _ _ = ⊥
 
 -- the sound history that the bytes of the named file spell; or why they spell none. Want of memory is free
 abbrev pub IsHistoryIn : (file bytes : List ℕ) → Result History CommandFault → Type 0
-IsHistoryIn file bytes (Ok h) = IsFileOf bytes h
+IsHistoryIn file bytes (Ok h) = IsHistoryFileOf bytes h
 IsHistoryIn file bytes (Err (Unreadable (BadByte named place))) = (named ≡ file) × IsBadByte bytes place
 IsHistoryIn file bytes (Err (Unreadable (Unsound named step rule))) = (named ≡ file) × BreaksRule bytes step rule
 IsHistoryIn file bytes (Err NoMemory) = Unit {0}

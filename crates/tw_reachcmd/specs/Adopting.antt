@@ -7,7 +7,7 @@ use Rattle.tw_base.specs.history.HistoryCodec.{history_bytes}
 use Rattle.tw_base.specs.kinds.Faults.{Rose}
 use Rattle.tw_base.specs.kinds.Lists.{Each}
 use Rattle.tw_outside.specs.Asked.{Asked}
-use Rattle.tw_outside.specs.Files.{Files, IsThere, Tells}
+use Rattle.tw_outside.specs.Files.{Files, IsThere, TellsBytes}
 use Rattle.tw_text.specs.declared.fault.CommandFault.{CommandFault}
 use Rattle.tw_text.specs.declared.fault.CommandFault.TheVariants.{Unreadable, InputFault, NoMemory}
 use Rattle.tw_text.specs.declared.refusal.BadInput.TheVariants.{BadByte, BadLine, Unsound}
@@ -31,30 +31,30 @@ module _ (told : Option Files) (anchors : List Thread) (proofs : List (List ℕ)
     pub binds : (all : List (List ℕ)) → TellAll told proofs all → BindsAdoption sha256 h anchors all (Ok adopted)
 
   -- the history is taken over; or this is the first fault of all that the files of the proofs hold
-  abbrev pub IsTaken : Taken → History → Type 0
-  IsTaken (File bytes) h = IsTakenOver bytes h
-  IsTaken (Fault fault) h = (all : List (List ℕ)) → TellAll told proofs all → IsFirstFault sha256 anchors h 1 all fault
+  abbrev pub IsAdoptionTaken : Taken → History → Type 0
+  IsAdoptionTaken (File bytes) h = IsTakenOver bytes h
+  IsAdoptionTaken (Fault fault) h = (all : List (List ℕ)) → TellAll told proofs all → IsFirstFault sha256 anchors h 1 all fault
 
 -- what it tells of so many proofs, whatever their files hold: a fault is of one of them, counted from 1; where a history differs, it has another
 -- authenticator than the one held, or none; and want of memory is no fault of a proof
-abbrev pub IsToldOf : (count : ℕ) → Taken → Type 0
-IsToldOf count (File bytes) = Unit {0}
-IsToldOf count (Fault (Part n reason)) = (0 < n) × (n ≤ count)
-IsToldOf count (Fault (Stranger n)) = (0 < n) × (n ≤ count)
-IsToldOf count (Fault (Differs n step held found)) = (0 < n) × (n ≤ count) × (found ≢ Some held)
-IsToldOf count (Fault WantedMemory) = ⊥
+abbrev pub IsTakenOf : (count : ℕ) → Taken → Type 0
+IsTakenOf count (File bytes) = Unit {0}
+IsTakenOf count (Fault (Part n reason)) = (0 < n) × (n ≤ count)
+IsTakenOf count (Fault (Stranger n)) = (0 < n) × (n ≤ count)
+IsTakenOf count (Fault (Differs n step held found)) = (0 < n) × (n ≤ count) × (found ≢ Some held)
+IsTakenOf count (Fault WantedMemory) = ⊥
 
 -- what it comes to: under the anchors of their file, what is taken over of the sound history of its file, or the first fault of the
 -- proofs. Once all files are there, what is told of the history's file, where it holds no sound history; or else the first bad line of
 -- the anchors file. Want of memory is free
 abbrev pub AdoptComes : Asked → (history anchors : List ℕ) → (proofs : List (List ℕ)) → Result Taken CommandFault → Type 0
 AdoptComes a history anchors proofs (Ok taken) =
-    (held : List Thread) × HasAnchors a.told anchors held × Each (IsThere a.told) proofs × OfHistory a.told history (IsTaken a.told held proofs taken)
-    × IsToldOf (length proofs) taken
+    (held : List Thread) × HasAnchors a.told anchors held × Each (IsThere a.told) proofs × OfHistory a.told history (IsAdoptionTaken a.told held proofs taken)
+    × IsTakenOf (length proofs) taken
 AdoptComes a history anchors proofs (Err (Unreadable (BadByte named place))) =
-    (named ≡ history) × Each (IsThere a.told) (history ∷ anchors ∷ proofs) × ((bytes : List ℕ) → Tells a.told history bytes → IsBadByte bytes place)
+    (named ≡ history) × Each (IsThere a.told) (history ∷ anchors ∷ proofs) × ((bytes : List ℕ) → TellsBytes a.told history bytes → IsBadByte bytes place)
 AdoptComes a history anchors proofs (Err (Unreadable (Unsound named step rule))) =
-    (named ≡ history) × Each (IsThere a.told) (history ∷ anchors ∷ proofs) × ((bytes : List ℕ) → Tells a.told history bytes → BreaksRule bytes step rule)
+    (named ≡ history) × Each (IsThere a.told) (history ∷ anchors ∷ proofs) × ((bytes : List ℕ) → TellsBytes a.told history bytes → BreaksRule bytes step rule)
 AdoptComes a history anchors proofs (Err (Unreadable (BadLine named number))) =
     (named ≡ anchors) × HasBadLine a.told history anchors number × Each (IsThere a.told) proofs × OfHistory a.told history (λ h. Unit {0})
 AdoptComes a history anchors proofs (Err InputFault) = Rose a.before a.after

@@ -8,7 +8,7 @@ use Rattle.tw_base.specs.history.History.{History}
 use Rattle.tw_base.specs.kinds.Faults.{Rose}
 use Rattle.tw_base.specs.kinds.Lists.{Each}
 use Rattle.tw_outside.specs.Asked.{Asked}
-use Rattle.tw_outside.specs.Files.{Files, IsThere, Tells}
+use Rattle.tw_outside.specs.Files.{Files, IsThere, TellsBytes}
 use Rattle.tw_text.specs.declared.fault.CommandFault.{CommandFault}
 use Rattle.tw_text.specs.declared.fault.CommandFault.TheVariants.{Unreadable, InputFault, NoMemory}
 use Rattle.tw_text.specs.declared.refusal.BadInput.TheVariants.{BadLine}
@@ -32,8 +32,8 @@ finding_answer (Unheld held found) = Err (NotHeld held found)
 -- the answer of an audit of all that the proof file holds, under these anchors and against these histories; and what it means
 pub record IsAudited (told : Option Files) (proof : List ℕ) (anchors : List Thread) (family : List History) (audited : Audited) : Type 0 where
   pub there : IsThere told proof
-  pub answers : (bytes : List ℕ) → Tells told proof bytes → IsAudit sha256 family anchors bytes (finding_answer audited)
-  pub means : (bytes : List ℕ) → Tells told proof bytes → (p : Proof) → Spells proof_layout bytes p
+  pub answers : (bytes : List ℕ) → TellsBytes told proof bytes → IsAudit sha256 family anchors bytes (finding_answer audited)
+  pub means : (bytes : List ℕ) → TellsBytes told proof bytes → (p : Proof) → Spells proof_layout bytes p
       → AnswerMeans sha256 family anchors p (finding_answer audited)
 
 -- what an audit under these anchors comes to: its answer, or the first file that is no history. Want of memory is free

@@ -4,7 +4,7 @@ use Rattle.sha2.specs.Sha256.{sha256}
 use Rattle.tw_base.specs.declared.history.thread.Thread.{Thread}
 use Rattle.tw_base.specs.kinds.Faults.{Rose}
 use Rattle.tw_outside.specs.Asked.{Asked}
-use Rattle.tw_outside.specs.Files.{Files, IsThere, Tells}
+use Rattle.tw_outside.specs.Files.{Files, IsThere, TellsBytes}
 use Rattle.tw_text.specs.declared.fault.CommandFault.{CommandFault}
 use Rattle.tw_text.specs.declared.fault.CommandFault.TheVariants.{Unreadable, InputFault, NoMemory}
 use Rattle.tw_text.specs.declared.refusal.BadInput.TheVariants.{BadLine}
@@ -16,8 +16,8 @@ use Rattle.tw_evidence.specs.Forks.{IsForkVerdict}
 -- the verdict on all that the file holds, under these anchors, with its theorem
 pub record IsForkJudged (told : Option Files) (file : List ℕ) (anchors : List Thread) (verdict : ForkVerdict) : Type 0 where
   pub there : IsThere told file
-  pub is_verdict : (bytes : List ℕ) → Tells told file bytes → IsForkVerdict sha256 anchors bytes verdict
-  pub binds : (bytes : List ℕ) → Tells told file bytes → BindsFork sha256 anchors bytes verdict
+  pub is_verdict : (bytes : List ℕ) → TellsBytes told file bytes → IsForkVerdict sha256 anchors bytes verdict
+  pub binds : (bytes : List ℕ) → TellsBytes told file bytes → BindsFork sha256 anchors bytes verdict
 
 -- what it comes to: the verdict under the anchors of their file; a bad line of that is told once both files are read. Want of
 -- memory is free

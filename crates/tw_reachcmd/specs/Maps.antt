@@ -4,7 +4,7 @@ use Rattle.sha2.specs.Sha256.{sha256}
 use Rattle.tw_base.specs.declared.history.thread.Thread.{Thread}
 use Rattle.tw_base.specs.kinds.Faults.{Rose}
 use Rattle.tw_outside.specs.Asked.{Asked}
-use Rattle.tw_outside.specs.Files.{Files, IsThere, Tells}
+use Rattle.tw_outside.specs.Files.{Files, IsThere, TellsBytes}
 use Rattle.tw_msg.specs.AnchorsFile.{IsFirstBadLine, lines}
 use Rattle.tw_text.specs.declared.fault.CommandFault.{CommandFault}
 use Rattle.tw_text.specs.declared.fault.CommandFault.TheVariants.{Unreadable, InputFault, NoMemory}
@@ -18,27 +18,27 @@ use Rattle.tw_tmap.specs.declared.map_verdict.MapVerdict.TheVariants.{Yes, No, G
 use Rattle.tw_tmap.specs.Binding.{BindsMap}
 use Rattle.tw_tmap.specs.Checking.{map_verdict}
 use Rattle.tw_tmap.specs.MapFiles.{high_layout, low_layout}
-use Rattle.tw_reachcmd.specs.Held.{Holds, HoldsNone}
+use Rattle.tw_reachcmd.specs.Held.{FileHolds, HoldsNone}
 
 -- ---- the files
 
 -- the anchors file is there; where the inputs tell its bytes, this is the number of its first bad line
 pub record IsBadLineOf (told : Option Files) (file : List ℕ) (number : ℕ) : Type 0 where
   pub there : IsThere told file
-  pub bad : (bytes : List ℕ) → Tells told file bytes → IsFirstBadLine (lines bytes) number
+  pub bad : (bytes : List ℕ) → TellsBytes told file bytes → IsFirstBadLine (lines bytes) number
 
 module _ (told : Option Files) (low high : List ℕ) where
   -- the files hold a low and a high map file
   pub record HoldMaps (l : LowFile) (h : HighFile) : Type 0 where
-    pub low_held : Holds low_layout told low l
-    pub high_held : Holds high_layout told high h
+    pub low_held : FileHolds low_layout told low l
+    pub high_held : FileHolds high_layout told high h
 
   -- all three files are there, and the first of them that isn't what it has to be is of this name: the low one holds no low file, and
   -- none goes on at this place; or it holds one, and so with the high one; or both hold theirs, and this line of the anchors is bad
   abbrev pub HasBadFile : (anchors : List ℕ) → BadInput → Type 0
   HasBadFile anchors (BadByte named place) =
       ((named ≡ low) × HoldsNone low_layout told low place × IsThere told high × IsThere told anchors)
-      ⊎ (((l : LowFile) × Holds low_layout told low l)
+      ⊎ (((l : LowFile) × FileHolds low_layout told low l)
       × ((named ≡ high) × HoldsNone high_layout told high place × IsThere told anchors))
   HasBadFile anchors (BadLine named number) =
       ((l : LowFile) × (h : HighFile) × HoldMaps l h) × ((named ≡ anchors) × IsBadLineOf told anchors number)
@@ -63,7 +63,7 @@ CheckMapComes a low high anchors (Err NoMemory) = Unit {0}
 CheckMapComes a low high anchors _ = ⊥
 
 -- the status of each: 0 where the map files are accepted
-abbrev pub map_status : MapVerdict → ℕ
-map_status (Yes low high upto) = 0
-map_status (No reason) = 1
-map_status Gap = 1
+abbrev pub map_command_status : MapVerdict → ℕ
+map_command_status (Yes low high upto) = 0
+map_command_status (No reason) = 1
+map_command_status Gap = 1

@@ -11,20 +11,20 @@ use Rattle.tw_reachcmd.specs.declared.accusing.Accused.{Accused}
 use Rattle.tw_reachcmd.specs.Accusing.{PartsMake}
 
 -- the part that the bytes spell, or the place of the first byte at which none goes on. Want of memory is free
-abbrev pub IsPart : {X : Type 0} → Format X → (file bytes : List ℕ) → Result X CommandFault → Type 0
-IsPart layout file bytes (Ok x) = Spells layout bytes x
-IsPart layout file bytes (Err (Unreadable (BadByte named place))) = (named ≡ file) × (SpellsNothing layout bytes × IsPlace layout bytes place)
-IsPart layout file bytes (Err NoMemory) = Unit {0}
-IsPart layout file bytes _ = ⊥
+abbrev pub IsPartRead : {X : Type 0} → Format X → (file bytes : List ℕ) → Result X CommandFault → Type 0
+IsPartRead layout file bytes (Ok x) = Spells layout bytes x
+IsPartRead layout file bytes (Err (Unreadable (BadByte named place))) = (named ≡ file) × (SpellsNothing layout bytes × IsPlace layout bytes place)
+IsPartRead layout file bytes (Err NoMemory) = Unit {0}
+IsPartRead layout file bytes _ = ⊥
 
 -- the proofs of two received threads; or the first file that holds none
 abbrev pub ArePairOf : (first one second other : List ℕ) → Result (ThreadProof × ThreadProof) CommandFault → Type 0
 ArePairOf first one second other (Ok pair) = Spells thread_proof_layout one pair.0 × Spells thread_proof_layout other pair.1
 ArePairOf first one second other (Err fault) =
-    IsPart thread_proof_layout first one (Err fault)
-    ⊎ (((p : ThreadProof) × Spells thread_proof_layout one p) × IsPart thread_proof_layout second other (Err fault))
+    IsPartRead thread_proof_layout first one (Err fault)
+    ⊎ (((p : ThreadProof) × Spells thread_proof_layout one p) × IsPartRead thread_proof_layout second other (Err fault))
 
 -- what both proofs make with the link that the bytes of a file spell; or that they spell none
 abbrev pub LinkedCome : (one other : ThreadProof) → (link bytes : List ℕ) → Result Accused CommandFault → Type 0
 LinkedCome one other link bytes (Ok accused) = (l : LinkProof) × Spells link_proof_layout bytes l × PartsMake one other (Some l) accused
-LinkedCome one other link bytes (Err fault) = IsPart link_proof_layout link bytes (Err fault)
+LinkedCome one other link bytes (Err fault) = IsPartRead link_proof_layout link bytes (Err fault)

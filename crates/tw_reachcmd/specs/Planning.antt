@@ -10,7 +10,7 @@ use Rattle.tw_outside.specs.Files.{Files, IsThere}
 use Rattle.tw_text.specs.declared.fault.CommandFault.{CommandFault}
 use Rattle.tw_text.specs.declared.fault.CommandFault.TheVariants.{Unreadable, InputFault, NoMemory}
 use Rattle.tw_text.specs.declared.refusal.BadInput.TheVariants.{BadByte}
-use Rattle.tw_atlas.specs.Earliest.{IsPlanned}
+use Rattle.tw_atlas.specs.Earliest.{IsAtlasPlanned}
 use Rattle.tw_atlas.specs.ReceiptFiles.{AddsHops}
 use Rattle.tw_reachcmd.specs.declared.planning.Planned.{Planned}
 use Rattle.tw_reachcmd.specs.Held.{TellAll}
@@ -48,7 +48,7 @@ module _ (told : Option Files) (files : List (List ℕ)) where
 -- is free
 abbrev pub AtlasComes : Asked → (start : Key) → (files : List (List ℕ)) → Result Planned CommandFault → Type 0
 AtlasComes a start files (Ok planned) =
-    (planned.start ≡ start) × ((hops : List Hop) × HoldHops a.told files hops × IsPlanned hops start planned.atlas)
+    (planned.start ≡ start) × ((hops : List Hop) × HoldHops a.told files hops × IsAtlasPlanned hops start planned.atlas)
 AtlasComes a start files (Err (Unreadable (BadByte named place))) = HoldNoHops a.told files named place
 AtlasComes a start files (Err InputFault) = (files ≢ []) × Rose a.before a.after
 AtlasComes a start files (Err NoMemory) = Unit {0}

@@ -28,11 +28,11 @@ IsReadBeside left before file bytes (Err (Bad bad)) = IsBadBeside left before fi
 IsReadBeside left before file bytes (Err NoMemory) = Unit {0}
 
 -- how a fault of a history file is told
-abbrev pub IsRefusalOf : (file : List ℕ) → HistoryFault → HistoryRefusal → Type 0
-IsRefusalOf file (fault.TooLong count) refusal = refusal ≡ Bad (BadByte file MOST_HISTORY_BYTES)
-IsRefusalOf file (fault.Malformed place) refusal = refusal ≡ Bad (BadByte file place)
-IsRefusalOf file (fault.Unsound step rule) refusal = refusal ≡ Bad (Unsound file step rule)
-IsRefusalOf file fault.NoMemory refusal = ⊥
+abbrev pub IsHistoryRefusalOf : (file : List ℕ) → HistoryFault → HistoryRefusal → Type 0
+IsHistoryRefusalOf file (fault.TooLong count) refusal = refusal ≡ Bad (BadByte file MOST_HISTORY_BYTES)
+IsHistoryRefusalOf file (fault.Malformed place) refusal = refusal ≡ Bad (BadByte file place)
+IsHistoryRefusalOf file (fault.Unsound step rule) refusal = refusal ≡ Bad (Unsound file step rule)
+IsHistoryRefusalOf file fault.NoMemory refusal = ⊥
 
 -- what files left of so many bytes
 abbrev pub left_by : (left : ℕ) → (all : List (List ℕ)) → ℕ
@@ -45,7 +45,7 @@ AreSoFar files all family None = AreHistories MOST_HISTORY_BYTES [] all family
 AreSoFar files all family (Some bad) = HasBadHistory MOST_HISTORY_BYTES [] files all bad
 
 -- what is known once these files were read
-pub record AreRead (told : Option Files) (files : List (List ℕ)) (f : Family) : Type 0 where
+pub record AreHistoriesRead (told : Option Files) (files : List (List ℕ)) (f : Family) : Type 0 where
   pub sound : AllSound f.histories
   pub few : f.left ≤ MOST_HISTORY_BYTES
   pub of_files : IfSome f.bad (IsOfFiles files)

@@ -5,7 +5,7 @@ ghost use Rattle.sha2.specs.Sha256.{sha256};
 ghost use Rattle.tw_base.specs.declared.history.thread.Thread.{Thread as Anchor};
 ghost use Rattle.tw_base.specs.kinds.Faults.{Rose};
 ghost use Rattle.tw_chain.specs.Reasons.{IsVerdict};
-ghost use Rattle.tw_outside.specs.Files.{IsThere, Tells};
+ghost use Rattle.tw_outside.specs.Files.{IsThere, TellsBytes};
 ghost use Rattle.tw_pieces.specs.Feeding.{IsSpent};
 ghost use Rattle.tw_verifier.specs.Verifying.{IsFed};
 ghost use Rattle.tw_reachcmd.specs.Fronts.{IsFarFront, IsFedOf};
@@ -108,7 +108,7 @@ impl Fed {
         ensures count { IfOk result (λ came. vec_len self.new.bytes ≡ vec_len self.old.bytes + came) }
         ensures fed { OnOk result ((anchors : List Anchor) → IsFedOf (I.told inputs.old) proof.now anchors self.old.verifier self.old.bytes.items →
             IsFedOf (I.told inputs.old) proof.now anchors self.new.verifier self.new.bytes.items) }
-        ensures end { result ≡ Ok 0 → (bytes : List ℕ) → Tells (I.told inputs.old) proof.now bytes → length bytes ≤ vec_len self.old.bytes }
+        ensures end { result ≡ Ok 0 → (bytes : List ℕ) → TellsBytes (I.told inputs.old) proof.now bytes → length bytes ≤ vec_len self.old.bytes }
     {
         let mut piece = [0u8; PIECE];
         let at = self.bytes.len();

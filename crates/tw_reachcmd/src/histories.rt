@@ -7,7 +7,7 @@ ghost use Rattle.tw_base.specs.declared.kinds.limits.TheConstants.{MOST_HISTORY_
 ghost use Rattle.tw_base.specs.kinds.Faults.{Rose};
 ghost use Rattle.tw_base.specs.kinds.Lists.{Each};
 ghost use Rattle.tw_outside.specs.Files.{Files, IsReadTo, IsThere};
-ghost use Rattle.tw_reachcmd.specs.Reading.{AreRead, IsAloneBeside, IsReadBeside, IsRefusalOf};
+ghost use Rattle.tw_reachcmd.specs.Reading.{AreHistoriesRead, IsAloneBeside, IsHistoryRefusalOf, IsReadBeside};
 
 use crate::faults::bad_input;
 use std::alloc::Global;
@@ -60,7 +60,7 @@ pub(crate) fn read_family<I: Inputs>(
     ensures later { I.faults inputs.old ≤ I.faults inputs.new }
     ensures failed { result ≡ Err InputFault.Failed → Rose (I.faults inputs.old) (I.faults inputs.new) }
     ensures there { OnOk result (Each (IsThere (I.told inputs.old)) files.now) }
-    ensures read { IfOk result (AreRead (I.told inputs.old) files.now) }
+    ensures read { IfOk result (AreHistoriesRead (I.told inputs.old) files.now) }
 {
     let mut family = Family {
         histories: Sequence::new(alloc),
@@ -105,7 +105,7 @@ impl Family {
         ensures later { I.faults inputs.old ≤ I.faults inputs.new }
         ensures failed { result ≡ Err InputFault.Failed → Rose (I.faults inputs.old) (I.faults inputs.new) }
         ensures there { OnOk result (Each (IsThere (I.told inputs.old)) files.now) }
-        ensures read { OnOk result (AreRead (I.told inputs.old) [] self.old → AreRead (I.told inputs.old) files.now self.new) }
+        ensures read { OnOk result (AreHistoriesRead (I.told inputs.old) [] self.old → AreHistoriesRead (I.told inputs.old) files.now self.new) }
     {
         for file in files {
             let bytes = read_all(alloc, inputs, file.as_str(), self.left + 1)?;
@@ -119,7 +119,7 @@ impl Family {
         requires { self.old.left ≤ MOST }
         ensures left { self.new.left ≤ self.old.left }
         ensures read { OnOk result ((told : Option Files) (files : List (List ℕ)) → IsReadTo told file.now (self.old.left + 1) bytes.now →
-            AreRead told files self.old → AreRead told (files ++ file.now ∷ []) self.new) }
+            AreHistoriesRead told files self.old → AreHistoriesRead told (files ++ file.now ∷ []) self.new) }
     {
         let left = self.left;
         self.left = left.saturating_sub(bytes.len());
@@ -189,7 +189,7 @@ fn has_service(histories: &[History], service: &Name) -> bool
 
 /// What is told of a file that was read as no sound history.
 fn refusal_of(alloc: Global, file: &str, fault: HistoryFault) -> Result<HistoryRefusal, NoMemory>
-    ensures { IfOk result (IsRefusalOf file.now fault) }
+    ensures { IfOk result (IsHistoryRefusalOf file.now fault) }
 {
     let file = Bytes::from_slice(alloc, file.as_bytes())?;
     let bad = match fault {

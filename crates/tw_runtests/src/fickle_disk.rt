@@ -2,7 +2,7 @@
 
 ghost use Rattle.std.specs.Prelude.{◌≡◌, ◌<◌, None};
 ghost use Rattle.tw_disk.specs.DiskSteps.{no_content};
-ghost use Rattle.tw_disk.specs.MemDisk.{view_of};
+ghost use Rattle.tw_disk.specs.MemDisk.{mem_disk_view};
 
 use tw_base::{Failed, Page};
 use tw_disk::{Disk, MemDisk};
@@ -97,7 +97,7 @@ impl FickleDisk {
 }
 
 impl Disk for FickleDisk {
-    ghost view = { λ disk. record { content = None; count = (view_of disk.inner).count; may_leave = λ _. ⊥; moment = 0; left_since = λ _ _. ⊥; faults = (view_of disk.inner).faults } };
+    ghost view = { λ disk. record { content = None; count = (mem_disk_view disk.inner).count; may_leave = λ _. ⊥; moment = 0; left_since = λ _ _. ⊥; faults = (mem_disk_view disk.inner).faults } };
 
     ghost count_is_told = { λ disk c is. no_content c _ is };
 

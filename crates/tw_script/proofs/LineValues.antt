@@ -19,7 +19,7 @@ use Rattle.tw_base.specs.kinds.Names.{IsName, is_name_text, padded_name}
 use Rattle.tw_text.specs.Words.{is_number, is_number_within, word_number}
 use Rattle.tw_words.specs.Forms.{name_value, number_value}
 use Rattle.tw_script.specs.AskedWords.{AsksWell}
-use Rattle.tw_script.specs.LineForms.{Form, all_values, any_number_value, choose, end, form_named, maybe, maybe_number, next, nothing, then_form}
+use Rattle.tw_script.specs.LineForms.{Form, all_values, any_number_value, choose_form, end, form_named, maybe, maybe_number, next, no_words, then_form}
 use Rattle.tw_script.specs.LineTable.{anchor, append, asked_proof, crash, deliver, hostile, inject, join, line_forms, line_of, lose, of_absence, of_event, of_link, of_thread, proofs, prove, send, service, verify}
 use Rattle.tw_script.specs.LineWords.{bytes_value, choice_value, words as words_of}
 use Rattle.tw_script.specs.declared.line.Line.{Line}
@@ -43,7 +43,7 @@ module _ {X : Type 0} (P : X → Type 0) where
   Gives form = (words : List (List ℕ)) (x : X) → form words ≡ Some x → P x
 
   gives-end : (made : X) → P made → Gives (end made)
-  unfolding nothing
+  unfolding no_words
   gives-end made p [] x is = subst P (same_Some made x is) p
   gives-end made p (word ∷ words) x is = absurd (none-some x is)
 
@@ -73,7 +73,7 @@ module _ {X : Type 0} (P : X → Type 0) where
       by true is rest = subst Gives (same_Some row.1 form is) all.0
       by false is rest = rest is
 
-  gives-choose : (rows : List (List ℕ × Form X)) → Each (λ (row : List ℕ × Form X). Gives row.1) rows → Gives (choose rows)
+  gives-choose : (rows : List (List ℕ × Form X)) → Each (λ (row : List ℕ × Form X). Gives row.1) rows → Gives (choose_form rows)
   gives-choose rows all = gives-then (form_named rows) (λ form. form) (gives-named rows all)
 
 -- ---- words

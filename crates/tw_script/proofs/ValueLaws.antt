@@ -1,7 +1,7 @@
 -- Words are taken as values, one after another.
 use Rattle.std.proofs.Common.{◌≡◌, ℕ, List, [], ◌∷◌, ◌++◌, Option, Some, None, option_map, Err, ap, sym, ◌∙◌, refl, append-nil, append_assoc}
 use Rattle.tw_script.specs.LineForms.{all_values}
-use Rattle.tw_script.specs.Takings.{Reads}
+use Rattle.tw_script.specs.Takings.{ReadsWords}
 use Rattle.tw_script.specs.declared.stop.Stop.{Stop}
 use Rattle.tw_script.specs.declared.stop.Stop.TheVariants.{NotAllowed, NoMemory}
 
@@ -38,7 +38,7 @@ module _ {V : Type 0} (part : List ℕ → Option V) where
     taken-stops word before none = before.are ∙ rw none refl
 
     pub stop-taken : {Y Z : Type 0} (view : Y → V) (views : Z → List V) (word : List ℕ) (stop : Stop) → AreTaken all (word ∷ left) values
-        → Reads (part word) view (Err stop) → Reads (all_values part all) views (Err stop)
+        → ReadsWords (part word) view (Err stop) → ReadsWords (all_values part all) views (Err stop)
     stop-taken view views word NotAllowed before none = taken-stops word before none
     stop-taken view views word NoMemory before free = tt
 

@@ -6,7 +6,7 @@ use Rattle.tw_base.specs.declared.history.question.Question.{Question}
 use Rattle.tw_base.specs.declared.history.question.Question.TheVariants as ask
 use Rattle.tw_base.specs.history.Questions.{MayAsk}
 use Rattle.tw_words.specs.CommandLine.{proofs}
-use Rattle.tw_words.specs.Forms.{choose}
+use Rattle.tw_words.specs.Forms.{choose_form}
 use Rattle.tw_words.specs.declared.command.Command.{Command}
 use Rattle.tw_words.specs.declared.command.Command.TheVariants.{ProveEvent, ProveThread, ProveAbsent, ProveLink}
 use Rattle.tw_script.specs.LineTable.{asked_proof}
@@ -23,7 +23,7 @@ asked_of _ = None
 
 -- words ask for what they ask for behind `prove DIR`
 abbrev pub AskAlike : (words : List (List ℕ)) → Type 0
-AskAlike words = asked_proof words ≡ option_and_then asked_of (result_ok (choose proofs words))
+AskAlike words = asked_proof words ≡ option_and_then asked_of (result_ok (choose_form proofs words))
 
 -- what the line asks a service for may be asked
 abbrev pub AsksWell : Line → Type 0

@@ -22,9 +22,9 @@ module _ {V : Type 0} where
   all_values part (word ∷ words) = option_and_then (λ value. option_map (λ values. value ∷ values) (all_values part words)) (part word)
 
 -- there are no more words
-unfoldable pub nothing : List (List ℕ) → Option (Unit {0})
-nothing [] = Some tt
-nothing (word ∷ words) = None
+unfoldable pub no_words : List (List ℕ) → Option (Unit {0})
+no_words [] = Some tt
+no_words (word ∷ words) = None
 
 -- any number of 64 bits
 abbrev pub any_number_value : List ℕ → Option ℕ
@@ -33,7 +33,7 @@ any_number_value = number_value 0 0xffff_ffff_ffff_ffff
 -- there is one more word, any number of 64 bits, or none
 unfoldable pub maybe_number : List (List ℕ) → Option (Option ℕ)
 maybe_number [] = Some None
-maybe_number (word ∷ words) = option_and_then (λ taken. option_map (λ done. Some taken.0) (nothing taken.1)) (next any_number_value (word ∷ words))
+maybe_number (word ∷ words) = option_and_then (λ taken. option_map (λ done. Some taken.0) (no_words taken.1)) (next any_number_value (word ∷ words))
 
 -- ---- forms
 
@@ -44,17 +44,17 @@ module _ {V X : Type 0} where
 
 module _ {X : Type 0} where
   -- a name, and a number within a range, as the command line has them
-  abbrev pub name : (List ℕ → Form X) → Form X
-  name = then_form name_value
+  abbrev pub name_form : (List ℕ → Form X) → Form X
+  name_form = then_form name_value
 
-  abbrev pub number : (least most : ℕ) → (ℕ → Form X) → Form X
-  number least most = then_form (number_value least most)
+  abbrev pub number_form : (least most : ℕ) → (ℕ → Form X) → Form X
+  number_form least most = then_form (number_value least most)
 
   abbrev pub any_number : (ℕ → Form X) → Form X
   any_number = then_form any_number_value
 
   abbrev pub end : X → Form X
-  end made words = option_map (λ done. made) (nothing words)
+  end made words = option_map (λ done. made) (no_words words)
 
   abbrev pub maybe : (Option ℕ → X) → Form X
   maybe made words = option_map made (maybe_number words)
@@ -64,5 +64,5 @@ module _ {X : Type 0} where
   form_named [] word = None
   form_named (row ∷ rows) word = if bytes_eq word row.0 then Some row.1 else form_named rows word
 
-  abbrev pub choose : List (List ℕ × Form X) → Form X
-  choose rows = then_form (form_named rows) (λ form. form)
+  abbrev pub choose_form : List (List ℕ × Form X) → Form X
+  choose_form rows = then_form (form_named rows) (λ form. form)

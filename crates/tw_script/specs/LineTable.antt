@@ -4,7 +4,7 @@ use Rattle.std.specs.Option.{option_and_then}
 use Rattle.tw_base.specs.declared.history.question.Question.{Question}
 use Rattle.tw_base.specs.declared.history.question.Question.TheVariants as ask
 use Rattle.tw_base.specs.declared.kinds.limits.TheConstants.{LAST_STEP}
-use Rattle.tw_script.specs.LineForms.{Form, all_values, any_number, any_number_value, choose, end, maybe, name, number, then_form}
+use Rattle.tw_script.specs.LineForms.{Form, all_values, any_number, any_number_value, choose_form, end, maybe, name_form, number_form, then_form}
 use Rattle.tw_script.specs.LineWords.{bytes_value, choice_value, words as words_of}
 use Rattle.tw_script.specs.declared.line.Line.{Line}
 use Rattle.tw_script.specs.declared.line.Line.TheVariants.{Service, Hostile, Append, Send, Inject, Deliver, Lose, Crash, Prove, Join, Anchor, Verify}
@@ -15,10 +15,10 @@ unfoldable pub of_event : Form Question
 of_event = any_number (λ step. any_number (λ index. maybe (λ top. ask.Event step index top)))
 
 unfoldable pub of_thread : Form Question
-of_thread = any_number (λ step. name (λ peer. number 1 LAST_STEP (λ k. maybe (λ top. ask.Thread step (record { from = peer; step = k }) top))))
+of_thread = any_number (λ step. name_form (λ peer. number_form 1 LAST_STEP (λ k. maybe (λ top. ask.Thread step (record { from = peer; step = k }) top))))
 
 unfoldable pub of_absence : Form Question
-of_absence = any_number (λ step. name (λ peer. number 1 LAST_STEP (λ k. maybe (λ top. ask.Absent step (record { from = peer; step = k }) top))))
+of_absence = any_number (λ step. name_form (λ peer. number_form 1 LAST_STEP (λ k. maybe (λ top. ask.Absent step (record { from = peer; step = k }) top))))
 
 unfoldable pub of_link : Form Question
 of_link = any_number (λ step. maybe (λ top. ask.Link step top))
@@ -27,45 +27,45 @@ abbrev pub proofs : List (List ℕ × Form Question)
 proofs = (codes "event", of_event) ∷ (codes "thread", of_thread) ∷ (codes "absent", of_absence) ∷ (codes "link", of_link) ∷ []
 
 unfoldable pub asked_proof : Form Question
-asked_proof = choose proofs
+asked_proof = choose_form proofs
 
 -- ---- lines behind their first word
 
 unfoldable pub service : Form Line
-service = name (λ service. end (Service service))
+service = name_form (λ service. end (Service service))
 
 unfoldable pub hostile : Form Line
-hostile = name (λ name. end (Hostile name))
+hostile = name_form (λ name. end (Hostile name))
 
 -- any number of events, or none
 unfoldable pub append : Form Line
-append = name (λ service words. option_map (λ events. Append service events) (all_values bytes_value words))
+append = name_form (λ service words. option_map (λ events. Append service events) (all_values bytes_value words))
 
 unfoldable pub send : Form Line
-send = name (λ service. any_number (λ since. end (Send service since)))
+send = name_form (λ service. any_number (λ since. end (Send service since)))
 
 unfoldable pub inject : Form Line
-inject = name (λ name. then_form bytes_value (λ bytes. end (Inject name bytes)))
+inject = name_form (λ name. then_form bytes_value (λ bytes. end (Inject name bytes)))
 
 unfoldable pub deliver : Form Line
-deliver = any_number (λ message. name (λ service. end (Deliver message service)))
+deliver = any_number (λ message. name_form (λ service. end (Deliver message service)))
 
 unfoldable pub lose : Form Line
 lose = any_number (λ message. end (Lose message))
 
 -- device calls are counted from 1
 unfoldable pub crash : Form Line
-crash = name (λ service. number 1 0xffff_ffff_ffff_ffff (λ call. then_form choice_value (λ choice. end (Crash service call choice))))
+crash = name_form (λ service. number_form 1 0xffff_ffff_ffff_ffff (λ call. then_form choice_value (λ choice. end (Crash service call choice))))
 
 unfoldable pub prove : Form Line
-prove = name (λ service words. option_map (λ asked. Prove service asked) (asked_proof words))
+prove = name_form (λ service words. option_map (λ asked. Prove service asked) (asked_proof words))
 
 -- at least two files
 unfoldable pub join : Form Line
 join words = option_and_then (λ files. if nat_le 2 (length files) then Some (Join files) else None) (all_values any_number_value words)
 
 unfoldable pub anchor : Form Line
-anchor = name (λ service. number 1 LAST_STEP (λ step. end (Anchor service step)))
+anchor = name_form (λ service. number_form 1 LAST_STEP (λ step. end (Anchor service step)))
 
 unfoldable pub verify : Form Line
 verify = any_number (λ file. end (Verify file))
@@ -80,4 +80,4 @@ line_forms =
 
 -- the line that a text is; none where its words have no form
 unfoldable pub line_of : List ℕ → Option Line
-line_of text = choose line_forms (words_of text)
+line_of text = choose_form line_forms (words_of text)

@@ -17,13 +17,13 @@ words_left = parts_left is_blank
 
 module _ {V Y : Type 0} where
   -- it is the value, seen through a view, or there is none. Want of memory is free
-  abbrev pub Reads : Option V → (Y → V) → Result Y Stop → Type 0
-  Reads value view (Ok y) = value ≡ Some (view y)
-  Reads value view (Err NotAllowed) = value ≡ None
-  Reads value view (Err NoMemory) = Unit {0}
+  abbrev pub ReadsWords : Option V → (Y → V) → Result Y Stop → Type 0
+  ReadsWords value view (Ok y) = value ≡ Some (view y)
+  ReadsWords value view (Err NotAllowed) = value ≡ None
+  ReadsWords value view (Err NoMemory) = Unit {0}
 
   -- it took the value that the part has of the first word
-  abbrev pub Takes : (List ℕ → Option V) → (Y → V) → (old new : List (List ℕ)) → Result Y Stop → Type 0
-  Takes part view old new (Ok y) = next part old ≡ Some (view y, new)
-  Takes part view old new (Err NotAllowed) = next part old ≡ None
-  Takes part view old new (Err NoMemory) = Unit {0}
+  abbrev pub TakesWords : (List ℕ → Option V) → (Y → V) → (old new : List (List ℕ)) → Result Y Stop → Type 0
+  TakesWords part view old new (Ok y) = next part old ≡ Some (view y, new)
+  TakesWords part view old new (Err NotAllowed) = next part old ≡ None
+  TakesWords part view old new (Err NoMemory) = Unit {0}

@@ -1,7 +1,7 @@
 // The forms of the proofs that a `prove` line asks for.
 
 ghost use Rattle.tw_script.specs.LineTable as table;
-ghost use Rattle.tw_script.specs.Takings.{Reads, words_left};
+ghost use Rattle.tw_script.specs.Takings.{ReadsWords, words_left};
 
 use crate::line_words::Words;
 use crate::stop::Stop;
@@ -12,7 +12,7 @@ use tw_base::{Key, Question};
 /// `event`, `thread`, `absent` or `link`, each with what its kind has
 #[tactic(auto, unfolding(crate::specs::LineTable::asked_proof, crate::specs::LineForms::next))]
 pub(crate) fn asked_proof(words: &mut Words<'_>) -> Result<Question, Stop>
-    ensures { Reads (table.asked_proof (words_left words.old.more words.old.text.now)) (λ asked. asked) result }
+    ensures { ReadsWords (table.asked_proof (words_left words.old.more words.old.text.now)) (λ asked. asked) result }
 {
     let Some(kind) = words.word() else {
         return Err(Stop::NotAllowed);
@@ -33,7 +33,7 @@ pub(crate) fn asked_proof(words: &mut Words<'_>) -> Result<Question, Stop>
 /// `STEP INDEX [TOP]`
 #[tactic(auto, unfolding(crate::specs::LineTable::of_event))]
 fn of_event(words: &mut Words<'_>) -> Result<Question, Stop>
-    ensures { Reads (table.of_event (words_left words.old.more words.old.text.now)) (λ asked. asked) result }
+    ensures { ReadsWords (table.of_event (words_left words.old.more words.old.text.now)) (λ asked. asked) result }
 {
     let step = words.number(0, u64::MAX)?;
     let index = words.number(0, u64::MAX)?;
@@ -44,7 +44,7 @@ fn of_event(words: &mut Words<'_>) -> Result<Question, Stop>
 /// `STEP PEER K [TOP]`
 #[tactic(auto, unfolding(crate::specs::LineTable::of_thread))]
 fn of_thread(words: &mut Words<'_>) -> Result<Question, Stop>
-    ensures { Reads (table.of_thread (words_left words.old.more words.old.text.now)) (λ asked. asked) result }
+    ensures { ReadsWords (table.of_thread (words_left words.old.more words.old.text.now)) (λ asked. asked) result }
 {
     let step = words.number(0, u64::MAX)?;
     let peer = words.name()?;
@@ -63,7 +63,7 @@ fn of_thread(words: &mut Words<'_>) -> Result<Question, Stop>
 /// `STEP PEER K [TOP]`, of a thread that isn't there
 #[tactic(auto, unfolding(crate::specs::LineTable::of_absence))]
 fn of_absence(words: &mut Words<'_>) -> Result<Question, Stop>
-    ensures { Reads (table.of_absence (words_left words.old.more words.old.text.now)) (λ asked. asked) result }
+    ensures { ReadsWords (table.of_absence (words_left words.old.more words.old.text.now)) (λ asked. asked) result }
 {
     let step = words.number(0, u64::MAX)?;
     let peer = words.name()?;
@@ -82,7 +82,7 @@ fn of_absence(words: &mut Words<'_>) -> Result<Question, Stop>
 /// `STEP [TOP]`
 #[tactic(auto, unfolding(crate::specs::LineTable::of_link))]
 fn of_link(words: &mut Words<'_>) -> Result<Question, Stop>
-    ensures { Reads (table.of_link (words_left words.old.more words.old.text.now)) (λ asked. asked) result }
+    ensures { ReadsWords (table.of_link (words_left words.old.more words.old.text.now)) (λ asked. asked) result }
 {
     let step = words.number(0, u64::MAX)?;
     let top = words.maybe_number()?;

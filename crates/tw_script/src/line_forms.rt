@@ -1,9 +1,9 @@
 // The forms of lines.
 
-ghost use Rattle.tw_script.specs.LineForms.{choose};
+ghost use Rattle.tw_script.specs.LineForms.{choose_form};
 ghost use Rattle.tw_script.specs.LineTable as table;
 ghost use Rattle.tw_script.specs.LineTable.{line_forms};
-ghost use Rattle.tw_script.specs.Takings.{Reads, words_left};
+ghost use Rattle.tw_script.specs.Takings.{ReadsWords, words_left};
 
 use crate::asked_forms::asked_proof;
 use crate::line::Line;
@@ -16,7 +16,7 @@ use tw_base::limits::LAST_STEP;
 /// The line that the text is.
 #[tactic(auto, unfolding(crate::specs::LineTable::line_of))]
 pub(crate) fn read_line(alloc: Global, text: &[u8]) -> Result<Line, Stop>
-    ensures { Reads (table.line_of text.now) (λ line. line) result }
+    ensures { ReadsWords (table.line_of text.now) (λ line. line) result }
 {
     let mut words = Words::new(text);
     line(alloc, &mut words)
@@ -25,7 +25,7 @@ pub(crate) fn read_line(alloc: Global, text: &[u8]) -> Result<Line, Stop>
 /// The line of the form that the first word names.
 #[tactic(auto, unfolding(crate::specs::LineForms::next))]
 fn line(alloc: Global, words: &mut Words<'_>) -> Result<Line, Stop>
-    ensures { Reads (choose line_forms (words_left words.old.more words.old.text.now)) (λ line. line) result }
+    ensures { ReadsWords (choose_form line_forms (words_left words.old.more words.old.text.now)) (λ line. line) result }
 {
     let Some(word) = words.word() else {
         return Err(Stop::NotAllowed);
@@ -62,7 +62,7 @@ fn line(alloc: Global, words: &mut Words<'_>) -> Result<Line, Stop>
 /// `service NAME`
 #[tactic(auto, unfolding(crate::specs::LineTable::service))]
 fn service(words: &mut Words<'_>) -> Result<Line, Stop>
-    ensures { Reads (table.service (words_left words.old.more words.old.text.now)) (λ line. line) result }
+    ensures { ReadsWords (table.service (words_left words.old.more words.old.text.now)) (λ line. line) result }
 {
     let name = words.name()?;
     words.end()?;
@@ -72,7 +72,7 @@ fn service(words: &mut Words<'_>) -> Result<Line, Stop>
 /// `hostile NAME`
 #[tactic(auto, unfolding(crate::specs::LineTable::hostile))]
 fn hostile(words: &mut Words<'_>) -> Result<Line, Stop>
-    ensures { Reads (table.hostile (words_left words.old.more words.old.text.now)) (λ line. line) result }
+    ensures { ReadsWords (table.hostile (words_left words.old.more words.old.text.now)) (λ line. line) result }
 {
     let name = words.name()?;
     words.end()?;
@@ -82,7 +82,7 @@ fn hostile(words: &mut Words<'_>) -> Result<Line, Stop>
 /// `append NAME BYTES ..`
 #[tactic(auto, unfolding(crate::specs::LineTable::append))]
 fn append(alloc: Global, words: &mut Words<'_>) -> Result<Line, Stop>
-    ensures { Reads (table.append (words_left words.old.more words.old.text.now)) (λ line. line) result }
+    ensures { ReadsWords (table.append (words_left words.old.more words.old.text.now)) (λ line. line) result }
 {
     let service = words.name()?;
     let events = words.all_bytes(alloc)?;
@@ -92,7 +92,7 @@ fn append(alloc: Global, words: &mut Words<'_>) -> Result<Line, Stop>
 /// `send NAME SINCE`
 #[tactic(auto, unfolding(crate::specs::LineTable::send))]
 fn send(words: &mut Words<'_>) -> Result<Line, Stop>
-    ensures { Reads (table.send (words_left words.old.more words.old.text.now)) (λ line. line) result }
+    ensures { ReadsWords (table.send (words_left words.old.more words.old.text.now)) (λ line. line) result }
 {
     let service = words.name()?;
     let since = words.number(0, u64::MAX)?;
@@ -103,7 +103,7 @@ fn send(words: &mut Words<'_>) -> Result<Line, Stop>
 /// `inject NAME BYTES`
 #[tactic(auto, unfolding(crate::specs::LineTable::inject))]
 fn inject(alloc: Global, words: &mut Words<'_>) -> Result<Line, Stop>
-    ensures { Reads (table.inject (words_left words.old.more words.old.text.now)) (λ line. line) result }
+    ensures { ReadsWords (table.inject (words_left words.old.more words.old.text.now)) (λ line. line) result }
 {
     let name = words.name()?;
     let bytes = words.bytes(alloc)?;
@@ -114,7 +114,7 @@ fn inject(alloc: Global, words: &mut Words<'_>) -> Result<Line, Stop>
 /// `deliver N NAME`
 #[tactic(auto, unfolding(crate::specs::LineTable::deliver))]
 fn deliver(words: &mut Words<'_>) -> Result<Line, Stop>
-    ensures { Reads (table.deliver (words_left words.old.more words.old.text.now)) (λ line. line) result }
+    ensures { ReadsWords (table.deliver (words_left words.old.more words.old.text.now)) (λ line. line) result }
 {
     let message = words.number(0, u64::MAX)?;
     let service = words.name()?;
@@ -125,7 +125,7 @@ fn deliver(words: &mut Words<'_>) -> Result<Line, Stop>
 /// `drop N`
 #[tactic(auto, unfolding(crate::specs::LineTable::lose))]
 fn lose(words: &mut Words<'_>) -> Result<Line, Stop>
-    ensures { Reads (table.lose (words_left words.old.more words.old.text.now)) (λ line. line) result }
+    ensures { ReadsWords (table.lose (words_left words.old.more words.old.text.now)) (λ line. line) result }
 {
     let message = words.number(0, u64::MAX)?;
     words.end()?;
@@ -135,7 +135,7 @@ fn lose(words: &mut Words<'_>) -> Result<Line, Stop>
 /// `crash NAME CALL CHOICE`
 #[tactic(auto, unfolding(crate::specs::LineTable::crash))]
 fn crash(words: &mut Words<'_>) -> Result<Line, Stop>
-    ensures { Reads (table.crash (words_left words.old.more words.old.text.now)) (λ line. line) result }
+    ensures { ReadsWords (table.crash (words_left words.old.more words.old.text.now)) (λ line. line) result }
 {
     let service = words.name()?;
     let call = words.number(1, u64::MAX)?;
@@ -151,7 +151,7 @@ fn crash(words: &mut Words<'_>) -> Result<Line, Stop>
 /// `prove NAME ..`
 #[tactic(auto, unfolding(crate::specs::LineTable::prove))]
 fn prove(words: &mut Words<'_>) -> Result<Line, Stop>
-    ensures { Reads (table.prove (words_left words.old.more words.old.text.now)) (λ line. line) result }
+    ensures { ReadsWords (table.prove (words_left words.old.more words.old.text.now)) (λ line. line) result }
 {
     let service = words.name()?;
     let asked = asked_proof(words)?;
@@ -161,7 +161,7 @@ fn prove(words: &mut Words<'_>) -> Result<Line, Stop>
 /// `join N N ..`
 #[tactic(auto, unfolding(crate::specs::LineTable::join))]
 fn join(alloc: Global, words: &mut Words<'_>) -> Result<Line, Stop>
-    ensures { Reads (table.join (words_left words.old.more words.old.text.now)) (λ line. line) result }
+    ensures { ReadsWords (table.join (words_left words.old.more words.old.text.now)) (λ line. line) result }
 {
     let files = words.all_numbers(alloc)?;
     if files.len() >= 2 {
@@ -174,7 +174,7 @@ fn join(alloc: Global, words: &mut Words<'_>) -> Result<Line, Stop>
 /// `anchor NAME STEP`
 #[tactic(auto, unfolding(crate::specs::LineTable::anchor))]
 fn anchor(words: &mut Words<'_>) -> Result<Line, Stop>
-    ensures { Reads (table.anchor (words_left words.old.more words.old.text.now)) (λ line. line) result }
+    ensures { ReadsWords (table.anchor (words_left words.old.more words.old.text.now)) (λ line. line) result }
 {
     let service = words.name()?;
     let step = words.number(1, LAST_STEP)?;
@@ -185,7 +185,7 @@ fn anchor(words: &mut Words<'_>) -> Result<Line, Stop>
 /// `verify N`
 #[tactic(auto, unfolding(crate::specs::LineTable::verify))]
 fn verify(words: &mut Words<'_>) -> Result<Line, Stop>
-    ensures { Reads (table.verify (words_left words.old.more words.old.text.now)) (λ line. line) result }
+    ensures { ReadsWords (table.verify (words_left words.old.more words.old.text.now)) (λ line. line) result }
 {
     let file = words.number(0, u64::MAX)?;
     words.end()?;

@@ -1,9 +1,9 @@
 // Going over the words of a line: each is read once, as the value that a form has at its place.
 
 ghost use Rattle.std.specs.Prelude.{◌≡◌, ◌≤◌, ◌∷◌, [], IfOk, MatchOption};
-ghost use Rattle.tw_script.specs.LineForms.{all_values, any_number_value, maybe_number, nothing};
+ghost use Rattle.tw_script.specs.LineForms.{all_values, any_number_value, maybe_number, no_words};
 ghost use Rattle.tw_script.specs.LineWords.{bytes_value, choice_value};
-ghost use Rattle.tw_script.specs.Takings.{Reads, Takes, words_left};
+ghost use Rattle.tw_script.specs.Takings.{ReadsWords, TakesWords, words_left};
 ghost use Rattle.tw_words.specs.Forms.{name_value, number_value};
 
 use crate::line::CrashChoice;
@@ -29,7 +29,7 @@ impl<'a> Parts<'a> {
     /// Takes a name.
     #[tactic(auto, unfolding(crate::specs::LineForms::next))]
     pub fn name(&mut self) -> Result<Name, Stop>
-        ensures { Takes name_value (λ name. name)
+        ensures { TakesWords name_value (λ name. name)
             (words_left self.old.more self.old.text.now) (words_left self.new.more self.new.text.now) result }
     {
         let Some(word) = self.word() else {
@@ -44,7 +44,7 @@ impl<'a> Parts<'a> {
     /// Takes a number within the range.
     #[tactic(auto, unfolding(crate::specs::LineForms::next))]
     pub fn number(&mut self, least: u64, most: u64) -> Result<u64, Stop>
-        ensures takes { Takes (number_value least most) (λ n. n)
+        ensures takes { TakesWords (number_value least most) (λ n. n)
             (words_left self.old.more self.old.text.now) (words_left self.new.more self.new.text.now) result }
         ensures range { IfOk result (λ n. (least ≤ n) × (n ≤ most)) }
     {
@@ -60,7 +60,7 @@ impl<'a> Parts<'a> {
     /// Takes bytes.
     #[tactic(auto, unfolding(crate::specs::LineForms::next))]
     pub fn bytes(&mut self, alloc: Global) -> Result<Bytes, Stop>
-        ensures { Takes bytes_value (λ bytes. bytes)
+        ensures { TakesWords bytes_value (λ bytes. bytes)
             (words_left self.old.more self.old.text.now) (words_left self.new.more self.new.text.now) result }
     {
         let Some(word) = self.word() else {
@@ -72,7 +72,7 @@ impl<'a> Parts<'a> {
     /// Takes what a crash leaves.
     #[tactic(auto, unfolding(crate::specs::LineForms::next))]
     pub fn choice(&mut self) -> Result<CrashChoice, Stop>
-        ensures { Takes choice_value (λ choice. choice)
+        ensures { TakesWords choice_value (λ choice. choice)
             (words_left self.old.more self.old.text.now) (words_left self.new.more self.new.text.now) result }
     {
         let Some(word) = self.word() else {
@@ -85,9 +85,9 @@ impl<'a> Parts<'a> {
     }
 
     /// That there are no more words.
-    #[tactic(auto, unfolding(crate::specs::LineForms::nothing))]
+    #[tactic(auto, unfolding(crate::specs::LineForms::no_words))]
     pub fn end(&mut self) -> Result<(), Stop>
-        ensures { Reads (nothing (words_left self.old.more self.old.text.now)) (λ done. done) result }
+        ensures { ReadsWords (no_words (words_left self.old.more self.old.text.now)) (λ done. done) result }
     {
         match self.word() {
             Some(_) => Err(Stop::NotAllowed),
@@ -98,7 +98,7 @@ impl<'a> Parts<'a> {
     /// One more word, which is a number of 64 bits, or none.
     #[tactic(auto, unfolding(crate::specs::LineForms::maybe_number, crate::specs::LineForms::next))]
     pub fn maybe_number(&mut self) -> Result<Option<u64>, Stop>
-        ensures { Reads (maybe_number (words_left self.old.more self.old.text.now)) (λ number. number) result }
+        ensures { ReadsWords (maybe_number (words_left self.old.more self.old.text.now)) (λ number. number) result }
     {
         let Some(word) = self.word() else {
             return Ok(None);
@@ -112,7 +112,7 @@ impl<'a> Parts<'a> {
 
     /// The words, all of them bytes.
     pub fn all_bytes(&mut self, alloc: Global) -> Result<EventList, Stop>
-        ensures { Reads (all_values bytes_value (words_left self.old.more self.old.text.now)) (λ events. events) result }
+        ensures { ReadsWords (all_values bytes_value (words_left self.old.more self.old.text.now)) (λ events. events) result }
     {
         let mut events = EventList::new(alloc);
         while let Some(word) = self.word() {
@@ -123,7 +123,7 @@ impl<'a> Parts<'a> {
 
     /// The words, all of them numbers of 64 bits.
     pub fn all_numbers(&mut self, alloc: Global) -> Result<Sequence<u64>, Stop>
-        ensures { Reads (all_values any_number_value (words_left self.old.more self.old.text.now)) (λ numbers. numbers) result }
+        ensures { ReadsWords (all_values any_number_value (words_left self.old.more self.old.text.now)) (λ numbers. numbers) result }
     {
         let mut numbers = Sequence::new(alloc);
         while let Some(word) = self.word() {

@@ -49,7 +49,7 @@ impl Made {
 
     /// Whether a name may be made: there is none like it, and there are fewer than 64.
     fn is_free(&self, name: &Name) -> bool
-        ensures { result ≡ allowed.is_free self.now name.now }
+        ensures { result ≡ allowed.is_name_free self.now name.now }
     {
         self.names.len() < MOST_SCRIPT_NAMES && !self.is_named(name)
     }

@@ -3,7 +3,7 @@
 ghost use Rattle.std.specs.Prelude.{◌≡◌, ◌≤◌, IfSome};
 ghost use Rattle.std.specs.Str.{bytes_eq};
 ghost use Rattle.tw_script.specs.LineWords.{bytes_value, choice_value};
-ghost use Rattle.tw_script.specs.Takings.{Reads};
+ghost use Rattle.tw_script.specs.Takings.{ReadsWords};
 ghost use Rattle.tw_words.specs.Forms.{number_value};
 
 use crate::line::CrashChoice;
@@ -23,7 +23,7 @@ pub(crate) fn number_of(word: &[u8], least: u64, most: u64) -> Option<u64>
 
 /// The bytes that the word is: two hexadecimal digits of either case for each, and `-` for none.
 pub(crate) fn bytes_of(alloc: Global, word: &[u8]) -> Result<Bytes, Stop>
-    ensures { Reads (bytes_value word.now) (λ bytes. bytes) result }
+    ensures { ReadsWords (bytes_value word.now) (λ bytes. bytes) result }
 {
     if is(word, b"-") {
         return Ok(Bytes::new(alloc));

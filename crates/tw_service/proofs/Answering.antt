@@ -3,10 +3,10 @@ use Rattle.std.proofs.Common.{◌≡◌, ◌⊎◌, ℕ, List, refl, ap, sym, su
 use Rattle.std.specs.Prelude.{IfOk, Ok, Option, Some, None, Result, Err, MatchOption}
 use Rattle.tw_base.specs.history.History.{History}
 use Rattle.tw_base.specs.declared.history.thread.Thread.{Thread}
-use Rattle.tw_answers.specs.Refusals.{IsBadPage, IsFault}
+use Rattle.tw_answers.specs.Refusals.{IsBadPageRefusal, IsFault}
 use Rattle.tw_answers.proofs.TableAnswers.{IsTold}
-use Rattle.tw_service.specs.EventSteps.{with_events}
-use Rattle.tw_service.specs.Machine.{Answers, Call, IsStepOf, Reply, append_table, last_thread}
+use Rattle.tw_service.specs.EventSteps.{with_events_at}
+use Rattle.tw_service.specs.Machine.{AnswersByMachine, Call, IsStepOf, Reply, append_table, last_thread}
 use Rattle.tw_service.specs.Machine.Call.{Append}
 use Rattle.tw_service.specs.Machine.Reply.{OfThread, Refused}
 use Rattle.tw_answers.specs.declared.refusal.Refusal.{Refusal}
@@ -22,7 +22,7 @@ is_disk_fault T r is = let same : r ≡ DiskFault = cc in subst IsFault (sym sam
 
 module _ (dig : List ℕ → List ℕ) {T : Type 0} (h : History) (call : Call) (reply : T → Reply) (Serves : History → Type 0) where
   -- a refusal of a table
-  pub answers_refusal : (r : Refusal) → IsTold r → IsStepOf dig h call (Refused r) h → Serves h → Answers dig h call reply (Err r) Serves
+  pub answers_refusal : (r : Refusal) → IsTold r → IsStepOf dig h call (Refused r) h → Serves h → AnswersByMachine dig h call reply (Err r) Serves
   answers_refusal (BadPage page) is step served = absurd (is.0 tt)
   answers_refusal DiskFault is step served = tt
   answers_refusal Reopen is step served = absurd (is.1 refl)
@@ -30,7 +30,7 @@ module _ (dig : List ℕ → List ℕ) {T : Type 0} (h : History) (call : Call) 
   answers_refusal _ is step served = (step, served)
 
   -- a fault
-  pub answers_fault : (r : Refusal) → IsFault r → (IsBadPage r → ⊥) → (r ≡ DiskFault) ⊎ Serves h → Answers dig h call reply (Err r) Serves
+  pub answers_fault : (r : Refusal) → IsFault r → (IsBadPageRefusal r → ⊥) → (r ≡ DiskFault) ⊎ Serves h → AnswersByMachine dig h call reply (Err r) Serves
   answers_fault (BadPage page) is good served = absurd (good tt)
   answers_fault DiskFault is good served = tt
   answers_fault NoMemory is good (inl same) = cc
@@ -41,11 +41,11 @@ module _ (dig : List ℕ → List ℕ) {T : Type 0} (h : History) (call : Call) 
 
 module _ (dig : List ℕ → List ℕ) (h : History) (events : List (List ℕ)) (time : Option ℕ) where
   pub append_refused : (r : Refusal) → Some r ≡ append_table h events time → IsStepOf dig h (Append events time) (Refused r) h
-  append_refused r is = subst (λ o. MatchOption o ((h ≡ with_events h events time) × (Refused r ≡ OfThread (last_thread dig h))) (λ refusal. (h ≡ h) × (Refused r ≡ Refused refusal))) is (refl, refl)
+  append_refused r is = subst (λ o. MatchOption o ((h ≡ with_events_at h events time) × (Refused r ≡ OfThread (last_thread dig h))) (λ refusal. (h ≡ h) × (Refused r ≡ Refused refusal))) is (refl, refl)
 
-  pub append_done : (t : Thread) → None ≡ append_table h events time → t ≡ last_thread dig (with_events h events time) → IsStepOf dig h (Append events time) (OfThread t) (with_events h events time)
+  pub append_done : (t : Thread) → None ≡ append_table h events time → t ≡ last_thread dig (with_events_at h events time) → IsStepOf dig h (Append events time) (OfThread t) (with_events_at h events time)
   append_done t is same =
-      subst (λ o. MatchOption o ((with_events h events time ≡ with_events h events time) × (OfThread t ≡ OfThread (last_thread dig (with_events h events time)))) (λ refusal. (with_events h events time ≡ h) × (OfThread t ≡ Refused refusal))) is
+      subst (λ o. MatchOption o ((with_events_at h events time ≡ with_events_at h events time) × (OfThread t ≡ OfThread (last_thread dig (with_events_at h events time)))) (λ refusal. (with_events_at h events time ≡ h) × (OfThread t ≡ Refused refusal))) is
       (refl, ap OfThread same)
 
 -- ---- what holds of an answer

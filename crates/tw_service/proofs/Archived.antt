@@ -22,7 +22,7 @@ use Rattle.tw_skiplist.proofs.KeptAppended.{grown}
 use Rattle.tw_answers.specs.declared.refusal.Refusal.{Refusal}
 use Rattle.tw_answers.specs.declared.refusal.Refusal.TheVariants.{BadPage, DiskFault, NoMemory}
 use Rattle.tw_answers.specs.declared.root.RootRecord.{RootRecord}
-use Rattle.tw_answers.specs.Refusals.{IsBadPage, IsFault}
+use Rattle.tw_answers.specs.Refusals.{IsBadPageRefusal, IsFault}
 use Rattle.tw_service.specs.Archiving.{AnswersArchived, ArchivesAs, IsStagedBehind}
 use Rattle.tw_service.specs.Finds.{found_archived, found_room, receipt_at}
 use Rattle.tw_service.specs.Stands.{KeepsWhole}
@@ -73,6 +73,6 @@ module _ (dig : List ℕ → List ℕ) (size : (text : List ℕ) → IsDigest (d
 
 module _ (dig : List ℕ → List ℕ) (size : (text : List ℕ) → IsDigest (dig text)) (ps : Image) (h : History) (r : RootRecord) (whole : KeepsWhole dig ps h r) (sound : IsSound h) (t : Thread) (time : Option ℕ)
     (may : MayArchive h t time) where
-  pub none-bad : (refusal : Refusal) → IsBadPage refusal → ArchivesAs dig ps r t time refusal → ⊥
+  pub none-bad : (refusal : Refusal) → IsBadPageRefusal refusal → ArchivesAs dig ps r t time refusal → ⊥
   none-bad (BadPage page) bad found = never_bad dig size ps h r whole sound t time may r.name found.0 found.1 page found.2
   none-bad _ bad found = bad

@@ -7,7 +7,7 @@ use Rattle.tw_disk.specs.Disk.{DiskView, LeavesOnly}
 use Rattle.tw_disk.specs.Found.{Found}
 use Rattle.tw_disk.specs.Found.Found.{Is}
 use Rattle.tw_disk.specs.Image.{Image}
-use Rattle.tw_pages.specs.Records.{IsWritten, written}
+use Rattle.tw_pages.specs.Records.{IsWritten, written_record}
 use Rattle.tw_pages.specs.Rests.{RestsWith}
 use Rattle.tw_pages.proofs.Written.{only_same, still_rests}
 use Rattle.tw_pages.specs.Same.{IsSameStore}
@@ -17,11 +17,11 @@ use Rattle.tw_answers.specs.declared.refusal.Refusal.TheVariants.{DiskFault}
 use Rattle.tw_answers.specs.declared.root.RootRecord.{RootRecord}
 use Rattle.tw_service.specs.declared.service.Service.{Service}
 use Rattle.tw_service.specs.Asking.{AsksOr}
-use Rattle.tw_answers.specs.Finds.{IsRefusalOf}
+use Rattle.tw_answers.specs.Finds.{IsRefusalFound}
 use Rattle.tw_service.specs.Keeps.{StoreServes}
 use Rattle.tw_service.specs.Machine.{Call, IsStepOf, Reply}
 use Rattle.tw_service.specs.Machine.Reply.{Refused}
-use Rattle.tw_answers.specs.Refusals.{IsBadPage, IsFault}
+use Rattle.tw_answers.specs.Refusals.{IsBadPageRefusal, IsFault}
 use Rattle.tw_answers.specs.Roots.{root_kind}
 use Rattle.tw_service.specs.Serves.{IsOver, Serves, disk_of, has_failed, pages_of, record_of}
 use Rattle.tw_answers.proofs.TableAnswers.{IsTold}
@@ -36,11 +36,11 @@ module _ {D H : Type 0} {g : _} {k : _} (view : D → DiskView) (only_now : (d :
     (table : Option Refusal) (found : Image → Found (Result T Refusal)) where
   -- a store that was only read
   over_on : (s t : Service D H g k) → record_of t ≡ record_of s → IsSameStore view s.recorded.kept.store t.recorded.kept.store
-      → (ps : Image) → IsOver view s ps → IsOver view t ps × LeavesOnly (view (disk_of s)) (view (disk_of t)) (IsWritten root_kind (written (record_of s) ps))
+      → (ps : Image) → IsOver view s ps → IsOver view t ps × LeavesOnly (view (disk_of s)) (view (disk_of t)) (IsWritten root_kind (written_record (record_of s) ps))
   over_on s t root same ps over = (
-    subst (λ (r : RootRecord). RestsWith view root_kind t.recorded.kept.store (written r ps)) (sym root)
-        (still_rests view root_kind s.recorded.kept.store t.recorded.kept.store (written s.recorded.kept.root ps) same over),
-    only_same view root_kind only_now s.recorded.kept.store t.recorded.kept.store (written s.recorded.kept.root ps) (IsWritten root_kind (written s.recorded.kept.root ps)) same over (λ i was. was),
+    subst (λ (r : RootRecord). RestsWith view root_kind t.recorded.kept.store (written_record r ps)) (sym root)
+        (still_rests view root_kind s.recorded.kept.store t.recorded.kept.store (written_record s.recorded.kept.root ps) same over),
+    only_same view root_kind only_now s.recorded.kept.store t.recorded.kept.store (written_record s.recorded.kept.root ps) (IsWritten root_kind (written_record s.recorded.kept.root ps)) same over (λ i was. was),
   )
 
   -- the table's refusal
@@ -81,7 +81,7 @@ module _ {D H : Type 0} {g : _} {k : _} (view : D → DiskView) (only_now : (d :
     }
 
     -- it is refused by what was found
-    pub asked_own : (r : Refusal) → Own r → IsTold r → s.is_broken ≡ false → IsTrue t.is_broken ↔ (r ≡ DiskFault) → ((ps : Image) → pages_of view s ≡ Some ps → IsRefusalOf r (found ps))
+    pub asked_own : (r : Refusal) → Own r → IsTold r → s.is_broken ≡ false → IsTrue t.is_broken ↔ (r ≡ DiskFault) → ((ps : Image) → pages_of view s ≡ Some ps → IsRefusalFound r (found ps))
         → (has_failed s ≡ false → (h : History) → Serves dig view s h → IsStepOf dig h call (Refused r) h) → AsksOr dig view Own call reply table found s t (Err r)
     asked_own r own told whole flag finds step = record {
       table = subst (λ (o : Option Refusal). MatchOption o (IsFault r ⊎ Own r) (λ why. fails T r ≡ Err why)) none (inr own);
@@ -99,8 +99,8 @@ module _ {D H : Type 0} {g : _} {k : _} (view : D → DiskView) (only_now : (d :
         no_fault : r ≡ DiskFault → ⊥
         no_fault is = told.0 (subst IsFault (sym is) tt)
 
-    pub asked_err : (r : Refusal) → IsFault r → s.is_broken ≡ false → IsTrue t.is_broken ↔ (r ≡ DiskFault) → ((ps : Image) → pages_of view s ≡ Some ps → IsRefusalOf r (found ps))
-        → ((h : History) → Serves dig view s h → IsBadPage r → ⊥) → (r ≡ DiskFault → Rose (view (disk_of s)).faults (view (disk_of t)).faults) → AsksOr dig view Own call reply table found s t (Err r)
+    pub asked_err : (r : Refusal) → IsFault r → s.is_broken ≡ false → IsTrue t.is_broken ↔ (r ≡ DiskFault) → ((ps : Image) → pages_of view s ≡ Some ps → IsRefusalFound r (found ps))
+        → ((h : History) → Serves dig view s h → IsBadPageRefusal r → ⊥) → (r ≡ DiskFault → Rose (view (disk_of s)).faults (view (disk_of t)).faults) → AsksOr dig view Own call reply table found s t (Err r)
     asked_err r fault whole flag finds good rose = record {
       table = subst (λ (o : Option Refusal). MatchOption o (IsFault r ⊎ Own r) (λ why. fails T r ≡ Err why)) none (inl fault);
       answer = finds;

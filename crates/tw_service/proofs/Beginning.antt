@@ -14,7 +14,7 @@ use Rattle.tw_base.specs.history.Tree.{Tree, tree}
 use Rattle.tw_base.specs.history.Tree.Tree.{Empty}
 use Rattle.tw_base.proofs.lemmas.kinds.DigestBytes.{IsDigest}
 use Rattle.tw_base.proofs.lemmas.history.Plus.{tree-first}
-use Rattle.tw_pages.specs.Records.{written}
+use Rattle.tw_pages.specs.Records.{written_record}
 use Rattle.tw_pages.specs.Records.{IsBlankOrNew as IsBlankOrNewWith}
 use Rattle.tw_pages.specs.Rests.{RestsWith}
 use Rattle.tw_pages.specs.States.{IsBlankOrFirst}
@@ -96,5 +96,5 @@ module _ (dig : List ℕ → List ℕ) (size : (text : List ℕ) → IsDigest (d
       let reads = reads_begun root_kind (KeepsHistory dig) r (no_history r.name) keeps_first old new tells in
       record { image = reads.image; told = reads.told; has = ⊎_elim (λ was. inl was) (λ made. inr (begun reads.image made)) reads.has }
 
-  pub serves_none : {D : Type 0} {g : _} (view : D → DiskView) (store : Store D g) (now : RootRecord) → now ≡ r → RestsWith view root_kind store (written r []) → StoreServes dig view store now (no_history r.name)
+  pub serves_none : {D : Type 0} {g : _} (view : D → DiskView) (store : Store D g) (now : RootRecord) → now ≡ r → RestsWith view root_kind store (written_record r []) → StoreServes dig view store now (no_history r.name)
   serves_none view store now is rests = serves_first root_kind (KeepsHistory dig) r (no_history r.name) keeps_first view store now is rests

@@ -26,11 +26,11 @@ use Rattle.tw_skiplist.specs.Keeping.{Keeps, MayBeKept, archive_at}
 use Rattle.tw_skiplist.specs.StepRecords.{content_of, found_records, record_at, records_down}
 use Rattle.tw_skiplist.proofs.RecordLaws.{content_found, records_found}
 use Rattle.tw_archive.specs.Archives.{KeepsTrees}
-use Rattle.tw_archive.specs.Numbering.{Numbered, history_node, new_from, new_nodes, number_at, numbered, numbered_on}
-use Rattle.tw_export.specs.Exporting.{SoFar, archive_after, at_start, found_file, may_be_told, step_on, step_with, steps_on, with_step}
+use Rattle.tw_archive.specs.Numbering.{Numbered, archive_new_nodes, history_node, new_from, number_of_page, numbered_archive, numbered_on}
+use Rattle.tw_export.specs.Exporting.{SoFar, archive_after, at_start, exported_with_step, found_file, may_be_told, step_on, step_with, steps_on}
 use Rattle.tw_export.specs.Exporting as export
 use Rattle.tw_export.specs.Files.{File, begun, told_file, with_text}
-use Rattle.tw_export.specs.NodeNumbers.{Archive, Numbers, are_known, is_known, node_of, with_pages}
+use Rattle.tw_export.specs.NodeNumbers.{Archive, Numbers, are_known, is_known, numbered_node, with_pages}
 use Rattle.tw_export.specs.NodeNumbers as told
 use Rattle.tw_export.proofs.FileLaws.{whole-told, written_on, written_on-push}
 use Rattle.tw_answers.specs.declared.root.RootRecord.{RootRecord}
@@ -65,10 +65,10 @@ module _ (dig : List ℕ → List ℕ) (size : (text : List ℕ) → IsDigest (d
   archive i = archive_at dig h keeps.places i
 
   abbrev before : ℕ → Numbered
-  before k = numbered dig ps step_page archive k
+  before k = numbered_archive dig ps step_page archive k
 
   abbrev nodes : ℕ → List NewNode
-  nodes k = new_nodes dig ps step_page archive k
+  nodes k = archive_new_nodes dig ps step_page archive k
 
   abbrev record_of : ℕ → StepRecord
   record_of i = record_at dig h keeps.places i
@@ -82,8 +82,8 @@ module _ (dig : List ℕ → List ℕ) (size : (text : List ℕ) → IsDigest (d
   so_far k = record { file = written_on (begun h.name (length h.steps)) (take k h.steps); archive = archive_so_far k }
 
   -- the archive's root has the number of its page
-  root-number : (k : ℕ) → k ≤ length h.steps → root_of (step_at h k) ≡ number_at (before k).pages (archive k).page
-  unfolding numbered
+  root-number : (k : ℕ) → k ≤ length h.steps → root_of (step_at h k) ≡ number_of_page (before k).pages (archive k).page
+  unfolding numbered_archive
   root-number zero within = refl
   root-number (suc k) within = (trees.trees k within).root
 
@@ -97,20 +97,20 @@ module _ (dig : List ℕ → List ℕ) (size : (text : List ℕ) → IsDigest (d
     r = record_of (suc k)
 
     next-is : (c : Content) (ns : List NewNode) → archive_after (archive_so_far k) r c ns ≡ archive_so_far (suc k)
-        → c ≡ s.content → map (node_of (numbers_of (before k).pages) (before k).count) ns ≡ s.fresh → with_step (so_far k) r c ns ≡ so_far (suc k)
+        → c ≡ s.content → map (numbered_node (numbers_of (before k).pages) (before k).count) ns ≡ s.fresh → exported_with_step (so_far k) r c ns ≡ so_far (suc k)
     next-is c ns after content fresh =
-        let count : length ns ≡ length s.fresh = sym (length-map ns (node_of (numbers_of (before k).pages) (before k).count)) ∙ ap (λ (xs : List Node). length xs) fresh in
+        let count : length ns ≡ length s.fresh = sym (length-map ns (numbered_node (numbers_of (before k).pages) (before k).count)) ∙ ap (λ (xs : List Node). length xs) fresh in
         let step : step_with (archive_so_far k) r c ns (archive_after (archive_so_far k) r c ns).root ≡ s =
         λ i. record { content = content i; time = time_of (there i); fresh = fresh i; root = (ap (λ (a : Archive). a.root) after ∙ ap root_of there) i } in
-        let file : (with_step (so_far k) r c ns).file ≡ (so_far (suc k)).file =
+        let file : (exported_with_step (so_far k) r c ns).file ≡ (so_far (suc k)).file =
         (λ i. with_text (so_far k).file (step_codec.write (step i)) (nat_le (count i) 65535))
         ∙ sym (written_on-push (begun h.name (length h.steps)) (take k h.steps) s)
         ∙ ap (written_on (begun h.name (length h.steps))) (sym (take-push h.steps k s there)) in
         λ i. record { file = file i; archive = after i }
 
     -- a step of events
-    of-events : (events : List (List ℕ)) → Events events ≡ s.content → s.fresh ≡ [] → with_step (so_far k) r (Events events) [] ≡ so_far (suc k)
-    unfolding numbered
+    of-events : (events : List (List ℕ)) → Events events ≡ s.content → s.fresh ≡ [] → exported_with_step (so_far k) r (Events events) [] ≡ so_far (suc k)
+    unfolding numbered_archive
     of-events events content fresh =
         let tree = trees.trees k within in
         let keeps_root = tree.of_events (ap thread_of there ∙ ap (λ (c : Content). thread_of (Some (record { content = c; time = s.time; fresh = s.fresh; root = s.root }))) (sym content)) in
@@ -118,25 +118,25 @@ module _ (dig : List ℕ → List ℕ) (size : (text : List ℕ) → IsDigest (d
         let count : (before k).count ≡ (before k).count + 0 = omega arith in
         let same : before k ≡ before (suc k) = (λ i. record { count = count i; pages = (before k).pages }) ∙ ap (numbered_on (before k)) (sym none) in
         let root : root_of (step_at h k) ≡ root_of (step_at h (suc k)) =
-        root-number k (omega (arith, within)) ∙ (λ i. number_at (same i).pages (sym keeps_root.0 i)) ∙ sym tree.root in
+        root-number k (omega (arith, within)) ∙ (λ i. number_of_page (same i).pages (sym keeps_root.0 i)) ∙ sym tree.root in
         let behind : step_page (suc k) + 1 ≡ suc (step_page (suc k)) = omega arith in
         next-is (Events events) [] (λ i. record { count = (same i).count; numbers = numbers_of (same i).pages; root = root i; since = behind i }) content (sym fresh)
 
     -- a step that received a thread
-    of-thread : (t : Thread) → Received t ≡ s.content → with_step (so_far k) r (Received t) (nodes k) ≡ so_far (suc k)
-    unfolding numbered
+    of-thread : (t : Thread) → Received t ≡ s.content → exported_with_step (so_far k) r (Received t) (nodes k) ≡ so_far (suc k)
+    unfolding numbered_archive
     of-thread t content =
         let tree = trees.trees k within in
         let pages = with_pages-list (before k).pages (before k).count (nodes k) in
-        let root : told.number_at (with_pages (numbers_of (before k).pages) (before k).count (nodes k)) (archive (suc k)).page ≡ root_of (step_at h (suc k)) =
-        ap (λ (f : Numbers). told.number_at f (archive (suc k)).page) pages ∙ number-same (before (suc k)).pages (archive (suc k)).page ∙ sym tree.root in
+        let root : told.node_number_at (with_pages (numbers_of (before k).pages) (before k).count (nodes k)) (archive (suc k)).page ≡ root_of (step_at h (suc k)) =
+        ap (λ (f : Numbers). told.node_number_at f (archive (suc k)).page) pages ∙ number-same (before (suc k)).pages (archive (suc k)).page ∙ sym tree.root in
         let behind : step_page (suc k) + 1 ≡ suc (step_page (suc k)) = omega arith in
         next-is (Received t) (nodes k) (λ i. record { count = (before k).count + length (nodes k); numbers = pages i; root = root i; since = behind i }) content
         (nodes-same (before k).pages (before k).count (nodes k) ∙ sym tree.fresh ∙ ap fresh_of there)
 
     -- such a step is told
     is-told : (t : Thread) → IsThread t → may_be_told (archive_so_far k) r (Received t) (nodes k) ≡ true
-    unfolding numbered
+    unfolding numbered_archive
     is-told t thread =
         let tree = trees.trees k within in
         let own = keeps.keeps.steps k within in
@@ -148,7 +148,7 @@ module _ (dig : List ℕ → List ℕ) (size : (text : List ℕ) → IsDigest (d
         (ap (λ (f : Numbers). ((archive (suc k)).page == 0) || is_some (f (archive (suc k)).page)) pages ∙ root-known dig ps h step_page archive k tree (rising k within) low))
 
     abbrev further : Content → Found SoFar
-    further c = export.new_nodes dig ps (archive_so_far k).since r c >>= (λ ns. when (may_be_told (archive_so_far k) r c ns) r.page (with_step (so_far k) r c ns))
+    further c = export.found_new_nodes dig ps (archive_so_far k).since r c >>= (λ ns. when (may_be_told (archive_so_far k) r c ns) r.page (exported_with_step (so_far k) r c ns))
 
     go-on : (c : Content) → c ≡ s.content → further c ≡ Is (so_far (suc k))
     go-on (Events events) content =
@@ -158,8 +158,8 @@ module _ (dig : List ℕ → List ℕ) (size : (text : List ℕ) → IsDigest (d
     go-on (Received t) content =
         let tree = trees.trees k within in
         let may : MayBeKept s = subst (λ (o : Option Step). IfSome o MayBeKept) there (keeps.keeps.steps k within).may in
-        is_on (listed dig ps (new_from step_page k) (archive (suc k))) (λ ns. when (may_be_told (archive_so_far k) r (Received t) ns) r.page (with_step (so_far k) r (Received t) ns)) (nodes k) tree.lists
-        ∙ ap (λ (b : Bool). when b r.page (with_step (so_far k) r (Received t) (nodes k))) (is-told t (subst IsWithinLimits (sym content) may.content))
+        is_on (listed dig ps (new_from step_page k) (archive (suc k))) (λ ns. when (may_be_told (archive_so_far k) r (Received t) ns) r.page (exported_with_step (so_far k) r (Received t) ns)) (nodes k) tree.lists
+        ∙ ap (λ (b : Bool). when b r.page (exported_with_step (so_far k) r (Received t) (nodes k))) (is-told t (subst IsWithinLimits (sym content) may.content))
         ∙ ap (λ (x : SoFar). Is x) (of-thread t content)
 
   step-found : (k : ℕ) → k < length h.steps → step_on dig ps (so_far k) (record_of (suc k)) ≡ Is (so_far (suc k))
@@ -182,7 +182,7 @@ module _ (dig : List ℕ → List ℕ) (size : (text : List ℕ) → IsDigest (d
       ∙ step-found k within
 
   at-first : at_start h.name head.step ≡ so_far 0
-  unfolding numbered
+  unfolding numbered_archive
   at-first = ap (λ (n : ℕ). at_start h.name n) keeps.step
 
   abbrev all : File

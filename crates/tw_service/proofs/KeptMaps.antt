@@ -21,7 +21,7 @@ use Rattle.tw_base.proofs.lemmas.kinds.ListLemmas.{Each-map}
 use Rattle.tw_disk.specs.Found.Found.{Is}
 use Rattle.tw_disk.specs.Image.{Image}
 use Rattle.tw_disk.proofs.FoundLaws.{is_on}
-use Rattle.tw_rbtree.specs.Standing.{HasNamed, StandsFor}
+use Rattle.tw_rbtree.specs.Standing.{HasNamed, StandsForTree}
 use Rattle.tw_rbtree.proofs.Keeping.{stands-any}
 use Rattle.tw_rbtree.proofs.TreeHeights.{stands-height}
 use Rattle.tw_treeproof.specs.Answers.{asks_entry}
@@ -30,7 +30,7 @@ use Rattle.tw_treeproof.specs.Making.{IsSo, proof_of}
 use Rattle.tw_treeproof.proofs.OwnProofs.{own-fits}
 use Rattle.tw_skipproof.specs.declared.existence.Part.{Part}
 use Rattle.tw_skipproof.specs.Codecs.{opening_codec, part_codec, path_codec}
-use Rattle.tw_skipproof.specs.HistoryProofs.{IsPartOf}
+use Rattle.tw_skipproof.specs.HistoryProofs.{IsPartOfHistory}
 use Rattle.tw_skipproof.proofs.PartOf.{part-fits-made, part_in_range-made, part_shaped-made}
 use Rattle.tw_skiplist.specs.declared.head.Head.{Head}
 use Rattle.tw_skiplist.specs.declared.info.StepInfo.{StepInfo}
@@ -39,7 +39,7 @@ use Rattle.tw_skiplist.proofs.KeptReadings.{proof_found, step_found}
 use Rattle.tw_tmap.specs.declared.map_file.HighFile.{HighFile}
 use Rattle.tw_tmap.specs.declared.map_file.LowFile.{LowFile}
 use Rattle.tw_tmap.specs.declared.map_file.LowPart.{LowPart}
-use Rattle.tw_tmap.specs.Checking.{first_of, high_part, last_of, low_part as part_before}
+use Rattle.tw_tmap.specs.Checking.{first_after, high_part, last_before, low_file_part}
 use Rattle.tw_tmap.specs.MapFiles.{high_bytes, high_codec, low_bytes, low_codec, low_part_codec}
 use Rattle.tw_tmap.specs.OwnFiles.{IsOwnLow}
 use Rattle.tw_tmap.proofs.MapCodec.{high-lawful, low-lawful}
@@ -49,7 +49,7 @@ use Rattle.tw_answers.specs.Finds.{tree_shown}
 use Rattle.tw_answers.proofs.TreeAnswers.{shown-stands}
 use Rattle.tw_service.specs.Stands.{step_pages}
 use Rattle.tw_service.proofs.MapAnswers.{before-none, before-told, high-told}
-use Rattle.tw_service.specs.Mapping.{MakesHigh, MakesLow, high_file, high_with, low_before, low_file, low_part, low_with}
+use Rattle.tw_service.specs.Mapping.{MakesHigh, MakesLow, high_file, high_with, low_before, low_file, low_with, mapped_low_part}
 
 part-parts : (p : Part) → (part_codec 0).Fits p → (path_codec p.top p.step).Fits p.path.links × (opening_codec 0 p.step).Fits p.opening
 unfolding part_codec seen pair
@@ -59,7 +59,7 @@ module _ (dig : List ℕ → List ℕ) (size : (text : List ℕ) → IsDigest (d
     (trees : KeepsTrees dig ps h (step_pages keeps.places) (archive_at dig h keeps.places)) (sound : IsSound h) where
   -- ---- the archive after a step
 
-  stands : (i : ℕ) → 1 ≤ i → i ≤ length h.steps → StandsFor dig ps (archive_at dig h keeps.places i) (tree h i)
+  stands : (i : ℕ) → 1 ≤ i → i ≤ length h.steps → StandsForTree dig ps (archive_at dig h keeps.places i) (tree h i)
   stands i some within =
       stands-any dig (HasNamed (named_at dig ps h (step_pages keeps.places) (archive_at dig h keeps.places) i)) ps (archive_at dig h keeps.places i) (tree h i)
       (stands-at dig ps h (step_pages keeps.places) (archive_at dig h keeps.places) trees i within (λ none. absurd (omega (arith, none, some))))
@@ -84,7 +84,7 @@ module _ (dig : List ℕ → List ℕ) (size : (text : List ℕ) → IsDigest (d
       let low = stands-height dig ps (archive_at dig h keeps.places i) (tree h i) (stands i some within) in
       own-fits dig (λ t. (size t).0) (λ t. (size t).1) (tree h i) asked (tree-rises h sound i) so (omega (arith, low)) (entries_fit i)
 
-  part_fits : (step top : ℕ) (p : Part) → IsPartOf dig h step top p → 0 < step → step ≤ top → top ≤ length h.steps → (part_codec 0).Fits p
+  part_fits : (step top : ℕ) (p : Part) → IsPartOfHistory dig h step top p → 0 < step → step ≤ top → top ≤ length h.steps → (part_codec 0).Fits p
   part_fits step top p is some order within =
       part-fits-made dig h (λ t. (size t).0) (λ t. (size t).1) step top p is sound 0 (omega arith) (part_in_range-made dig h step top p is sound order within)
       (part_shaped-made dig h step top p is some order)
@@ -135,17 +135,17 @@ module _ (dig : List ℕ → List ℕ) (size : (text : List ℕ) → IsDigest (d
     second more order =
         let told = proof_found dig size ps h head keeps top (step - 1) (omega (arith, more)) (omega (arith, order)) within in
         let up : step - 1 ≤ length h.steps = omega (arith, order, top_within) in
-        let part : LowPart = low_part told.0 (proof_of dig (tree h (step - 1)) (last_of peer)) in
-        let at : Part = part_before (low (Some part)) part in
-        let is : IsPartOf dig h (step - 1) top at = record { service = refl; at_step = refl; at_top = refl; path = told.2; opening = told.3.opening } in
+        let part : LowPart = mapped_low_part told.0 (proof_of dig (tree h (step - 1)) (last_before peer)) in
+        let at : Part = low_file_part (low (Some part)) part in
+        let is : IsPartOfHistory dig h (step - 1) top at = record { service = refl; at_step = refl; at_top = refl; path = told.2; opening = told.3.opening } in
         let fit = part-parts at (part_fits (step - 1) top at is (omega (arith, more)) (omega (arith, order)) top_within) in
         record {
           shown = Some part;
-          is = before-told dig ps head step peer top told.0 (last_of peer) more told.1 refl
-              ∙ is_on (tree_shown dig ps told.0.info.archive (last_of peer)) (λ tree. Is (Some (low_part told.0 tree))) (proof_of dig (tree h (step - 1)) (last_of peer))
-              (shows (step - 1) (omega (arith, more)) up told.0.info.archive told.3.archive (last_of peer) tt);
+          is = before-told dig ps head step peer top told.0 (last_before peer) more told.1 refl
+              ∙ is_on (tree_shown dig ps told.0.info.archive (last_before peer)) (λ tree. Is (Some (mapped_low_part told.0 tree))) (proof_of dig (tree h (step - 1)) (last_before peer))
+              (shows (step - 1) (omega (arith, more)) up told.0.info.archive told.3.archive (last_before peer) tt);
           own = record { service = refl; at_step = refl; of_peer = refl; at_top = refl; shown = (more, is, refl) };
-          fits = part-fits more part (low_part-fits part fit.0 fit.1 (tree_fits (step - 1) (omega (arith, more)) up (last_of peer) tt));
+          fits = part-fits more part (low_part-fits part fit.0 fit.1 (tree_fits (step - 1) (omega (arith, more)) up (last_before peer) tt));
         }
 
     low_found : step ≤ top → LowKept
@@ -167,26 +167,26 @@ module _ (dig : List ℕ → List ℕ) (size : (text : List ℕ) → IsDigest (d
     -- ---- the high file
 
     abbrev high : StepInfo → HighFile
-    high info = high_with h.name step peer top info (proof_of dig (tree h top) (first_of peer step))
+    high info = high_with h.name step peer top info (proof_of dig (tree h top) (first_after peer step))
 
-    high_fits : (info : StepInfo) → (opening_codec 0 top).Fits info.opening → (tree_proof_codec false).Fits (proof_of dig (tree h top) (first_of peer step)) → high_codec.Fits (high info)
+    high_fits : (info : StepInfo) → (opening_codec 0 top).Fits info.opening → (tree_proof_codec false).Fits (proof_of dig (tree h top) (first_after peer step)) → high_codec.Fits (high info)
     unfolding high_codec behind seen pair name_codec number_codec
     high_fits info opening tree_fits = (sound.name, ((from, top_short), (is_name, ((some, short), (opening, tree_fits)))))
 
     pub high_kept : (bytes : List ℕ) × (high_file dig ps head step peer top h.name ≡ Is (Ok bytes)) × MakesHigh dig h step peer top bytes
     high_kept =
         let told = step_found dig size ps h head keeps top from within in
-        let shown : TreeProof = proof_of dig (tree h top) (first_of peer step) in
+        let shown : TreeProof = proof_of dig (tree h top) (first_after peer step) in
         let at : Part = high_part (high told.0) in
-        let is : IsPartOf dig h top top at = record { service = refl; at_step = refl; at_top = refl; path = omega arith; opening = told.2.opening } in
+        let is : IsPartOfHistory dig h top top at = record { service = refl; at_step = refl; at_top = refl; path = omega arith; opening = told.2.opening } in
         let fit = part-parts at (part_fits top top at is from (omega arith) top_within) in (
           high_bytes (high told.0),
-          high-told dig ps head step peer top h.name told.0 (first_of peer step) told.1 refl
-              ∙ is_on (tree_shown dig ps told.0.archive (first_of peer step)) (λ tree. Is (Ok (high_bytes (high_with h.name step peer top told.0 tree)))) shown
-              (shows top from top_within told.0.archive told.2.archive (first_of peer step) tt),
+          high-told dig ps head step peer top h.name told.0 (first_after peer step) told.1 refl
+              ∙ is_on (tree_shown dig ps told.0.archive (first_after peer step)) (λ tree. Is (Ok (high_bytes (high_with h.name step peer top told.0 tree)))) shown
+              (shows top from top_within told.0.archive told.2.archive (first_after peer step) tt),
           (
             high told.0,
-            high-lawful.spells (high told.0) (high_fits told.0 fit.1 (tree_fits top from top_within (first_of peer step) tt)),
+            high-lawful.spells (high told.0) (high_fits told.0 fit.1 (tree_fits top from top_within (first_after peer step) tt)),
             record { of_peer = refl; at_top = refl; of_service = refl; at_step = refl; opening = told.2.opening; shown = refl },
           ),
         )

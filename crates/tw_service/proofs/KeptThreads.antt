@@ -25,13 +25,13 @@ use Rattle.tw_disk.specs.Found.{Found, ◌>>=◌}
 use Rattle.tw_disk.specs.Found.Found.{Is, Bad}
 use Rattle.tw_disk.specs.Image.{Image}
 use Rattle.tw_disk.proofs.FoundLaws.{is_on}
-use Rattle.tw_rbtree.specs.Standing.{StandsFor}
+use Rattle.tw_rbtree.specs.Standing.{StandsForTree}
 use Rattle.tw_rbtree.specs.Ways.{found_with}
 use Rattle.tw_rbtree.proofs.LevelLaws.{levels-few}
 use Rattle.tw_rbtree.proofs.RootWays.{root-way, with-found}
 use Rattle.tw_rbtree.proofs.TreeHeights.{stands-height}
 use Rattle.tw_treeproof.specs.Answers.{ancestors_of}
-use Rattle.tw_treeproof.specs.Making.{place_of, proof_of, way_up}
+use Rattle.tw_treeproof.specs.Making.{place_of_ask, proof_of, way_up}
 use Rattle.tw_treeproof.proofs.OwnProofs.{at-ancestors}
 use Rattle.tw_archive.proofs.Archiving.{entry_at-archived}
 use Rattle.tw_archive.proofs.Peers.{with-key}
@@ -43,7 +43,7 @@ use Rattle.tw_chain.specs.OwnProofs.{IsAbsenceProofOf, IsThreadProofOf}
 use Rattle.tw_chain.specs.Proofs.{proof_bytes as bytes_of_proof, proof_layout}
 use Rattle.tw_chain.proofs.ArchiveAnswers.{has-received, lacks-received}
 use Rattle.tw_chain.proofs.OwnSpelling.{own-few, own-spelled}
-use Rattle.tw_skipproof.specs.HistoryProofs.{IsPartOf, IsPathOf}
+use Rattle.tw_skipproof.specs.HistoryProofs.{IsPartOfHistory, IsPathOf}
 use Rattle.tw_skiplist.specs.declared.info.StepProof.{StepProof}
 use Rattle.tw_skiplist.specs.Infos.{IsInfoOf}
 use Rattle.tw_skiplist.specs.Readings.{found_proof}
@@ -51,8 +51,8 @@ use Rattle.tw_skiplist.proofs.KeptReadings.{proof_found}
 use Rattle.tw_answers.specs.declared.refusal.Refusal.{Refusal}
 use Rattle.tw_answers.specs.declared.refusal.Refusal.TheVariants.{BadPage, HasThread, NoThread}
 use Rattle.tw_answers.specs.declared.root.RootRecord.{RootRecord}
-use Rattle.tw_answers.specs.Finds.{IsRefusalOf, absence_bytes, absence_in, absence_proof, found_absence_of, found_thread_of, part_of, thread_bytes, thread_in, thread_proof, tree_shown, written}
-use Rattle.tw_answers.specs.Refusals.{IsBadPage, IsHasThread, IsNoThread}
+use Rattle.tw_answers.specs.Finds.{IsRefusalFound, absence_bytes, absence_in, absence_proof, entry_thread, found_absence_of, found_thread_of, part_to_step, thread_bytes, thread_proof, tree_shown, written_found}
+use Rattle.tw_answers.specs.Refusals.{IsBadPageRefusal, IsHasThread, IsNoThread}
 use Rattle.tw_answers.proofs.TableAnswers.{IsTold}
 use Rattle.tw_answers.proofs.TreeAnswers.{shown-stands}
 use Rattle.tw_service.specs.Machine.{IsFewNodes, MakesAbsence, MakesThread}
@@ -60,7 +60,7 @@ use Rattle.tw_service.specs.Stands.{KeepsWhole}
 use Rattle.tw_service.proofs.WholePages.{tree_at}
 
 -- where something is found, no page is bad
-pub no_bad_is : {X : Type 0} (refusal : Refusal) (found : Found (Result X Refusal)) (x : Result X Refusal) → found ≡ Is x → IsRefusalOf refusal found → IsBadPage refusal → ⊥
+pub no_bad_is : {X : Type 0} (refusal : Refusal) (found : Found (Result X Refusal)) (x : Result X Refusal) → found ≡ Is x → IsRefusalFound refusal found → IsBadPageRefusal refusal → ⊥
 no_bad_is {X} (BadPage page) found x is there bad = (let both : ◌≡◌ {A = Found (Result X Refusal)} (Is x) (Bad page) = sym is ∙ there in absurd cc)
 no_bad_is _ found x is there bad = bad
 
@@ -72,10 +72,10 @@ pub one_absence : (bytes : List ℕ) (p q : AbsenceProof) → Spells proof_layou
 one_absence bytes p q one other = let same : ◌≡◌ {A = Proof} (Absent p) (Absent q) = one_value proof_layout bytes (Absent p) (Absent q) one other in cc
 
 -- a tree proof that is the tree's own has few nodes
-pub few_nodes : (dig : List ℕ → List ℕ) (ps : Image) (root : Root) (t : Tree) (asked : Ask) (shown : TreeProof) → StandsFor dig ps root t → shown ≡ proof_of dig t asked → IsFewNodes (length (entries t)) (length (ancestors_of shown))
+pub few_nodes : (dig : List ℕ → List ℕ) (ps : Image) (root : Root) (t : Tree) (asked : Ask) (shown : TreeProof) → StandsForTree dig ps root t → shown ≡ proof_of dig t asked → IsFewNodes (length (entries t)) (length (ancestors_of shown))
 few_nodes dig ps root t asked shown stands is =
     let w = root-way dig ps asked root t stands in
-    let same = w.up ∙ sym (at-ancestors dig (place_of asked t) (way_up dig asked t)) in
+    let same = w.up ∙ sym (at-ancestors dig (place_of_ask asked t) (way_up dig asked t)) in
     let few : length (ancestors_of (proof_of dig t asked)) ≤ 9 * w.levels = subst (λ (xs : List Ancestor). length xs ≤ 9 * w.levels) same w.few in
     let own = subst (λ (p : TreeProof). length (ancestors_of p) ≤ 9 * w.levels) (sym is) few in
     let low = levels-few dig ps root.page w.levels w.levels_is in
@@ -98,10 +98,10 @@ module _ (dig : List ℕ → List ℕ) (size : (text : List ℕ) → IsDigest (d
   abbrev root : Root
   root = told.0.info.archive
 
-  pub stands : StandsFor dig ps root (tree h step)
-  stands = subst (λ (x : Root). StandsFor dig ps x (tree h step)) (sym told.3.archive) (tree_at dig ps h r whole step within)
+  pub stands : StandsForTree dig ps root (tree h step)
+  stands = subst (λ (x : Root). StandsForTree dig ps x (tree h step)) (sym told.3.archive) (tree_at dig ps h r whole step within)
 
-  part : IsPartOf dig h step top (part_of name top told.0)
+  part : IsPartOfHistory dig h step top (part_to_step name top told.0)
   part = record { service = sym named; at_step = told.3.step; at_top = refl; path = told.2; opening = told.3.opening }
 
   low : (asked : Ask) (shown : TreeProof) → shown ≡ proof_of dig (tree h step) asked → IsFewNodes (length es) (length (ancestors_of shown))
@@ -113,7 +113,7 @@ module _ (dig : List ℕ → List ℕ) (size : (text : List ℕ) → IsDigest (d
   -- ---- a thread
 
   abbrev pub made_thread : Entry → ThreadProof
-  made_thread e = record { at = part_of name top told.0; entry = e; shown = proof_of dig (tree h step) (Present e) }
+  made_thread e = record { at = part_to_step name top told.0; entry = e; shown = proof_of dig (tree h step) (Present e) }
 
   same_key : (e : Entry) → entry_with es key ≡ Some e → key_of e ≡ key
   same_key e is = with-key es key e is
@@ -135,18 +135,18 @@ module _ (dig : List ℕ → List ℕ) (size : (text : List ℕ) → IsDigest (d
   thread_answer None = Is (Err NoThread)
   thread_answer (Some e) = Is (Ok (bytes_of_proof (Archived (made_thread e))))
 
-  shown_thread : (o : Option Entry) → entry_with es key ≡ o → (found_thread_of dig ps root key >>= written (thread_bytes name top told.0)) ≡ thread_answer o
+  shown_thread : (o : Option Entry) → entry_with es key ≡ o → (found_thread_of dig ps root key >>= written_found (thread_bytes name top told.0)) ≡ thread_answer o
   unfolding found_thread_of
-  shown_thread None is = ap (λ f. f >>= written (thread_bytes name top told.0)) (is_on (found_with dig ps root key) (thread_in dig ps root) None (entry_found None is))
+  shown_thread None is = ap (λ f. f >>= written_found (thread_bytes name top told.0)) (is_on (found_with dig ps root key) (entry_thread dig ps root) None (entry_found None is))
   shown_thread (Some e) is =
-      ap (λ f. f >>= written (thread_bytes name top told.0))
-      (is_on (found_with dig ps root key) (thread_in dig ps root) (Some e) (entry_found (Some e) is)
+      ap (λ f. f >>= written_found (thread_bytes name top told.0))
+      (is_on (found_with dig ps root key) (entry_thread dig ps root) (Some e) (entry_found (Some e) is)
       ∙ is_on (tree_shown dig ps root (Present e)) (λ tree. Is (Ok (record { entry = e; tree = tree }))) (proof_of dig (tree h step) (Present e)) (shown-stands dig ps root (Present e) (tree h step) stands (own_entry e is)))
 
   pub thread_is : (o : Option Entry) → entry_with es key ≡ o → thread_proof dig ps name r.head step key top ≡ thread_answer o
   unfolding thread_proof
   thread_is o is =
-      is_on (found_proof dig ps r.head top step) (λ proof. found_thread_of dig ps proof.info.archive key >>= written (thread_bytes name top proof)) told.0 told.1
+      is_on (found_proof dig ps r.head top step) (λ proof. found_thread_of dig ps proof.info.archive key >>= written_found (thread_bytes name top proof)) told.0 told.1
       ∙ shown_thread o is
 
   pub makes : (e : Entry) → entry_with es key ≡ Some e → MakesThread dig h step key top (bytes_of_proof (Archived (made_thread e)))
@@ -163,24 +163,24 @@ module _ (dig : List ℕ → List ℕ) (size : (text : List ℕ) → IsDigest (d
   -- ---- an absence
 
   abbrev pub made_absence : AbsenceProof
-  made_absence = record { at = part_of name top told.0; key = key; shown = proof_of dig (tree h step) (OfNone key) }
+  made_absence = record { at = part_to_step name top told.0; key = key; shown = proof_of dig (tree h step) (OfNone key) }
 
   abbrev absence_answer : Option Entry → Found (Result (List ℕ) Refusal)
   absence_answer None = Is (Ok (bytes_of_proof (Absent made_absence)))
   absence_answer (Some e) = Is (Err (HasThread e.archived))
 
-  shown_absence : (o : Option Entry) → entry_with es key ≡ o → (found_absence_of dig ps root key >>= written (absence_bytes name key top told.0)) ≡ absence_answer o
+  shown_absence : (o : Option Entry) → entry_with es key ≡ o → (found_absence_of dig ps root key >>= written_found (absence_bytes name key top told.0)) ≡ absence_answer o
   unfolding found_absence_of
   shown_absence None is =
-      ap (λ (f : Found (Result TreeProof Refusal)). f >>= written (absence_bytes name key top told.0))
+      ap (λ (f : Found (Result TreeProof Refusal)). f >>= written_found (absence_bytes name key top told.0))
       (is_on (found_with dig ps root key) (absence_in dig ps root key) None (entry_found None is)
       ∙ is_on (tree_shown dig ps root (OfNone key)) (λ tree. Is (Ok tree)) (proof_of dig (tree h step) (OfNone key)) (shown-stands dig ps root (OfNone key) (tree h step) stands is))
-  shown_absence (Some e) is = ap (λ (f : Found (Result TreeProof Refusal)). f >>= written (absence_bytes name key top told.0)) (is_on (found_with dig ps root key) (absence_in dig ps root key) (Some e) (entry_found (Some e) is))
+  shown_absence (Some e) is = ap (λ (f : Found (Result TreeProof Refusal)). f >>= written_found (absence_bytes name key top told.0)) (is_on (found_with dig ps root key) (absence_in dig ps root key) (Some e) (entry_found (Some e) is))
 
   pub absence_is : (o : Option Entry) → entry_with es key ≡ o → absence_proof dig ps name r.head step key top ≡ absence_answer o
   unfolding absence_proof
   absence_is o is =
-      is_on (found_proof dig ps r.head top step) (λ proof. found_absence_of dig ps proof.info.archive key >>= written (absence_bytes name key top proof)) told.0 told.1
+      is_on (found_proof dig ps r.head top step) (λ proof. found_absence_of dig ps proof.info.archive key >>= written_found (absence_bytes name key top proof)) told.0 told.1
       ∙ shown_absence o is
 
   module _ (is_name : IsName key.from) (is_step : IsStep key.step) where

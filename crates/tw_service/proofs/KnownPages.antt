@@ -21,7 +21,7 @@ use Rattle.tw_rbtree.proofs.ListLaws.{is-old, listed-none}
 use Rattle.tw_rbtree.proofs.Plantings.{root-plants}
 use Rattle.tw_rbtree.proofs.SizeLaws.{root-count}
 use Rattle.tw_archive.specs.Archives.{KeepsTree, named_at}
-use Rattle.tw_archive.specs.Numbering.{Numbered, new_from, new_nodes, number_at, numbered}
+use Rattle.tw_archive.specs.Numbering.{Numbered, archive_new_nodes, new_from, number_of_page, numbered_archive}
 use Rattle.tw_export.specs.NodeNumbers.{is_known, is_numbered}
 use Rattle.tw_archive.proofs.Numbers.{unmarked}
 use Rattle.tw_archive.proofs.Planted.{older-unmarked}
@@ -59,10 +59,10 @@ page-some dig Has ps level least page t is empty =
 module _ (dig : List ℕ → List ℕ) (ps : Image) (h : History) (step_page : ℕ → ℕ) (archive : ℕ → Root) (k : ℕ) (keeps : KeepsTree dig ps h step_page archive k)
     (order : new_from step_page k ≤ new_from step_page (suc k)) (low : (archive (suc k)).page < new_from step_page (suc k)) where
   abbrev old : Numbered
-  old = numbered dig ps step_page archive k
+  old = numbered_archive dig ps step_page archive k
 
   abbrev now : Numbered
-  now = numbered dig ps step_page archive (suc k)
+  now = numbered_archive dig ps step_page archive (suc k)
 
   abbrev Has : OfPage
   Has = HasNamed (named_at dig ps h step_page archive (suc k))
@@ -71,10 +71,10 @@ module _ (dig : List ℕ → List ℕ) (ps : Image) (h : History) (step_page : �
   since = new_from step_page k
 
   abbrev nodes : List NewNode
-  nodes = new_nodes dig ps step_page archive k
+  nodes = archive_new_nodes dig ps step_page archive k
 
   -- a page that is a tree has a number then
-  numbered-now : (level least page : ℕ) (t : Tree) → page < new_from step_page (suc k) → IsTreePage dig Has ps (IsTreeBelow dig Has ps level) level least page t → number_at now.pages page ≢ 0
+  numbered-now : (level least page : ℕ) (t : Tree) → page < new_from step_page (suc k) → IsTreePage dig Has ps (IsTreeBelow dig Has ps level) level least page t → number_of_page now.pages page ≢ 0
   numbered-now level least page t below is none =
       page-some dig Has ps level least page t is (sym (is.has below) ∙ ap (λ (n : ℕ). get_or (forest h (suc k)) n Empty) none ∙ forest-first h (suc k))
 
@@ -89,7 +89,7 @@ module _ (dig : List ℕ → List ℕ) (ps : Image) (h : History) (step_page : �
 
   -- and had one, where it is older
   abbrev WasNumbered : Type 0
-  WasNumbered = (page : ℕ) → page ≢ 0 → page < since → number_at now.pages page ≡ number_at old.pages page
+  WasNumbered = (page : ℕ) → page ≢ 0 → page < since → number_of_page now.pages page ≡ number_of_page old.pages page
 
   module _ (was : WasNumbered) where
     side-known : (before : List Tree) (s : Side) (t : Tree) → IsSideTree dig Has ps since before s t → is_numbered (numbers_of old.pages) s ≡ true
@@ -109,7 +109,7 @@ module _ (dig : List ℕ → List ℕ) (ps : Image) (h : History) (step_page : �
         (all-known (before ++ t ∷ []) ns ts are.1)
 
   pub nodes-known : list_all (is_known (numbers_of old.pages)) nodes ≡ true
-  unfolding numbered
+  unfolding numbered_archive
   nodes-known = elim (cases_lt (archive (suc k)).page since) [
     | inl older ↦ none-before older keeps.stands.tree
     | inr newer ↦ elim (cases_lt 0 (archive (suc k)).page) [

@@ -8,14 +8,14 @@ use Rattle.tw_base.specs.history.History.{History}
 use Rattle.tw_base.specs.history.Tree.{entries, tree}
 use Rattle.tw_base.proofs.lemmas.format.FormatLaws.{one_value}
 use Rattle.tw_disk.specs.Image.{Image}
-use Rattle.tw_skipproof.specs.HistoryProofs.{IsPartOf}
+use Rattle.tw_skipproof.specs.HistoryProofs.{IsPartOfHistory}
 use Rattle.tw_skiplist.specs.Keeping.{archive_at}
 use Rattle.tw_treeproof.specs.Answers.{ancestors_of}
 use Rattle.tw_treeproof.specs.Making.{proof_of}
 use Rattle.tw_tmap.specs.declared.map_file.HighFile.{HighFile}
 use Rattle.tw_tmap.specs.declared.map_file.LowFile.{LowFile}
 use Rattle.tw_tmap.specs.declared.map_file.LowPart.{LowPart}
-use Rattle.tw_tmap.specs.Checking.{high_ask, low_ask, low_part}
+use Rattle.tw_tmap.specs.Checking.{high_ask, low_ask, low_file_part}
 use Rattle.tw_tmap.specs.MapFiles.{high_layout, low_layout}
 use Rattle.tw_tmap.specs.OwnFiles.{IsOwnHigh, IsOwnLow}
 use Rattle.tw_answers.specs.declared.root.RootRecord.{RootRecord}
@@ -33,7 +33,7 @@ module _ (dig : List ℕ → List ℕ) (ps : Image) (h : History) (r : RootRecor
   own_low : (step : ℕ) (peer : List ℕ) (top : ℕ) (f : LowFile) → step ≤ length h.steps → IsOwnLow dig h step peer top f → IfSome f.shown (λ p. IsFewNodes (length (entries (tree h (step - 1)))) (length (ancestors_of p.shown)))
   own_low step peer top f within own = by f.shown own.shown
     where
-      by : (o : Option LowPart) → MatchOption o (step ≡ 1) (λ p. (1 < step) × IsPartOf dig h (step - 1) top (low_part f p) × (p.shown ≡ proof_of dig (tree h (step - 1)) (low_ask f)))
+      by : (o : Option LowPart) → MatchOption o (step ≡ 1) (λ p. (1 < step) × IsPartOfHistory dig h (step - 1) top (low_file_part f p) × (p.shown ≡ proof_of dig (tree h (step - 1)) (low_ask f)))
           → IfSome o (λ p. IsFewNodes (length (entries (tree h (step - 1)))) (length (ancestors_of p.shown)))
       by None is = tt
       by (Some p) is = few_of (step - 1) (omega (arith, within)) (low_ask f) p.shown is.2

@@ -22,9 +22,9 @@ use Rattle.tw_disk.specs.Image.{Image}
 use Rattle.tw_archive.specs.Archives.{KeepsTrees}
 use Rattle.tw_archive.proofs.SameNodes.{same-fresh, same-root}
 use Rattle.tw_archive.proofs.SoundNext.{same-length, sound-plus}
-use Rattle.tw_skiplist.specs.Appended.{events_in, thread_in}
+use Rattle.tw_skiplist.specs.Appended.{appended_events, appended_thread}
 use Rattle.tw_skiplist.specs.Keeping.{AreAlike, Place, archive_at}
-use Rattle.tw_service.specs.EventSteps.{event_step, with_events}
+use Rattle.tw_service.specs.EventSteps.{event_step, with_events_at}
 use Rattle.tw_answers.specs.Limits.{clock_refusal}
 use Rattle.tw_service.specs.Stands.{greater, greatest, greatest_time, step_pages}
 use Rattle.tw_service.proofs.GreatestTimes.{allowed, greatest-more}
@@ -49,7 +49,7 @@ step_there h k less = elim ((slice_get_cases h.steps k).1) [
 ]
 
 -- events and thread tell a content
-same_content : (c d : Content) → events_in c ≡ events_in d → thread_in c ≡ thread_in d → c ≡ d
+same_content : (c d : Content) → appended_events c ≡ appended_events d → appended_thread c ≡ appended_thread d → c ≡ d
 same_content (Events a) (Events b) events threads = ap Events events
 same_content (Events a) (Received t) events threads = cc
 same_content (Received t) (Events a) events threads = cc
@@ -127,7 +127,7 @@ root_known h sound (suc k) within =
 
 module _ (h : History) (events : List (List ℕ)) (time : Option ℕ) where
   abbrev longer : History
-  longer = with_events h events time
+  longer = with_events_at h events time
 
   abbrev last : Step
   last = event_step (root_of (step_at h (length h.steps))) events time

@@ -32,9 +32,9 @@ use Rattle.tw_service.proofs.ShortFiles.{reads-back}
 use Rattle.tw_answers.specs.declared.refusal.Refusal.{Refusal}
 use Rattle.tw_answers.specs.declared.refusal.Refusal.TheVariants.{BadPage, DiskFault, HasThread, NoEvent, NoMemory, NoThread, TooLong}
 use Rattle.tw_answers.specs.declared.root.RootRecord.{RootRecord}
-use Rattle.tw_answers.specs.Finds.{IsRefusalOf, link_proof, path_down, written}
+use Rattle.tw_answers.specs.Finds.{IsRefusalFound, link_proof, path_down, written_found}
 use Rattle.tw_answers.specs.Limits.{broken_refusal, has_thread, no_thread, or_else, thread_refusal}
-use Rattle.tw_answers.specs.Refusals.{IsBadPage, IsFault}
+use Rattle.tw_answers.specs.Refusals.{IsBadPageRefusal, IsFault}
 use Rattle.tw_answers.proofs.TableAnswers.{IsTold, NoFault, Of, has_event, link_no_fault, link_told, no_event_told, order_no_fault, order_told, thread_no_fault, thread_told, top_no_fault, top_told}
 use Rattle.tw_base.specs.declared.history.question.Question.{Question}
 use Rattle.tw_base.specs.declared.history.question.Question.TheVariants as ask
@@ -48,7 +48,7 @@ use Rattle.tw_service.specs.Mapping.{MakesHigh, MakesLow, high_file, low_file}
 use Rattle.tw_base.specs.history.Questions.{HasNames, MayAsk}
 use Rattle.tw_service.specs.Questions.{AreInOrder, Besides, found_bytes, history_refusal, message_found, message_told, pages_refusal, question_refusal, told_as}
 use Rattle.tw_service.specs.Stands.{KeepsWhole}
-use Rattle.tw_service.specs.Tops.{top_of}
+use Rattle.tw_service.specs.Tops.{top_or_last}
 use Rattle.tw_service.proofs.ExportAnswers.{export_kept, too_long_told}
 use Rattle.tw_service.proofs.KeptAnswers.{beyond, in_range, kept_link, kept_path, no_such}
 use Rattle.tw_service.proofs.KeptMaps.{high_kept, low_kept}
@@ -81,20 +81,20 @@ module _ (found : Found (Result (List ℕ) Refusal)) (Right : List ℕ → Type 
       by (Err why) own same = absurd (ok_err bytes why (sym same))
 
   -- a refusal that is none of a fault is found
-  told_found : (why : Refusal) → (IsFault why → ⊥) → IsRefusalOf why found → found ≡ Is (Err why)
+  told_found : (why : Refusal) → (IsFault why → ⊥) → IsRefusalFound why found → found ≡ Is (Err why)
   told_found (BadPage page) told is = absurd (told tt)
   told_found DiskFault told is = absurd (told tt)
   told_found NoMemory told is = absurd (told tt)
   told_found _ told is = is
 
-  pub held_own : (why : Refusal) → (IsFault why → ⊥) → IsRefusalOf why found → refusal ≡ Some why
+  pub held_own : (why : Refusal) → (IsFault why → ⊥) → IsRefusalFound why found → refusal ≡ Some why
   held_own why told is = by held.result held.own (same_found held.result (Err why) (sym held.is ∙ told_found why told is))
     where
       by : (r : Result (List ℕ) Refusal) → MatchResult r (λ bs. (refusal ≡ None) × Right bs) (λ w. refusal ≡ Some w) → r ≡ Err why → refusal ≡ Some why
       by (Ok bs) own same = absurd (ok_err bs why same)
       by (Err w) own same = own ∙ ap (λ (x : Refusal). Some x) (err_err w why same)
 
-  pub held_good : (why : Refusal) → IsRefusalOf why found → IsBadPage why → ⊥
+  pub held_good : (why : Refusal) → IsRefusalFound why found → IsBadPageRefusal why → ⊥
   held_good why is = no_bad_is why found held.result held.is is
 
 -- the same by what pages refuse
@@ -121,14 +121,14 @@ module _ (dig : List ℕ → List ℕ) (size : (text : List ℕ) → IsDigest (d
   unfolding found_bytes pages_refusal Makes
   event_held step index top order =
       elim (cases_lt index (length (events_at h step))) [
-        | inl less ↦ (let own = in_range dig size ps h r.head whole.steps sound name named step index (top_of top last) order.0 order.1 order.2 less in record {
+        | inl less ↦ (let own = in_range dig size ps h r.head whole.steps sound name named step index (top_or_last top last) order.0 order.1 order.2 less in record {
           result = Ok own.bytes;
           is = own.is;
-          own = (has_event (length (events_at h step)) index less, subst (λ n. MakesExistence dig h step index (top_of top n) own.bytes) ends own.makes);
+          own = (has_event (length (events_at h step)) index less, subst (λ n. MakesExistence dig h step index (top_or_last top n) own.bytes) ends own.makes);
         })
         | inr past ↦ record {
           result = Err (NoEvent (length (events_at h step)));
-          is = beyond dig size ps h r.head whole.steps sound name named step index (top_of top last) order.0 order.1 order.2 past;
+          is = beyond dig size ps h r.head whole.steps sound name named step index (top_or_last top last) order.0 order.1 order.2 past;
           own = no_such (length (events_at h step)) index past;
         }
       ]
@@ -138,13 +138,13 @@ module _ (dig : List ℕ → List ℕ) (size : (text : List ℕ) → IsDigest (d
   thread_held step key top order = by (entry_with (entries (tree h step)) key) refl
     where
       by : (o : Option Entry) → entry_with (entries (tree h step)) key ≡ o → Held (ask.Thread step key top)
-      by None is = record { result = Err NoThread; is = thread_is dig size ps h r whole sound name named step key (top_of top last) order.0 order.1 order.2 None is; own = ap no_thread is }
+      by None is = record { result = Err NoThread; is = thread_is dig size ps h r whole sound name named step key (top_or_last top last) order.0 order.1 order.2 None is; own = ap no_thread is }
       by (Some e) is =
-          let bytes : List ℕ = bytes_of_proof (Archived (made_thread dig size ps h r whole sound name named step key (top_of top last) order.0 order.1 order.2 e)) in
+          let bytes : List ℕ = bytes_of_proof (Archived (made_thread dig size ps h r whole sound name named step key (top_or_last top last) order.0 order.1 order.2 e)) in
           record {
             result = Ok bytes;
-            is = thread_is dig size ps h r whole sound name named step key (top_of top last) order.0 order.1 order.2 (Some e) is;
-            own = (ap no_thread is, subst (λ n. MakesThread dig h step key (top_of top n) bytes) ends (makes dig size ps h r whole sound name named step key (top_of top last) order.0 order.1 order.2 e is));
+            is = thread_is dig size ps h r whole sound name named step key (top_or_last top last) order.0 order.1 order.2 (Some e) is;
+            own = (ap no_thread is, subst (λ n. MakesThread dig h step key (top_or_last top n) bytes) ends (makes dig size ps h r whole sound name named step key (top_or_last top last) order.0 order.1 order.2 e is));
           }
 
   absence_held : (step : ℕ) (key : Key) (top : Option ℕ) → MayAsk (ask.Absent step key top) → HasNames (ask.Absent step key top) → AreInOrder last (ask.Absent step key top) → Held (ask.Absent step key top)
@@ -153,43 +153,43 @@ module _ (dig : List ℕ → List ℕ) (size : (text : List ℕ) → IsDigest (d
     where
       by : (o : Option Entry) → entry_with (entries (tree h step)) key ≡ o → Held (ask.Absent step key top)
       by None is =
-          let bytes : List ℕ = bytes_of_proof (Absent (made_absence dig size ps h r whole sound name named step key (top_of top last) order.0 order.1 order.2)) in
+          let bytes : List ℕ = bytes_of_proof (Absent (made_absence dig size ps h r whole sound name named step key (top_or_last top last) order.0 order.1 order.2)) in
           record {
             result = Ok bytes;
-            is = absence_is dig size ps h r whole sound name named step key (top_of top last) order.0 order.1 order.2 None is;
-            own = (ap has_thread is, subst (λ n. MakesAbsence dig h step key (top_of top n) bytes) ends (lacks dig size ps h r whole sound name named step key (top_of top last) order.0 order.1 order.2 names may is));
+            is = absence_is dig size ps h r whole sound name named step key (top_or_last top last) order.0 order.1 order.2 None is;
+            own = (ap has_thread is, subst (λ n. MakesAbsence dig h step key (top_or_last top n) bytes) ends (lacks dig size ps h r whole sound name named step key (top_or_last top last) order.0 order.1 order.2 names may is));
           }
-      by (Some e) is = record { result = Err (HasThread e.archived); is = absence_is dig size ps h r whole sound name named step key (top_of top last) order.0 order.1 order.2 (Some e) is; own = ap has_thread is }
+      by (Some e) is = record { result = Err (HasThread e.archived); is = absence_is dig size ps h r whole sound name named step key (top_or_last top last) order.0 order.1 order.2 (Some e) is; own = ap has_thread is }
 
   link_held : (step : ℕ) (top : Option ℕ) → AreInOrder last (ask.Link step top) → Held (ask.Link step top)
   unfolding found_bytes pages_refusal Makes
   link_held step top order =
-      let own = kept_link dig size ps h r.head step (top_of top last) whole.steps sound order.1 order.0 order.2 in
+      let own = kept_link dig size ps h r.head step (top_or_last top last) whole.steps sound order.1 order.0 order.2 in
       record {
         result = Ok own.0;
-        is = ap (λ (n : List ℕ). link_proof dig ps n r.head step (top_of top last)) (sym named) ∙ own.1;
-        own = (refl, subst (λ n. MakesLink dig h step (top_of top n) own.0) ends own.2);
+        is = ap (λ (n : List ℕ). link_proof dig ps n r.head step (top_or_last top last)) (sym named) ∙ own.1;
+        own = (refl, subst (λ n. MakesLink dig h step (top_or_last top n) own.0) ends own.2);
       }
 
   low_held : (step : ℕ) (peer : List ℕ) (top : Option ℕ) → HasNames (ask.Low step peer top) → AreInOrder last (ask.Low step peer top) → Held (ask.Low step peer top)
   unfolding found_bytes pages_refusal Makes
   low_held step peer top names order =
       let short : step ≤ LAST_STEP = omega (arith, order.1, order.2, ends, sound.length) in
-      let own = low_kept dig size ps h r.head whole.steps whole.trees sound peer names step (top_of top last) order.0 short (omega (arith, order.0, order.1)) order.2 order.1 in
+      let own = low_kept dig size ps h r.head whole.steps whole.trees sound peer names step (top_or_last top last) order.0 short (omega (arith, order.0, order.1)) order.2 order.1 in
       record {
         result = Ok own.0;
-        is = ap (λ (n : List ℕ). low_file dig ps r.head step peer (top_of top last) n) (sym named) ∙ own.1;
-        own = (refl, subst (λ n. MakesLow dig h step peer (top_of top n) own.0) ends own.2);
+        is = ap (λ (n : List ℕ). low_file dig ps r.head step peer (top_or_last top last) n) (sym named) ∙ own.1;
+        own = (refl, subst (λ n. MakesLow dig h step peer (top_or_last top n) own.0) ends own.2);
       }
 
   high_held : (step : ℕ) (peer : List ℕ) (top : Option ℕ) → MayAsk (ask.High step peer top) → HasNames (ask.High step peer top) → AreInOrder last (ask.High step peer top) → Held (ask.High step peer top)
   unfolding found_bytes pages_refusal Makes
   high_held step peer top may names order =
-      let own = high_kept dig size ps h r.head whole.steps whole.trees sound peer names step (top_of top last) (omega (arith, may.0)) may.1 order.0 order.1 in
+      let own = high_kept dig size ps h r.head whole.steps whole.trees sound peer names step (top_or_last top last) (omega (arith, may.0)) may.1 order.0 order.1 in
       record {
         result = Ok own.0;
-        is = ap (λ (n : List ℕ). high_file dig ps r.head step peer (top_of top last) n) (sym named) ∙ own.1;
-        own = (refl, subst (λ n. MakesHigh dig h step peer (top_of top n) own.0) ends own.2);
+        is = ap (λ (n : List ℕ). high_file dig ps r.head step peer (top_or_last top last) n) (sym named) ∙ own.1;
+        own = (refl, subst (λ n. MakesHigh dig h step peer (top_or_last top n) own.0) ends own.2);
       }
 
   -- the message that is found is the history's own
@@ -219,7 +219,7 @@ module _ (dig : List ℕ → List ℕ) (size : (text : List ℕ) → IsDigest (d
       let own = told_held since order in
       subst (λ (x : Message). IsMessageOf dig h since x) (same_message own.0 m (same_found (Ok own.0) (Ok m) (sym own.1 ∙ is))) own.2
 
-  pub told_good : (since : ℕ) → AreInOrder last (ask.ThreadOut since) → (why : Refusal) → IsRefusalOf why (message_told dig ps name r.head since) → IsBadPage why → ⊥
+  pub told_good : (since : ℕ) → AreInOrder last (ask.ThreadOut since) → (why : Refusal) → IsRefusalFound why (message_told dig ps name r.head since) → IsBadPageRefusal why → ⊥
   told_good since order why is = let own = told_held since order in no_bad_is why (message_told dig ps name r.head since) (Ok own.0) own.1 is
 
   message_held : (since : ℕ) → AreInOrder last (ask.ThreadOut since) → Held (ask.ThreadOut since)
@@ -228,7 +228,7 @@ module _ (dig : List ℕ → List ℕ) (size : (text : List ℕ) → IsDigest (d
       let told = told_held since order in
       record {
         result = Ok (message_bytes told.0);
-        is = is_on (message_told dig ps name r.head since) (written message_bytes) (Ok told.0) told.1;
+        is = is_on (message_told dig ps name r.head since) (written_found message_bytes) (Ok told.0) told.1;
         own = (refl, message_makes since told.0 told.2);
       }
 
@@ -266,13 +266,13 @@ module _ (dig : List ℕ → List ℕ) (size : (text : List ℕ) → IsDigest (d
 
   accepted_at : (q : Question) → AreInOrder (length h.steps) q → pages_refusal h q ≡ None → (bytes : List ℕ) → Makes dig h q bytes → IsAcceptedFor dig h q bytes
   unfolding Makes IsAcceptedFor pages_refusal
-  accepted_at (ask.Event step index top) order none bytes makes = λ anchors anchor at reached. Accepts-made dig h step index (top_of top (length h.steps)) bytes anchors anchor order.1 makes at reached
+  accepted_at (ask.Event step index top) order none bytes makes = λ anchors anchor at reached. Accepts-made dig h step index (top_or_last top (length h.steps)) bytes anchors anchor order.1 makes at reached
   accepted_at (ask.Thread step key top) order none bytes makes = λ anchors anchor at reached.
-      (Archived makes.0, makes.1, own-accepted dig h step (top_of top (length h.steps)) order.1 anchors anchor at reached sound order.2 (Archived makes.0) makes.2)
+      (Archived makes.0, makes.1, own-accepted dig h step (top_or_last top (length h.steps)) order.1 anchors anchor at reached sound order.2 (Archived makes.0) makes.2)
   accepted_at (ask.Absent step key top) order none bytes makes = λ anchors anchor at reached.
-      (Absent makes.0, makes.1, own-accepted dig h step (top_of top (length h.steps)) order.1 anchors anchor at reached sound order.2 (Absent makes.0) makes.2)
+      (Absent makes.0, makes.1, own-accepted dig h step (top_or_last top (length h.steps)) order.1 anchors anchor at reached sound order.2 (Absent makes.0) makes.2)
   accepted_at (ask.Link step top) order none bytes makes = λ anchors anchor at reached.
-      (Linked makes.0, makes.1, own-accepted dig h step (top_of top (length h.steps)) order.1 anchors anchor at reached sound order.2 (Linked makes.0) makes.2)
+      (Linked makes.0, makes.1, own-accepted dig h step (top_or_last top (length h.steps)) order.1 anchors anchor at reached sound order.2 (Linked makes.0) makes.2)
   accepted_at ask.Export order none bytes makes =
       subst (λ (bs : List ℕ). ReadsHistory bs (Ok h)) (sym makes) (reads-back h sound (passes (is_short h) (TooLong (told_size h)) none))
   accepted_at _ order none bytes makes = tt
@@ -283,18 +283,18 @@ module _ (dig : List ℕ → List ℕ) (size : (text : List ℕ) → IsDigest (d
   few_at : (q : Question) → AreInOrder (length h.steps) q → (bytes : List ℕ) → Makes dig h q bytes → HasFewFor h q bytes
   unfolding Makes HasFewFor
   few_at (ask.Thread step key top) order bytes makes = λ p spells.
-      let n : ℕ = top_of top (length h.steps) in
+      let n : ℕ = top_or_last top (length h.steps) in
       thread_few dig size ps h r whole sound name named step key n order.0 order.1 (omega (arith, order.2, ends)) p
       (subst (λ (x : ThreadProof). IsThreadProofOf dig h step n x) (one_thread bytes makes.0 p makes.1 spells) makes.2)
   few_at (ask.Absent step key top) order bytes makes = λ p spells.
-      let n : ℕ = top_of top (length h.steps) in
+      let n : ℕ = top_or_last top (length h.steps) in
       absence_few dig size ps h r whole sound name named step key n order.0 order.1 (omega (arith, order.2, ends)) p
       (subst (λ (x : AbsenceProof). IsAbsenceProofOf dig h step n x) (one_absence bytes makes.0 p makes.1 spells) makes.2)
   few_at (ask.Low step peer top) order bytes makes =
-      let n : ℕ = top_of top (length h.steps) in
+      let n : ℕ = top_or_last top (length h.steps) in
       low_few dig ps h r whole step peer n bytes (omega (arith, order.1, order.2)) makes
   few_at (ask.High step peer top) order bytes makes =
-      let n : ℕ = top_of top (length h.steps) in
+      let n : ℕ = top_or_last top (length h.steps) in
       high_few dig ps h r whole step peer n bytes order.1 makes
   few_at _ order bytes makes = tt
 
@@ -305,14 +305,14 @@ module _ (dig : List ℕ → List ℕ) (size : (text : List ℕ) → IsDigest (d
 
 pub question_told : (last : ℕ) (q : Question) → Of IsTold (question_refusal false last q)
 unfolding question_refusal
-question_told l (ask.Link step top) = link_told l step (top_of top l)
-question_told l (ask.High step peer top) = top_told l (top_of top l)
+question_told l (ask.Link step top) = link_told l step (top_or_last top l)
+question_told l (ask.High step peer top) = top_told l (top_or_last top l)
 question_told l (ask.ThreadOut since) = thread_told l since
 question_told l ask.Export = tt
-question_told l (ask.Event step index top) = order_told l step (top_of top l)
-question_told l (ask.Thread step key top) = order_told l step (top_of top l)
-question_told l (ask.Absent step key top) = order_told l step (top_of top l)
-question_told l (ask.Low step peer top) = order_told l step (top_of top l)
+question_told l (ask.Event step index top) = order_told l step (top_or_last top l)
+question_told l (ask.Thread step key top) = order_told l step (top_or_last top l)
+question_told l (ask.Absent step key top) = order_told l step (top_or_last top l)
+question_told l (ask.Low step peer top) = order_told l step (top_or_last top l)
 
 broken_no_fault : (b : Bool) → Of NoFault (broken_refusal b)
 broken_no_fault true = λ is. is
@@ -320,14 +320,14 @@ broken_no_fault false = tt
 
 pub question_no_fault : (b : Bool) (last : ℕ) (q : Question) → Of NoFault (question_refusal b last q)
 unfolding question_refusal
-question_no_fault b l (ask.Link step top) = link_no_fault b l step (top_of top l)
-question_no_fault b l (ask.High step peer top) = top_no_fault b l (top_of top l)
+question_no_fault b l (ask.Link step top) = link_no_fault b l step (top_or_last top l)
+question_no_fault b l (ask.High step peer top) = top_no_fault b l (top_or_last top l)
 question_no_fault b l (ask.ThreadOut since) = thread_no_fault b l since
 question_no_fault b l ask.Export = broken_no_fault b
-question_no_fault b l (ask.Event step index top) = order_no_fault b l step (top_of top l)
-question_no_fault b l (ask.Thread step key top) = order_no_fault b l step (top_of top l)
-question_no_fault b l (ask.Absent step key top) = order_no_fault b l step (top_of top l)
-question_no_fault b l (ask.Low step peer top) = order_no_fault b l step (top_of top l)
+question_no_fault b l (ask.Event step index top) = order_no_fault b l step (top_or_last top l)
+question_no_fault b l (ask.Thread step key top) = order_no_fault b l step (top_or_last top l)
+question_no_fault b l (ask.Absent step key top) = order_no_fault b l step (top_or_last top l)
+question_no_fault b l (ask.Low step peer top) = order_no_fault b l step (top_or_last top l)
 
 pub besides_told : (q : Question) (why : Refusal) → Besides q why → IsTold why
 besides_told (ask.Event step index top) why is = no_event_told why is

@@ -11,18 +11,18 @@ use Rattle.tw_disk.specs.Image.{Image}
 use Rattle.tw_msg.specs.declared.message.Message.{Message}
 use Rattle.tw_msg.specs.declared.receipt.Receipt.{Receipt}
 use Rattle.tw_pages.specs.declared.store.Store.{Store}
-use Rattle.tw_pages.specs.Same.{IsSameStore, list_of}
+use Rattle.tw_pages.specs.Same.{IsSameStore, store_list}
 use Rattle.tw_pages.specs.SameSteps.{is_same_itself}
-use Rattle.tw_pages.specs.StoreValue.{disk_of as disk_below, is_broken}
-use Rattle.tw_archive.specs.Judging.{judged}
+use Rattle.tw_pages.specs.StoreValue.{is_broken, store_disk}
+use Rattle.tw_archive.specs.Judging.{judged_message}
 use Rattle.tw_answers.specs.declared.refusal.Refusal.{Refusal}
 use Rattle.tw_answers.specs.declared.refusal.Refusal.TheVariants.{Own, Forked, Stale, BadLink, Full, ClockBack, DiskFault, Reopen}
 use Rattle.tw_answers.specs.declared.root.RootRecord.{RootRecord}
 use Rattle.tw_answers.specs.Limits.{own_refusal}
-use Rattle.tw_answers.specs.Refusals.{IsBadPage, IsFault}
+use Rattle.tw_answers.specs.Refusals.{IsBadPageRefusal, IsFault}
 use Rattle.tw_answers.proofs.TableAnswers.{IsTold, NoFault, Of, of_if, of_some}
 use Rattle.tw_service.specs.declared.service.Service.{Service}
-use Rattle.tw_service.specs.Adding.{Receives, Steps}
+use Rattle.tw_service.specs.Adding.{CallSteps, Receives}
 use Rattle.tw_service.specs.Archiving.{ReceivesAs}
 use Rattle.tw_service.specs.Finds.{found_reception, receipt_at}
 use Rattle.tw_service.specs.Keeps.{StoreServes}
@@ -30,11 +30,11 @@ use Rattle.tw_service.specs.Machine.{IsStepOf, RepliesTo}
 use Rattle.tw_service.specs.Machine.Call.{Receive}
 use Rattle.tw_service.specs.Machine.Reply.{OfReceipt, Refused}
 use Rattle.tw_service.specs.NextRecords.{next_record}
-use Rattle.tw_service.specs.Receiving.{TellsOf, reception, refuse_or}
-use Rattle.tw_service.specs.Serves.{HasSameDisk, Serves, head_of, name_of, record_of, steps_of, thread_of}
+use Rattle.tw_service.specs.Receiving.{TellsOfMessage, reception, refuse_or}
+use Rattle.tw_service.specs.Serves.{HasSameDisk, Serves, head_of, head_thread, name_of, record_of, steps_of}
 use Rattle.tw_service.specs.Stands.{greatest_time}
 use Rattle.tw_service.specs.TakingIn.{StepsIn, TakesIn}
-use Rattle.tw_service.specs.Writing.{ArchivesTo, IsReceiptOf}
+use Rattle.tw_service.specs.Writing.{ArchivesTo, IsReceiptOfRecord}
 use Rattle.tw_service.proofs.Answering.{answers_fault, answers_refusal, is_disk_fault}
 use Rattle.tw_service.proofs.Serving.{read_leaves, read_serves, same_leaves, same_tells, nothing_written}
 
@@ -59,7 +59,7 @@ own_broken true name from is = refl
 own_broken false name from is = cc
 
 -- what tells of a message is no fault
-pub tells_told : (dig : List ℕ → List ℕ) (steps : ℕ) (clock time : Option ℕ) (m : Message) (r : Refusal) → TellsOf dig steps clock time m r → IsTold r
+pub tells_told : (dig : List ℕ → List ℕ) (steps : ℕ) (clock time : Option ℕ) (m : Message) (r : Refusal) → TellsOfMessage dig steps clock time m r → IsTold r
 tells_told dig steps clock time m (Forked step kept offered) tells = ((λ is. is), (λ is. cc))
 tells_told dig steps clock time m (Stale last) tells = ((λ is. is), (λ is. cc))
 tells_told dig steps clock time m (BadLink last kept) tells = ((λ is. is), (λ is. cc))
@@ -72,7 +72,7 @@ tells_told dig steps clock time m _ tells = absurd tells
 module _ (dig : List ℕ → List ℕ) (h : History) (m : Message) (time : Option ℕ) where
   pub receive_refused : (r : Refusal) → Some r ≡ own_refusal false h.name m.thread.from → IsStepOf dig h (Receive m time) (Refused r) h
   receive_refused r is =
-      subst (λ (o : Option Refusal). RepliesTo dig h m time (Refused r) h (refuse_or o (reception (length h.steps) (greatest_time h) time (judged dig (entries (tree h (length h.steps))) m)))) is (refl, refl)
+      subst (λ (o : Option Refusal). RepliesTo dig h m time (Refused r) h (refuse_or o (reception (length h.steps) (greatest_time h) time (judged_message dig (entries (tree h (length h.steps))) m)))) is (refl, refl)
 
 -- ---- a store that took a message in, of a service
 
@@ -84,7 +84,7 @@ module _ {D H : Type 0} {g : _} {k : _} (view : D → DiskView) (only_now : (d :
     abbrev Stepped : Result Receipt Refusal → Type 0
     Stepped result = StepsIn dig view m time s.recorded.kept.store t.recorded.kept.store s.recorded.kept.root t.recorded.kept.root result h
 
-    steps_on : (result : Result Receipt Refusal) → Taken s t result → Stepped result → Steps dig view (Receive m time) (λ (x : Receipt). OfReceipt x) s t result h
+    steps_on : (result : Result Receipt Refusal) → Taken s t result → Stepped result → CallSteps dig view (Receive m time) (λ (x : Receipt). OfReceipt x) s t result h
     steps_on (Ok receipt) taken x = record { next = x.next; is_next = x.is_next; any_moment = x.any_moment; told = x.told; done = x.done; refused = tt; machine = λ whole. tt }
     steps_on (Err r) taken x = record {
       next = x.next;
@@ -107,7 +107,7 @@ module _ {D H : Type 0} {g : _} {k : _} (view : D → DiskView) (only_now : (d :
       → (IsStep receipt.by.step × (receipt.by.step ≤ steps_of s) × (record_of t ≡ record_of s) × HasSameDisk view s t)
       ⊎ ((receipt ≡ receipt_at (name_of s) (head_of t) m.thread) × (steps_of t ≡ steps_of s + 1) × (record_of t ≡ next_record (record_of s) (head_of t) t.recorded.kept.root.archive (s.recorded.kept.root.threads + 1) time))
       → (IsStep receipt.by.step × (receipt.by.step ≤ steps_of s) × (record_of t ≡ record_of s) × HasSameDisk view s t)
-      ⊎ ((receipt.by ≡ thread_of t) × (steps_of t ≡ steps_of s + 1) × (record_of t ≡ next_record (record_of s) (head_of t) t.recorded.kept.root.archive (s.recorded.kept.root.threads + 1) time))
+      ⊎ ((receipt.by ≡ head_thread t) × (steps_of t ≡ steps_of s + 1) × (record_of t ≡ next_record (record_of s) (head_of t) t.recorded.kept.root.archive (s.recorded.kept.root.threads + 1) time))
   record_on s t receipt either =
       ⊎_elim (λ known. inl known)
       (λ made. let names = ap (λ (r : RootRecord). r.name) made.2 in
@@ -115,14 +115,14 @@ module _ {D H : Type 0} {g : _} {k : _} (view : D → DiskView) (only_now : (d :
 
   record_if : (s t : Service D H g k) (result : Result Receipt Refusal) → Taken s t result
       → IfOk result (λ receipt. (IsStep receipt.by.step × (receipt.by.step ≤ steps_of s) × (record_of t ≡ record_of s) × HasSameDisk view s t)
-      ⊎ ((receipt.by ≡ thread_of t) × (steps_of t ≡ steps_of s + 1) × (record_of t ≡ next_record (record_of s) (head_of t) t.recorded.kept.root.archive (s.recorded.kept.root.threads + 1) time)))
+      ⊎ ((receipt.by ≡ head_thread t) × (steps_of t ≡ steps_of s + 1) × (record_of t ≡ next_record (record_of s) (head_of t) t.recorded.kept.root.archive (s.recorded.kept.root.threads + 1) time)))
   record_if s t (Ok receipt) taken = record_on s t receipt taken.record_is
   record_if s t (Err r) taken = tt
 
   pub received_taken : (s t : Service D H g k) (result : Result Receipt Refusal) → None ≡ own_refusal s.is_broken s.recorded.kept.root.name m.thread.from → s.is_broken ≡ false → m.thread.from ≢ s.recorded.kept.root.name
       → TakesIn dig view m time s.recorded.kept.store t.recorded.kept.store s.recorded.kept.root t.recorded.kept.root result → IsTrue t.is_broken ↔ (result ≡ Err DiskFault) → Receives dig view m time s t result
   received_taken s t result none whole other taken flag = record {
-    table = subst (λ (o : Option Refusal). MatchOption o (IfErr result (λ why. IsFault why ⊎ TellsOf dig (steps_of s) s.recorded.kept.root.time time m why)) (λ why. result ≡ Err why)) none taken.tells;
+    table = subst (λ (o : Option Refusal). MatchOption o (IfErr result (λ why. IsFault why ⊎ TellsOfMessage dig (steps_of s) s.recorded.kept.root.time time m why)) (λ why. result ≡ Err why)) none taken.tells;
     answer = λ is ps list. taken.answer ps list;
     steps = λ h served. steps_on s t h served result taken (taken.steps h served other);
     written = taken.written;
@@ -142,7 +142,7 @@ module _ {D H : Type 0} {g : _} {k : _} (view : D → DiskView) (only_now : (d :
       let root = s.recorded.kept.root in
       let told : IsFault r → ⊥ = of_some NoFault _ r is (own_no_fault s.is_broken root.name m.thread.from) in
       record {
-        table = subst (λ (o : Option Refusal). MatchOption o (IfErr (fails r) (λ why. IsFault why ⊎ TellsOf dig (steps_of s) root.time time m why)) (λ why. fails r ≡ Err why)) is refl;
+        table = subst (λ (o : Option Refusal). MatchOption o (IfErr (fails r) (λ why. IsFault why ⊎ TellsOfMessage dig (steps_of s) root.time time m why)) (λ why. fails r ≡ Err why)) is refl;
         answer = λ none. (let both : Some r ≡ None = is ∙ none in absurd cc);
         steps = λ h served. record {
           next = h;
@@ -155,7 +155,7 @@ module _ {D H : Type 0} {g : _} {k : _} (view : D → DiskView) (only_now : (d :
               let own : Some r ≡ own_refusal false h.name m.thread.from = is ∙ (λ j. own_refusal (whole j) (sym served.keeps.named j) m.thread.from) in
               answers_refusal dig h (Receive m time) (λ (x : Receipt). OfReceipt x) (Serves dig view s) r (of_some IsTold _ r own (own_told h.name m.thread.from)) (receive_refused dig h m time r own) served;
         };
-        written = λ ps over. nothing_written view only_now (ArchivesTo dig m time) (IsReceiptOf dig m time) store store root root (Err r) ps (is_same_itself view store) over refl tt;
+        written = λ ps over. nothing_written view only_now (ArchivesTo dig m time) (IsReceiptOfRecord dig m time) store store root root (Err r) ps (is_same_itself view store) over refl tt;
         receipt = tt;
         record_is = tt;
         kept = refl;
@@ -170,12 +170,12 @@ module _ {D H : Type 0} {g : _} {k : _} (view : D → DiskView) (only_now : (d :
 module _ {D : Type 0} {g : _} (view : D → DiskView) (only_now : (d : D) (c : Image) → (view d).left_since (view d).moment c → (view d).may_leave c) (dig : List ℕ → List ℕ) (m : Message) (time : Option ℕ)
     (old new : Store D g) (root : RootRecord) (same : IsSameStore view old new) where
   abbrev finds_as : Result Receipt Refusal → Type 0
-  finds_as result = (ps : Image) → list_of view old ≡ Some ps → ReceivesAs dig ps root m time root.head root.archive result (found_reception dig ps root.name root.head root.archive root.time m time)
+  finds_as result = (ps : Image) → store_list view old ≡ Some ps → ReceivesAs dig ps root m time root.head root.archive result (found_reception dig ps root.name root.head root.archive root.time m time)
 
   -- it is refused
-  pub taken_err : (r : Refusal) → (IsFault r ⊎ TellsOf dig root.head.step root.time time m r) → finds_as (Err r) → (r ≡ DiskFault) ⊎ (is_broken new ≡ false)
-      → ((h : History) → StoreServes dig view old root h → m.thread.from ≢ root.name → ((IsFault r → ⊥) → IsStepOf dig h (Receive m time) (Refused r) h) × (IsBadPage r → ⊥))
-      → (r ≡ DiskFault → Rose (view (disk_below old)).faults (view (disk_below new)).faults) → (view (disk_below old)).faults ≤ (view (disk_below new)).faults → TakesIn dig view m time old new root root (Err r)
+  pub taken_err : (r : Refusal) → (IsFault r ⊎ TellsOfMessage dig root.head.step root.time time m r) → finds_as (Err r) → (r ≡ DiskFault) ⊎ (is_broken new ≡ false)
+      → ((h : History) → StoreServes dig view old root h → m.thread.from ≢ root.name → ((IsFault r → ⊥) → IsStepOf dig h (Receive m time) (Refused r) h) × (IsBadPageRefusal r → ⊥))
+      → (r ≡ DiskFault → Rose (view (store_disk old)).faults (view (store_disk new)).faults) → (view (store_disk old)).faults ≤ (view (store_disk new)).faults → TakesIn dig view m time old new root root (Err r)
   taken_err r tells answer whole step rose later = record {
     tells = tells;
     answer = answer;
@@ -189,7 +189,7 @@ module _ {D : Type 0} {g : _} (view : D → DiskView) (only_now : (d : D) (c : I
       refused = (step h rest other).0;
       good = (step h rest other).1;
     };
-    written = λ ps over. nothing_written view only_now (ArchivesTo dig m time) (IsReceiptOf dig m time) old new root root (Err r) ps same over refl tt;
+    written = λ ps over. nothing_written view only_now (ArchivesTo dig m time) (IsReceiptOfRecord dig m time) old new root root (Err r) ps same over refl tt;
     receipt = tt;
     record_is = tt;
     kept = refl;
@@ -205,7 +205,7 @@ module _ {D : Type 0} {g : _} (view : D → DiskView) (only_now : (d : D) (c : I
   -- its thread is known
   pub taken_known : (receipt : Receipt) → finds_as (Ok receipt) → is_broken new ≡ false → (receipt.thread ≡ m.thread) × (receipt.by.from ≡ root.name) → IsStep receipt.by.step → receipt.by.step ≤ root.head.step
       → ((h : History) → StoreServes dig view old root h → m.thread.from ≢ root.name → IsStepOf dig h (Receive m time) (OfReceipt receipt) h)
-      → (view (disk_below old)).faults ≤ (view (disk_below new)).faults → TakesIn dig view m time old new root root (Ok receipt)
+      → (view (store_disk old)).faults ≤ (view (store_disk new)).faults → TakesIn dig view m time old new root root (Ok receipt)
   taken_known receipt answer whole of_thread is_step below step later = record {
     tells = tt;
     answer = answer;
@@ -219,7 +219,7 @@ module _ {D : Type 0} {g : _} (view : D → DiskView) (only_now : (d : D) (c : I
       refused = tt;
       good = tt;
     };
-    written = λ ps over. nothing_written view only_now (ArchivesTo dig m time) (IsReceiptOf dig m time) old new root root (Ok receipt) ps same over refl (inl (refl, below));
+    written = λ ps over. nothing_written view only_now (ArchivesTo dig m time) (IsReceiptOfRecord dig m time) old new root root (Ok receipt) ps same over refl (inl (refl, below));
     receipt = of_thread;
     record_is = inl (is_step, below, refl, same);
     kept = tt;

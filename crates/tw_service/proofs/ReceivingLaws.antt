@@ -17,7 +17,7 @@ use Rattle.tw_msg.specs.declared.receipt.Receipt.{Receipt}
 use Rattle.tw_msg.specs.HistoryMessages.{IsReceiptOf}
 use Rattle.tw_archive.specs.declared.judgement.Judgement.{Judgement}
 use Rattle.tw_archive.specs.declared.judgement.Judgement.TheVariants as judgement
-use Rattle.tw_archive.specs.Judging.{judged}
+use Rattle.tw_archive.specs.Judging.{judged_message}
 use Rattle.tw_answers.specs.declared.refusal.Refusal.{Refusal}
 use Rattle.tw_answers.specs.Limits.{archive_refusal, own_refusal}
 use Rattle.tw_service.specs.declared.receiving.Reception.{Reception}
@@ -45,7 +45,7 @@ module _ (dig : List ℕ → List ℕ) (h : History) (m : Message) (time : Optio
   becomes j = reception (length h.steps) (greatest_time h) time j
 
   abbrev judgement_of : Judgement
-  judgement_of = judged dig (entries (tree h (length h.steps))) m
+  judgement_of = judged_message dig (entries (tree h (length h.steps))) m
 
   -- what becomes of a message of another service is told by its judgement
   pub of_other : (j : Judgement) → m.thread.from ≢ h.name → judgement_of ≡ j → received_as dig h m time ≡ becomes j

@@ -34,7 +34,7 @@ use Rattle.tw_rbtree.proofs.StandingLaws.{stands-ranges}
 use Rattle.tw_archive.specs.declared.judgement.Judgement.{Judgement}
 use Rattle.tw_archive.specs.declared.judgement.Judgement.TheVariants.{Known, Forked, Stale, BadLink, Accept}
 use Rattle.tw_archive.specs.Archives.{MayArchive}
-use Rattle.tw_archive.specs.Judging.{IsJudgementFor, found_judgement, judged, thread_key}
+use Rattle.tw_archive.specs.Judging.{IsJudgementFor, archive_key, found_judgement, judged_message}
 use Rattle.tw_archive.proofs.Archiving.{entry_at-archived}
 use Rattle.tw_archive.proofs.Causes.{judged-accepted, judged-known}
 use Rattle.tw_archive.proofs.Judged.{judgement-found, last-found}
@@ -50,7 +50,7 @@ use Rattle.tw_answers.specs.declared.root.RootRecord.{RootRecord}
 use Rattle.tw_service.specs.Finds.{found_receipt, found_reception, found_room, receipt_of, room_in}
 use Rattle.tw_answers.specs.Limits.{archive_refusal, clock_refusal, full_refusal}
 use Rattle.tw_answers.proofs.TableAnswers.{Of, of_if, of_or, of_some}
-use Rattle.tw_service.specs.Receiving.{TellsOf, reception, refuse_or}
+use Rattle.tw_service.specs.Receiving.{TellsOfMessage, reception, refuse_or}
 use Rattle.tw_service.specs.Stands.{KeepsWhole, greatest_time}
 use Rattle.tw_service.proofs.GreatestTimes.{allowed}
 use Rattle.tw_service.proofs.NextHistories.{few-received}
@@ -104,17 +104,17 @@ module _ (steps : ℕ) (clock time : Option ℕ) where
 
   -- what a refusal tells of the message
   module _ (dig : List ℕ → List ℕ) (m : Message) where
-    step-tells : (r : Refusal) → IsOfStep r → Some r ≡ archive_refusal steps clock time → TellsOf dig steps clock time m r
+    step-tells : (r : Refusal) → IsOfStep r → Some r ≡ archive_refusal steps clock time → TellsOfMessage dig steps clock time m r
     step-tells Full of is = sym is
     step-tells (ClockBack last given) of is = sym is
     step-tells _ of is = absurd of
 
-    pub refuse-tells : (j : Judgement) (r : Refusal) → IsJudgementFor dig m j → reception steps clock time j ≡ becomes.Refuse r → TellsOf dig steps clock time m r
+    pub refuse-tells : (j : Judgement) (r : Refusal) → IsJudgementFor dig m j → reception steps clock time j ≡ becomes.Refuse r → TellsOfMessage dig steps clock time m r
     unfolding reception
     refuse-tells (Known archived) r told is = cc
-    refuse-tells (Forked step kept offered) r told is = let same : refused.Forked step kept offered ≡ r = cc in subst (TellsOf dig steps clock time m) same told
-    refuse-tells (Stale last) r told is = let same : refused.Stale last ≡ r = cc in subst (TellsOf dig steps clock time m) same told
-    refuse-tells (BadLink last kept) r told is = let same : refused.BadLink last kept ≡ r = cc in subst (TellsOf dig steps clock time m) same told
+    refuse-tells (Forked step kept offered) r told is = let same : refused.Forked step kept offered ≡ r = cc in subst (TellsOfMessage dig steps clock time m) same told
+    refuse-tells (Stale last) r told is = let same : refused.Stale last ≡ r = cc in subst (TellsOfMessage dig steps clock time m) same told
+    refuse-tells (BadLink last kept) r told is = let same : refused.BadLink last kept ≡ r = cc in subst (TellsOfMessage dig steps clock time m) same told
     refuse-tells Accept r told is = let row = which_refused (archive_refusal steps clock time) r is in step-tells r (of_some IsOfStep _ r row (of_step steps clock time)) row
 
 -- the thread of an entry is the one that its step received
@@ -128,7 +128,7 @@ entry-thread h k e is = by (thread_of (step_at h k)) is
         let one : made ≡ e = cc in ap (λ (x : Entry). Some x.thread) one
 
 -- a thread that is known was received by the step that is told
-pub known_step : (dig : List ℕ → List ℕ) (h : History) (m : Message) (archived : ℕ) → judged dig (entries (tree h (length h.steps))) m ≡ Known archived
+pub known_step : (dig : List ℕ → List ℕ) (h : History) (m : Message) (archived : ℕ) → judged_message dig (entries (tree h (length h.steps))) m ≡ Known archived
     → (1 ≤ archived) × (archived ≤ length h.steps) × (thread_of (step_at h archived) ≡ Some m.thread)
 known_step dig h m archived is =
     let k = judged-known dig (entries (tree h (length h.steps))) m archived is in
@@ -149,20 +149,20 @@ module _ (dig : List ℕ → List ℕ) (ps : Image) (h : History) (r : RootRecor
       let stands = tree_stands dig ps h r whole in
       latest es stands.rising (stands-ranges dig ps r.archive (tree h (length h.steps)) stands) m.thread.from e there same
 
-  judgement_kept : found_judgement dig ps r.archive m ≡ Is (judged dig es m)
+  judgement_kept : found_judgement dig ps r.archive m ≡ Is (judged_message dig es m)
   judgement_kept =
       let stands = tree_stands dig ps h r whole in
       judgement-found dig ps r.archive es m (λ key. with-found dig ps r.archive (tree h (length h.steps)) key stands) latest_of
       (last-found dig ps r.archive es m.thread.from (λ key. before-found dig ps r.archive (tree h (length h.steps)) key stands))
 
   -- what becomes of the message is found in the pages as by the history's archive
-  pub reception_kept : (name : List ℕ) (time : Option ℕ) → found_reception dig ps name r.head r.archive r.time m time ≡ Is (reception (length h.steps) (greatest_time h) time (judged dig es m))
+  pub reception_kept : (name : List ℕ) (time : Option ℕ) → found_reception dig ps name r.head r.archive r.time m time ≡ Is (reception (length h.steps) (greatest_time h) time (judged_message dig es m))
   unfolding found_reception
   reception_kept name time =
       ap (λ (f : Found Judgement). f >>= (λ j. Is (reception r.head.step r.time time j))) judgement_kept
-      ∙ (λ i. Is (reception (whole.steps.step i) (whole.time i) time (judged dig es m)))
+      ∙ (λ i. Is (reception (whole.steps.step i) (whole.time i) time (judged_message dig es m)))
 
-  pub receipt_kept : (size : (text : List ℕ) → IsDigest (dig text)) (name : List ℕ) (archived : ℕ) → judged dig es m ≡ Known archived
+  pub receipt_kept : (size : (text : List ℕ) → IsDigest (dig text)) (name : List ℕ) (archived : ℕ) → judged_message dig es m ≡ Known archived
       → found_receipt dig ps name r.head archived m.thread ≡ Is (Ok (receipt_of name archived (auth dig h archived) m.thread))
   unfolding found_receipt
   receipt_kept size name archived is =
@@ -174,7 +174,7 @@ module _ (dig : List ℕ → List ℕ) (ps : Image) (h : History) (r : RootRecor
       ∙ ap (λ (a : List ℕ). Is (Ok (receipt_of name archived a m.thread))) told.2.auth
 
   -- a message that is accepted may be archived
-  pub may_archive : (time : Option ℕ) → IsLinked m → IsThread m.thread → m.thread.from ≢ h.name → judged dig es m ≡ Accept → IsTimeWithinLimits time → clock_refusal (greatest_time h) time ≡ None
+  pub may_archive : (time : Option ℕ) → IsLinked m → IsThread m.thread → m.thread.from ≢ h.name → judged_message dig es m ≡ Accept → IsTimeWithinLimits time → clock_refusal (greatest_time h) time ≡ None
       → length h.steps < LAST_STEP → MayArchive h m.thread time
   may_archive time linked is_thread other is within clock short = record {
     short = short;
@@ -190,10 +190,10 @@ module _ (dig : List ℕ → List ℕ) (ps : Image) (h : History) (r : RootRecor
   abbrev all : List Entry
   all = entries (tree h (length h.steps))
 
-  no_entry : entry_with all (thread_key t) ≡ None
-  no_entry = without-each all (thread_key t) (each-of (λ (f : Entry). key_of f ≢ thread_key t) all never)
+  no_entry : entry_with all (archive_key t) ≡ None
+  no_entry = without-each all (archive_key t) (each-of (λ (f : Entry). key_of f ≢ archive_key t) all never)
     where
-      never : (f : Entry) → In f all → key_of f ≢ thread_key t
+      never : (f : Entry) → In f all → key_of f ≢ archive_key t
       never f there is =
           let less = may.above f there (ap (λ (k : Key). k.from) is) in
           let same : f.thread.step ≡ t.step = ap (λ (k : Key). k.step) is in
@@ -210,4 +210,4 @@ module _ (dig : List ℕ → List ℕ) (ps : Image) (h : History) (r : RootRecor
   room_kept =
       let stands = tree_stands dig ps h r whole in
       ap (λ (f : Found (Result (Unit {0}) TreeFault)). f >>= room_in r.archive)
-      (insert-finds dig ps r.archive (tree h (length h.steps)) (thread_key t) stands few_entries ∙ ap (λ (o : Option Entry). insert_at r.archive o false) no_entry)
+      (insert-finds dig ps r.archive (tree h (length h.steps)) (archive_key t) stands few_entries ∙ ap (λ (o : Option Entry). insert_at r.archive o false) no_entry)

@@ -21,12 +21,12 @@ use Rattle.tw_rbtree.specs.FaultWords.{tree_faults}
 use Rattle.tw_rbtree.specs.declared.fault.TreeFault.{TreeFault}
 use Rattle.tw_rbtree.specs.declared.fault.TreeFault.TheVariants.{Present, Untrue, BadPage, DiskFault, NoMemory}
 use Rattle.tw_service.specs.Finds.{found_archived, found_room, receipt_at, room_in}
-use Rattle.tw_answers.specs.Refusals.{refusal_of, refusal_of_tree, refusals}
+use Rattle.tw_answers.specs.Refusals.{list_refusal, refusal_of_tree, service_refusals}
 
 module _ (root : Root) where
   -- a refused insert says of the pages what it found in them
   pub room-says : (fault : TreeFault) (found : Found (Result (Unit {0}) TreeFault)) → RefusesAs tree_faults (tree_faults fault) fault found
-      → SaysOf refusals (refusals (refusal_of_tree root fault)) (found >>= room_in root)
+      → SaysOf service_refusals (service_refusals (refusal_of_tree root fault)) (found >>= room_in root)
   room-says Present found is = ap (λ (f : Found (Result (Unit {0}) TreeFault)). f >>= room_in root) is
   room-says Untrue found is = ap (λ (f : Found (Result (Unit {0}) TreeFault)). f >>= room_in root) is
   room-says (BadPage page) found is = ap (λ (f : Found (Result (Unit {0}) TreeFault)). f >>= room_in root) is
@@ -41,7 +41,7 @@ module _ {T : Type 0} where
 
 module _ (dig : List ℕ → List ℕ) (ps : Image) (root : RootRecord) (t : Thread) (time : Option ℕ) where
   -- there was no room in the archive's tree
-  pub room_archives : (r : Refusal) → SaysOf refusals (refusals r) (found_room dig ps root.archive t) → ArchivesAs dig ps root t time r
+  pub room_archives : (r : Refusal) → SaysOf service_refusals (service_refusals r) (found_room dig ps root.archive t) → ArchivesAs dig ps root t time r
   unfolding found_archived
   room_archives (refused.BadPage page) is =
       ([], root.archive, bad_ends (found_room dig ps root.archive t) (λ room. appended dig (ps ++ []) root.head (Received t) root.archive time >>= (λ next. Is (Ok (receipt_at root.name next.value t)))) page is)
@@ -55,7 +55,7 @@ module _ (dig : List ℕ → List ℕ) (ps : Image) (root : RootRecord) (t : Thr
         is_on (found_room dig ps root.archive t) (λ room. appended dig (ps ++ tree_pages) root.head (Received t) archive time >>= (λ next. Is (Ok (receipt_at root.name next.value t)))) tt room
         ∙ bad_ends (appended dig (ps ++ tree_pages) root.head (Received t) archive time) (λ next. Is (Ok (receipt_at root.name next.value t))) page is
 
-    pub step_archives : (fault : ListFault) → SaysOf list_faults (list_faults fault) (appended dig (ps ++ tree_pages) root.head (Received t) archive time) → ArchivesAs dig ps root t time (refusal_of fault)
+    pub step_archives : (fault : ListFault) → SaysOf list_faults (list_faults fault) (appended dig (ps ++ tree_pages) root.head (Received t) archive time) → ArchivesAs dig ps root t time (list_refusal fault)
     step_archives (list.BadPage page) is = (tree_pages, archive, appended_archives page is)
     step_archives (list.NoStep last) is = tt
     step_archives list.DiskFault is = tt

@@ -17,25 +17,25 @@ use Rattle.tw_archive.specs.Archives.{MayArchive}
 use Rattle.tw_rbtree.specs.Standing.{HasNamed, StandsWith}
 use Rattle.tw_disk.specs.Answers.{Next}
 use Rattle.tw_disk.proofs.FoundLaws.{same_found}
-use Rattle.tw_pages.specs.Records.{IsOneOf, IsWritten, Written, written}
+use Rattle.tw_pages.specs.Records.{IsOneOf, IsWritten, Written, written_record}
 use Rattle.tw_pages.specs.Rests.{RestsWith}
 use Rattle.tw_pages.proofs.States.{stands_by}
 use Rattle.tw_pages.proofs.Written.{content_written, only_same, rest_for_good as rests_for_good, since_same, still_rests}
 use Rattle.tw_pages.specs.declared.store.Store.{Store}
 use Rattle.tw_pages.specs.Same.{IsSameStore}
-use Rattle.tw_pages.specs.StoreValue.{disk_of}
+use Rattle.tw_pages.specs.StoreValue.{store_disk}
 use Rattle.tw_skiplist.specs.declared.head.Head.{Head}
 use Rattle.tw_answers.specs.declared.refusal.Refusal.{Refusal}
 use Rattle.tw_answers.specs.declared.limits.TheConstants.{MOST_PAGES_OF_A_STEP}
 use Rattle.tw_answers.specs.declared.root.RootRecord.{RootRecord}
 use Rattle.tw_answers.specs.Limits.{clock_refusal}
 use Rattle.tw_answers.specs.Roots.{root_kind}
-use Rattle.tw_service.specs.Archiving.{entry_of}
-use Rattle.tw_service.specs.EventSteps.{with_events}
+use Rattle.tw_service.specs.Archiving.{archived_entry}
+use Rattle.tw_service.specs.EventSteps.{with_events_at}
 use Rattle.tw_service.specs.Keeps.{StoreServes}
 use Rattle.tw_service.specs.NextRecords.{event_record, next_record}
 use Rattle.tw_service.specs.Stands.{KeepsHistory, KeepsWhole, StandsFor, StandsForOneOf}
-use Rattle.tw_service.specs.Writing.{AddsThread, AppendsTo, Commits}
+use Rattle.tw_service.specs.Writing.{AddsThread, AppendsTo, CommitsRoot}
 use Rattle.tw_service.proofs.NextHistories.{sound_plus}
 use Rattle.tw_service.proofs.WholePages.{AddedThread, added_thread, added_whole, last_low, names, tree_named}
 
@@ -54,7 +54,7 @@ module _ (dig : List ℕ → List ℕ) (size : (text : List ℕ) → IsDigest (d
 
   -- after a step of events
   pub keeps_events : (events : List (List ℕ)) (time : Option ℕ) → AppendsTo dig events time w next → w.root.head.step < LAST_STEP → MayRecord events → IsTimeWithinLimits time → clock_refusal w.root.time time ≡ None
-      → 4 + length w.pages < 2 ^ 47 → KeepsHistory dig next.pages next.root (with_events h events time)
+      → 4 + length w.pages < 2 ^ 47 → KeepsHistory dig next.pages next.root (with_events_at h events time)
   keeps_events events time to short limits within clock room =
       let own = added_whole dig size w.pages h w.root keeps.whole events time short limits within room in
       let same : ◌≡◌ {A = Next Head} (record { pages = w.pages ++ own.more; value = own.new }) (record { pages = next.pages; value = next.root.head }) = same_found _ _ (sym own.is ∙ to.is) in
@@ -62,8 +62,8 @@ module _ (dig : List ℕ → List ℕ) (size : (text : List ℕ) → IsDigest (d
         sound = sound_plus h events time keeps.sound limits within
             (ap (λ (o : Option ℕ). clock_refusal o time) (sym keeps.whole.time) ∙ clock) (omega (arith, short, keeps.whole.steps.step));
         named = named_on next.root.head w.root.archive w.root.threads time to.root;
-        whole = subst (λ (r : RootRecord). KeepsWhole dig next.pages (with_events h events time) r) (sym to.root)
-            (subst (λ (n : Next Head). KeepsWhole dig n.pages (with_events h events time) (event_record w.root n.value time)) same own.keeps);
+        whole = subst (λ (r : RootRecord). KeepsWhole dig next.pages (with_events_at h events time) r) (sym to.root)
+            (subst (λ (n : Next Head). KeepsWhole dig n.pages (with_events_at h events time) (event_record w.root n.value time)) same own.keeps);
       }
 
   same_pages : {one other : Image} → Some one ≡ Some other → other ≡ one
@@ -86,7 +86,7 @@ module _ (dig : List ℕ → List ℕ) (size : (text : List ℕ) → IsDigest (d
     abbrev whole : KeepsWhole dig ps h r
     whole = keeps.whole
 
-    new_tree : (tree_now : Tree) × StandsWith dig (HasNamed (names dig ps h r whole)) (ps ++ to.staged.tree_pages) next.root.archive tree_now × (entries tree_now ≡ with_entry (entries (tree h (length h.steps))) (entry_of r.head.step t))
+    new_tree : (tree_now : Tree) × StandsWith dig (HasNamed (names dig ps h r whole)) (ps ++ to.staged.tree_pages) next.root.archive tree_now × (entries tree_now ≡ with_entry (entries (tree h (length h.steps))) (archived_entry r.head.step t))
     new_tree = to.staged.tree (names dig ps h r whole) (last_low dig ps h r whole) (tree h (length h.steps)) (tree_named dig ps h r whole)
 
     lists : entries new_tree.0 ≡ with_entry (entries (tree h (length h.steps))) (record { thread = t; archived = suc (length h.steps) })
@@ -138,59 +138,59 @@ module _ {D : Type 0} {g : _} (view : D → DiskView) (only_now : (d : D) (c : I
   -- ---- a store that was only read and staged on
 
   module _ (dig : List ℕ → List ℕ) where
-    pub rest_for_good : (store : Store D g) (r : RootRecord) (h : History) → StoreServes dig view store r h → IsAtRest (view (disk_of store)) (λ i. StandsFor dig i r.name h)
+    pub rest_for_good : (store : Store D g) (r : RootRecord) (h : History) → StoreServes dig view store r h → IsAtRest (view (store_disk store)) (λ i. StandsFor dig i r.name h)
     rest_for_good store r h serves =
-        let rest = rests_for_good view root_kind store (written r serves.pages) serves.rests in
-        record { image = rest.image; told = rest.told; only = rest.only; has = stands_named dig (written r serves.pages) h r.name serves.keeps serves.keeps.named rest.image rest.has }
+        let rest = rests_for_good view root_kind store (written_record r serves.pages) serves.rests in
+        record { image = rest.image; told = rest.told; only = rest.only; has = stands_named dig (written_record r serves.pages) h r.name serves.keeps serves.keeps.named rest.image rest.has }
 
     pub read_serves : (old mid : Store D g) (r : RootRecord) (h : History) → IsSameStore view old mid → StoreServes dig view old r h → StoreServes dig view mid r h
-    read_serves old mid r h same serves = record { pages = serves.pages; rests = still_rests view root_kind old mid (written r serves.pages) same serves.rests; keeps = serves.keeps }
+    read_serves old mid r h same serves = record { pages = serves.pages; rests = still_rests view root_kind old mid (written_record r serves.pages) same serves.rests; keeps = serves.keeps }
 
-    pub read_leaves : (old mid : Store D g) (r : RootRecord) (h : History) → IsSameStore view old mid → StoreServes dig view old r h → LeavesOnly (view (disk_of old)) (view (disk_of mid)) (λ i. StandsFor dig i r.name h)
-    read_leaves old mid r h same serves = only_same view root_kind only_now old mid (written r serves.pages) (λ i. StandsFor dig i r.name h) same serves.rests
-        (λ i is. stands_named dig (written r serves.pages) h r.name serves.keeps serves.keeps.named i is)
+    pub read_leaves : (old mid : Store D g) (r : RootRecord) (h : History) → IsSameStore view old mid → StoreServes dig view old r h → LeavesOnly (view (store_disk old)) (view (store_disk mid)) (λ i. StandsFor dig i r.name h)
+    read_leaves old mid r h same serves = only_same view root_kind only_now old mid (written_record r serves.pages) (λ i. StandsFor dig i r.name h) same serves.rests
+        (λ i is. stands_named dig (written_record r serves.pages) h r.name serves.keeps serves.keeps.named i is)
 
     -- so it leaves and tells one of two histories
-    pub same_leaves : (old mid : Store D g) (r : RootRecord) (h next : History) → IsSameStore view old mid → StoreServes dig view old r h → LeavesOnly (view (disk_of old)) (view (disk_of mid)) (StandsForOneOf dig r.name h next)
+    pub same_leaves : (old mid : Store D g) (r : RootRecord) (h next : History) → IsSameStore view old mid → StoreServes dig view old r h → LeavesOnly (view (store_disk old)) (view (store_disk mid)) (StandsForOneOf dig r.name h next)
     same_leaves old mid r h next same serves =
-        leaves_weaker (view (disk_of old)) (view (disk_of mid)) (λ i. StandsFor dig i r.name h) (StandsForOneOf dig r.name h next) (λ i stands. inl stands) (read_leaves old mid r h same serves)
+        leaves_weaker (view (store_disk old)) (view (store_disk mid)) (λ i. StandsFor dig i r.name h) (StandsForOneOf dig r.name h next) (λ i stands. inl stands) (read_leaves old mid r h same serves)
 
-    pub same_tells : (old mid : Store D g) (r : RootRecord) (h next : History) → IsSameStore view old mid → StoreServes dig view old r h → Reads (view (disk_of mid)) (StandsForOneOf dig r.name h next)
+    pub same_tells : (old mid : Store D g) (r : RootRecord) (h next : History) → IsSameStore view old mid → StoreServes dig view old r h → Reads (view (store_disk mid)) (StandsForOneOf dig r.name h next)
     same_tells old mid r h next same serves = let now = rest_for_good mid r h (read_serves old mid r h same serves) in record { image = now.image; told = now.told; has = inl now.has }
 
   -- ---- what a call wrote
 
   module _ {T : Type 0} (IsNext : (w next : Written RootRecord) → Type 0) (IsAnswer : T → (w next : Written RootRecord) → Type 0) where
     -- nothing
-    pub nothing_written : (old mid : Store D g) (r after : RootRecord) (result : Result T Refusal) (ps : Image) → IsSameStore view old mid → RestsWith view root_kind old (written r ps) → after ≡ r
-        → IfOk result (λ value. IsAnswer value (written r ps) (written r ps)) → Commits view IsNext IsAnswer old mid r after result ps
+    pub nothing_written : (old mid : Store D g) (r after : RootRecord) (result : Result T Refusal) (ps : Image) → IsSameStore view old mid → RestsWith view root_kind old (written_record r ps) → after ≡ r
+        → IfOk result (λ value. IsAnswer value (written_record r ps) (written_record r ps)) → CommitsRoot view IsNext IsAnswer old mid r after result ps
     nothing_written old mid r after (Ok value) ps same rest stays is = record {
-      next = written r ps;
+      next = written_record r ps;
       is_next = inl refl;
-      any_moment = only_same view root_kind only_now old mid (written r ps) (IsOneOf root_kind (written r ps) (written r ps)) same rest (λ i was. inl was);
-      told = let now = still_rests view root_kind old mid (written r ps) same rest in record { image = now.image; told = now.told; has = inl (content_written view root_kind mid (written r ps) now) };
-      done = (is, stays, still_rests view root_kind old mid (written r ps) same rest);
+      any_moment = only_same view root_kind only_now old mid (written_record r ps) (IsOneOf root_kind (written_record r ps) (written_record r ps)) same rest (λ i was. inl was);
+      told = let now = still_rests view root_kind old mid (written_record r ps) same rest in record { image = now.image; told = now.told; has = inl (content_written view root_kind mid (written_record r ps) now) };
+      done = (is, stays, still_rests view root_kind old mid (written_record r ps) same rest);
       refused = tt;
     }
     nothing_written old mid r after (Err refusal) ps same rest stays is = record {
-      next = written r ps;
+      next = written_record r ps;
       is_next = inl refl;
-      any_moment = only_same view root_kind only_now old mid (written r ps) (IsOneOf root_kind (written r ps) (written r ps)) same rest (λ i was. inl was);
-      told = let now = still_rests view root_kind old mid (written r ps) same rest in record { image = now.image; told = now.told; has = inl (content_written view root_kind mid (written r ps) now) };
+      any_moment = only_same view root_kind only_now old mid (written_record r ps) (IsOneOf root_kind (written_record r ps) (written_record r ps)) same rest (λ i was. inl was);
+      told = let now = still_rests view root_kind old mid (written_record r ps) same rest in record { image = now.image; told = now.told; has = inl (content_written view root_kind mid (written_record r ps) now) };
       done = tt;
       refused = inr (
-        still_rests view root_kind old mid (written r ps) same rest,
-        only_same view root_kind only_now old mid (written r ps) (IsWritten root_kind (written r ps)) same rest (λ i was. was),
+        still_rests view root_kind old mid (written_record r ps) same rest,
+        only_same view root_kind only_now old mid (written_record r ps) (IsWritten root_kind (written_record r ps)) same rest (λ i was. was),
       );
     }
 
     -- what was written since before the store was read, with an answer that this one tells
-    pub since_read : {Next : (w next : Written RootRecord) → Type 0} {IsOther : T → (w next : Written RootRecord) → Type 0} (old mid new : Store D g) (r after : RootRecord) (result : Result T Refusal) (ps : Image) → IsSameStore view old mid → RestsWith view root_kind old (written r ps)
-        → ((next : Written RootRecord) → Next (written r ps) next → IsNext (written r ps) next) → ((value : T) (next : Written RootRecord) → IsOther value (written r ps) next → IsAnswer value (written r ps) next) → Commits view Next IsOther mid new r after result ps → Commits view IsNext IsAnswer old new r after result ps
+    pub since_read : {Next : (w next : Written RootRecord) → Type 0} {IsOther : T → (w next : Written RootRecord) → Type 0} (old mid new : Store D g) (r after : RootRecord) (result : Result T Refusal) (ps : Image) → IsSameStore view old mid → RestsWith view root_kind old (written_record r ps)
+        → ((next : Written RootRecord) → Next (written_record r ps) next → IsNext (written_record r ps) next) → ((value : T) (next : Written RootRecord) → IsOther value (written_record r ps) next → IsAnswer value (written_record r ps) next) → CommitsRoot view Next IsOther mid new r after result ps → CommitsRoot view IsNext IsAnswer old new r after result ps
     since_read old mid new r after (Ok value) ps same rest goes tells it = record {
       next = it.next;
       is_next = ⊎_elim (λ stays. inl stays) (λ to. inr (goes it.next to)) it.is_next;
-      any_moment = since_same view root_kind only_now old mid new (written r ps) (IsOneOf root_kind (written r ps) it.next) same rest (λ i was. inl was) it.any_moment;
+      any_moment = since_same view root_kind only_now old mid new (written_record r ps) (IsOneOf root_kind (written_record r ps) it.next) same rest (λ i was. inl was) it.any_moment;
       told = it.told;
       done = (tells value it.next it.done.0, it.done.1, it.done.2);
       refused = tt;
@@ -198,28 +198,28 @@ module _ {D : Type 0} {g : _} (view : D → DiskView) (only_now : (d : D) (c : I
     since_read old mid new r after (Err refusal) ps same rest goes tells it = record {
       next = it.next;
       is_next = ⊎_elim (λ stays. inl stays) (λ to. inr (goes it.next to)) it.is_next;
-      any_moment = since_same view root_kind only_now old mid new (written r ps) (IsOneOf root_kind (written r ps) it.next) same rest (λ i was. inl was) it.any_moment;
+      any_moment = since_same view root_kind only_now old mid new (written_record r ps) (IsOneOf root_kind (written_record r ps) it.next) same rest (λ i was. inl was) it.any_moment;
       told = it.told;
       done = tt;
       refused = ⊎_elim (λ fault. inl fault)
-          (λ stays. inr (stays.0, since_same view root_kind only_now old mid new (written r ps) (IsWritten root_kind (written r ps)) same rest (λ i was. was) stays.1)) it.refused;
+          (λ stays. inr (stays.0, since_same view root_kind only_now old mid new (written_record r ps) (IsWritten root_kind (written_record r ps)) same rest (λ i was. was) stays.1)) it.refused;
     }
 
     -- of a history that was served, with the one that the next record and pages keep
     module _ (dig : List ℕ → List ℕ) (old new : Store D g) (before after : RootRecord) (result : Result T Refusal) (h then : History) (serves : StoreServes dig view old before h)
-        (it : Commits view IsNext IsAnswer old new before after result serves.pages) (either : (it.next ≡ written before serves.pages) ⊎ KeepsHistory dig it.next.pages it.next.root then) (named : then.name ≡ before.name) where
-      one : (i : Image) → IsOneOf root_kind (written before serves.pages) it.next i → StandsForOneOf dig before.name h then i
-      one = one_named dig (written before serves.pages) it.next h then before.name serves.keeps serves.keeps.named either named
+        (it : CommitsRoot view IsNext IsAnswer old new before after result serves.pages) (either : (it.next ≡ written_record before serves.pages) ⊎ KeepsHistory dig it.next.pages it.next.root then) (named : then.name ≡ before.name) where
+      one : (i : Image) → IsOneOf root_kind (written_record before serves.pages) it.next i → StandsForOneOf dig before.name h then i
+      one = one_named dig (written_record before serves.pages) it.next h then before.name serves.keeps serves.keeps.named either named
 
-      pub written_leaves : LeavesOnly (view (disk_of old)) (view (disk_of new)) (StandsForOneOf dig before.name h then)
-      written_leaves = leaves_weaker (view (disk_of old)) (view (disk_of new)) (IsOneOf root_kind (written before serves.pages) it.next) (StandsForOneOf dig before.name h then) one it.any_moment
+      pub written_leaves : LeavesOnly (view (store_disk old)) (view (store_disk new)) (StandsForOneOf dig before.name h then)
+      written_leaves = leaves_weaker (view (store_disk old)) (view (store_disk new)) (IsOneOf root_kind (written_record before serves.pages) it.next) (StandsForOneOf dig before.name h then) one it.any_moment
 
-      pub written_tells : Reads (view (disk_of new)) (StandsForOneOf dig before.name h then)
+      pub written_tells : Reads (view (store_disk new)) (StandsForOneOf dig before.name h then)
       written_tells = record { image = it.told.image; told = it.told.told; has = one it.told.image it.told.has }
 
       pub written_serves : KeepsHistory dig it.next.pages it.next.root then → (after ≡ it.next.root) × RestsWith view root_kind new it.next → StoreServes dig view new after then
       written_serves keeps done = record {
         pages = it.next.pages;
-        rests = subst (λ (r : RootRecord). RestsWith view root_kind new (written r it.next.pages)) (sym done.0) done.1;
+        rests = subst (λ (r : RootRecord). RestsWith view root_kind new (written_record r it.next.pages)) (sym done.0) done.1;
         keeps = subst (λ (r : RootRecord). KeepsHistory dig it.next.pages r then) (sym done.0) keeps;
       }

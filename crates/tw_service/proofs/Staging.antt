@@ -15,12 +15,12 @@ use Rattle.tw_disk.specs.Found.{Found, ◌>>=◌}
 use Rattle.tw_disk.specs.Found.Found.{Bad, Is}
 use Rattle.tw_disk.proofs.FoundLaws.{same_found}
 use Rattle.tw_disk.specs.Image.{Image}
-use Rattle.tw_pages.specs.Records.{IsOneOf, Written, written}
+use Rattle.tw_pages.specs.Records.{IsOneOf, Written, written_record}
 use Rattle.tw_pages.specs.Rests.{RestsWith}
 use Rattle.tw_pages.proofs.Staged.{IsStaged, leaves_since, of_these}
 use Rattle.tw_pages.specs.declared.store.Store.{Store}
-use Rattle.tw_pages.specs.Same.{IsSameStore, count_of, list_of}
-use Rattle.tw_pages.specs.StoreValue.{disk_of}
+use Rattle.tw_pages.specs.Same.{IsSameStore, store_count, store_list}
+use Rattle.tw_pages.specs.StoreValue.{store_disk}
 use Rattle.tw_skiplist.specs.declared.head.Head.{Head}
 use Rattle.tw_skiplist.specs.Appended.{appended, new_step, next_of, put_behind}
 use Rattle.tw_skiplist.specs.Walks.{next_links}
@@ -32,7 +32,7 @@ use Rattle.tw_answers.specs.Roots.{HasLastPage, IsAllowed, root_kind}
 use Rattle.tw_answers.proofs.RootLaws.{root-fits, root-name, root-time}
 use Rattle.tw_service.specs.Archiving.{IsStagedBehind}
 use Rattle.tw_service.specs.NextRecords.{event_record, next_record}
-use Rattle.tw_service.specs.Writing.{AddsThread, AppendsTo, Commits}
+use Rattle.tw_service.specs.Writing.{AddsThread, AppendsTo, CommitsRoot}
 use Rattle.tw_service.specs.Stands.{greater}
 use Rattle.tw_service.proofs.GreatestTimes.{greater-within}
 
@@ -86,31 +86,31 @@ module _ (r next : RootRecord) (before generation used commits : ℕ) (may : IsA
 
 module _ {D T : Type 0} {g : _} (view : D → DiskView) (only_now : (d : D) (c : Image) → (view d).left_since (view d).moment c → (view d).may_leave c)
     (IsNext : (w next : Written RootRecord) → Type 0) (IsAnswer : T → (w next : Written RootRecord) → Type 0)
-    (old mid new : Store D g) (r next : RootRecord) (ps all : Image) (put : IsStaged view root_kind old mid r next ps all) (is : IsNext (written r ps) (written next all)) where
+    (old mid new : Store D g) (r next : RootRecord) (ps all : Image) (put : IsStaged view root_kind old mid r next ps all) (is : IsNext (written_record r ps) (written_record next all)) where
   -- what a clause of the commit says, for these pages
   abbrev pub OfThese : (Image → Image → Type 0) → Type 0
-  OfThese P = (qs some : Image) → RestsWith view root_kind mid (written r qs) → list_of view mid ≡ Some some → IsAllowed (count_of mid) (mid.generation + 1) next → P qs some
+  OfThese P = (qs some : Image) → RestsWith view root_kind mid (written_record r qs) → store_list view mid ≡ Some some → IsAllowed (store_count mid) (mid.generation + 1) next → P qs some
 
   abbrev pub Leaves : Image → Image → Type 0
-  Leaves qs some = LeavesOnly (view (disk_of mid)) (view (disk_of new)) (IsOneOf root_kind (written r qs) (written next some))
+  Leaves qs some = LeavesOnly (view (store_disk mid)) (view (store_disk new)) (IsOneOf root_kind (written_record r qs) (written_record next some))
 
   abbrev pub Tells : Image → Image → Type 0
-  Tells qs some = Reads (view (disk_of new)) (IsOneOf root_kind (written r qs) (written next some))
+  Tells qs some = Reads (view (store_disk new)) (IsOneOf root_kind (written_record r qs) (written_record next some))
 
-  pub committed : (value : T) (after : RootRecord) → IsAnswer value (written r ps) (written next all) → after ≡ next → OfThese Leaves → OfThese Tells → OfThese (λ qs some. RestsWith view root_kind new (written next some))
-      → Commits view IsNext IsAnswer old new r after (Ok value) ps
+  pub committed : (value : T) (after : RootRecord) → IsAnswer value (written_record r ps) (written_record next all) → after ≡ next → OfThese Leaves → OfThese Tells → OfThese (λ qs some. RestsWith view root_kind new (written_record next some))
+      → CommitsRoot view IsNext IsAnswer old new r after (Ok value) ps
   committed value after answer after_is leaves tells rests = record {
-    next = written next all;
+    next = written_record next all;
     is_next = inr is;
     any_moment = leaves_since view only_now root_kind old mid r next ps all put new leaves;
     told = of_these view only_now root_kind old mid r next ps all put Tells tells;
-    done = (answer, after_is, of_these view only_now root_kind old mid r next ps all put (λ qs some. RestsWith view root_kind new (written next some)) rests);
+    done = (answer, after_is, of_these view only_now root_kind old mid r next ps all put (λ qs some. RestsWith view root_kind new (written_record next some)) rests);
     refused = tt;
   }
 
-  pub not_committed : (after : RootRecord) → OfThese Leaves → OfThese Tells → Commits view IsNext IsAnswer old new r after (Err DiskFault) ps
+  pub not_committed : (after : RootRecord) → OfThese Leaves → OfThese Tells → CommitsRoot view IsNext IsAnswer old new r after (Err DiskFault) ps
   not_committed after leaves tells = record {
-    next = written next all;
+    next = written_record next all;
     is_next = inr is;
     any_moment = leaves_since view only_now root_kind old mid r next ps all put new leaves;
     told = of_these view only_now root_kind old mid r next ps all put Tells tells;
@@ -130,27 +130,27 @@ unfolding put_behind
 behind-page dig ps head content archive time n is = put-page ps (next_links ps head) (λ ls. next_of dig ps head (new_step dig content archive time) ls) (λ ls. omega arith) n is
 
 module _ {D : Type 0} {g : _} (view : D → DiskView) (dig : List ℕ → List ℕ) (old mid : Store D g) (r next : RootRecord) (head : Head) (time : Option ℕ) (ps more : Image)
-    (same : IsSameStore view old mid) (rest : RestsWith view root_kind old (written r ps)) (count : count_of old ≡ 4 + length ps) (grown : list_of view mid ≡ Some (ps ++ more))
+    (same : IsSameStore view old mid) (rest : RestsWith view root_kind old (written_record r ps)) (count : store_count old ≡ 4 + length ps) (grown : store_list view mid ≡ Some (ps ++ more))
     (auth : HasBytes 32 head.auth) (one_more : head.step ≡ r.head.step + 1) (short : r.head.step < LAST_STEP) (commits : old.generation ≤ r.head.step + 1) (within : IsTimeWithinLimits time)
-    (page : head.page < count_of mid) where
-  may_old : IsAllowed (count_of old) old.generation r
+    (page : head.page < store_count mid) where
+  may_old : IsAllowed (store_count old) old.generation r
   may_old = subst (λ (n : ℕ). IsAllowed n old.generation r) (ap (λ (qs : Image). 4 + length qs) rest.has.pages_are ∙ sym count) rest.has.has.may
 
-  all_told : (pages : Image) → list_of view mid ≡ Some pages → pages ≡ ps ++ more
+  all_told : (pages : Image) → store_list view mid ≡ Some pages → pages ≡ ps ++ more
   all_told pages told = let both : Some pages ≡ Some (ps ++ more) = sym told ∙ grown in cc
 
   -- for a step of events
-  module _ (events : List (List ℕ)) (next_is : next ≡ event_record r head time) (label : HasBytes 32 r.archive.label) (few : count_of mid ≤ count_of old + 19) (grows : count_of old ≤ count_of mid)
-      (pages : Image) (told : list_of view mid ≡ Some pages) (found : appended dig ps r.head (Events events) r.archive time ≡ Is (record { pages = pages; value = head })) where
-    may_events : IsAllowed (count_of mid) (mid.generation + 1) (event_record r head time)
-    may_events = may_next r (event_record r head time) (count_of old) old.generation (count_of mid) (mid.generation + 1) may_old time within (record {
+  module _ (events : List (List ℕ)) (next_is : next ≡ event_record r head time) (label : HasBytes 32 r.archive.label) (few : store_count mid ≤ store_count old + 19) (grows : store_count old ≤ store_count mid)
+      (pages : Image) (told : store_list view mid ≡ Some pages) (found : appended dig ps r.head (Events events) r.archive time ≡ Is (record { pages = pages; value = head })) where
+    may_events : IsAllowed (store_count mid) (mid.generation + 1) (event_record r head time)
+    may_events = may_next r (event_record r head time) (store_count old) old.generation (store_count mid) (mid.generation + 1) may_old time within (record {
       named = refl;
       one_more = one_more;
       short = short;
       auth = auth;
       label = label;
       page = (let low = behind-page dig ps r.head (Events events) r.archive time (record { pages = pages; value = head }) found in omega (arith, low), page);
-      archive = last_on (count_of old) (count_of mid) r.threads r.archive.page may_old.fits.threads grows;
+      archive = last_on (store_count old) (store_count mid) r.threads r.archive.page may_old.fits.threads grows;
       threads = let less = may_old.fits.few_threads in omega (arith, less, one_more);
       timed = refl;
       pages = let most = may_old.fits.few_pages in omega (arith, few, most, one_more);
@@ -158,9 +158,9 @@ module _ {D : Type 0} {g : _} (view : D → DiskView) (dig : List ℕ → List �
     })
 
     pub staged_events : IsStaged view root_kind old mid r next ps (ps ++ more)
-    staged_events = record { same = same; rest = rest; list = grown; may = subst (λ (x : RootRecord). IsAllowed (count_of mid) (mid.generation + 1) x) (sym next_is) may_events }
+    staged_events = record { same = same; rest = rest; list = grown; may = subst (λ (x : RootRecord). IsAllowed (store_count mid) (mid.generation + 1) x) (sym next_is) may_events }
 
-    pub appends_events : append_refusal false r.head.step r.time events time ≡ None → AppendsTo dig events time (written r ps) (written next (ps ++ more))
+    pub appends_events : append_refusal false r.head.step r.time events time ≡ None → AppendsTo dig events time (written_record r ps) (written_record next (ps ++ more))
     appends_events allowed =
         let is : head ≡ next.head = sym (ap (λ (x : RootRecord). x.head) next_is) in
         record {
@@ -172,10 +172,10 @@ module _ {D : Type 0} {g : _} (view : D → DiskView) (dig : List ℕ → List �
         }
 
   -- for a step that archives a thread
-  module _ (t : Thread) (archive : Root) (next_is : next ≡ next_record r head archive (r.threads + 1) time) (label : HasBytes 32 archive.label) (few : count_of mid ≤ count_of old + 42)
-      (tree : (count_of old ≤ archive.page) × (archive.page < count_of mid)) (staged : IsStagedBehind dig ps r t time (list_of view mid) head archive) where
-    may_thread : IsAllowed (count_of mid) (mid.generation + 1) (next_record r head archive (r.threads + 1) time)
-    may_thread = may_next r (next_record r head archive (r.threads + 1) time) (count_of old) old.generation (count_of mid) (mid.generation + 1) may_old time within (record {
+  module _ (t : Thread) (archive : Root) (next_is : next ≡ next_record r head archive (r.threads + 1) time) (label : HasBytes 32 archive.label) (few : store_count mid ≤ store_count old + 42)
+      (tree : (store_count old ≤ archive.page) × (archive.page < store_count mid)) (staged : IsStagedBehind dig ps r t time (store_list view mid) head archive) where
+    may_thread : IsAllowed (store_count mid) (mid.generation + 1) (next_record r head archive (r.threads + 1) time)
+    may_thread = may_next r (next_record r head archive (r.threads + 1) time) (store_count old) old.generation (store_count mid) (mid.generation + 1) may_old time within (record {
       named = refl;
       one_more = one_more;
       short = short;
@@ -190,9 +190,9 @@ module _ {D : Type 0} {g : _} (view : D → DiskView) (dig : List ℕ → List �
     })
 
     pub staged_thread : IsStaged view root_kind old mid r next ps (ps ++ more)
-    staged_thread = record { same = same; rest = rest; list = grown; may = subst (λ (x : RootRecord). IsAllowed (count_of mid) (mid.generation + 1) x) (sym next_is) may_thread }
+    staged_thread = record { same = same; rest = rest; list = grown; may = subst (λ (x : RootRecord). IsAllowed (store_count mid) (mid.generation + 1) x) (sym next_is) may_thread }
 
-    pub adds_thread : AddsThread dig t time (written r ps) (written next (ps ++ more))
+    pub adds_thread : AddsThread dig t time (written_record r ps) (written_record next (ps ++ more))
     adds_thread =
         let is : head ≡ next.head = sym (ap (λ (x : RootRecord). x.head) next_is) in
         let tree_is : archive ≡ next.archive = sym (ap (λ (x : RootRecord). x.archive) next_is) in

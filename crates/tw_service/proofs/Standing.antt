@@ -3,7 +3,7 @@ use Rattle.std.proofs.Common.{◌≡◌, ℕ, ◌+◌, ◌^◌, ◌≤◌, List,
 use Rattle.tw_base.specs.history.History.{History}
 use Rattle.tw_base.proofs.lemmas.kinds.DigestBytes.{IsDigest}
 use Rattle.tw_disk.specs.Image.{Image}
-use Rattle.tw_pages.specs.Records.{IsOnce, Written, written}
+use Rattle.tw_pages.specs.Records.{IsOnce, Written, written_record}
 use Rattle.tw_pages.specs.Records.{Served as ServedAs}
 use Rattle.tw_pages.specs.Records.Served.{Opened as OpenedAs, Unopened as UnopenedAs}
 use Rattle.tw_pages.specs.Records.{IsServed as IsServedAs}
@@ -22,11 +22,11 @@ once root used generation r s is may also would = root_once used generation root
 
 -- the pages of a service have numbers that fit
 pub has_numbers : (image : Image) (root : RootRecord) (pages : Image) → IsServed image (Opened root pages) → 4 + length pages ≤ 2 ^ 64
-has_numbers image root pages is = numbers_written root_kind image (written root pages) is
+has_numbers image root pages is = numbers_written root_kind image (written_record root pages) is
 
 -- an image is served as one thing at most
 abbrev as_kept : Served → ServedAs RootRecord
-as_kept (Opened root pages) = OpenedAs (written root pages)
+as_kept (Opened root pages) = OpenedAs (written_record root pages)
 as_kept (Unopened fault) = UnopenedAs fault
 
 abbrev of_kept : ServedAs RootRecord → Served

@@ -17,21 +17,21 @@ use Rattle.tw_disk.specs.Found.Found.{Is}
 use Rattle.tw_disk.specs.Image.{Image}
 use Rattle.tw_rbtree.specs.declared.new_node.NewNode.{NewNode}
 use Rattle.tw_rbtree.specs.Listing.{listed}
-use Rattle.tw_rbtree.specs.Standing.{HasNamed, Named, StandsFor, StandsWith}
+use Rattle.tw_rbtree.specs.Standing.{HasNamed, Named, StandsForTree, StandsWith}
 use Rattle.tw_rbtree.proofs.Keeping.{stands-any}
 use Rattle.tw_archive.specs.Archives.{Agree, HasGrown, KeepsTrees, MayArchive, archiving, named_at}
-use Rattle.tw_archive.specs.Numbering.{new_from, numbered}
+use Rattle.tw_archive.specs.Numbering.{new_from, numbered_archive}
 use Rattle.tw_archive.proofs.Growing.{archived-keeps, archived-sound, grown-nodes, grown-tree}
 use Rattle.tw_archive.proofs.Keeping.{kept-named, stands-at}
 use Rattle.tw_archive.proofs.Resting.{events-keep}
 use Rattle.tw_archive.proofs.RootPages.{some-entry}
 use Rattle.tw_skiplist.specs.declared.head.Head.{Head}
 use Rattle.tw_skiplist.specs.Appended.{appended}
-use Rattle.tw_skiplist.specs.Keeping.{GoOn, Keeps, Place, archive_at, place_of}
+use Rattle.tw_skiplist.specs.Keeping.{GoOn, Keeps, Place, archive_at, place_of_step}
 use Rattle.tw_skiplist.proofs.Growing.{Keeps-grows}
 use Rattle.tw_skiplist.proofs.KeptAppended.{Grown, grown}
 use Rattle.tw_answers.specs.declared.root.RootRecord.{RootRecord}
-use Rattle.tw_service.specs.EventSteps.{event_step, with_events}
+use Rattle.tw_service.specs.EventSteps.{event_step, with_events_at}
 use Rattle.tw_service.specs.NextRecords.{event_record, next_record}
 use Rattle.tw_service.specs.Stands.{KeepsWhole, greater, step_pages}
 use Rattle.tw_service.proofs.NextHistories.{longer-length, longer-time, none-received, one-received, same_tree}
@@ -50,7 +50,7 @@ module _ (dig : List ℕ → List ℕ) (ps : Image) (h : History) (r : RootRecor
   archive_below zero within = inl (ap (λ (p : Place). p.archive) whole.steps.keeps.nowhere)
   archive_below (suc k) within = let low = (whole.steps.keeps.steps k within).archive in inr (omega (arith, low))
 
-  place_low : (i : ℕ) → i ≤ length h.steps → (place_of places i).archive < 4 + length ps
+  place_low : (i : ℕ) → i ≤ length h.steps → (place_of_step places i).archive < 4 + length ps
   place_low zero within = let none = ap (λ (p : Place). p.archive) whole.steps.keeps.nowhere in omega (arith, none)
   place_low (suc k) within = let own = whole.steps.keeps.steps k within in let low = own.archive in let below = own.below in omega (arith, low, below)
 
@@ -66,7 +66,7 @@ module _ (dig : List ℕ → List ℕ) (ps : Image) (h : History) (r : RootRecor
   pub last_low : new_from (step_pages places) (length h.steps) ≤ 4 + length ps
   last_low = since_low (length h.steps) (omega arith)
 
-  any : (named : Named) (root : Root) (t : Tree) → StandsWith dig (HasNamed named) ps root t → StandsFor dig ps root t
+  any : (named : Named) (root : Root) (t : Tree) → StandsWith dig (HasNamed named) ps root t → StandsForTree dig ps root t
   any named root t stands = stands-any dig (HasNamed named) ps root t stands
 
   -- the pages stand for the archive's tree after the last step, with the trees of its numbers, and after each step
@@ -75,10 +75,10 @@ module _ (dig : List ℕ → List ℕ) (ps : Image) (h : History) (r : RootRecor
       subst (λ (root : Root). StandsWith dig (HasNamed names) ps root (tree h (length h.steps))) (sym whole.archive)
       (stands-at dig ps h (step_pages places) (archive_at dig h places) whole.trees (length h.steps) (omega arith) (λ none. refl))
 
-  pub tree_stands : StandsFor dig ps r.archive (tree h (length h.steps))
+  pub tree_stands : StandsForTree dig ps r.archive (tree h (length h.steps))
   tree_stands = any names r.archive (tree h (length h.steps)) tree_named
 
-  pub tree_at : (i : ℕ) → i ≤ length h.steps → StandsFor dig ps (archive_at dig h places i) (tree h i)
+  pub tree_at : (i : ℕ) → i ≤ length h.steps → StandsForTree dig ps (archive_at dig h places i) (tree h i)
   tree_at i within =
       any (named_at dig ps h (step_pages places) (archive_at dig h places) i) (archive_at dig h places i) (tree h i)
       (stands-at dig ps h (step_pages places) (archive_at dig h places) whole.trees i within (λ none. refl))
@@ -108,17 +108,17 @@ module _ (dig : List ℕ → List ℕ) (ps : Image) (h : History) (r : RootRecor
 
   -- ---- of events
 
-  module _ (more : Image) (events : List (List ℕ)) (time : Option ℕ) (head : Head) (longer : Keeps dig (ps ++ more) (with_events h events time) head) (on : GoOn places longer.places (length h.steps) r.archive.page) where
+  module _ (more : Image) (events : List (List ℕ)) (time : Option ℕ) (head : Head) (longer : Keeps dig (ps ++ more) (with_events_at h events time) head) (on : GoOn places longer.places (length h.steps) r.archive.page) where
     abbrev last : Step
     last = event_step (root_of (step_at h (length h.steps))) events time
 
-    same_label : r.archive.label ≡ tree_label dig (tree (with_events h events time) (suc (length h.steps)))
+    same_label : r.archive.label ≡ tree_label dig (tree (with_events_at h events time) (suc (length h.steps)))
     same_label = ap (λ (x : Root). x.label) whole.archive ∙ ap (λ (t : Tree). tree_label dig t) (sym (same_tree h events time))
 
-    pub events_on : KeepsWhole dig (ps ++ more) (with_events h events time) (event_record r head time)
+    pub events_on : KeepsWhole dig (ps ++ more) (with_events_at h events time) (event_record r head time)
     events_on =
         whole_on (ps ++ more) last r.archive head longer on same_label
-        (events-keep dig ps more h last (step_pages places) (step_pages longer.places) (archive_at dig h places) (archive_at dig (with_events h events time) longer.places) whole.trees
+        (events-keep dig ps more h last (step_pages places) (step_pages longer.places) (archive_at dig h places) (archive_at dig (with_events_at h events time) longer.places) whole.trees
         (pages_on (ps ++ more) last r.archive head longer on) (roots_on (ps ++ more) last r.archive head longer on) refl refl refl
         (root_on (ps ++ more) last r.archive head longer on same_label ∙ whole.archive) (archive_below (length h.steps) (omega arith)) refl)
         r.threads (whole.threads ∙ ap length (sym (none-received h last refl)))
@@ -128,7 +128,7 @@ pub record AddedWhole (dig : List ℕ → List ℕ) (ps : Image) (h : History) (
   pub more : Image
   pub new : Head
   pub is : appended dig ps r.head (Events events) r.archive time ≡ Is (record { pages = ps ++ more; value = new })
-  pub keeps : KeepsWhole dig (ps ++ more) (with_events h events time) (event_record r new time)
+  pub keeps : KeepsWhole dig (ps ++ more) (with_events_at h events time) (event_record r new time)
 
 pub added_whole : (dig : List ℕ → List ℕ) (size : (text : List ℕ) → IsDigest (dig text)) (ps : Image) (h : History) (r : RootRecord) → KeepsWhole dig ps h r → (events : List (List ℕ)) (time : Option ℕ)
     → r.head.step < LAST_STEP → MayRecord events → IsTimeWithinLimits time → 4 + length ps < 2 ^ 47 → AddedWhole dig ps h r events time
@@ -189,7 +189,7 @@ module _ (dig : List ℕ → List ℕ) (size : (text : List ℕ) → IsDigest (d
   listed_now = grown-nodes dig ps rest h (step_pages own_places) (archive_at dig h own_places) root tree_now t time whole.trees has
 
   abbrev s : Step
-  s = archiving (numbered dig ps (step_pages own_places) (archive_at dig h own_places) (length h.steps)) t time listed_now.0 root.page
+  s = archiving (numbered_archive dig ps (step_pages own_places) (archive_at dig h own_places) (length h.steps)) t time listed_now.0 root.page
 
   label : root.label ≡ tree_label dig (tree (plus h s) (suc (length h.steps)))
   label = stands.label ∙ ap (λ (x : Tree). tree_label dig x) (sym (grown-tree dig ps rest h (step_pages own_places) (archive_at dig h own_places) root tree_now t time whole.trees has listed_now.0 listed_now.1))

@@ -19,18 +19,18 @@ use Rattle.tw_treeproof.specs.Answers.{ancestors_of}
 use Rattle.tw_base.specs.declared.history.question.Question.{Question}
 use Rattle.tw_base.specs.declared.history.question.Question.TheVariants as ask
 use Rattle.tw_service.specs.Machine.{IsFewNodes}
-use Rattle.tw_service.specs.Tops.{top_of}
+use Rattle.tw_service.specs.Tops.{top_or_last}
 
 -- they are accepted under every list of anchors whose anchor of the service and top has the history's authenticator of the top
-abbrev pub IsAcceptedUnder : (dig : List ℕ → List ℕ) → History → (top : ℕ) → (bytes : List ℕ) → Type 0
-IsAcceptedUnder dig h top bytes = (anchors : List Thread) (anchor : Thread) → anchor_of anchors h.name top ≡ Some anchor → anchor.auth ≡ auth dig h top → Accepts dig anchors bytes
+abbrev pub IsAcceptedUnderStep : (dig : List ℕ → List ℕ) → History → (top : ℕ) → (bytes : List ℕ) → Type 0
+IsAcceptedUnderStep dig h top bytes = (anchors : List Thread) (anchor : Thread) → anchor_of anchors h.name top ≡ Some anchor → anchor.auth ≡ auth dig h top → Accepts dig anchors bytes
 
 -- so are the bytes of each proof; and those of the file are read as the history again
 unfoldable pub IsAcceptedFor : (dig : List ℕ → List ℕ) → History → Question → (bytes : List ℕ) → Type 0
-IsAcceptedFor dig h (ask.Event step index top) bytes = IsAcceptedUnder dig h (top_of top (length h.steps)) bytes
-IsAcceptedFor dig h (ask.Thread step key top) bytes = IsAcceptedUnder dig h (top_of top (length h.steps)) bytes
-IsAcceptedFor dig h (ask.Absent step key top) bytes = IsAcceptedUnder dig h (top_of top (length h.steps)) bytes
-IsAcceptedFor dig h (ask.Link step top) bytes = IsAcceptedUnder dig h (top_of top (length h.steps)) bytes
+IsAcceptedFor dig h (ask.Event step index top) bytes = IsAcceptedUnderStep dig h (top_or_last top (length h.steps)) bytes
+IsAcceptedFor dig h (ask.Thread step key top) bytes = IsAcceptedUnderStep dig h (top_or_last top (length h.steps)) bytes
+IsAcceptedFor dig h (ask.Absent step key top) bytes = IsAcceptedUnderStep dig h (top_or_last top (length h.steps)) bytes
+IsAcceptedFor dig h (ask.Link step top) bytes = IsAcceptedUnderStep dig h (top_or_last top (length h.steps)) bytes
 IsAcceptedFor dig h ask.Export bytes = ReadsHistory bytes (Ok h)
 IsAcceptedFor dig h _ bytes = Unit {0}
 
@@ -42,5 +42,5 @@ HasFewFor h (ask.Absent step key top) bytes = (p : AbsenceProof) → Spells proo
 HasFewFor h (ask.Low step peer top) bytes =
     (f : LowFile) → Spells low_layout bytes f → IfSome f.shown (λ p. IsFewNodes (length (entries (tree h (step - 1)))) (length (ancestors_of p.shown)))
 HasFewFor h (ask.High step peer top) bytes =
-    (f : HighFile) → Spells high_layout bytes f → IsFewNodes (length (entries (tree h (top_of top (length h.steps))))) (length (ancestors_of f.shown))
+    (f : HighFile) → Spells high_layout bytes f → IsFewNodes (length (entries (tree h (top_or_last top (length h.steps))))) (length (ancestors_of f.shown))
 HasFewFor h _ bytes = Unit {0}

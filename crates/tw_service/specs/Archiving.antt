@@ -19,15 +19,15 @@ use Rattle.tw_skiplist.specs.declared.head.Head.{Head}
 use Rattle.tw_skiplist.specs.Appended.{appended}
 use Rattle.tw_answers.specs.declared.refusal.Refusal.{Refusal}
 use Rattle.tw_answers.specs.declared.root.RootRecord.{RootRecord}
-use Rattle.tw_answers.specs.Finds.{IsAnswer}
+use Rattle.tw_answers.specs.Finds.{IsFoundAnswer}
 use Rattle.tw_service.specs.declared.receiving.Reception.{Reception}
 use Rattle.tw_service.specs.declared.receiving.Reception.TheVariants.{Refuse, Known, Archive}
 use Rattle.tw_service.specs.Finds.{found_archived, found_receipt, found_room}
 use Rattle.tw_answers.specs.Refusals.{OfBadPage}
 
 -- the thread, as the step after so many receives it
-abbrev pub entry_of : (steps : ℕ) → Thread → Entry
-entry_of steps t = record { thread = t; archived = steps + 1 }
+abbrev pub archived_entry : (steps : ℕ) → Thread → Entry
+archived_entry steps t = record { thread = t; archived = steps + 1 }
 
 module _ (dig : List ℕ → List ℕ) (ps : Image) (root : RootRecord) (t : Thread) where
   -- behind these pages stand those of a tree under this root: where the first stand for the archive's tree, of which pages below a number
@@ -35,12 +35,12 @@ module _ (dig : List ℕ → List ℕ) (ps : Image) (root : RootRecord) (t : Thr
   abbrev pub HasTreeBehind : (tree_pages : Image) → (archive : Root) → Type 0
   HasTreeBehind tree_pages archive =
       (named : Named) → named.below ≤ FIRST_PAGE + length ps → (old : Tree) → StandsWith dig (HasNamed named) ps root.archive old
-      → (new : Tree) × StandsWith dig (HasNamed named) (ps ++ tree_pages) archive new × (entries new ≡ with_entry (entries old) (entry_of root.head.step t))
+      → (new : Tree) × StandsWith dig (HasNamed named) (ps ++ tree_pages) archive new × (entries new ≡ with_entry (entries old) (archived_entry root.head.step t))
 
   -- these pages put the thread into the archive's tree, as the next step receives it, and no other page is among them: those of the way
   -- to its place, as it is found in the pages, whatever else they keep, each with what stands below it now
   abbrev pub PutsThreadIn : (tree_pages : Image) → (archive : Root) → Type 0
-  PutsThreadIn tree_pages archive = PutsIn dig ps root.archive (entry_of root.head.step t) tree_pages archive
+  PutsThreadIn tree_pages archive = PutsIn dig ps root.archive (archived_entry root.head.step t) tree_pages archive
 
   -- the pages told now are those, the tree's, and then the step's, which is found behind the others
   pub record IsStagedBehind (time : Option ℕ) (now : Option Image) (head : Head) (archive : Root) : Type 0 where
@@ -64,7 +64,7 @@ module _ (dig : List ℕ → List ℕ) (ps : Image) (root : RootRecord) (t : Thr
   pub record AnswersArchived (time : Option ℕ) (head : Head) (archive : Root) (result : Result Receipt Refusal) : Type 0 where
     pub tree_pages : Image
     pub grown : Root
-    pub answer : IsAnswer result (found_archived dig ps root.name root.head root.archive t time tree_pages grown)
+    pub answer : IsFoundAnswer result (found_archived dig ps root.name root.head root.archive t time tree_pages grown)
     pub few : IfOk result (λ receipt. length tree_pages ≤ MOST_STAGED)
     pub put : IfOk result (λ receipt. PutsThreadIn tree_pages archive)
     pub tree : IfOk result (λ receipt. (grown ≡ archive) × HasTreeBehind tree_pages archive)
@@ -73,7 +73,7 @@ module _ (dig : List ℕ → List ℕ) (ps : Image) (root : RootRecord) (t : Thr
 -- A message that becomes this is answered so: by the refusal; by the receipt of the step that received its thread; or by that of the next
 -- step, of which these are the head and the archive.
 abbrev pub ReceivesAs : (dig : List ℕ → List ℕ) → Image → RootRecord → Message → (time : Option ℕ) → (head : Head) → (archive : Root) → Result Receipt Refusal → Found Reception → Type 0
-ReceivesAs dig ps root m time head archive result (Bad page) = IsAnswer result (Bad page)
-ReceivesAs dig ps root m time head archive result (Is (Refuse refusal)) = IsAnswer result (Is (Err refusal))
-ReceivesAs dig ps root m time head archive result (Is (Known archived)) = IsAnswer result (found_receipt dig ps root.name root.head archived m.thread)
+ReceivesAs dig ps root m time head archive result (Bad page) = IsFoundAnswer result (Bad page)
+ReceivesAs dig ps root m time head archive result (Is (Refuse refusal)) = IsFoundAnswer result (Is (Err refusal))
+ReceivesAs dig ps root m time head archive result (Is (Known archived)) = IsFoundAnswer result (found_receipt dig ps root.name root.head archived m.thread)
 ReceivesAs dig ps root m time head archive result (Is Archive) = AnswersArchived dig ps root m.thread time head archive result

@@ -5,14 +5,14 @@ use Rattle.tw_base.specs.kinds.Faults.{Rose}
 use Rattle.tw_disk.specs.Disk.{DiskView, LeavesOnly}
 use Rattle.tw_disk.specs.Found.{Found}
 use Rattle.tw_disk.specs.Image.{Image}
-use Rattle.tw_pages.specs.Records.{IsWritten, written}
+use Rattle.tw_pages.specs.Records.{IsWritten, written_record}
 use Rattle.tw_answers.specs.declared.refusal.Refusal.{Refusal}
 use Rattle.tw_answers.specs.Roots.{root_kind}
 use Rattle.tw_answers.specs.declared.refusal.Refusal.TheVariants.{DiskFault}
 use Rattle.tw_service.specs.declared.service.Service.{Service}
-use Rattle.tw_answers.specs.Finds.{IsAnswer}
+use Rattle.tw_answers.specs.Finds.{IsFoundAnswer}
 use Rattle.tw_service.specs.Answered.{HasFewFor, IsAcceptedFor}
-use Rattle.tw_service.specs.Machine.{Answers, Call, Makes, Reply}
+use Rattle.tw_service.specs.Machine.{AnswersByMachine, Call, Makes, Reply}
 use Rattle.tw_service.specs.Machine.Call.{Ask}
 use Rattle.tw_service.specs.Machine.Reply.{OfBytes}
 use Rattle.tw_base.specs.declared.history.question.Question.{Question}
@@ -28,14 +28,14 @@ module _ {D H : Type 0} {g : _} {k : _} (dig : List ℕ → List ℕ) (view : D 
     -- of its pages and of memory are left
     pub table : MatchOption refusal (IfErr result (λ why. IsFault why ⊎ Own why)) (λ why. result ≡ Err why)
     -- over told pages, whatever they keep, the answer is what is found in them, a disk fault and want of memory excepted
-    pub answer : (ps : Image) → pages_of view old ≡ Some ps → IsAnswer result (found ps)
+    pub answer : (ps : Image) → pages_of view old ≡ Some ps → IsFoundAnswer result (found ps)
     -- where a history is served and no earlier call met a disk fault, the call is a step of the machine, with the same exceptions
-    pub machine : has_failed old ≡ false → (h : History) → Serves dig view old h → Answers dig h call reply result (Serves dig view new)
+    pub machine : has_failed old ≡ false → (h : History) → Serves dig view old h → AnswersByMachine dig h call reply result (Serves dig view new)
     -- whatever the answer, the history is served as before, at rest, and nothing is written
     pub same : (h : History) → Serves dig view old h → Serves dig view new h × LeavesOnly (view (disk_of old)) (view (disk_of new)) (λ i. StandsFor dig i (name_of old) h)
     pub unwritten : HasSameDisk view old new
     -- whatever its pages keep, it is at rest as before, and each image opens with its record and them
-    pub over : (ps : Image) → IsOver view old ps → IsOver view new ps × LeavesOnly (view (disk_of old)) (view (disk_of new)) (IsWritten root_kind (written (record_of old) ps))
+    pub over : (ps : Image) → IsOver view old ps → IsOver view new ps × LeavesOnly (view (disk_of old)) (view (disk_of new)) (IsWritten root_kind (written_record (record_of old) ps))
     -- the root record, and with it name, head, archive and greatest time, is as before
     pub kept : record_of new ≡ record_of old
     -- that a call answered a disk fault is remembered, and nothing else is remembered so

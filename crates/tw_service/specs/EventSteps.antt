@@ -8,5 +8,5 @@ abbrev pub event_step : (root : ℕ) → List (List ℕ) → (time : Option ℕ)
 event_step root events time = record { content = Events events; time = time; fresh = []; root = root }
 
 -- the history with one more step of these events, with this time or none: no new node, and the root as before
-abbrev pub with_events : History → List (List ℕ) → (time : Option ℕ) → History
-with_events h events time = plus h (event_step (root_of (step_at h (length h.steps))) events time)
+abbrev pub with_events_at : History → List (List ℕ) → (time : Option ℕ) → History
+with_events_at h events time = plus h (event_step (root_of (step_at h (length h.steps))) events time)

@@ -2,7 +2,7 @@
 use Rattle.std.specs.Prelude.{ℕ, List}
 use Rattle.tw_base.specs.history.History.{History}
 use Rattle.tw_disk.specs.Disk.{DiskView}
-use Rattle.tw_pages.specs.States.{Serves as ServesState}
+use Rattle.tw_pages.specs.States.{ServesState}
 use Rattle.tw_pages.specs.declared.store.Store.{Store}
 use Rattle.tw_answers.specs.declared.root.RootRecord.{RootRecord}
 use Rattle.tw_answers.specs.Roots.{root_kind}

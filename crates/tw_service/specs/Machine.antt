@@ -10,7 +10,7 @@ use Rattle.tw_base.specs.history.History.{History, Step, plus}
 use Rattle.tw_base.specs.history.Sound.{IsSound}
 use Rattle.tw_base.specs.history.Tree.{entries, tree}
 use Rattle.tw_base.specs.format.Formats.{Spells}
-use Rattle.tw_archive.specs.Judging.{judged}
+use Rattle.tw_archive.specs.Judging.{judged_message}
 use Rattle.tw_chain.specs.declared.proof.AbsenceProof.{AbsenceProof}
 use Rattle.tw_chain.specs.declared.proof.LinkProof.{LinkProof}
 use Rattle.tw_chain.specs.declared.proof.Proof.TheVariants.{Archived, Absent, Linked}
@@ -21,7 +21,7 @@ use Rattle.tw_msg.specs.declared.message.Message.{Message}
 use Rattle.tw_msg.specs.declared.receipt.Receipt.{Receipt}
 use Rattle.tw_msg.specs.HistoryMessages.{MakesMessage, thread_at_step}
 use Rattle.tw_skipproof.specs.HistoryProofs.{MakesExistence}
-use Rattle.tw_service.specs.EventSteps.{with_events}
+use Rattle.tw_service.specs.EventSteps.{with_events_at}
 use Rattle.tw_service.specs.declared.receiving.Reception.{Reception}
 use Rattle.tw_service.specs.declared.receiving.Reception.TheVariants.{Refuse, Known, Archive}
 use Rattle.tw_answers.specs.declared.refusal.Refusal.{Refusal}
@@ -31,7 +31,7 @@ use Rattle.tw_service.specs.Mapping.{MakesHigh, MakesLow}
 use Rattle.tw_base.specs.declared.history.question.Question.{Question}
 use Rattle.tw_base.specs.declared.history.question.Question.TheVariants as ask
 use Rattle.tw_service.specs.Questions.{history_refusal}
-use Rattle.tw_service.specs.Tops.{top_of}
+use Rattle.tw_service.specs.Tops.{top_or_last}
 use Rattle.tw_service.specs.Receiving.{reception, refuse_or}
 use Rattle.tw_service.specs.Stands.{greatest_time}
 
@@ -76,11 +76,11 @@ module _ (dig : List ℕ → List ℕ) where
   -- what becomes of a message by the archive of the history
   abbrev pub received_as : History → Message → (time : Option ℕ) → Reception
   received_as h m time =
-      refuse_or (own_refusal false h.name m.thread.from) (reception (length h.steps) (greatest_time h) time (judged dig (entries (tree h (length h.steps))) m))
+      refuse_or (own_refusal false h.name m.thread.from) (reception (length h.steps) (greatest_time h) time (judged_message dig (entries (tree h (length h.steps))) m))
 
   -- the next state of a call that isn't refused; a message may be one that is known, and then the state stays
   abbrev pub NextOf : Call → (h next : History) → Type 0
-  NextOf (Append events time) h next = next ≡ with_events h events time
+  NextOf (Append events time) h next = next ≡ with_events_at h events time
   NextOf (Receive m time) h next = (next ≡ h) ⊎ ((received_as h m time ≡ Archive) × Archives m.thread time h next × IsSound next)
   NextOf (Ask q) h next = next ≡ h
   NextOf CountSteps h next = next ≡ h
@@ -108,12 +108,12 @@ module _ (dig : List ℕ → List ℕ) where
 
   -- the bytes are what the history makes of the question
   unfoldable pub Makes : History → Question → (bytes : List ℕ) → Type 0
-  Makes h (ask.Event step index top) bytes = MakesExistence dig h step index (top_of top (length h.steps)) bytes
-  Makes h (ask.Thread step key top) bytes = MakesThread h step key (top_of top (length h.steps)) bytes
-  Makes h (ask.Absent step key top) bytes = MakesAbsence h step key (top_of top (length h.steps)) bytes
-  Makes h (ask.Link step top) bytes = MakesLink h step (top_of top (length h.steps)) bytes
-  Makes h (ask.Low step peer top) bytes = MakesLow dig h step peer (top_of top (length h.steps)) bytes
-  Makes h (ask.High step peer top) bytes = MakesHigh dig h step peer (top_of top (length h.steps)) bytes
+  Makes h (ask.Event step index top) bytes = MakesExistence dig h step index (top_or_last top (length h.steps)) bytes
+  Makes h (ask.Thread step key top) bytes = MakesThread h step key (top_or_last top (length h.steps)) bytes
+  Makes h (ask.Absent step key top) bytes = MakesAbsence h step key (top_or_last top (length h.steps)) bytes
+  Makes h (ask.Link step top) bytes = MakesLink h step (top_or_last top (length h.steps)) bytes
+  Makes h (ask.Low step peer top) bytes = MakesLow dig h step peer (top_or_last top (length h.steps)) bytes
+  Makes h (ask.High step peer top) bytes = MakesHigh dig h step peer (top_or_last top (length h.steps)) bytes
   Makes h (ask.ThreadOut since) bytes = MakesMessage dig h since bytes
   Makes h ask.Export bytes = bytes ≡ history_bytes h
 
@@ -134,10 +134,10 @@ module _ (dig : List ℕ → List ℕ) where
 
   -- the call's answer is a step of the machine to a state that is now served; a disk fault and want of memory excepted, of
   -- which want of memory leaves the state
-  abbrev pub Answers : {T : Type 0} → (h : History) → Call → (T → Reply) → Result T Refusal → (History → Type 0) → Type 0
-  Answers h call reply (Ok value) Serves = (next : History) × IsStepOf h call (reply value) next × Serves next
-  Answers h call reply (Err DiskFault) Serves = Unit {0}
-  Answers h call reply (Err NoMemory) Serves = Serves h
-  Answers h call reply (Err (BadPage page)) Serves = ⊥
-  Answers h call reply (Err Reopen) Serves = ⊥
-  Answers h call reply (Err refusal) Serves = IsStepOf h call (Refused refusal) h × Serves h
+  abbrev pub AnswersByMachine : {T : Type 0} → (h : History) → Call → (T → Reply) → Result T Refusal → (History → Type 0) → Type 0
+  AnswersByMachine h call reply (Ok value) Serves = (next : History) × IsStepOf h call (reply value) next × Serves next
+  AnswersByMachine h call reply (Err DiskFault) Serves = Unit {0}
+  AnswersByMachine h call reply (Err NoMemory) Serves = Serves h
+  AnswersByMachine h call reply (Err (BadPage page)) Serves = ⊥
+  AnswersByMachine h call reply (Err Reopen) Serves = ⊥
+  AnswersByMachine h call reply (Err refusal) Serves = IsStepOf h call (Refused refusal) h × Serves h

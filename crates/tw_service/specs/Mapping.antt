@@ -13,15 +13,15 @@ use Rattle.tw_skiplist.specs.Readings.{found_proof, found_step}
 use Rattle.tw_tmap.specs.declared.map_file.HighFile.{HighFile}
 use Rattle.tw_tmap.specs.declared.map_file.LowFile.{LowFile}
 use Rattle.tw_tmap.specs.declared.map_file.LowPart.{LowPart}
-use Rattle.tw_tmap.specs.Checking.{first_of, last_of}
+use Rattle.tw_tmap.specs.Checking.{first_after, last_before}
 use Rattle.tw_tmap.specs.MapFiles.{high_bytes, high_layout, low_bytes, low_layout}
 use Rattle.tw_tmap.specs.OwnFiles.{IsOwnHigh, IsOwnLow}
 use Rattle.tw_answers.specs.Finds.{tree_shown}
 use Rattle.tw_answers.specs.declared.refusal.Refusal.{Refusal}
 
 -- what a low file shows of the step before
-abbrev pub low_part : StepProof → TreeProof → LowPart
-low_part proof tree = record { path = proof.path; opening = proof.info.opening; shown = tree }
+abbrev pub mapped_low_part : StepProof → TreeProof → LowPart
+mapped_low_part proof tree = record { path = proof.path; opening = proof.info.opening; shown = tree }
 
 module _ (name : List ℕ) (step : ℕ) (peer : List ℕ) (top : ℕ) where
   -- the low file of a step, with what it shows of the step before
@@ -40,7 +40,7 @@ module _ (dig : List ℕ → List ℕ) (pages : Image) (head : Head) (step : ℕ
   unfoldable pub low_before : Found (Option LowPart)
   low_before =
       if nat_le step 1 then Is None
-      else (found_proof dig pages head top (step - 1) >>= (λ proof. tree_shown dig pages proof.info.archive (last_of peer) >>= (λ tree. Is (Some (low_part proof tree)))))
+      else (found_proof dig pages head top (step - 1) >>= (λ proof. tree_shown dig pages proof.info.archive (last_before peer) >>= (λ tree. Is (Some (mapped_low_part proof tree)))))
 
   module _ (name : List ℕ) where
     unfoldable pub low_file : Found (Result (List ℕ) Refusal)
@@ -50,7 +50,7 @@ module _ (dig : List ℕ → List ℕ) (pages : Image) (head : Head) (step : ℕ
     unfoldable pub high_file : Found (Result (List ℕ) Refusal)
     high_file =
         found_step dig pages head top
-        >>= (λ info. tree_shown dig pages info.archive (first_of peer step) >>= (λ tree. Is (Ok (high_bytes (high_with name step peer top info tree)))))
+        >>= (λ info. tree_shown dig pages info.archive (first_after peer step) >>= (λ tree. Is (Ok (high_bytes (high_with name step peer top info tree)))))
 
 -- ---- what a history has
 

@@ -11,7 +11,7 @@ use Rattle.tw_msg.specs.Messages.{message_bytes}
 use Rattle.tw_skiplist.specs.declared.head.Head.{Head}
 use Rattle.tw_skipproof.specs.declared.path.Path.{Path}
 use Rattle.tw_answers.specs.declared.refusal.Refusal.{Refusal}
-use Rattle.tw_answers.specs.Finds.{absence_proof, event_proof, link_proof, path_down, thread_proof, unless, written}
+use Rattle.tw_answers.specs.Finds.{absence_proof, event_proof, link_proof, path_down, thread_proof, unless, written_found}
 use Rattle.tw_answers.specs.Limits.{broken_refusal, event_refusal, has_thread, link_refusal, no_thread, or_else, order_refusal, thread_refusal, top_refusal}
 use Rattle.tw_answers.specs.Refusals.{IsHasThread, IsNoEvent, IsNoThread, IsTooLong}
 use Rattle.tw_base.specs.declared.history.question.Question.{Question}
@@ -19,29 +19,29 @@ use Rattle.tw_base.specs.declared.history.question.Question.TheVariants as ask
 use Rattle.tw_service.specs.Exporting.{file_refusal, history_file}
 use Rattle.tw_service.specs.Finds.{thread_at}
 use Rattle.tw_service.specs.Mapping.{high_file, low_file}
-use Rattle.tw_service.specs.Tops.{top_of}
+use Rattle.tw_service.specs.Tops.{top_or_last}
 
 -- ---- the table
 
 -- what the table says of a service of so many steps, before a page is read
 unfoldable pub question_refusal : (is_broken : Bool) (last : ℕ) → Question → Option Refusal
-question_refusal b last (ask.Event step index top) = order_refusal b last step (top_of top last)
-question_refusal b last (ask.Thread step key top) = order_refusal b last step (top_of top last)
-question_refusal b last (ask.Absent step key top) = order_refusal b last step (top_of top last)
-question_refusal b last (ask.Link step top) = link_refusal b last step (top_of top last)
-question_refusal b last (ask.Low step peer top) = order_refusal b last step (top_of top last)
-question_refusal b last (ask.High step peer top) = top_refusal b last (top_of top last)
+question_refusal b last (ask.Event step index top) = order_refusal b last step (top_or_last top last)
+question_refusal b last (ask.Thread step key top) = order_refusal b last step (top_or_last top last)
+question_refusal b last (ask.Absent step key top) = order_refusal b last step (top_or_last top last)
+question_refusal b last (ask.Link step top) = link_refusal b last step (top_or_last top last)
+question_refusal b last (ask.Low step peer top) = order_refusal b last step (top_or_last top last)
+question_refusal b last (ask.High step peer top) = top_refusal b last (top_or_last top last)
 question_refusal b last (ask.ThreadOut since) = thread_refusal b last since
 question_refusal b last ask.Export = broken_refusal b
 
 -- where it says nothing, the steps are in this order
 abbrev pub AreInOrder : (last : ℕ) → Question → Type 0
-AreInOrder last (ask.Event step index top) = (1 ≤ step) × (step ≤ top_of top last) × (top_of top last ≤ last)
-AreInOrder last (ask.Thread step key top) = (1 ≤ step) × (step ≤ top_of top last) × (top_of top last ≤ last)
-AreInOrder last (ask.Absent step key top) = (1 ≤ step) × (step ≤ top_of top last) × (top_of top last ≤ last)
-AreInOrder last (ask.Link step top) = (1 ≤ top_of top last) × (step ≤ top_of top last) × (top_of top last ≤ last)
-AreInOrder last (ask.Low step peer top) = (1 ≤ step) × (step ≤ top_of top last) × (top_of top last ≤ last)
-AreInOrder last (ask.High step peer top) = (1 ≤ top_of top last) × (top_of top last ≤ last)
+AreInOrder last (ask.Event step index top) = (1 ≤ step) × (step ≤ top_or_last top last) × (top_or_last top last ≤ last)
+AreInOrder last (ask.Thread step key top) = (1 ≤ step) × (step ≤ top_or_last top last) × (top_or_last top last ≤ last)
+AreInOrder last (ask.Absent step key top) = (1 ≤ step) × (step ≤ top_or_last top last) × (top_or_last top last ≤ last)
+AreInOrder last (ask.Link step top) = (1 ≤ top_or_last top last) × (step ≤ top_or_last top last) × (top_or_last top last ≤ last)
+AreInOrder last (ask.Low step peer top) = (1 ≤ step) × (step ≤ top_or_last top last) × (top_or_last top last ≤ last)
+AreInOrder last (ask.High step peer top) = (1 ≤ top_or_last top last) × (top_or_last top last ≤ last)
 AreInOrder last (ask.ThreadOut since) = (1 ≤ last) × (since ≤ last)
 AreInOrder last ask.Export = Unit {0}
 
@@ -82,19 +82,19 @@ module _ (dig : List ℕ → List ℕ) (pages : Image) (name : List ℕ) (head :
   message_told since = path_down dig pages head since >>= told_as name head since
 
   unfoldable pub message_found : (since : ℕ) → Found (Result (List ℕ) Refusal)
-  message_found since = message_told since >>= written message_bytes
+  message_found since = message_told since >>= written_found message_bytes
 
   abbrev pub told_answer : (is_broken : Bool) → (since : ℕ) → Found (Result Message Refusal)
   told_answer is_broken since = unless (thread_refusal is_broken head.step since) (message_told since)
 
   -- the bytes that are found, where the table says nothing, or a refusal that pages tell
   unfoldable pub found_bytes : Question → Found (Result (List ℕ) Refusal)
-  found_bytes (ask.Event step index top) = event_proof dig pages name head step index (top_of top head.step)
-  found_bytes (ask.Thread step key top) = thread_proof dig pages name head step key (top_of top head.step)
-  found_bytes (ask.Absent step key top) = absence_proof dig pages name head step key (top_of top head.step)
-  found_bytes (ask.Link step top) = link_proof dig pages name head step (top_of top head.step)
-  found_bytes (ask.Low step peer top) = low_file dig pages head step peer (top_of top head.step) name
-  found_bytes (ask.High step peer top) = high_file dig pages head step peer (top_of top head.step) name
+  found_bytes (ask.Event step index top) = event_proof dig pages name head step index (top_or_last top head.step)
+  found_bytes (ask.Thread step key top) = thread_proof dig pages name head step key (top_or_last top head.step)
+  found_bytes (ask.Absent step key top) = absence_proof dig pages name head step key (top_or_last top head.step)
+  found_bytes (ask.Link step top) = link_proof dig pages name head step (top_or_last top head.step)
+  found_bytes (ask.Low step peer top) = low_file dig pages head step peer (top_or_last top head.step) name
+  found_bytes (ask.High step peer top) = high_file dig pages head step peer (top_or_last top head.step) name
   found_bytes (ask.ThreadOut since) = message_found since
   found_bytes ask.Export = history_file dig pages name head
 

@@ -27,13 +27,13 @@ reception steps clock time (judged.BadLink last kept) = Refuse (BadLink last kep
 reception steps clock time judged.Accept = refuse_or (archive_refusal steps clock time) Archive
 
 -- what a refusal by the archive, or for want of a further step, tells of this message, whatever the pages keep
-abbrev pub TellsOf : (dig : List ℕ → List ℕ) → (steps : ℕ) → (clock time : Option ℕ) → Message → Refusal → Type 0
-TellsOf dig steps clock time m (Forked step kept offered) = IsJudgementFor dig m (judged.Forked step kept offered)
-TellsOf dig steps clock time m (Stale last) = IsJudgementFor dig m (judged.Stale last)
-TellsOf dig steps clock time m (BadLink last kept) = IsJudgementFor dig m (judged.BadLink last kept)
-TellsOf dig steps clock time m Full = archive_refusal steps clock time ≡ Some Full
-TellsOf dig steps clock time m (ClockBack last given) = archive_refusal steps clock time ≡ Some (ClockBack last given)
-TellsOf dig steps clock time m _ = ⊥
+abbrev pub TellsOfMessage : (dig : List ℕ → List ℕ) → (steps : ℕ) → (clock time : Option ℕ) → Message → Refusal → Type 0
+TellsOfMessage dig steps clock time m (Forked step kept offered) = IsJudgementFor dig m (judged.Forked step kept offered)
+TellsOfMessage dig steps clock time m (Stale last) = IsJudgementFor dig m (judged.Stale last)
+TellsOfMessage dig steps clock time m (BadLink last kept) = IsJudgementFor dig m (judged.BadLink last kept)
+TellsOfMessage dig steps clock time m Full = archive_refusal steps clock time ≡ Some Full
+TellsOfMessage dig steps clock time m (ClockBack last given) = archive_refusal steps clock time ≡ Some (ClockBack last given)
+TellsOfMessage dig steps clock time m _ = ⊥
 
 -- bytes that are no message: Reopen where a call before met a disk fault; else the first byte at which no message goes on is told,
 -- want of memory excepted

@@ -5,11 +5,11 @@ use Rattle.tw_base.specs.history.Sound.{IsSound}
 use Rattle.tw_disk.specs.Image.{Image}
 use Rattle.tw_pages.specs.Slots.{IsBlank}
 use Rattle.tw_pages.specs.declared.open.StoreFault.{StoreFault}
-use Rattle.tw_pages.specs.Records.{IsWritten, written}
+use Rattle.tw_pages.specs.Records.{IsWritten, written_record}
 use Rattle.tw_pages.specs.Records.{IsNotOpenedFor as IsNotOpenedAs}
-use Rattle.tw_pages.specs.States.{StandsFor as StandsForState}
+use Rattle.tw_pages.specs.States.{StandsForState}
 use Rattle.tw_archive.specs.Archives.{KeepsTrees}
-use Rattle.tw_skiplist.specs.Keeping.{Keeps, Place, archive_at, place_of}
+use Rattle.tw_skiplist.specs.Keeping.{Keeps, Place, archive_at, place_of_step}
 use Rattle.tw_answers.specs.declared.root.RootRecord.{RootRecord}
 use Rattle.tw_answers.specs.Roots.{root_kind}
 
@@ -21,7 +21,7 @@ no_history name = record { name = name; steps = [] }
 
 -- the image opens as a store with this root record, and P holds of the store's pages
 abbrev pub OpensWith : (image : Image) (root : RootRecord) (P : Image → Type 0) → Type 0
-OpensWith image root P = (pages : Image) × IsWritten root_kind (written root pages) image × P pages
+OpensWith image root P = (pages : Image) × IsWritten root_kind (written_record root pages) image × P pages
 
 -- why an image isn't opened: it opens as no store, or its root record is none of a service
 abbrev pub IsNotOpenedFor : Image → StoreFault → Type 0
@@ -33,7 +33,7 @@ pub data Served : Type 0 where
   Unopened : StoreFault → Served
 
 abbrev pub IsServed : Image → Served → Type 0
-IsServed image (Opened root pages) = IsWritten root_kind (written root pages) image
+IsServed image (Opened root pages) = IsWritten root_kind (written_record root pages) image
 IsServed image (Unopened fault) = IsNotOpenedFor image fault
 
 -- ---- images that stand for a history
@@ -55,7 +55,7 @@ greatest_time h = greatest (times h (length h.steps))
 
 -- the page of each step; 0 is that of step 0
 abbrev pub step_pages : List Place → ℕ → ℕ
-step_pages places step = (place_of places step).page
+step_pages places step = (place_of_step places step).page
 
 module _ (dig : List ℕ → List ℕ) where
   -- the pages keep the history whole: its steps under the head, and the archive's tree of each of them; and the root record tells the

@@ -2,6 +2,6 @@
 use Rattle.std.specs.Prelude.{ℕ, Option, Some, None}
 
 -- the top that is asked for, or the last step where none is
-abbrev pub top_of : (top : Option ℕ) → (last : ℕ) → ℕ
-top_of (Some top) last = top
-top_of None last = last
+abbrev pub top_or_last : (top : Option ℕ) → (last : ℕ) → ℕ
+top_or_last (Some top) last = top
+top_or_last None last = last

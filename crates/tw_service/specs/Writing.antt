@@ -23,9 +23,9 @@ use Rattle.tw_service.specs.NextRecords.{event_record, next_record}
 use Rattle.tw_answers.specs.Roots.{root_kind}
 
 -- what a call makes of a store at rest with its record and these pages, whatever they keep
-abbrev pub Commits : {D T : Type 0} {g : _} (view : D → DiskView) (IsNext : (w next : Written RootRecord) → Type 0) (IsAnswer : T → (w next : Written RootRecord) → Type 0)
+abbrev pub CommitsRoot : {D T : Type 0} {g : _} (view : D → DiskView) (IsNext : (w next : Written RootRecord) → Type 0) (IsAnswer : T → (w next : Written RootRecord) → Type 0)
     (old new : Store D g) (before after : RootRecord) (result : Result T Refusal) (ps : Image) → Type 0
-Commits view IsNext IsAnswer old new before after result ps = CommitsOf view root_kind DiskFault IsNext IsAnswer old new before after result ps
+CommitsRoot view IsNext IsAnswer old new before after result ps = CommitsOf view root_kind DiskFault IsNext IsAnswer old new before after result ps
 
 module _ (dig : List ℕ → List ℕ) where
   -- A step of these events, with this time or none, which the table allows, makes the record of the step that is found in the pages, and
@@ -62,5 +62,5 @@ module _ (dig : List ℕ → List ℕ) where
   IsReceiptOfNext t time receipt w next = (receipt ≡ receipt_at w.root.name next.root.head t) × AddsThread t time w next
 
   -- a message is answered by the receipt of the next step, or of an earlier one, where nothing is written
-  abbrev pub IsReceiptOf : Message → (time : Option ℕ) → Receipt → (w next : Written RootRecord) → Type 0
-  IsReceiptOf m time receipt w next = ((next ≡ w) × (receipt.by.step ≤ w.root.head.step)) ⊎ ((receipt ≡ receipt_at w.root.name next.root.head m.thread) × ArchivesTo m time w next)
+  abbrev pub IsReceiptOfRecord : Message → (time : Option ℕ) → Receipt → (w next : Written RootRecord) → Type 0
+  IsReceiptOfRecord m time receipt w next = ((next ≡ w) × (receipt.by.step ≤ w.root.head.step)) ⊎ ((receipt ≡ receipt_at w.root.name next.root.head m.thread) × ArchivesTo m time w next)

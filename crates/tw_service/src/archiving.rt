@@ -4,15 +4,15 @@ ghost use Rattle.std.specs.Prelude.{◌≡◌, ◌⊎◌, ℕ, ◌+◌, ◌++◌
 ghost use Rattle.tw_base.specs.history.Asking.{with_entry};
 ghost use Rattle.tw_base.specs.history.Limits.{IsStep, IsThread, IsTimeWithinLimits};
 ghost use Rattle.tw_base.specs.history.Tree.{Tree, entries};
-ghost use Rattle.tw_disk.specs.Keeping.{AreOf};
+ghost use Rattle.tw_disk.specs.Keeping.{ArePagesOf};
 ghost use Rattle.tw_disk.specs.Shelves.{kept_on};
-ghost use Rattle.tw_disk.specs.Answers.{AddsBy, AnswersAs, FaultsRise, has_failed};
+ghost use Rattle.tw_disk.specs.Answers.{AddsBy, AnswersAs, FaultsRise, is_failed};
 ghost use Rattle.tw_disk.specs.Image.{Image};
 ghost use Rattle.tw_disk.specs.Pages.{OnlyAdds};
 ghost use Rattle.tw_rbtree.specs.Standing.{HasNamed, Named, StandsWith};
-ghost use Rattle.tw_service.specs.Archiving.{ArchivesAs, IsStagedBehind, PutsThreadIn, entry_of};
+ghost use Rattle.tw_service.specs.Archiving.{ArchivesAs, IsStagedBehind, PutsThreadIn, archived_entry};
 ghost use Rattle.tw_service.specs.Finds.{found_room};
-ghost use Rattle.tw_answers.specs.Refusals.{IsFault, refusals};
+ghost use Rattle.tw_answers.specs.Refusals.{IsFault, service_refusals};
 
 use crate::receiving::receipt_by;
 use crate::recorded::{Unstaged, next_root};
@@ -36,7 +36,7 @@ pub(crate) struct Staged {
 /// The thread as the next step receives it.
 fn next_entry(root: &RootRecord, thread: &Thread) -> Entry
     requires { root.now.head.step < LAST_STEP }
-    ensures { result ≡ entry_of root.now.head.step thread.now }
+    ensures { result ≡ archived_entry root.now.head.step thread.now }
 {
     Entry {
         thread: *thread,
@@ -56,13 +56,13 @@ fn stage_tree<P: Pages, H: Hasher>(
     requires used { (P.view pages.old).used < 2 ^ 47 }
     requires short { root.now.head.step < LAST_STEP }
     requires range { IsStep thread.now.step }
-    requires shelf { AreOf (P.view pages.old).list (kept_on shelf.old) }
-    ensures adds { AddsBy refusals P.view P.same pages.old pages.new result (IfErr result IsFault) (AnswersAs refusals (λ (_ : Root). tt))
+    requires shelf { ArePagesOf (P.view pages.old).list (kept_on shelf.old) }
+    ensures adds { AddsBy service_refusals P.view P.same pages.old pages.new result (IfErr result IsFault) (AnswersAs service_refusals (λ (_ : Root). tt))
         (λ ps. found_room H.dig ps root.now.archive thread.now) }
     ensures inserted { (ps : Image) → (P.view pages.old).list ≡ Some ps → (named : Named) → named.below ≤ (P.view pages.old).used →
         (t : Tree) → StandsWith H.dig (HasNamed named) ps root.now.archive t →
         IfOk result (λ new. (now : Image) × (grown : Tree) × ((P.view pages.new).list ≡ Some now)
-        × StandsWith H.dig (HasNamed named) now new grown × (entries grown ≡ with_entry (entries t) (entry_of root.now.head.step thread.now))) }
+        × StandsWith H.dig (HasNamed named) now new grown × (entries grown ≡ with_entry (entries t) (archived_entry root.now.head.step thread.now))) }
     ensures put { (ps : Image) → (P.view pages.old).list ≡ Some ps → IfOk result (λ new. (more : Image) × ((P.view pages.new).list ≡ Some (ps ++ more))
         × PutsThreadIn H.dig ps root.now thread.now more new) }
     ensures behind { IfOk result (λ new. (P.view pages.old).used ≤ new.page) }
@@ -89,7 +89,7 @@ pub(crate) fn stage_thread<P: Pages, H: Hasher>(
     requires short { root.now.head.step < LAST_STEP }
     requires range { IsStep thread.now.step }
     requires time { IsTimeWithinLimits time }
-    requires shelf { AreOf (P.view pages.old).list (kept_on shelf.old) }
+    requires shelf { ArePagesOf (P.view pages.old).list (kept_on shelf.old) }
     ensures staged { (ps : Image) → (P.view pages.old).list ≡ Some ps → IfOk result (λ new. IsStagedBehind H.dig ps root.now thread.now time (P.view pages.new).list new.head new.archive) }
     ensures page { (ps : Image) → (P.view pages.old).list ≡ Some ps → IfErr result (ArchivesAs H.dig ps root.now thread.now time) }
     ensures own { IfErr result IsFault }
@@ -98,8 +98,8 @@ pub(crate) fn stage_thread<P: Pages, H: Hasher>(
     ensures last { IfOk result (λ new. new.head.page < (P.view pages.new).used) }
     ensures step { IfOk result (λ new. new.head.step ≡ root.now.head.step + 1) }
     ensures few { (P.view pages.new).used ≤ (P.view pages.old).used + 42 }
-    ensures kept { OnlyAdds P.view P.same pages.old pages.new (has_failed refusals result ≡ false) }
-    ensures faults { FaultsRise refusals P.view P.same pages.old pages.new result }
+    ensures kept { OnlyAdds P.view P.same pages.old pages.new (is_failed service_refusals result ≡ false) }
+    ensures faults { FaultsRise service_refusals P.view P.same pages.old pages.new result }
 {
     let archive = stage_tree::<P, H>(alloc, pages, shelf, root, thread)?;
     let head = append_thread::<P, H>(alloc, pages, &root.head, thread, &archive, time)?;
@@ -111,16 +111,16 @@ impl<D: Disk> Unstaged<D> {
     ghost use Rattle.tw_base.specs.history.History.{History};
     ghost use Rattle.tw_base.specs.kinds.Faults.{Rose};
     ghost use Rattle.tw_archive.specs.Archives.{MayArchive};
-    ghost use Rattle.tw_pages.specs.Records.{written};
+    ghost use Rattle.tw_pages.specs.Records.{written_record};
     ghost use Rattle.tw_pages.specs.Rests.{RestsWith};
-    ghost use Rattle.tw_pages.specs.StoreValue.{disk_of, is_broken};
-    ghost use Rattle.tw_pages.specs.Same.{IsSameStore, list_of};
+    ghost use Rattle.tw_pages.specs.StoreValue.{is_broken, store_disk};
+    ghost use Rattle.tw_pages.specs.Same.{IsSameStore, store_list};
     ghost use Rattle.tw_service.specs.Archiving.{AnswersArchived};
     ghost use Rattle.tw_service.specs.Finds.{receipt_at};
     ghost use Rattle.tw_service.specs.Keeps.{StoreServes};
     ghost use Rattle.tw_service.specs.NextRecords.{next_record};
-    ghost use Rattle.tw_service.specs.Writing.{AddsThread, Commits, IsReceiptOfNext};
-    ghost use Rattle.tw_answers.specs.Refusals.{IsBadPage};
+    ghost use Rattle.tw_service.specs.Writing.{AddsThread, CommitsRoot, IsReceiptOfNext};
+    ghost use Rattle.tw_answers.specs.Refusals.{IsBadPageRefusal};
     ghost use Rattle.tw_answers.specs.Roots.{root_kind};
 
     /// Adds the step that archives the thread, at this time or none, and commits it with the next record; answers the step's receipt. All
@@ -136,20 +136,20 @@ impl<D: Disk> Unstaged<D> {
         requires thread { IsThread thread.now }
         requires time { IsTimeWithinLimits time }
         requires whole { is_broken self.old.kept.store ≡ false }
-        requires shelf { AreOf (list_of D.view self.old.kept.store) (kept_on shelf.old) }
+        requires shelf { ArePagesOf (store_list D.view self.old.kept.store) (kept_on shelf.old) }
         ensures root { IfOk result (λ receipt. (self.new.kept.root ≡ next_record self.old.kept.root self.new.kept.root.head self.new.kept.root.archive (self.old.kept.root.threads + 1) time)
             × (self.new.kept.root.head.step ≡ self.old.kept.root.head.step + 1) × (receipt ≡ receipt_at self.old.kept.root.name self.new.kept.root.head thread.now)) }
         ensures kept { OnErr result (self.new.kept.root ≡ self.old.kept.root) }
         ensures whole { (result ≡ Err Refusal.DiskFault) ⊎ (is_broken self.new.kept.store ≡ false) }
         ensures answers { IfErr result IsFault }
-        ensures written { (ps : Image) → RestsWith D.view root_kind self.old.kept.store (written self.old.kept.root ps)
-            → Commits D.view (AddsThread H.dig thread.now time) (IsReceiptOfNext H.dig thread.now time) self.old.kept.store self.new.kept.store self.old.kept.root self.new.kept.root result ps }
+        ensures written { (ps : Image) → RestsWith D.view root_kind self.old.kept.store (written_record self.old.kept.root ps)
+            → CommitsRoot D.view (AddsThread H.dig thread.now time) (IsReceiptOfNext H.dig thread.now time) self.old.kept.store self.new.kept.store self.old.kept.root self.new.kept.root result ps }
         ensures same { IfErr result (λ refusal. (refusal ≡ Refusal.DiskFault) ⊎ IsSameStore D.view self.old.kept.store self.new.kept.store) }
-        ensures answer { (ps : Image) → list_of D.view self.old.kept.store ≡ Some ps → AnswersArchived H.dig ps self.old.kept.root thread.now time self.new.kept.root.head self.new.kept.root.archive result }
-        ensures good { IfErr result (λ refusal. IsBadPage refusal → (h : History) → StoreServes H.dig D.view self.old.kept.store self.old.kept.root h
+        ensures answer { (ps : Image) → store_list D.view self.old.kept.store ≡ Some ps → AnswersArchived H.dig ps self.old.kept.root thread.now time self.new.kept.root.head self.new.kept.root.archive result }
+        ensures good { IfErr result (λ refusal. IsBadPageRefusal refusal → (h : History) → StoreServes H.dig D.view self.old.kept.store self.old.kept.root h
             → MayArchive h thread.now time → ⊥) }
-        ensures fault { result ≡ Err Refusal.DiskFault → Rose ((D.view (disk_of self.old.kept.store)).faults) ((D.view (disk_of self.new.kept.store)).faults) }
-        ensures later { (D.view (disk_of self.old.kept.store)).faults ≤ (D.view (disk_of self.new.kept.store)).faults }
+        ensures fault { result ≡ Err Refusal.DiskFault → Rose ((D.view (store_disk self.old.kept.store)).faults) ((D.view (store_disk self.new.kept.store)).faults) }
+        ensures later { (D.view (store_disk self.old.kept.store)).faults ≤ (D.view (store_disk self.new.kept.store)).faults }
     {
         let added = stage_thread::<Store<D>, H>(
             alloc,

@@ -3,9 +3,9 @@
 ghost use Rattle.std.specs.Prelude.{◌≡◌, ◌⊎◌, ◌<◌, ◌≤◌, ◌*◌, ◌^◌, ℕ, length, false, IfErr, IfOk, IsNone};
 ghost use Rattle.tw_disk.specs.Answers.{ReadsOr};
 ghost use Rattle.tw_answers.specs.Limits.{broken_refusal as broken_refusal_of};
-ghost use Rattle.tw_answers.specs.Refusals.{IsFault, refusals};
+ghost use Rattle.tw_answers.specs.Refusals.{IsFault, service_refusals};
 ghost use Rattle.tw_base.specs.history.Questions.{HasNames, MayAsk};
-ghost use Rattle.tw_service.specs.Tops.{top_of};
+ghost use Rattle.tw_service.specs.Tops.{top_or_last};
 ghost use Rattle.tw_service.specs.Questions.{AreInOrder, Besides, found_bytes, message_found, message_told, question_refusal as refusal_of_question};
 
 use crate::exporting::make_file;
@@ -25,7 +25,7 @@ use tw_skiplist::Head;
 
 /// The top that is asked for, or the last step where none is.
 fn top_for(top: Option<u64>, last: u64) -> u64
-    ensures { result ≡ top_of top last }
+    ensures { result ≡ top_or_last top last }
 {
     match top {
         Some(top) => top,
@@ -90,7 +90,7 @@ fn tell_message<P: Pages, H: Hasher>(
 ) -> Result<Message, Refusal>
     requires short { head.now.step ≤ LAST_STEP }
     requires order { since ≤ head.now.step }
-    ensures reads { ReadsOr refusals P.view P.same pages.old pages.new (λ m. m) result (IfErr result IsFault)
+    ensures reads { ReadsOr service_refusals P.view P.same pages.old pages.new (λ m. m) result (IfErr result IsFault)
         (λ ps. message_told H.dig ps name.now head.now since) }
     ensures bound { IfOk result (λ m. (digits : ℕ) → head.now.step < 2 ^ digits → length m.link.links ≤ 2 * digits) }
 {
@@ -117,7 +117,7 @@ fn make_message<P: Pages, H: Hasher>(
 ) -> Result<Bytes, Refusal>
     requires short { head.now.step ≤ LAST_STEP }
     requires order { since ≤ head.now.step }
-    ensures reads { ReadsOr refusals P.view P.same pages.old pages.new (λ bytes. bytes) result (IfErr result IsFault)
+    ensures reads { ReadsOr service_refusals P.view P.same pages.old pages.new (λ bytes. bytes) result (IfErr result IsFault)
         (λ ps. message_found H.dig ps name.now head.now since) }
 {
     let message = tell_message::<P, H>(alloc, pages, name, head, since)?;
@@ -138,7 +138,7 @@ fn answer_bytes<P: Pages, H: Hasher>(
     requires short { head.now.step ≤ LAST_STEP }
     requires may { MayAsk question.now }
     requires order { AreInOrder head.now.step question.now }
-    ensures reads { ReadsOr refusals P.view P.same pages.old pages.new (λ bytes. bytes) result (IfErr result (λ why. IsFault why ⊎ Besides question.now why))
+    ensures reads { ReadsOr service_refusals P.view P.same pages.old pages.new (λ bytes. bytes) result (IfErr result (λ why. IsFault why ⊎ Besides question.now why))
         (λ ps. found_bytes H.dig ps name.now head.now question.now) }
 {
     let last = head.step;

@@ -2,7 +2,7 @@
 
 ghost use Rattle.std.specs.Prelude.{◌≡◌, ◌⊎◌, ◌≤◌, IfErr};
 ghost use Rattle.tw_disk.specs.Answers.{ReadsOr};
-ghost use Rattle.tw_answers.specs.Refusals.{IsFault, IsTooLong, refusals};
+ghost use Rattle.tw_answers.specs.Refusals.{IsFault, IsTooLong, service_refusals};
 ghost use Rattle.tw_service.specs.Exporting.{history_file};
 
 use std::alloc::Global;
@@ -22,7 +22,7 @@ pub(crate) fn make_file<P: Pages, H: Hasher>(
     head: &Head,
 ) -> Result<Bytes, Refusal>
     requires { head.now.step ≤ LAST_STEP }
-    ensures reads { ReadsOr refusals P.view P.same pages.old pages.new (λ bytes. bytes) result (IfErr result (λ refusal. IsFault refusal ⊎ IsTooLong refusal))
+    ensures reads { ReadsOr service_refusals P.view P.same pages.old pages.new (λ bytes. bytes) result (IfErr result (λ refusal. IsFault refusal ⊎ IsTooLong refusal))
         (λ ps. history_file H.dig ps name.now head.now) }
 {
     match export_file::<P, H>(alloc, pages, name, head)? {

@@ -2,8 +2,8 @@
 
 ghost use Rattle.std.specs.Prelude.{◌≡◌, ◌<◌, ◌≤◌, IfErr, IfOk};
 ghost use Rattle.tw_disk.specs.Answers.{ReadsOr, ReadsWhere};
-ghost use Rattle.tw_answers.specs.Refusals.{IsFault, refusals};
-ghost use Rattle.tw_service.specs.Mapping.{high_file, low_before, low_file, low_part};
+ghost use Rattle.tw_answers.specs.Refusals.{IsFault, service_refusals};
+ghost use Rattle.tw_service.specs.Mapping.{high_file, low_before, low_file, mapped_low_part};
 
 use std::alloc::Global;
 use tw_answers::{Refusal, show};
@@ -15,7 +15,7 @@ use tw_tmap::{HighFile, LowFile, LowPart, ask_first, ask_last, write_high, write
 
 /// What a low file shows of the step before.
 fn part_of(proof: StepProof, tree: TreeProof) -> LowPart
-    ensures { result ≡ low_part proof tree }
+    ensures { result ≡ mapped_low_part proof tree }
 {
     let StepProof { path, info } = proof;
     LowPart {
@@ -38,7 +38,7 @@ fn show_before<P: Pages, H: Hasher>(
     requires short { head.now.step ≤ LAST_STEP }
     requires order { step ≤ top }
     requires last { top ≤ head.now.step }
-    ensures reads { ReadsWhere refusals P.view P.same pages.old pages.new (λ shown. shown) result (IfErr result IsFault)
+    ensures reads { ReadsWhere service_refusals P.view P.same pages.old pages.new (λ shown. shown) result (IfErr result IsFault)
         (λ ps. low_before H.dig ps head.now step peer.now top) }
 {
     if step <= 1 {
@@ -63,7 +63,7 @@ pub(crate) fn make_low<P: Pages, H: Hasher>(
     requires short { head.now.step ≤ LAST_STEP }
     requires order { step ≤ top }
     requires last { top ≤ head.now.step }
-    ensures reads { ReadsOr refusals P.view P.same pages.old pages.new (λ bytes. bytes) result (IfErr result IsFault)
+    ensures reads { ReadsOr service_refusals P.view P.same pages.old pages.new (λ bytes. bytes) result (IfErr result IsFault)
         (λ ps. low_file H.dig ps head.now step peer.now top name.now) }
 {
     let shown = show_before::<P, H>(alloc, pages, head, step, peer, top)?;
@@ -94,7 +94,7 @@ pub(crate) fn make_high<P: Pages, H: Hasher>(
     requires some { 0 < step }
     requires from { 1 ≤ top }
     requires last { top ≤ head.now.step }
-    ensures reads { ReadsOr refusals P.view P.same pages.old pages.new (λ bytes. bytes) result (IfErr result IsFault)
+    ensures reads { ReadsOr service_refusals P.view P.same pages.old pages.new (λ bytes. bytes) result (IfErr result IsFault)
         (λ ps. high_file H.dig ps head.now step peer.now top name.now) }
 {
     let info = read_step::<P, H>(alloc, pages, head, top)?;

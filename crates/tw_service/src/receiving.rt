@@ -2,7 +2,7 @@
 
 ghost use Rattle.std.specs.Prelude.{◌≡◌, ◌<◌, ◌≤◌, ℕ, IfErr, IfOk, IsErr, None};
 ghost use Rattle.tw_base.specs.history.Limits.{IsStep};
-ghost use Rattle.tw_disk.specs.Keeping.{AreOf};
+ghost use Rattle.tw_disk.specs.Keeping.{ArePagesOf};
 ghost use Rattle.tw_disk.specs.Shelves.{kept_on};
 ghost use Rattle.tw_disk.specs.Answers.{ReadsOr, ReadsPages};
 ghost use Rattle.tw_disk.specs.Found.Found.{Bad};
@@ -10,8 +10,8 @@ ghost use Rattle.tw_msg.specs.Messages.{IsLinked};
 ghost use Rattle.tw_service.specs.Finds.{found_receipt, found_reception, receipt_of};
 ghost use Rattle.tw_answers.specs.Limits.{clock_refusal};
 ghost use Rattle.tw_answers.specs.declared.refusal.Refusal.{Refusal as RefusalOf};
-ghost use Rattle.tw_service.specs.Receiving.{TellsOf, reception as reception_of};
-ghost use Rattle.tw_answers.specs.Refusals.{IsFault, refusals};
+ghost use Rattle.tw_service.specs.Receiving.{TellsOfMessage, reception as reception_of};
+ghost use Rattle.tw_answers.specs.Refusals.{IsFault, service_refusals};
 
 use std::alloc::Global;
 use tw_answers::{Refusal, RootRecord, archive_refusal};
@@ -77,12 +77,12 @@ pub(crate) fn receive_by<P: Pages, H: Hasher>(
 ) -> Result<Reception, Refusal>
     requires short { root.now.head.step ≤ LAST_STEP }
     requires linked { IsLinked message.now }
-    requires shelf { AreOf (P.view pages.old).list (kept_on shelf.old) }
-    ensures shelf { AreOf (P.view pages.new).list (kept_on shelf.new) }
-    ensures reads { ReadsPages refusals P.view P.same pages.old pages.new (λ r. r) result
+    requires shelf { ArePagesOf (P.view pages.old).list (kept_on shelf.old) }
+    ensures shelf { ArePagesOf (P.view pages.new).list (kept_on shelf.new) }
+    ensures reads { ReadsPages service_refusals P.view P.same pages.old pages.new (λ r. r) result
         (λ ps. found_reception H.dig ps root.now.name root.now.head root.now.archive root.now.time message.now time) }
     ensures room { IfOk result (λ r. r ≡ Reception.Archive → (root.now.head.step < LAST_STEP) × (clock_refusal root.now.time time ≡ None)) }
-    ensures tells { IfOk result (λ r. (refusal : RefusalOf) → r ≡ Reception.Refuse refusal → TellsOf H.dig root.now.head.step root.now.time time message.now refusal) }
+    ensures tells { IfOk result (λ r. (refusal : RefusalOf) → r ≡ Reception.Refuse refusal → TellsOfMessage H.dig root.now.head.step root.now.time time message.now refusal) }
     ensures known { IfOk result (λ r. (archived : ℕ) → r ≡ Reception.Known archived → IsStep archived) }
 {
     let judgement = judge_near::<P, H>(pages, shelf, &root.archive, message)?;
@@ -111,7 +111,7 @@ fn last_page<P: Pages, H: Hasher>(
     root: &RootRecord,
 ) -> Result<Receipt, Refusal>
     requires short { root.now.head.step ≤ LAST_STEP }
-    ensures reads { ReadsOr refusals P.view P.same pages.old pages.new (λ receipt. receipt) result (IfErr result IsFault) (λ ps. Bad root.now.head.page) }
+    ensures reads { ReadsOr service_refusals P.view P.same pages.old pages.new (λ receipt. receipt) result (IfErr result IsFault) (λ ps. Bad root.now.head.page) }
     ensures refused { IsErr result }
 {
     match step::<P, H>(alloc, pages, &root.head, root.head.step) {
@@ -133,7 +133,7 @@ pub(crate) fn receipt_of_step<P: Pages, H: Hasher>(
 ) -> Result<Receipt, Refusal>
     requires short { root.now.head.step ≤ LAST_STEP }
     requires from { 1 ≤ archived }
-    ensures reads { ReadsOr refusals P.view P.same pages.old pages.new (λ receipt. receipt) result (IfErr result IsFault)
+    ensures reads { ReadsOr service_refusals P.view P.same pages.old pages.new (λ receipt. receipt) result (IfErr result IsFault)
         (λ ps. found_receipt H.dig ps root.now.name root.now.head archived thread.now) }
     ensures by { IfOk result (λ receipt. (receipt.thread ≡ thread.now) × (receipt.by.from ≡ root.now.name) × (receipt.by.step ≡ archived) × (archived ≤ root.now.head.step)) }
 {

@@ -6,7 +6,7 @@ ghost use Rattle.tw_base.specs.declared.kinds.limits.TheConstants.{LAST_STEP};
 ghost use Rattle.tw_base.specs.history.Limits.{IsThread, IsTimeWithinLimits, MayRecord};
 ghost use Rattle.tw_disk.specs.declared.limits.TheConstants.{FIRST_PAGE};
 ghost use Rattle.tw_pages.specs.StoreValue.{generation_of, is_broken, staged_of};
-ghost use Rattle.tw_pages.specs.Same.{count_of};
+ghost use Rattle.tw_pages.specs.Same.{store_count};
 ghost use Rattle.tw_answers.specs.Limits.{append_refusal};
 ghost use Rattle.tw_service.specs.NextRecords.{AddsAs, event_record, next_record};
 ghost use Rattle.tw_service.specs.Stands.{greater};
@@ -27,7 +27,7 @@ pub(crate) struct Unstaged<D: Disk> {
     pub(crate) kept: Recorded<D, RootRecord>,
     ghost short: { kept.root.head.step ≤ LAST_STEP },
     ghost few_threads: { kept.root.threads ≤ kept.root.head.step },
-    ghost few_pages: { count_of kept.store ≤ FIRST_PAGE + MOST_PAGES_OF_A_STEP * kept.root.head.step },
+    ghost few_pages: { store_count kept.store ≤ FIRST_PAGE + MOST_PAGES_OF_A_STEP * kept.root.head.step },
     ghost few_commits: { generation_of kept.store ≤ kept.root.head.step + 1 },
     ghost clean: { staged_of kept.store ≡ [] },
 }
@@ -73,17 +73,17 @@ impl<D: Disk> Unstaged<D> {
     ghost use Rattle.tw_base.specs.kinds.Faults.{Rose};
     ghost use Rattle.tw_base.specs.declared.history.content.Content.TheVariants.{Events};
     ghost use Rattle.tw_disk.specs.Image.{Image};
-    ghost use Rattle.tw_pages.specs.Records.{written};
+    ghost use Rattle.tw_pages.specs.Records.{written_record};
     ghost use Rattle.tw_pages.specs.Rests.{RestsWith};
-    ghost use Rattle.tw_pages.specs.StoreValue.{disk_of};
-    ghost use Rattle.tw_pages.specs.Same.{IsSameStore, list_of};
-    ghost use Rattle.tw_answers.specs.Refusals.{IsBadPage, IsFault};
+    ghost use Rattle.tw_pages.specs.StoreValue.{store_disk};
+    ghost use Rattle.tw_pages.specs.Same.{IsSameStore, store_list};
+    ghost use Rattle.tw_answers.specs.Refusals.{IsBadPageRefusal, IsFault};
     ghost use Rattle.tw_answers.specs.Roots.{root_kind};
     ghost use Rattle.tw_msg.specs.Messages.{IsLinked};
     ghost use Rattle.tw_skiplist.specs.Appended.{appended};
     ghost use Rattle.tw_service.specs.TakingIn.{TakesIn};
     ghost use Rattle.tw_service.specs.Keeps.{StoreServes};
-    ghost use Rattle.tw_service.specs.Writing.{AppendsTo, Commits};
+    ghost use Rattle.tw_service.specs.Writing.{AppendsTo, CommitsRoot};
 
     /// Adds a step of these events, with this time or none, and commits it with the next record. All memory is taken before the first
     /// write. Where it refuses, nothing is staged, and the record is as before.
@@ -102,14 +102,14 @@ impl<D: Disk> Unstaged<D> {
         ensures kept { OnErr result (self.new.kept.root ≡ self.old.kept.root) }
         ensures whole { (result ≡ Err Refusal.DiskFault) ⊎ (is_broken self.new.kept.store ≡ false) }
         ensures answers { IfErr result IsFault }
-        ensures written { (ps : Image) → RestsWith D.view root_kind self.old.kept.store (written self.old.kept.root ps)
-            → Commits D.view (AppendsTo H.dig events.now time) (λ _ w next. AppendsTo H.dig events.now time w next) self.old.kept.store self.new.kept.store self.old.kept.root self.new.kept.root result ps }
+        ensures written { (ps : Image) → RestsWith D.view root_kind self.old.kept.store (written_record self.old.kept.root ps)
+            → CommitsRoot D.view (AppendsTo H.dig events.now time) (λ _ w next. AppendsTo H.dig events.now time w next) self.old.kept.store self.new.kept.store self.old.kept.root self.new.kept.root result ps }
         ensures same { IfErr result (λ refusal. (refusal ≡ Refusal.DiskFault) ⊎ IsSameStore D.view self.old.kept.store self.new.kept.store) }
-        ensures answer { (ps : Image) → list_of D.view self.old.kept.store ≡ Some ps
+        ensures answer { (ps : Image) → store_list D.view self.old.kept.store ≡ Some ps
             → AddsAs result self.new.kept.root.head (appended H.dig ps self.old.kept.root.head (Events events.now) self.old.kept.root.archive time) }
-        ensures good { IfErr result (λ refusal. IsBadPage refusal → (h : History) → StoreServes H.dig D.view self.old.kept.store self.old.kept.root h → ⊥) }
-        ensures fault { result ≡ Err Refusal.DiskFault → Rose ((D.view (disk_of self.old.kept.store)).faults) ((D.view (disk_of self.new.kept.store)).faults) }
-        ensures later { (D.view (disk_of self.old.kept.store)).faults ≤ (D.view (disk_of self.new.kept.store)).faults }
+        ensures good { IfErr result (λ refusal. IsBadPageRefusal refusal → (h : History) → StoreServes H.dig D.view self.old.kept.store self.old.kept.root h → ⊥) }
+        ensures fault { result ≡ Err Refusal.DiskFault → Rose ((D.view (store_disk self.old.kept.store)).faults) ((D.view (store_disk self.new.kept.store)).faults) }
+        ensures later { (D.view (store_disk self.old.kept.store)).faults ≤ (D.view (store_disk self.new.kept.store)).faults }
     {
         let added = append::<Store<D>, H>(
             alloc,

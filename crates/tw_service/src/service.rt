@@ -34,17 +34,17 @@ impl<D: Disk, H: Hasher> Service<D, H> {
     ghost use Rattle.tw_pages.specs.declared.open.StoreFault.{StoreFault as Fault};
     ghost use Rattle.tw_answers.specs.Refusals.{IsFault};
     ghost use Rattle.tw_msg.specs.Messages.{IsLinked};
-    ghost use Rattle.tw_service.specs.Adding.{Appends, Receives, ReceivesBytes, Steps};
-    ghost use Rattle.tw_answers.specs.Finds.{IsAnswer};
+    ghost use Rattle.tw_service.specs.Adding.{AppendsEvents, CallSteps, Receives, ReceivesBytes};
+    ghost use Rattle.tw_answers.specs.Finds.{IsFoundAnswer};
     ghost use Rattle.tw_service.specs.Finds.{found_thread};
     ghost use Rattle.tw_answers.specs.Limits.{append_refusal as append_refusal_of};
-    ghost use Rattle.tw_service.specs.Machine.{Answers, IsStepOf, last_thread};
+    ghost use Rattle.tw_service.specs.Machine.{AnswersByMachine, IsStepOf, last_thread};
     ghost use Rattle.tw_service.specs.Machine.Call.{Append, CountSteps, TellHead, TellName};
     ghost use Rattle.tw_service.specs.Machine.Reply.{OfName, OfNumber, OfThread};
-    ghost use Rattle.tw_pages.specs.Records.{IsWritten, written};
+    ghost use Rattle.tw_pages.specs.Records.{IsWritten, written_record};
     ghost use Rattle.tw_answers.specs.Roots.{root_kind};
-    ghost use Rattle.tw_service.specs.Writing.{AppendsTo, Commits, IsThreadOfNext};
-    ghost use Rattle.tw_service.specs.Serves.{HasSameDisk, IsOver, Serves, archive_of, clock_of, disk_of, has_failed, head_of, name_of, pages_of, record_of, steps_of, thread_of, threads_of};
+    ghost use Rattle.tw_service.specs.Writing.{AppendsTo, CommitsRoot, IsThreadOfNext};
+    ghost use Rattle.tw_service.specs.Serves.{HasSameDisk, IsOver, Serves, archive_of, clock_of, disk_of, has_failed, head_of, head_thread, name_of, pages_of, record_of, steps_of, threads_of};
     ghost use Rattle.tw_service.specs.Stands.{IsBlankOrNew, IsNotOpenedFor, OpensWith, StandsFor, StandsForOneOf, greater, no_history};
 
     /// Makes a service of this name, without a step, on a disk that has no store.
@@ -148,7 +148,7 @@ impl<D: Disk, H: Hasher> Service<D, H> {
 
         // Over a disk that told what it reads as, the value's disk is at rest with its record and pages, whatever they keep.
         ensures over { IfOk result (λ s. (c : Image) → (D.view disk).content ≡ Some c
-            → (ps : Image) × (pages_of D.view s ≡ Some ps) × IsWritten root_kind (written (record_of s) ps) c × IsOver D.view s ps) }
+            → (ps : Image) × (pages_of D.view s ≡ Some ps) × IsWritten root_kind (written_record (record_of s) ps) c × IsOver D.view s ps) }
 
         // `Blank` and `NotAStore` come only where their reasons stand.
         ensures refused { IfErr result (λ e. (c : Image) → (D.view disk).content ≡ Some c
@@ -201,7 +201,7 @@ impl<D: Disk, H: Hasher> Service<D, H> {
     /// The thread of the last step; where there is no step, step 0 with the authenticator of the name.
     pub fn head(&self) -> Thread
         // Over every disk the thread is that of the value's head.
-        ensures value { result ≡ thread_of self.now }
+        ensures value { result ≡ head_thread self.now }
         // Where a history is served, the thread of its last step is told.
         ensures served { (h : History) → Serves H.dig D.view self.now h → result ≡ last_thread H.dig h }
         // Telling the last thread is a step of the machine that changes nothing.
@@ -236,7 +236,7 @@ impl<D: Disk, H: Hasher> Service<D, H> {
             → IsAtRest (D.view result) (λ i. StandsFor H.dig i (name_of self) h) }
         // Where the value was at rest with its record and pages, whatever they keep, the disk opens with these, at rest.
         ensures over { (ps : Image) → IsOver D.view self ps
-            → IsAtRest (D.view result) (IsWritten root_kind (written (record_of self) ps)) }
+            → IsAtRest (D.view result) (IsWritten root_kind (written_record (record_of self) ps)) }
     {
         let Service {
             alloc: _,
@@ -269,7 +269,7 @@ impl<D: Disk, H: Hasher> Service<D, H> {
         // call is a step of the machine. The archive and the greatest time that the root record tells stay as they were, over whatever
         // store; after each refusal name and head do too. The value remembers that a call answered `DiskFault`, which comes only where
         // the disk's count of faults rose.
-        ensures { Appends H.dig D.view events.now None self.old self.new result }
+        ensures { AppendsEvents H.dig D.view events.now None self.old self.new result }
     {
         self.add(events, None)
     }
@@ -284,7 +284,7 @@ impl<D: Disk, H: Hasher> Service<D, H> {
         // Adding a step of events at a time does what adding one without a time does; and `ClockBack` is the last line of its table,
         // which stands exactly where the time is below the greatest one that the root record tells; and after `Ok` that one is the
         // greater of the two.
-        ensures { Appends H.dig D.view events.now (Some time) self.old self.new result }
+        ensures { AppendsEvents H.dig D.view events.now (Some time) self.old self.new result }
     {
         self.add(events, Some(time))
     }
@@ -383,14 +383,14 @@ impl<D: Disk, H: Hasher> Service<D, H> {
             (append_refusal_of (has_failed self.old) (steps_of self.old) (clock_of self.old) events.now time)
             (IfErr result IsFault) (λ refusal. result ≡ Err refusal) }
         ensures answer { (ps : Image) → pages_of D.view self.old ≡ Some ps
-            → IsAnswer result (found_thread H.dig ps (name_of self.old) (head_of self.old) (has_failed self.old)
+            → IsFoundAnswer result (found_thread H.dig ps (name_of self.old) (head_of self.old) (has_failed self.old)
             (clock_of self.old) events.now time (archive_of self.old)) }
         ensures steps { (h : History) → Serves H.dig D.view self.old h
-            → Steps H.dig D.view (Append events.now time) (λ thread. OfThread thread) self.old self.new result h }
+            → CallSteps H.dig D.view (Append events.now time) (λ thread. OfThread thread) self.old self.new result h }
         ensures written { (ps : Image) → IsOver D.view self.old ps
-            → Commits D.view (AppendsTo H.dig events.now time) (IsThreadOfNext H.dig events.now time) self.old.recorded.kept.store self.new.recorded.kept.store
+            → CommitsRoot D.view (AppendsTo H.dig events.now time) (IsThreadOfNext H.dig events.now time) self.old.recorded.kept.store self.new.recorded.kept.store
             (record_of self.old) (record_of self.new) result ps }
-        ensures thread { IfOk result (λ thread. (thread ≡ thread_of self.new) × (thread.from ≡ name_of self.old)
+        ensures thread { IfOk result (λ thread. (thread ≡ head_thread self.new) × (thread.from ≡ name_of self.old)
             × (thread.step ≡ steps_of self.old + 1)) }
         ensures archive { (archive_of self.new ≡ archive_of self.old) × (threads_of self.new ≡ threads_of self.old) }
         ensures clock { IfOk result (λ thread. clock_of self.new ≡ greater (clock_of self.old) time) }

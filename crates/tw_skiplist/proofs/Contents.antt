@@ -5,7 +5,7 @@ use Rattle.tw_base.specs.declared.history.content.Content.{Content}
 use Rattle.tw_base.specs.declared.history.content.Content.TheVariants.{Events, Received}
 use Rattle.tw_base.specs.history.History.{Step, events_of, thread_of, time_of}
 use Rattle.tw_base.specs.history.Limits.{FitTogether, IsTimeWithinLimits, IsWithinLimits, MayRecord}
-use Rattle.tw_skiplist.specs.Appended.{events_in, thread_in}
+use Rattle.tw_skiplist.specs.Appended.{appended_events, appended_thread}
 use Rattle.tw_skiplist.specs.Keeping.{MayBeKept}
 use Rattle.tw_steppage.specs.StepBytes.{stream}
 use Rattle.tw_steppage.proofs.StepCodecs.{HasCounts}
@@ -13,12 +13,12 @@ use Rattle.tw_skiplist.proofs.Streams.{length-stream}
 
 -- ---- by its content
 
-content_records : (c : Content) → IsWithinLimits c → FitTogether (events_in c) → MayRecord (events_in c)
+content_records : (c : Content) → IsWithinLimits c → FitTogether (appended_events c) → MayRecord (appended_events c)
 content_records (Events events) within together = record { are = within; fit = together }
 content_records (Received t) within together = record { are = record { count = omega arith; sizes = tt; bytes = tt }; fit = omega arith }
 
-content_counts : (c : Content) (first : ℕ) → IsWithinLimits c → FitTogether (events_in c) → (length (stream (events_in c)) ≡ 0 → first ≡ 0) → first < 2 ^ 64
-    → HasCounts (thread_in c) (length (events_in c)) (record { page = first; size = length (stream (events_in c)) })
+content_counts : (c : Content) (first : ℕ) → IsWithinLimits c → FitTogether (appended_events c) → (length (stream (appended_events c)) ≡ 0 → first ≡ 0) → first < 2 ^ 64
+    → HasCounts (thread_in c) (length (events_in c)) (record { page = first; size = length (stream (appended_events c)) })
 content_counts (Events events) first within together none small = (within.count, (let size = length-stream events in omega (arith, size, within.count, together), small))
 content_counts (Received t) first within together none small = ((λ j. (0, record { page = sym (none refl) j; size = 0 })), within)
 

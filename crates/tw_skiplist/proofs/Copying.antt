@@ -12,7 +12,7 @@ use Rattle.tw_steppage.specs.StepBytes.{stream}
 use Rattle.tw_steppage.specs.declared.limits.TheConstants.{MOST_STREAM_BYTES}
 use Rattle.tw_skiplist.specs.declared.info.EventsAt.{EventsAt}
 use Rattle.tw_skiplist.specs.declared.step_records.StepRecord.{StepRecord}
-use Rattle.tw_skiplist.specs.Events.{events_codec, events_from, events_in, last_page, piece_count, piece_in, pieces_from, stream_in}
+use Rattle.tw_skiplist.specs.Events.{event_stream_codec, events_from, events_on, last_event_page, piece_count, piece_in, pieces_from, stream_in}
 use Rattle.tw_skiplist.specs.ScanSteps.{HasEventAt, SpellsEvents, copied, tested}
 use Rattle.tw_skiplist.specs.StepRecords.{content_by, content_of, events_of_record}
 use Rattle.tw_skiplist.proofs.EventWords.{found-events, found-none, found-spells, written}
@@ -78,9 +78,9 @@ drop-front (x ∷ xs) ys = drop-front xs ys
 
 module _ (ps : Image) (at : EventsAt) (before : List ℕ) (F : List (List ℕ) → List ℕ) (same : (events : List (List ℕ)) → length events ≡ at.count → before ++ stream events ≡ F events) where
   abbrev last : ℕ
-  last = last_page at (piece_count at.stream.size)
+  last = last_event_page at (piece_count at.stream.size)
 
-  of-events : (bytes : List ℕ) (f : Found (List (List ℕ))) → events_in last at.count bytes ≡ f
+  of-events : (bytes : List ℕ) (f : Found (List (List ℕ))) → events_on last at.count bytes ≡ f
       → ((f >>= passed) >>= (λ _. Is (before ++ bytes))) ≡ (f >>= (λ es. Is (F es)))
   of-events bytes (Bad page) e = refl
   of-events bytes (Is events) e =
@@ -88,11 +88,11 @@ module _ (ps : Image) (at : EventsAt) (before : List ℕ) (F : List (List ℕ) �
       ap (λ (t : List ℕ). Is (before ++ t)) (sym spells.0) ∙ ap (λ (t : List ℕ). Is t) (same events spells.1)
 
   of-stream : (f : Found (List ℕ)) → ((f >>= (λ s. Is (before ++ s))) >>= (λ now. tested last at.count (drop (length before) now) >>= (λ _. Is now)))
-      ≡ ((f >>= events_in last at.count) >>= (λ es. Is (F es)))
+      ≡ ((f >>= events_on last at.count) >>= (λ es. Is (F es)))
   unfolding tested
   of-stream (Bad page) = refl
   of-stream (Is bytes) =
-      ap (λ (t : List ℕ). (events_in last at.count t >>= passed) >>= (λ _. Is (before ++ bytes))) (drop-front before bytes) ∙ of-events bytes (events_in last at.count bytes) refl
+      ap (λ (t : List ℕ). (events_on last at.count t >>= passed) >>= (λ _. Is (before ++ bytes))) (drop-front before bytes) ∙ of-events bytes (events_on last at.count bytes) refl
 
   -- what is copied is made of the events that are found
   pub copied-by : copied ps at before ≡ (events_from ps at >>= (λ events. Is (F events)))
@@ -105,7 +105,7 @@ module _ (ps : Image) (at : EventsAt) (before : List ℕ) (F : List (List ℕ) �
       by : (b : Bool)
           → (if b then Bad at.page
           else (pieces_from ps at (piece_count at.stream.size) 0 before >>= (λ now. tested last at.count (drop (length before) now) >>= (λ _. Is now))))
-          ≡ ((if b then Bad at.page else (stream_in ps at >>= events_in last at.count)) >>= (λ events. Is (F events)))
+          ≡ ((if b then Bad at.page else (stream_in ps at >>= events_on last at.count)) >>= (λ events. Is (F events)))
       by true = refl
       by false = ap (λ (f : Found (List ℕ)). f >>= (λ now. tested last at.count (drop (length before) now) >>= (λ _. Is now))) behind ∙ of-stream (stream_in ps at)
 
@@ -115,7 +115,7 @@ content-text : (before : List ℕ) (events : List (List ℕ)) (count : ℕ) → 
 unfolding content_codec variant counted by_kind number_codec
 content-text before events count is =
     append_assoc before (number_bytes 4 count) (stream events) ∙ ap (λ (t : List ℕ). before ++ (number_bytes 4 count ++ t)) (sym (written (length events) events))
-    ∙ ap (λ (n : ℕ). before ++ (number_bytes 4 n ++ (events_codec (length events)).write events)) (sym is)
+    ∙ ap (λ (n : ℕ). before ++ (number_bytes 4 n ++ (event_stream_codec (length events)).write events)) (sym is)
 
 pub content-copied : (ps : Image) (r : StepRecord) (before : List ℕ) → r.fields.received ≡ None
     → copied ps (events_of_record r) (before ++ number_bytes 4 r.fields.count) ≡ (content_of ps r >>= (λ c. Is (before ++ (content_codec true).write c)))
@@ -133,7 +133,7 @@ content-copied ps r before none =
 pub none-counted : (ps : Image) (at : EventsAt) → at.stream.size ≡ 0 → 0 < at.count → events_from ps at ≡ Bad at.page
 unfolding events_from pieces_from
 none-counted ps at empty some =
-    ap (λ (size : ℕ). if nat_lt MOST_STREAM_BYTES size then Bad at.page else (pieces_from ps at (piece_count size) 0 [] >>= events_in (last_page at (piece_count size)) at.count)) empty
+    ap (λ (size : ℕ). if nat_lt MOST_STREAM_BYTES size then Bad at.page else (pieces_from ps at (piece_count size) 0 [] >>= events_on (last_event_page at (piece_count size)) at.count)) empty
     ∙ found-none [] at.count (λ events spells.
     let size = length-stream events in
     let none : length (stream events) ≡ 0 = ap (λ (t : List ℕ). length t) spells.stream_is in

@@ -11,7 +11,7 @@ use Rattle.tw_disk.specs.Found.{Found, when, ◌>>=◌, bytes_in, spelled}
 use Rattle.tw_disk.specs.Found.Found.{Is, Bad}
 use Rattle.tw_skiplist.specs.Readings.{found_proof, found_way}
 use Rattle.tw_skiplist.specs.Records.{info_record}
-use Rattle.tw_steppage.specs.StepBytes.{step_codec}
+use Rattle.tw_steppage.specs.StepBytes.{paged_codec}
 use Rattle.tw_steppage.specs.StepPages.{keeps_field_rules, keeps_link_rules}
 use Rattle.tw_skiplist.specs.PagesOfSteps.{page_of_step, step_in}
 use Rattle.tw_skiplist.specs.Walks.{info_in}
@@ -36,9 +36,9 @@ passes false page x y e = absurd cc
 few_in : (page step : ℕ) (bytes : List ℕ) (p : StepFields × List StepRef) → step_in page step bytes ≡ Is p → p.0.count ≤ 1024
 unfolding step_in
 few_in page step bytes p e =
-    let own = through (spelled page 4096 (step_codec step) bytes) (λ q. when (keeps_field_rules page q.0 && keeps_link_rules page step q.1 (length q.1)) page q) p e in
+    let own = through (spelled page 4096 (paged_codec step) bytes) (λ q. when (keeps_field_rules page q.0 && keeps_link_rules page step q.1 (length q.1)) page q) p e in
     let same = passes (keeps_field_rules page own.first.0 && keeps_link_rules page step own.first.1 (length own.first.1)) page own.first p own.then_is in
-    let is = is-spelled page 4096 (step_codec step) (step-lawful step) bytes own.first own.is in
+    let is = is-spelled page 4096 (paged_codec step) (step-lawful step) bytes own.first own.is in
     subst (λ (q : StepFields × List StepRef). q.0.count ≤ 1024) same (events-few step own.first.0 own.first.1 is.fits)
 
 few_page : (ps : Image) (page step : ℕ) (p : StepFields × List StepRef) → page_of_step ps page step ≡ Is p → p.0.count ≤ 1024

@@ -5,7 +5,7 @@ use Rattle.tw_disk.specs.Image.{Image, page_at}
 use Rattle.tw_base.specs.history.History.{History, Step}
 use Rattle.tw_base.specs.history.Auth.{auth}
 use Rattle.tw_skiplist.specs.declared.head.Head.{Head}
-use Rattle.tw_skiplist.specs.Keeping.{Keeps, KeepsStep, KeepsSteps, KeepsStream, Place, no_place, place_of}
+use Rattle.tw_skiplist.specs.Keeping.{Keeps, KeepsStep, KeepsSteps, KeepsStream, Place, no_place, place_of_step}
 use Rattle.tw_steppage.specs.declared.limits.TheConstants.{MOST_PIECE_BYTES}
 
 pub page_grows : (pages more : Image) (k : ℕ) (bytes : List ℕ) → k < length pages → page_at pages k ≡ bytes → page_at (pages ++ more) k ≡ bytes
@@ -35,8 +35,8 @@ module _ (dig : List ℕ → List ℕ) where
     below = omega (arith, s.below, length-append pages more);
     small = s.small;
     archive = s.archive;
-    bytes = page_grows pages more ((place_of places (suc k)).page - 4) _ (omega (arith, s.below, s.low)) s.bytes;
-    stream = KeepsStream-grows pages more (suc k) (place_of places (suc k)).first (place_of places (suc k)).page _ s.below s.stream;
+    bytes = page_grows pages more ((place_of_step places (suc k)).page - 4) _ (omega (arith, s.below, s.low)) s.bytes;
+    stream = KeepsStream-grows pages more (suc k) (place_of_step places (suc k)).first (place_of_step places (suc k)).page _ s.below s.stream;
   }
 
   pub KeepsSteps-grows : (pages more : Image) (h : History) (places : List Place) → KeepsSteps dig pages h places → KeepsSteps dig (pages ++ more) h places
@@ -54,16 +54,16 @@ module _ (dig : List ℕ → List ℕ) where
         keeps = record { count = omega (arith, no_steps); nowhere = refl; short = omega (arith, no_steps); steps = λ k l. absurd (omega (arith, l, no_steps)) };
         step = step ∙ sym no_steps;
         auth = label ∙ ap (λ (i : ℕ). auth dig h i) (sym no_steps);
-        page = page ∙ sym (ap (λ (i : ℕ). (place_of (no_place ∷ []) i).page) no_steps);
+        page = page ∙ sym (ap (λ (i : ℕ). (place_of_step (no_place ∷ []) i).page) no_steps);
       }
 
   -- the page of the head
   pub no_head_page : (pages : Image) (h : History) (head : Head) → Keeps dig pages h head → head.step ≡ 0 → head.page ≡ 0
   no_head_page pages h head k none =
-      k.page ∙ ap (λ (i : ℕ). (place_of k.places i).page) (sym k.step ∙ none) ∙ ap (λ (p : Place). p.page) k.keeps.nowhere
+      k.page ∙ ap (λ (i : ℕ). (place_of_step k.places i).page) (sym k.step ∙ none) ∙ ap (λ (p : Place). p.page) k.keeps.nowhere
 
   page_of : (pages : Image) (h : History) (places : List Place) → KeepsSteps dig pages h places → (i : ℕ) → 0 < i → i ≤ length h.steps
-      → (4 ≤ (place_of places i).page) × ((place_of places i).page < 4 + length pages)
+      → (4 ≤ (place_of_step places i).page) × ((place_of_step places i).page < 4 + length pages)
   page_of pages h places s zero p l = absurd (omega arith)
   page_of pages h places s (suc k) p l = let one = s.steps k (omega (arith, l)) in (one.low, one.below)
 
@@ -73,9 +73,9 @@ module _ (dig : List ℕ → List ℕ) where
       (omega (arith, at.0, k.page), omega (arith, at.1, k.page))
 
   -- every page of a history lies below the used count
-  pub below_head : (pages : Image) (h : History) (places : List Place) → KeepsSteps dig pages h places → (place_of places (length h.steps)).page < 4 + length pages
+  pub below_head : (pages : Image) (h : History) (places : List Place) → KeepsSteps dig pages h places → (place_of_step places (length h.steps)).page < 4 + length pages
   below_head pages h places s = last (length h.steps) (omega arith)
     where
-      last : (i : ℕ) → i ≤ length h.steps → (place_of places i).page < 4 + length pages
+      last : (i : ℕ) → i ≤ length h.steps → (place_of_step places i).page < 4 + length pages
       last zero l = subst (λ (p : Place). p.page < 4 + length pages) (sym s.nowhere) (omega arith)
       last (suc k) l = (s.steps k (omega (arith, l))).below

@@ -17,11 +17,11 @@ use Rattle.tw_base.proofs.lemmas.kinds.Levels.{top_level-divides}
 use Rattle.tw_base.proofs.lemmas.kinds.ListLemmas.{Each-append}
 use Rattle.tw_steppage.specs.declared.link.StepRef.{StepRef}
 use Rattle.tw_steppage.specs.declared.fields.StepFields.{StepFields}
-use Rattle.tw_skiplist.specs.Keeping.{KeepsStep, KeepsSteps, Place, archive_at, fields_at, link_to, links_at, links_to, place_of}
-use Rattle.tw_steppage.specs.StepBytes.{ref_codec, step_codec, stream}
+use Rattle.tw_skiplist.specs.Keeping.{KeepsStep, KeepsSteps, Place, archive_at, fields_at, link_to, links_at, links_to, place_of_step}
+use Rattle.tw_steppage.specs.StepBytes.{paged_codec, ref_codec, stream}
 use Rattle.tw_disk.specs.Found.{Found, when, ◌>>=◌, spelled}
 use Rattle.tw_disk.specs.Found.Found.{Is}
-use Rattle.tw_steppage.specs.StepPages.{lies_below, link_of, no_ref}
+use Rattle.tw_steppage.specs.StepPages.{lies_below, link_at_level, no_ref}
 use Rattle.tw_skiplist.specs.PagesOfSteps.{step_in, page_of_step}
 use Rattle.tw_skiplist.specs.Walks.{link_in}
 use Rattle.tw_disk.proofs.FoundLaws.{is_on, bytes_in-within}
@@ -66,7 +66,7 @@ module _ (dig : List ℕ → List ℕ) (size : (text : List ℕ) → IsDigest (d
 
   module _ (ps : Image) (kept : KeepsSteps dig ps h places) where
     abbrev page : ℕ → ℕ
-    page i = (place_of places i).page
+    page i = (place_of_step places i).page
 
     -- a later step has a greater page
     rises_by : (i d : ℕ) → i + suc d ≤ length h.steps → page i < page (i + suc d)
@@ -100,7 +100,7 @@ module _ (dig : List ℕ → List ℕ) (size : (text : List ℕ) → IsDigest (d
         Each-append ref_codec.Fits (links_to dig h places i level) (link_to dig h places (i - 2 ^ level) ∷ []) (links-fit i level l)
         (ref-fits (link_to dig h places (i - 2 ^ level)) (omega (arith, small_page (i - 2 ^ level) (omega (arith, l)))) (auth-is (i - 2 ^ level)), tt)
 
-    first_below : (k : ℕ) → (s : KeepsStep dig ps h places k) → (place_of places (suc k)).first < page (suc k)
+    first_below : (k : ℕ) → (s : KeepsStep dig ps h places k) → (place_of_step places (suc k)).first < page (suc k)
     first_below k s =
         elim (cases_lt 0 (length (stream (events_at h (suc k))))) [
           | inl some ↦ (let under = s.stream.below 0 (omega (arith, some)) in omega (arith, under))
@@ -108,7 +108,7 @@ module _ (dig : List ℕ → List ℕ) (size : (text : List ℕ) → IsDigest (d
         ]
 
     -- a step whose first event page is 0 has no bytes
-    no_bytes : (k : ℕ) → (s : KeepsStep dig ps h places k) → (place_of places (suc k)).first ≡ 0 → length (stream (events_at h (suc k))) ≡ 0
+    no_bytes : (k : ℕ) → (s : KeepsStep dig ps h places k) → (place_of_step places (suc k)).first ≡ 0 → length (stream (events_at h (suc k))) ≡ 0
     no_bytes k s none =
         elim (cases_lt 0 (length (stream (events_at h (suc k))))) [
           | inl some ↦ (let low = s.stream.low some in absurd (omega (arith, low, none)))
@@ -120,12 +120,12 @@ module _ (dig : List ℕ → List ℕ) (size : (text : List ℕ) → IsDigest (d
     no_page zero l none = refl
     no_page (suc k) l none = absurd (omega (arith, (kept.steps k (omega (arith, l))).low, none))
 
-    link_rule : (k level : ℕ) → k < length h.steps → level < suc (top_level (suc k)) → lies_below (suc k == 2 ^ level) (link_of (links_at dig h places (suc k)) level).page (page (suc k)) ≡ true
+    link_rule : (k level : ℕ) → k < length h.steps → level < suc (top_level (suc k)) → lies_below (suc k == 2 ^ level) (link_at_level (links_at dig h places (suc k)) level).page (page (suc k)) ≡ true
     link_rule k level l within =
         let at = ap (λ (x : StepRef). x.page) (get_or-links_to no_ref (suc k) (suc (top_level (suc k))) level within) in
         let some = pow_pos level in
         let within_step = power-le (suc k) level (omega arith) (omega (arith, l, kept.short)) (omega (arith, within)) in
-        below_where (suc k) (2 ^ level) (link_of (links_at dig h places (suc k)) level).page (page (suc k))
+        below_where (suc k) (2 ^ level) (link_at_level (links_at dig h places (suc k)) level).page (page (suc k))
         (omega (arith, at, rises (suc k - 2 ^ level) (suc k) (omega (arith, some)) (omega (arith, l))))
         (λ same.
         let none : suc k - 2 ^ level ≡ 0 = omega (arith, same) in
@@ -134,11 +134,11 @@ module _ (dig : List ℕ → List ℕ) (size : (text : List ℕ) → IsDigest (d
         let first : suc k - 2 ^ level ≡ 0 = no_page (suc k - 2 ^ level) (omega (arith, l)) (sym at ∙ none) in
         omega (arith, first, within_step))
 
-    page-fits : (k : ℕ) → k < length h.steps → KeepsStep dig ps h places k → (step_codec (suc k)).Fits (fields_at dig h places (suc k), links_at dig h places (suc k))
+    page-fits : (k : ℕ) → k < length h.steps → KeepsStep dig ps h places k → (paged_codec (suc k)).Fits (fields_at dig h places (suc k), links_at dig h places (suc k))
     page-fits k l s =
-        step-fits (suc k) (length (events_at h (suc k))) (record { page = (place_of places (suc k)).first; size = length (stream (events_at h (suc k))) }) (event_root dig (events_at h (suc k)))
+        step-fits (suc k) (length (events_at h (suc k))) (record { page = (place_of_step places (suc k)).first; size = length (stream (events_at h (suc k))) }) (event_root dig (events_at h (suc k)))
         (archive_at dig h places (suc k)) (auth dig h (suc k)) (links_at dig h places (suc k)) (time_at h (suc k)) (thread_of (step_at h (suc k)))
-        (may_count (step_at h (suc k)) (place_of places (suc k)).first s.may s.stream.none (omega (arith, first_below k s, s.small)))
+        (may_count (step_at h (suc k)) (place_of_step places (suc k)).first s.may s.stream.none (omega (arith, first_below k s, s.small)))
         (event_root-digest dig (λ t. (size t).0) (λ t. (size t).1) (events_at h (suc k))) (tree_label-digest dig (λ t. (size t).0) (λ t. (size t).1) (tree h (suc k))) (omega (arith, s.archive, s.small)) (auth-is (suc k))
         (may_time (step_at h (suc k)) s.may) (length-links_to (suc k) (suc (top_level (suc k)))) (links-fit (suc k) (suc (top_level (suc k))) (omega (arith, l)))
 
@@ -152,12 +152,12 @@ module _ (dig : List ℕ → List ℕ) (size : (text : List ℕ) → IsDigest (d
         let fields = both_true _ _ (below_where f.stream.size 0 f.stream.page (page (suc k)) (first_below k s) s.stream.none (no_bytes k s)) (lt-ltb f.archive.page (page (suc k)) s.archive) in
         let rules = link_rules-all (page (suc k)) (suc k) links (length links) (λ level under. link_rule k level l (omega (arith, under, length-links_to (suc k) (suc (top_level (suc k)))))) in
         ap (λ (b : Found (List ℕ)). b >>= step_in (page (suc k)) (suc k)) (bytes_in-within ps (page (suc k)) s.low s.below)
-        ∙ is_on (spelled (page (suc k)) 4096 (step_codec (suc k)) (page_at ps (page (suc k) - 4))) _ (f, links)
-        (page-is (page (suc k)) (step_codec (suc k)) (step-lawful (suc k)) (page_at ps (page (suc k) - 4)) (f, links) (record { bytes = s.bytes; fits = page-fits k l s }))
+        ∙ is_on (spelled (page (suc k)) 4096 (paged_codec (suc k)) (page_at ps (page (suc k) - 4))) _ (f, links)
+        (page-is (page (suc k)) (paged_codec (suc k)) (step-lawful (suc k)) (page_at ps (page (suc k) - 4)) (f, links) (record { bytes = s.bytes; fits = page-fits k l s }))
         ∙ ap (λ (b : Bool). when b (page (suc k)) (f, links)) (both_true _ _ fields rules)
 
     -- where a link of it leads
     pub kept_link_in : (k level : ℕ) → k < length h.steps → level ≤ top_level (suc k) → link_in ps (page (suc k)) (suc k) level ≡ Is (link_to dig h places (suc k - 2 ^ level))
     kept_link_in k level l fine =
-        is_on (page_of_step ps (page (suc k)) (suc k)) (λ p. Is (link_of p.1 level)) (fields_at dig h places (suc k), links_at dig h places (suc k)) (kept_page k l)
+        is_on (page_of_step ps (page (suc k)) (suc k)) (λ p. Is (link_at_level p.1 level)) (fields_at dig h places (suc k), links_at dig h places (suc k)) (kept_page k l)
         ∙ ap (λ (link : StepRef). Is link) (get_or-links_to no_ref (suc k) (suc (top_level (suc k))) level (omega (arith, fine)))

@@ -26,10 +26,10 @@ use Rattle.tw_skiplist.specs.declared.adding.NewStep.{NewStep}
 use Rattle.tw_steppage.specs.declared.fields.StepFields.{StepFields}
 use Rattle.tw_steppage.specs.declared.limits.TheConstants.{MOST_PIECE_BYTES}
 use Rattle.tw_disk.specs.Answers.{Next}
-use Rattle.tw_skiplist.specs.Appended.{appended, bare_step, events_in, first_page, new_fields, new_labels, new_step, next_of, put_behind, thread_in}
+use Rattle.tw_skiplist.specs.Appended.{appended, appended_events, appended_thread, bare_step, first_page, new_fields, new_labels, new_step, next_of, put_behind}
 use Rattle.tw_skiplist.specs.Events.{piece_count}
 use Rattle.tw_disk.specs.Found.Found.{Is}
-use Rattle.tw_skiplist.specs.Keeping.{GoOn, Keeps, KeepsSteps, MayBeKept, Place, fields_at, link_to, links_at, links_to, place_of}
+use Rattle.tw_skiplist.specs.Keeping.{GoOn, Keeps, KeepsSteps, MayBeKept, Place, fields_at, link_to, links_at, links_to, place_of_step}
 use Rattle.tw_skiplist.specs.Records.{page_labels}
 use Rattle.tw_steppage.specs.StepBytes.{event_pages, step_page_bytes, stream}
 use Rattle.tw_skiplist.specs.Walks.{all_links, link_in, links_on, next_links}
@@ -105,7 +105,7 @@ module _ (dig : List ℕ → List ℕ) (size : (text : List ℕ) → IsDigest (d
   new_parts = new_step dig content archive time
 
   abbrev bytes : List ℕ
-  bytes = stream (events_in content)
+  bytes = stream (appended_events content)
 
   abbrev places : List Place
   places = keeps.places
@@ -150,8 +150,8 @@ module _ (dig : List ℕ → List ℕ) (size : (text : List ℕ) → IsDigest (d
 
   few : MayBeKept (bare_step content time) → piece_count (length bytes) ≤ 18
   few may =
-      let sum = length-stream (events_in content) in
-      let limits : MayRecord (events_in content) = may_record (Some (bare_step content time)) may in
+      let sum = length-stream (appended_events content) in
+      let limits : MayRecord (appended_events content) = may_record (Some (bare_step content time)) may in
       omega (arith, sum, limits.are.count, limits.fit)
 
   abbrev page : List ℕ
@@ -166,20 +166,20 @@ module _ (dig : List ℕ → List ℕ) (size : (text : List ℕ) → IsDigest (d
     abbrev longer : History
     longer = plus h s
 
-    here : place_of more_places (suc n) ≡ place
+    here : place_of_step more_places (suc n) ≡ place
     here = place_of-new dig h places s place keeps.keeps.count
 
-    same_events : events_in content ≡ events_at longer (suc n)
-    same_events = ap events_in (sym content_is) ∙ ap events_of (sym (step_at-new h s))
+    same_events : appended_events content ≡ events_at longer (suc n)
+    same_events = ap appended_events (sym content_is) ∙ ap events_of (sym (step_at-new h s))
 
-    same_thread : thread_in content ≡ thread_of (step_at longer (suc n))
-    same_thread = ap thread_in (sym content_is) ∙ ap thread_of (sym (step_at-new h s))
+    same_thread : appended_thread content ≡ thread_of (step_at longer (suc n))
+    same_thread = ap appended_thread (sym content_is) ∙ ap thread_of (sym (step_at-new h s))
 
     same_time : time ≡ time_at longer (suc n)
     same_time = sym time_is ∙ ap time_of (sym (step_at-new h s))
 
     abbrev datum : List ℕ
-    datum = dig (step_datum_text (event_root dig (events_in content)) archive.label (length (events_in content)) time)
+    datum = dig (step_datum_text (event_root dig (appended_events content)) archive.label (length (appended_events content)) time)
 
     datum_of : datum ≡ dig (datum_text_at dig longer (suc n))
     unfolding datum_text_at
@@ -211,7 +211,7 @@ module _ (dig : List ℕ → List ℕ) (size : (text : List ℕ) → IsDigest (d
     may_be : MayBeKept s
     may_be = record {
       content = subst IsWithinLimits (sym content_is) may.content;
-      together = subst (λ (c : Content). FitTogether (events_in c)) (sym content_is) may.together;
+      together = subst (λ (c : Content). FitTogether (appended_events c)) (sym content_is) may.together;
       time = subst IsTimeWithinLimits (sym time_is) may.time;
     }
 
@@ -220,7 +220,7 @@ module _ (dig : List ℕ → List ℕ) (size : (text : List ℕ) → IsDigest (d
     own = stream (events_of (Some s))
 
     own_is : bytes ≡ own
-    own_is = ap (λ (c : Content). stream (events_in c)) (sym content_is)
+    own_is = ap (λ (c : Content). stream (appended_events c)) (sym content_is)
 
     put_keeps : (kept : Keeps dig (ps ++ (pieces ++ page ∷ [])) longer next.value) × GoOn places kept.places n archive.page
     put_keeps =
@@ -237,7 +237,7 @@ module _ (dig : List ℕ → List ℕ) (size : (text : List ℕ) → IsDigest (d
             keeps = subst (λ (x : Image). KeepsSteps dig x longer more_places) (append_assoc ps pieces (page ∷ [])) there;
             step = next_is ∙ sym longer_is;
             auth = label_of ∙ ap (λ (i : ℕ). auth dig longer i) (sym longer_is);
-            page = ap (λ (p : Place). p.page) (sym here) ∙ ap (λ (i : ℕ). (place_of more_places i).page) (sym longer_is);
+            page = ap (λ (p : Place). p.page) (sym here) ∙ ap (λ (i : ℕ). (place_of_step more_places i).page) (sym longer_is);
           },
           record { before = λ i l. place_of-plus dig h places s place keeps.keeps.count i l; new = ap (λ (p : Place). p.archive) here },
         )

@@ -13,7 +13,7 @@ use Rattle.tw_disk.specs.Image.{Image, page_at}
 use Rattle.tw_skiplist.specs.declared.info.EventsAt.{EventsAt}
 use Rattle.tw_skiplist.specs.declared.info.StepInfo.{StepInfo}
 use Rattle.tw_steppage.specs.declared.limits.TheConstants.{MOST_PIECE_BYTES, MOST_STREAM_BYTES}
-use Rattle.tw_skiplist.specs.Events.{events_from, events_in, events_of_info, events_told, last_page, piece_count, piece_in, piece_size, pieces_from, stream_in}
+use Rattle.tw_skiplist.specs.Events.{events_from, events_of_info, events_on, events_told, last_event_page, piece_count, piece_in, piece_size, pieces_from, stream_in}
 use Rattle.tw_disk.specs.Found.{Found, ◌>>=◌, spelled}
 use Rattle.tw_disk.specs.Found.Found.{Is, Bad}
 use Rattle.tw_skiplist.specs.Infos.{IsInfoOf}
@@ -91,13 +91,13 @@ module _ (ps : Image) (h : History) (i : ℕ) (at : EventsAt) (is : KeepsEvents 
       let all = count_all size in
       let long : length bytes_of ≤ MOST_PIECE_BYTES * count = omega (arith, all, is.stream_size) in
       let few : size ≤ MOST_STREAM_BYTES = omega (arith, is.stream_size, length-stream (events_at h i), is.limits.are.count, is.limits.fit) in
-      let read : Found (List (List ℕ)) = stream_in ps at >>= events_in (last_page at count) at.count in
+      let read : Found (List (List ℕ)) = stream_in ps at >>= events_on (last_event_page at count) at.count in
       let all_pieces : stream_in ps at ≡ Is bytes_of =
       pieces_are count 0 (omega arith) ∙ ap (λ (n : ℕ). Is (take (MOST_PIECE_BYTES * n) bytes_of)) (let e : 0 + count ≡ count = omega arith in e)
       ∙ ap (λ (b : List ℕ). Is b) (take_all (MOST_PIECE_BYTES * count) bytes_of long) in
       ap (λ (b : Bool). if b then Bad at.page else read) (le-ltb MOST_STREAM_BYTES size few)
-      ∙ is_on (stream_in ps at) (events_in (last_page at count) at.count) bytes_of all_pieces
-      ∙ found-events bytes_of at.count (events_at h i) (record { stream_is = refl; count_is = sym is.count; limits = is.limits }) (last_page at count)
+      ∙ is_on (stream_in ps at) (events_on (last_event_page at count) at.count) bytes_of all_pieces
+      ∙ found-events bytes_of at.count (events_at h i) (record { stream_is = refl; count_is = sym is.count; limits = is.limits }) (last_event_page at count)
 
 -- so where an info tells it
 pub events_are : (dig : List ℕ → List ℕ) (ps : Image) (h : History) (places : List Place) (i : ℕ) (info : StepInfo) → IsInfoOf dig ps h places i info → events_of_info ps info ≡ Is (events_at h i)

@@ -23,10 +23,10 @@ use Rattle.tw_skiplist.specs.Events.{events_of_info}
 use Rattle.tw_disk.specs.Found.{Found, ◌>>=◌}
 use Rattle.tw_disk.specs.Found.Found.{Is}
 use Rattle.tw_skiplist.specs.Infos.{IsInfoOf}
-use Rattle.tw_skiplist.specs.Keeping.{Keeps, KeepsSteps, Place, fields_at, link_to, links_at, place_of}
-use Rattle.tw_skiplist.specs.Readings.{found_events, found_link, found_path, found_proof, found_step, found_way}
+use Rattle.tw_skiplist.specs.Keeping.{Keeps, KeepsSteps, Place, fields_at, link_to, links_at, place_of_step}
+use Rattle.tw_skiplist.specs.Readings.{found_events, found_link, found_proof, found_skip_path, found_step, found_way}
 use Rattle.tw_skiplist.specs.Records.{info_record, link_record}
-use Rattle.tw_steppage.specs.StepPages.{link_of, no_ref}
+use Rattle.tw_steppage.specs.StepPages.{link_at_level, no_ref}
 use Rattle.tw_skiplist.specs.PagesOfSteps.{page_of_step}
 use Rattle.tw_skiplist.specs.Walks.{collect_along, collected, head_ref, hop_in, info_in, link_in, walk}
 use Rattle.tw_disk.proofs.FoundLaws.{is_on}
@@ -40,7 +40,7 @@ module _ (dig : List ℕ → List ℕ) (size : (text : List ℕ) → IsDigest (d
   to_step i = link_to dig h places i
 
   abbrev page : ℕ → ℕ
-  page i = (place_of places i).page
+  page i = (place_of_step places i).page
 
   -- a link of a step that has one at the level
   pub link_kept : (i level : ℕ) → 0 < i → i ≤ length h.steps → level ≤ top_level i → link_in ps (page i) i level ≡ Is (to_step (i - 2 ^ level))
@@ -76,7 +76,7 @@ module _ (dig : List ℕ → List ℕ) (size : (text : List ℕ) → IsDigest (d
       ≡ Is (record { link = link_record dig i (fields_at dig h places i) (links_at dig h places i) level; next = to_step (i - 2 ^ level) })
   hop_kept zero level some l fine = absurd (omega arith)
   hop_kept (suc k) level some l fine =
-      is_on (page_of_step ps (page (suc k)) (suc k)) (λ p. Is (record { link = link_record dig (suc k) p.0 p.1 level; next = link_of p.1 level })) (fields_at dig h places (suc k), links_at dig h places (suc k)) (kept_page dig size h places ps kept k (omega (arith, l)))
+      is_on (page_of_step ps (page (suc k)) (suc k)) (λ p. Is (record { link = link_record dig (suc k) p.0 p.1 level; next = link_at_level p.1 level })) (fields_at dig h places (suc k), links_at dig h places (suc k)) (kept_page dig size h places ps kept k (omega (arith, l)))
       ∙ ap (λ (next : StepRef). Is (record { link = link_record dig (suc k) (fields_at dig h places (suc k)) (links_at dig h places (suc k)) level; next = next }))
       (get_or-links_to dig size h places no_ref (suc k) (suc (top_level (suc k))) level (omega (arith, fine)))
 
@@ -143,7 +143,7 @@ module _ (dig : List ℕ → List ℕ) (size : (text : List ℕ) → IsDigest (d
   -- the head is the link to the last step
   pub first_is : head_ref head ≡ link_to dig h places head.step
   first_is = (λ j. record {
-    page = (keeps.page ∙ ap (λ (i : ℕ). (place_of places i).page) (sym keeps.step)) j;
+    page = (keeps.page ∙ ap (λ (i : ℕ). (place_of_step places i).page) (sym keeps.step)) j;
     auth = (keeps.auth ∙ ap (λ (i : ℕ). auth dig h i) (sym keeps.step)) j;
   })
 
@@ -161,7 +161,7 @@ module _ (dig : List ℕ → List ℕ) (size : (text : List ℕ) → IsDigest (d
       )
 
   -- a step under the link that leads to it
-  pub here_found : (link : Head) (i : ℕ) → 1 ≤ i → i ≤ head.step → link.step ≡ i → link.page ≡ (place_of places i).page → (info : StepInfo) × (found_step dig ps link i ≡ Is info) × IsInfoOf dig ps h places i info
+  pub here_found : (link : Head) (i : ℕ) → 1 ≤ i → i ≤ head.step → link.step ≡ i → link.page ≡ (place_of_step places i).page → (info : StepInfo) × (found_step dig ps link i ≡ Is info) × IsInfoOf dig ps h places i info
   unfolding found_step
   here_found link i some order at page =
       let told = tells dig size h places ps keeps.keeps i some (omega (arith, order, keeps.step)) in (
@@ -193,8 +193,8 @@ module _ (dig : List ℕ → List ℕ) (size : (text : List ℕ) → IsDigest (d
         refl,
       )
 
-  pub path_found : (n i : ℕ) → i ≤ n → n ≤ head.step → (path : Path) × (found_path dig ps head n i ≡ Is path) × IsPathOf dig h path.links n i
-  unfolding found_path
+  pub path_found : (n i : ℕ) → i ≤ n → n ≤ head.step → (path : Path) × (found_skip_path dig ps head n i ≡ Is path) × IsPathOf dig h path.links n i
+  unfolding found_skip_path
   path_found n i order below =
       let own = link_found n i order below in
       (own.0.path, is_on (found_link dig ps head n i) (λ link. Is link.path) own.0 own.1, own.2)
@@ -208,7 +208,7 @@ module _ (dig : List ℕ → List ℕ) (size : (text : List ℕ) → IsDigest (d
       let tell : Collected → StepInfo → Found StepProof = λ way info. Is (record { path = record { links = way.links }; info = info }) in
       let end : Collected = record { links = way.0; last = link_to dig h places i } in (
         record { path = record { links = way.0 }; info = told.info },
-        is_on (found_way dig ps head top i) (λ (way : Collected). info_in dig ps way.last.page i >>= tell way) end way.1 ∙ is_on (info_in dig ps (place_of places i).page i) (tell end) told.info told.is,
+        is_on (found_way dig ps head top i) (λ (way : Collected). info_in dig ps way.last.page i >>= tell way) end way.1 ∙ is_on (info_in dig ps (place_of_step places i).page i) (tell end) told.info told.is,
         way.2,
         told.of,
       )

@@ -3,7 +3,7 @@ use Rattle.std.proofs.Common.{◌≡◌, ℕ, suc, ◌+◌, ◌-◌, ◌*◌, �
 use Rattle.tw_disk.specs.Image.{Image}
 use Rattle.tw_skiplist.specs.declared.info.EventsAt.{EventsAt}
 use Rattle.tw_steppage.specs.declared.limits.TheConstants.{MOST_PIECE_BYTES}
-use Rattle.tw_skiplist.specs.Events.{last_page, piece_behind, piece_count, pieces_from}
+use Rattle.tw_skiplist.specs.Events.{last_event_page, piece_behind, piece_count, pieces_from}
 use Rattle.tw_disk.specs.Found.{◌>>=◌}
 use Rattle.tw_disk.specs.Found.Found.{Is}
 
@@ -37,8 +37,8 @@ module _ (ps : Image) (at : EventsAt) (number : ℕ) (before : List ℕ) where
 pub pieces-begin : (ps : Image) (at : EventsAt) (before : List ℕ) → pieces_from ps at (piece_count at.stream.size) 0 before ≡ pieces_from ps at (piece_count at.stream.size - 0) 0 before
 pieces-begin ps at before = ap (λ (more : ℕ). pieces_from ps at more 0 before) (let e : piece_count at.stream.size ≡ piece_count at.stream.size - 0 = omega arith in e)
 
-pub last_page-on : (at : EventsAt) (number : ℕ) → last_page at (number + 1) ≡ at.stream.page + number
-last_page-on at number = ap (last_page at) (let e : number + 1 ≡ suc number = omega arith in e)
+pub last_page-on : (at : EventsAt) (number : ℕ) → last_event_page at (number + 1) ≡ at.stream.page + number
+last_page-on at number = ap (last_event_page at) (let e : number + 1 ≡ suc number = omega arith in e)
 
 -- the event pages of a stream, one by one
 pub ruleset pieces_go_on = (pieces-here, pieces-on, pieces-begin, last_page-on, count_more, count_end)

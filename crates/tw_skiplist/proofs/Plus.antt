@@ -13,7 +13,7 @@ use Rattle.tw_base.specs.history.Auth.{tree_label}
 use Rattle.tw_base.proofs.lemmas.history.Plus.{auth-plus, step_at-new, step_at-plus, tree-plus}
 use Rattle.tw_steppage.specs.declared.link.StepRef.{StepRef}
 use Rattle.tw_steppage.specs.declared.fields.StepFields.{StepFields}
-use Rattle.tw_skiplist.specs.Keeping.{KeepsStep, KeepsSteps, KeepsStream, MayBeKept, Place, fields_at, link_to, links_at, links_to, no_place, place_of}
+use Rattle.tw_skiplist.specs.Keeping.{KeepsStep, KeepsSteps, KeepsStream, MayBeKept, Place, fields_at, link_to, links_at, links_to, no_place, place_of_step}
 use Rattle.tw_steppage.specs.StepBytes.{event_page_bytes, event_pages, piece, step_page_bytes, stream}
 use Rattle.tw_skiplist.proofs.Growing.{KeepsStep-grows, has_bytes}
 use Rattle.tw_skiplist.proofs.Streams.{length-event_pages, page_at-event_pages}
@@ -26,10 +26,10 @@ module _ (dig : List ℕ → List ℕ) (h : History) (places : List Place) (s : 
   abbrev more : List Place
   more = places ++ place ∷ []
 
-  pub place_of-plus : (i : ℕ) → i ≤ length h.steps → place_of more i ≡ place_of places i
+  pub place_of-plus : (i : ℕ) → i ≤ length h.steps → place_of_step more i ≡ place_of_step places i
   place_of-plus i l = get_or_append_left places (place ∷ []) no_place i (omega (arith, count))
 
-  pub place_of-new : place_of more (suc (length h.steps)) ≡ place
+  pub place_of-new : place_of_step more (suc (length h.steps)) ≡ place
   place_of-new = get_or_push places place no_place (suc (length h.steps)) count
 
   events_at-plus : (i : ℕ) → i ≤ length h.steps → events_at longer i ≡ events_at h i
@@ -62,27 +62,27 @@ module _ (dig : List ℕ → List ℕ) (h : History) (places : List Place) (s : 
 
   pub KeepsStep-plus : (pages : Image) (i : ℕ) → suc i ≤ length h.steps → KeepsStep dig pages h places i → KeepsStep dig pages longer more i
   KeepsStep-plus pages i l k =
-      let here : place_of places (suc i) ≡ place_of more (suc i) = sym (place_of-plus (suc i) l) in
-      let before : place_of places i ≡ place_of more i = sym (place_of-plus i (omega (arith, l))) in
+      let here : place_of_step places (suc i) ≡ place_of_step more (suc i) = sym (place_of-plus (suc i) l) in
+      let before : place_of_step places i ≡ place_of_step more i = sym (place_of-plus i (omega (arith, l))) in
       let events : events_at h (suc i) ≡ events_at longer (suc i) = sym (events_at-plus (suc i) l) in
       record {
         may = subst (λ (o : Option Step). IfSome o MayBeKept) (sym (step_at-plus h s (suc i) l)) k.may;
         low = subst (λ (p : Place). 4 ≤ p.page) here k.low;
-        rising = subst (λ (p : Place). p.page < (place_of more (suc i)).page) before (subst (λ (p : Place). (place_of places i).page < p.page) here k.rising);
+        rising = subst (λ (p : Place). p.page < (place_of_step more (suc i)).page) before (subst (λ (p : Place). (place_of_step places i).page < p.page) here k.rising);
         below = subst (λ (p : Place). p.page < 4 + length pages) here k.below;
         small = subst (λ (p : Place). p.page < 2 ^ 48) here k.small;
         archive = subst (λ (p : Place). p.archive < p.page) here k.archive;
         bytes = ap (λ (p : Place). page_at pages (p.page - 4)) (sym here) ∙ k.bytes
             ∙ (λ j. step_page_bytes (suc i) (sym (fields_at-plus (suc i) l) j) (sym (links_to-plus (suc i) (suc (top_level (suc i))) (omega (arith, l))) j));
         stream = subst (λ (p : Place). KeepsStream pages (suc i) p.first p.page (stream (events_at longer (suc i)))) here
-            (subst (λ (es : List (List ℕ)). KeepsStream pages (suc i) (place_of places (suc i)).first (place_of places (suc i)).page (stream es)) events k.stream);
+            (subst (λ (es : List (List ℕ)). KeepsStream pages (suc i) (place_of_step places (suc i)).first (place_of_step places (suc i)).page (stream es)) events k.stream);
       }
 
 -- one more step, with its event pages and its step page
 module _ (dig : List ℕ → List ℕ) (pages : Image) (h : History) (places : List Place) (s : Step) (archive : ℕ) (kept : KeepsSteps dig pages h places)
     (short : length h.steps < LAST_STEP) (may : MayBeKept s) (count first page : ℕ) (all : length (stream (events_of (Some s))) ≤ MOST_PIECE_BYTES * count)
     (none : length (stream (events_of (Some s))) ≡ 0 → first ≡ 0) (some : 0 < length (stream (events_of (Some s))) → first ≡ 4 + length pages)
-    (page_is : page ≡ 4 + length pages + count) (small : page < 2 ^ 48) (rises : (place_of places (length h.steps)).page < page) (lower : archive < page) where
+    (page_is : page ≡ 4 + length pages + count) (small : page < 2 ^ 48) (rises : (place_of_step places (length h.steps)).page < page) (lower : archive < page) where
   abbrev n : ℕ
   n = length h.steps
 
@@ -137,13 +137,13 @@ module _ (dig : List ℕ → List ℕ) (pages : Image) (h : History) (places : L
 
     new_step : KeepsStep dig grown new_history new_places n
     new_step =
-        let here : place ≡ place_of new_places (suc n) = sym (place_of-new dig h places s place kept.count) in
-        let before : place_of places n ≡ place_of new_places n = sym (place_of-plus dig h places s place kept.count n (omega arith)) in
+        let here : place ≡ place_of_step new_places (suc n) = sym (place_of-new dig h places s place kept.count) in
+        let before : place_of_step places n ≡ place_of_step new_places n = sym (place_of-plus dig h places s place kept.count n (omega arith)) in
         let same : events ≡ events_at new_history (suc n) = ap events_of (sym (step_at-new h s)) in
         record {
           may = subst (λ (o : Option Step). IfSome o MayBeKept) (sym (step_at-new h s)) may;
           low = subst (λ (p : Place). 4 ≤ p.page) here (omega (arith, page_is));
-          rising = subst (λ (p : Place). p.page < (place_of new_places (suc n)).page) before (subst (λ (p : Place). (place_of places n).page < p.page) here rises);
+          rising = subst (λ (p : Place). p.page < (place_of_step new_places (suc n)).page) before (subst (λ (p : Place). (place_of_step places n).page < p.page) here rises);
           below = subst (λ (p : Place). p.page < 4 + length grown) here (omega (arith, size, page_is));
           small = subst (λ (p : Place). p.page < 2 ^ 48) here small;
           archive = subst (λ (p : Place). p.archive < p.page) here lower;

@@ -12,13 +12,13 @@ use Rattle.tw_disk.specs.Found.Found.{Is}
 use Rattle.tw_disk.specs.Image.{Image}
 use Rattle.tw_disk.proofs.FoundLaws.{is_on}
 use Rattle.tw_steppage.specs.declared.link.StepRef.{StepRef}
-use Rattle.tw_steppage.specs.StepPages.{link_of, no_ref}
+use Rattle.tw_steppage.specs.StepPages.{link_at_level, no_ref}
 use Rattle.tw_skiplist.specs.declared.head.Head.{Head}
 use Rattle.tw_skiplist.specs.declared.step_records.StepRecord.{StepRecord}
 use Rattle.tw_skiplist.specs.Events.{events_from}
-use Rattle.tw_skiplist.specs.Keeping.{Keeps, KeepsSteps, Place, fields_at, links_at, place_of}
+use Rattle.tw_skiplist.specs.Keeping.{Keeps, KeepsSteps, Place, fields_at, links_at, place_of_step}
 use Rattle.tw_skiplist.specs.PagesOfSteps.{page_of_step}
-use Rattle.tw_skiplist.specs.StepRecords.{content_by, content_of, events_of_record, found_records, record_at, record_of, records_down, records_on}
+use Rattle.tw_skiplist.specs.StepRecords.{content_by, content_of, events_of_record, found_records, record_at, records_down, records_on, step_record}
 use Rattle.tw_skiplist.proofs.Contents.{may_record}
 use Rattle.tw_skiplist.proofs.Kept.{get_or-links_to, kept_page}
 use Rattle.tw_skiplist.proofs.KeptEvents.{events_kept}
@@ -29,16 +29,16 @@ module _ (ps : Image) (page : ℕ) (records : List StepRecord) where
   records-end step end = ap (λ (n : ℕ). records_on ps page n records) (let none : step ≡ 0 = omega (arith, end) in none)
 
   records-suc : (k : ℕ) → records_on ps page (suc k) records
-      ≡ (page_of_step ps page (suc k) >>= (λ p. records_on ps (link_of p.1 0).page k (records ++ record_of page (suc k) p.0 ∷ [])))
+      ≡ (page_of_step ps page (suc k) >>= (λ p. records_on ps (link_at_level p.1 0).page k (records ++ step_record page (suc k) p.0 ∷ [])))
   unfolding records_on
   records-suc k = refl
 
   pub records-more : (step : ℕ) → 0 < step → records_on ps page step records
-      ≡ (page_of_step ps page step >>= (λ p. records_on ps (link_of p.1 0).page (step - 1) (records ++ record_of page step p.0 ∷ [])))
+      ≡ (page_of_step ps page step >>= (λ p. records_on ps (link_at_level p.1 0).page (step - 1) (records ++ step_record page step p.0 ∷ [])))
   records-more zero some = absurd (omega (arith, some))
   records-more (suc k) some =
       records-suc k
-      ∙ ap (λ (n : ℕ). page_of_step ps page (suc k) >>= (λ p. records_on ps (link_of p.1 0).page n (records ++ record_of page (suc k) p.0 ∷ []))) (let e : k ≡ suc k - 1 = omega arith in e)
+      ∙ ap (λ (n : ℕ). page_of_step ps page (suc k) >>= (λ p. records_on ps (link_at_level p.1 0).page n (records ++ step_record page (suc k) p.0 ∷ []))) (let e : k ≡ suc k - 1 = omega arith in e)
 
 -- the records, one by one
 pub ruleset records_go_on = (records-end, records-more)
@@ -54,9 +54,9 @@ content_of_step ps r (Received t) time fresh root read = refl
 
 module _ (dig : List ℕ → List ℕ) (size : (text : List ℕ) → IsDigest (dig text)) (h : History) (places : List Place) (ps : Image) (kept : KeepsSteps dig ps h places) where
   abbrev page : ℕ → ℕ
-  page i = (place_of places i).page
+  page i = (place_of_step places i).page
 
-  below : (k : ℕ) → (link_of (links_at dig h places (suc k)) 0).page ≡ page k
+  below : (k : ℕ) → (link_at_level (links_at dig h places (suc k)) 0).page ≡ page k
   below k =
       ap (λ (r : StepRef). r.page) (get_or-links_to dig size h places no_ref (suc k) (suc (top_level (suc k))) 0 (omega arith))
       ∙ ap page (let e : suc k - 2 ^ 0 ≡ k = omega arith in e)
@@ -66,7 +66,7 @@ module _ (dig : List ℕ → List ℕ) (size : (text : List ℕ) → IsDigest (d
   records_kept zero within before = ap (λ (rs : List StepRecord). Is rs) (sym (append-nil before))
   records_kept (suc k) within before =
       let here : StepRecord = record_at dig h places (suc k) in
-      is_on (page_of_step ps (page (suc k)) (suc k)) (λ p. records_on ps (link_of p.1 0).page k (before ++ record_of (page (suc k)) (suc k) p.0 ∷ [])) (fields_at dig h places (suc k), links_at dig h places (suc k))
+      is_on (page_of_step ps (page (suc k)) (suc k)) (λ p. records_on ps (link_at_level p.1 0).page k (before ++ step_record (page (suc k)) (suc k) p.0 ∷ [])) (fields_at dig h places (suc k), links_at dig h places (suc k))
       (kept_page dig size h places ps kept k (omega (arith, within)))
       ∙ ap (λ (p : ℕ). records_on ps p k (before ++ here ∷ [])) (below k)
       ∙ records_kept k (omega (arith, within)) (before ++ here ∷ [])

@@ -17,8 +17,8 @@ use Rattle.tw_skipproof.specs.HistoryProofs.{labels_at}
 use Rattle.tw_skipproof.specs.declared.path.Link.{Link}
 use Rattle.tw_steppage.specs.declared.link.StepRef.{StepRef}
 use Rattle.tw_skiplist.specs.Infos.{IsInfoOf}
-use Rattle.tw_skiplist.specs.Keeping.{KeepsSteps, Place, fields_at, links_at, place_of}
-use Rattle.tw_steppage.specs.StepPages.{link_of, no_ref}
+use Rattle.tw_skiplist.specs.Keeping.{KeepsSteps, Place, fields_at, links_at, place_of_step}
+use Rattle.tw_steppage.specs.StepPages.{link_at_level, no_ref}
 use Rattle.tw_skiplist.specs.Records.{info_record, link_record, other_labels, page_datum, page_labels}
 use Rattle.tw_skiplist.proofs.Contents.{may_record}
 use Rattle.tw_skiplist.proofs.Kept.{get_or-links_to, length-links_to}
@@ -69,7 +69,7 @@ module _ (dig : List ℕ → List ℕ) where
   page_labels-begin step datum links = refl
 
   pub page_labels-on : (step : ℕ) (datum : List ℕ) (links : List StepRef) (level : ℕ)
-      → page_labels dig step datum links (level + 1) ≡ page_labels dig step datum links level ++ dig (link_text step level datum (link_of links level).auth) ∷ []
+      → page_labels dig step datum links (level + 1) ≡ page_labels dig step datum links level ++ dig (link_text step level datum (link_at_level links level).auth) ∷ []
   unfolding page_labels
   page_labels-on step datum links level = ap (page_labels dig step datum links) (let e : level + 1 ≡ suc level = omega arith in e)
 
@@ -85,7 +85,7 @@ module _ (dig : List ℕ → List ℕ) where
       omega (arith, count, all, length-remove (page_labels dig step datum links (length links)) level (omega (arith, l, count, all)))
 
   pub page_labels-more : (step : ℕ) (datum : List ℕ) (links : List StepRef) (level without : ℕ)
-      → (if level == without then remove (page_labels dig step datum links level) without else remove (page_labels dig step datum links level) without ++ dig (link_text step level datum (link_of links level).auth) ∷ [])
+      → (if level == without then remove (page_labels dig step datum links level) without else remove (page_labels dig step datum links level) without ++ dig (link_text step level datum (link_at_level links level).auth) ∷ [])
       ≡ remove (page_labels dig step datum links (level + 1)) without
   unfolding page_labels
   page_labels-more step datum links level without =
@@ -105,7 +105,7 @@ module _ (dig : List ℕ → List ℕ) where
     labels_to k datum zero l = refl
     labels_to k datum (suc level) l =
         let at = get_or-links_to dig size h places no_ref (suc k) (suc (top_level (suc k))) level (omega arith) in
-        let label : (link_of (links_at dig h places (suc k)) level).auth ≡ get_or (auths dig h k) (suc k - 2 ^ level) [] =
+        let label : (link_at_level (links_at dig h places (suc k)) level).auth ≡ get_or (auths dig h k) (suc k - 2 ^ level) [] =
         ap (λ (x : StepRef). x.auth) at ∙ sym (auths-at dig h k (suc k - 2 ^ level) (omega (arith, pow_pos level))) in
         (λ j. labels_to k datum level (omega (arith, l)) j ++ dig (link_text (suc k) level datum (label j)) ∷ [])
         ∙ sym (map_push dig (link_texts dig datum (auths dig h k) (suc k) level) _)
@@ -124,7 +124,7 @@ module _ (dig : List ℕ → List ℕ) where
     kept_link k level l = (kept_datum k, ap (λ (xs : List (List ℕ)). remove xs level) (kept_labels k))
 
     -- what a page tells is the history's
-    pub kept_info : (k : ℕ) → k < length h.steps → IsInfoOf dig ps h places (suc k) (info_record dig (place_of places (suc k)).page (suc k) (fields_at dig h places (suc k)) (links_at dig h places (suc k)))
+    pub kept_info : (k : ℕ) → k < length h.steps → IsInfoOf dig ps h places (suc k) (info_record dig (place_of_step places (suc k)).page (suc k) (fields_at dig h places (suc k)) (links_at dig h places (suc k)))
     kept_info k l =
         let s = kept.steps k l in
         let first = get_or-links_to dig size h places no_ref (suc k) (suc (top_level (suc k))) 0 (omega arith) in

@@ -27,28 +27,28 @@ abbrev pub bare_step : Content → (time : Option ℕ) → Step
 bare_step content time = record { content = content; time = time; fresh = []; root = 0 }
 
 -- the events of a content, of which a received thread has none, and the thread, of which events have none
-abbrev pub events_in : Content → List (List ℕ)
-events_in content = events_of (Some (bare_step content None))
+abbrev pub appended_events : Content → List (List ℕ)
+appended_events content = events_of (Some (bare_step content None))
 
-abbrev pub thread_in : Content → Option Thread
-thread_in content = thread_of (Some (bare_step content None))
+abbrev pub appended_thread : Content → Option Thread
+appended_thread content = thread_of (Some (bare_step content None))
 
 -- what a step of this content and time, with this archive after it, has for its page
 abbrev pub new_step : (dig : List ℕ → List ℕ) → Content → (archive : Root) → (time : Option ℕ) → NewStep
 new_step dig content archive time = record {
-  stream = stream (events_in content);
-  count = length (events_in content);
-  event_root = event_root dig (events_in content);
+  stream = stream (appended_events content);
+  count = length (appended_events content);
+  event_root = event_root dig (appended_events content);
   archive = archive;
-  received = thread_in content;
+  received = appended_thread content;
   time = time;
 }
 
 -- ---- the pages of it
 
 -- pages with a step behind them: its event pages, which have this stream, and then its own page
-abbrev pub with_step : Image → (step : ℕ) → (bytes : List ℕ) → StepFields → List StepRef → Image
-with_step pages step bytes f links = (pages ++ event_pages step bytes (piece_count (length bytes))) ++ step_page_bytes step f links ∷ []
+abbrev pub image_with_step : Image → (step : ℕ) → (bytes : List ℕ) → StepFields → List StepRef → Image
+image_with_step pages step bytes f links = (pages ++ event_pages step bytes (piece_count (length bytes))) ++ step_page_bytes step f links ∷ []
 
 -- where the stream of a step begins that is put behind the pages; one of no bytes has no page
 abbrev pub first_page : Image → (size : ℕ) → ℕ
@@ -74,7 +74,7 @@ new_fields pages new auth = record {
 -- links' labels.
 abbrev pub next_at : (dig : List ℕ → List ℕ) → Image → (step : ℕ) → NewStep → List StepRef → (labels : List (List ℕ)) → Next Head
 next_at dig pages step new links labels = record {
-  pages = with_step pages step new.stream (new_fields pages new (dig (authenticator_text step labels))) links;
+  pages = image_with_step pages step new.stream (new_fields pages new (dig (authenticator_text step labels))) links;
   value = record { step = step; auth = dig (authenticator_text step labels); page = FIRST_PAGE + length pages + piece_count (length new.stream) };
 }
 

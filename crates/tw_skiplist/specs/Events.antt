@@ -40,28 +40,28 @@ module _ (pages : Image) (at : EventsAt) where
   stream_in = pieces_from (piece_count at.stream.size) 0 []
 
 -- the page that is read last: the step's own where its stream has no bytes
-abbrev pub last_page : EventsAt → (pieces : ℕ) → ℕ
-last_page at zero = at.page
-last_page at (suc number) = at.stream.page + number
+abbrev pub last_event_page : EventsAt → (pieces : ℕ) → ℕ
+last_event_page at zero = at.page
+last_event_page at (suc number) = at.stream.page + number
 
 -- each event behind its length, which takes four bytes
-abbrev pub events_codec : (count : ℕ) → Codec (List (List ℕ))
-events_codec count = many count (sized_codec 4 0 MOST_EVENT_BYTES)
+abbrev pub event_stream_codec : (count : ℕ) → Codec (List (List ℕ))
+event_stream_codec count = many count (sized_codec 4 0 MOST_EVENT_BYTES)
 
 -- within the limits of a step
 abbrev pub may_be_recorded : List (List ℕ) → Bool
 may_be_recorded events = nat_le (length events) MOST_EVENTS && nat_le (sum_by (λ event. length event) events) MOST_STEP_BYTES
 
 -- the events that a stream spells, so many; where it spells none, this page is bad
-unfoldable pub events_in : (page count : ℕ) → (stream : List ℕ) → Found (List (List ℕ))
-events_in page count stream = spelled page 0 (events_codec count) stream >>= (λ events. when (may_be_recorded events) page events)
+unfoldable pub events_on : (page count : ℕ) → (stream : List ℕ) → Found (List (List ℕ))
+events_on page count stream = spelled page 0 (event_stream_codec count) stream >>= (λ events. when (may_be_recorded events) page events)
 
 -- The events of a step, from its event pages. The step's page is bad where a longer stream is told than any step's, as none from a page
 -- is, and the page that is read last where the stream spells no such events.
 unfoldable pub events_from : Image → EventsAt → Found (List (List ℕ))
 events_from pages at =
     if nat_lt MOST_STREAM_BYTES at.stream.size then Bad at.page
-    else (stream_in pages at >>= events_in (last_page at (piece_count at.stream.size)) at.count)
+    else (stream_in pages at >>= events_on (last_event_page at (piece_count at.stream.size)) at.count)
 
 -- where an info tells that the step's events stand
 abbrev pub events_told : StepInfo → EventsAt

@@ -10,11 +10,11 @@ use Rattle.tw_skipproof.specs.HistoryProofs.{IsOpeningOf}
 use Rattle.tw_skiplist.specs.declared.info.StepInfo.{StepInfo}
 use Rattle.tw_base.specs.history.Limits.{IsTimeWithinLimits, MayRecord}
 use Rattle.tw_steppage.specs.StepBytes.{stream}
-use Rattle.tw_skiplist.specs.Keeping.{KeepsStream, Place, archive_at, link_to, place_of}
+use Rattle.tw_skiplist.specs.Keeping.{KeepsStream, Place, archive_at, link_to, place_of_step}
 
 -- the info is of this step; and over any pages it has at most 1,024 events, and a time and a thread's step of at most 2^40 - 1
-abbrev pub IsTold : (step : ℕ) → StepInfo → Type 0
-IsTold step info = (info.step ≡ step) × (info.count ≤ MOST_EVENTS) × IsTimeWithinLimits info.time × IfSome info.received (λ t. t.step ≤ LAST_STEP)
+abbrev pub IsInfoTold : (step : ℕ) → StepInfo → Type 0
+IsInfoTold step info = (info.step ≡ step) × (info.count ≤ MOST_EVENTS) × IsTimeWithinLimits info.time × IfSome info.received (λ t. t.step ≤ LAST_STEP)
 
 -- the info is of this step of the history, which is kept at these places, and the pages keep the step's events where it says
 pub record IsInfoOf (dig : List ℕ → List ℕ) (pages : Image) (h : History) (places : List Place) (i : ℕ) (info : StepInfo) : Type 0 where
@@ -28,7 +28,7 @@ pub record IsInfoOf (dig : List ℕ → List ℕ) (pages : Image) (h : History) 
   pub auth : info.auth ≡ auth dig h i
   pub opening : IsOpeningOf dig h i info.opening
   pub limits : MayRecord (events_at h i)
-  pub page : info.page ≡ (place_of places i).page
+  pub page : info.page ≡ (place_of_step places i).page
   pub before : info.before ≡ link_to dig h places (i - 1)
   pub page_below : info.page < FIRST_PAGE + length pages
   pub stream_size : info.stream.size ≡ length (stream (events_at h i))

@@ -35,8 +35,8 @@ abbrev pub no_place : Place
 no_place = record { page = 0; first = 0; archive = 0 }
 
 -- the place of step i; step 0 has none
-abbrev pub place_of : List Place → ℕ → Place
-place_of places i = slice_index_or places i no_place
+abbrev pub place_of_step : List Place → ℕ → Place
+place_of_step places i = slice_index_or places i no_place
 
 -- the event pages from this one on, all below the step page, keep the stream; a stream of no bytes has no page
 pub record KeepsStream (pages : Image) (step first page : ℕ) (bytes : List ℕ) : Type 0 where
@@ -49,10 +49,10 @@ module _ (dig : List ℕ → List ℕ) where
   module _ (h : History) (places : List Place) where
     -- the archive after step i: the page of its root, and the label of its tree
     abbrev pub archive_at : ℕ → Root
-    archive_at i = record { page = (place_of places i).archive; label = tree_label dig (tree h i) }
+    archive_at i = record { page = (place_of_step places i).archive; label = tree_label dig (tree h i) }
 
     abbrev pub link_to : ℕ → StepRef
-    link_to i = record { page = (place_of places i).page; auth = auth dig h i }
+    link_to i = record { page = (place_of_step places i).page; auth = auth dig h i }
 
     -- the links of step i at the levels below this count; the link at a level leads to step i - 2 ^ level
     unfoldable pub links_to : (i count : ℕ) → List StepRef
@@ -67,7 +67,7 @@ module _ (dig : List ℕ → List ℕ) where
     abbrev pub fields_at : ℕ → StepFields
     fields_at i = record {
       count = length (events_at h i);
-      stream = record { page = (place_of places i).first; size = length (stream (events_at h i)) };
+      stream = record { page = (place_of_step places i).first; size = length (stream (events_at h i)) };
       event_root = event_root dig (events_at h i);
       archive = archive_at i;
       received = thread_of (step_at h i);
@@ -78,18 +78,18 @@ module _ (dig : List ℕ → List ℕ) where
   -- the pages keep step k + 1 of the history at its place above that of step k, and the page of its archive lies below its own
   pub record KeepsStep (pages : Image) (h : History) (places : List Place) (k : ℕ) : Type 0 where
     pub may : IfSome (step_at h (suc k)) MayBeKept
-    pub low : FIRST_PAGE ≤ (place_of places (suc k)).page
-    pub rising : (place_of places k).page < (place_of places (suc k)).page
-    pub below : (place_of places (suc k)).page < FIRST_PAGE + length pages
-    pub small : (place_of places (suc k)).page < NUMBER_LIMIT
-    pub archive : (place_of places (suc k)).archive < (place_of places (suc k)).page
-    pub bytes : page_at pages ((place_of places (suc k)).page - FIRST_PAGE) ≡ step_page_bytes (suc k) (fields_at h places (suc k)) (links_at h places (suc k))
-    pub stream : KeepsStream pages (suc k) (place_of places (suc k)).first (place_of places (suc k)).page (stream (events_at h (suc k)))
+    pub low : FIRST_PAGE ≤ (place_of_step places (suc k)).page
+    pub rising : (place_of_step places k).page < (place_of_step places (suc k)).page
+    pub below : (place_of_step places (suc k)).page < FIRST_PAGE + length pages
+    pub small : (place_of_step places (suc k)).page < NUMBER_LIMIT
+    pub archive : (place_of_step places (suc k)).archive < (place_of_step places (suc k)).page
+    pub bytes : page_at pages ((place_of_step places (suc k)).page - FIRST_PAGE) ≡ step_page_bytes (suc k) (fields_at h places (suc k)) (links_at h places (suc k))
+    pub stream : KeepsStream pages (suc k) (place_of_step places (suc k)).first (place_of_step places (suc k)).page (stream (events_at h (suc k)))
 
   -- the pages keep each step of the history at these places
   pub record KeepsSteps (pages : Image) (h : History) (places : List Place) : Type 0 where
     pub count : length places ≡ suc (length h.steps)
-    pub nowhere : place_of places 0 ≡ no_place
+    pub nowhere : place_of_step places 0 ≡ no_place
     pub short : length h.steps ≤ LAST_STEP
     pub steps : (k : ℕ) → k < length h.steps → KeepsStep pages h places k
 
@@ -99,7 +99,7 @@ module _ (dig : List ℕ → List ℕ) where
     pub keeps : KeepsSteps pages h places
     pub step : head.step ≡ length h.steps
     pub auth : head.auth ≡ auth dig h (length h.steps)
-    pub page : head.page ≡ (place_of places (length h.steps)).page
+    pub page : head.page ≡ (place_of_step places (length h.steps)).page
 
 -- ---- two histories in the same pages
 
@@ -110,12 +110,12 @@ pub record AreAlike (h g : History) (places others : List Place) : Type 0 where
   pub events : (i : ℕ) → i ≤ length h.steps → events_at h i ≡ events_at g i
   pub threads : (i : ℕ) → i ≤ length h.steps → thread_of (step_at h i) ≡ thread_of (step_at g i)
   pub times : (i : ℕ) → i ≤ length h.steps → time_at h i ≡ time_at g i
-  pub pages : (i : ℕ) → i ≤ length h.steps → (place_of places i).page ≡ (place_of others i).page
-  pub archives : (i : ℕ) → i ≤ length h.steps → (place_of places i).archive ≡ (place_of others i).archive
+  pub pages : (i : ℕ) → i ≤ length h.steps → (place_of_step places i).page ≡ (place_of_step others i).page
+  pub archives : (i : ℕ) → i ≤ length h.steps → (place_of_step places i).archive ≡ (place_of_step others i).archive
 
 -- ---- a step more
 
 -- behind the places of so many steps there is one whose archive has this page
 pub record GoOn (places more : List Place) (steps archive : ℕ) : Type 0 where
-  pub before : (i : ℕ) → i ≤ steps → place_of more i ≡ place_of places i
-  pub new : (place_of more (suc steps)).archive ≡ archive
+  pub before : (i : ℕ) → i ≤ steps → place_of_step more i ≡ place_of_step places i
+  pub new : (place_of_step more (suc steps)).archive ≡ archive

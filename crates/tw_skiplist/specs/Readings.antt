@@ -26,8 +26,8 @@ module _ (dig : List ℕ → List ℕ) (pages : Image) (head : Head) where
   found_link n i = found_way n i >>= (λ way. Is (record { path = record { links = way.links }; auth = way.last.auth }))
 
   -- the path alone
-  unfoldable pub found_path : (n i : ℕ) → Found Path
-  found_path n i = found_link n i >>= (λ link. Is link.path)
+  unfoldable pub found_skip_path : (n i : ℕ) → Found Path
+  found_skip_path n i = found_link n i >>= (λ link. Is link.path)
 
   -- the path from a top down to a step, and the step
   unfoldable pub found_proof : (top i : ℕ) → Found StepProof

@@ -6,7 +6,7 @@ use Rattle.tw_skipproof.specs.declared.path.Link.{Link}
 use Rattle.tw_steppage.specs.declared.link.StepRef.{StepRef}
 use Rattle.tw_steppage.specs.declared.fields.StepFields.{StepFields}
 use Rattle.tw_skiplist.specs.declared.info.StepInfo.{StepInfo}
-use Rattle.tw_steppage.specs.StepPages.{link_of}
+use Rattle.tw_steppage.specs.StepPages.{link_at_level}
 
 module _ (dig : List ℕ → List ℕ) where
   abbrev pub page_datum : StepFields → List ℕ
@@ -15,7 +15,7 @@ module _ (dig : List ℕ → List ℕ) where
   -- the labels of the links at the levels below this count
   unfoldable pub page_labels : (step : ℕ) (datum : List ℕ) → List StepRef → (count : ℕ) → List (List ℕ)
   page_labels step datum links zero = []
-  page_labels step datum links (suc level) = page_labels step datum links level ++ dig (link_text step level datum (link_of links level).auth) ∷ []
+  page_labels step datum links (suc level) = page_labels step datum links level ++ dig (link_text step level datum (link_at_level links level).auth) ∷ []
 
   -- the labels of all links but the one of this level
   abbrev pub other_labels : (step : ℕ) (datum : List ℕ) → List StepRef → (level : ℕ) → List (List ℕ)
@@ -31,7 +31,7 @@ module _ (dig : List ℕ → List ℕ) where
     archive_root = f.archive.label;
     count = f.count;
     time = f.time;
-    prev = (link_of links 0).auth;
+    prev = (link_at_level links 0).auth;
     others = other_labels step (page_datum f) links 0;
   }
 
@@ -39,7 +39,7 @@ module _ (dig : List ℕ → List ℕ) where
   info_record page step f links = record {
     step = step;
     page = page;
-    before = link_of links 0;
+    before = link_at_level links 0;
     event_root = f.event_root;
     count = f.count;
     time = f.time;

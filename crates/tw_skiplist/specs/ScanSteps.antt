@@ -7,20 +7,20 @@ use Rattle.tw_disk.specs.Found.{Found, ◌>>=◌}
 use Rattle.tw_disk.specs.Found.Found.{Is, Bad}
 use Rattle.tw_disk.specs.Image.{Image}
 use Rattle.tw_skiplist.specs.declared.info.EventsAt.{EventsAt}
-use Rattle.tw_skiplist.specs.Events.{events_in, last_page, piece_count, pieces_from}
+use Rattle.tw_skiplist.specs.Events.{events_on, last_event_page, piece_count, pieces_from}
 use Rattle.tw_steppage.specs.declared.limits.TheConstants.{MOST_STREAM_BYTES}
 use Rattle.tw_steppage.specs.StepBytes.{stream}
 
 -- whether a stream spells so many events; where it spells none, this page is bad
 unfoldable pub tested : (page count : ℕ) → (bytes : List ℕ) → Found (Unit {0})
-tested page count bytes = events_in page count bytes >>= (λ events. Is tt)
+tested page count bytes = events_on page count bytes >>= (λ events. Is tt)
 
 -- the pieces of a step's stream behind what is before them, where it spells its events
 unfoldable pub copied : Image → EventsAt → (before : List ℕ) → Found (List ℕ)
 copied pages at before =
     if nat_lt MOST_STREAM_BYTES at.stream.size then Bad at.page
     else (pieces_from pages at (piece_count at.stream.size) 0 before
-    >>= (λ now. tested (last_page at (piece_count at.stream.size)) at.count (drop (length before) now) >>= (λ _. Is now)))
+    >>= (λ now. tested (last_event_page at (piece_count at.stream.size)) at.count (drop (length before) now) >>= (λ _. Is now)))
 
 -- the events are spelled by the bytes, as many as the count, within the limits of a step
 pub record SpellsEvents (bytes : List ℕ) (count : ℕ) (events : List (List ℕ)) : Type 0 where

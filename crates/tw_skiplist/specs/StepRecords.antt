@@ -9,22 +9,22 @@ use Rattle.tw_disk.specs.Found.{Found, ◌>>=◌}
 use Rattle.tw_disk.specs.Found.Found.{Is}
 use Rattle.tw_disk.specs.Image.{Image}
 use Rattle.tw_steppage.specs.declared.fields.StepFields.{StepFields}
-use Rattle.tw_steppage.specs.StepPages.{link_of}
+use Rattle.tw_steppage.specs.StepPages.{link_at_level}
 use Rattle.tw_skiplist.specs.declared.head.Head.{Head}
 use Rattle.tw_skiplist.specs.declared.info.EventsAt.{EventsAt}
 use Rattle.tw_skiplist.specs.declared.step_records.StepRecord.{StepRecord}
 use Rattle.tw_skiplist.specs.Events.{events_from}
-use Rattle.tw_skiplist.specs.Keeping.{Place, fields_at, place_of}
+use Rattle.tw_skiplist.specs.Keeping.{Place, fields_at, place_of_step}
 use Rattle.tw_skiplist.specs.PagesOfSteps.{page_of_step}
 
-abbrev pub record_of : (page step : ℕ) → StepFields → StepRecord
-record_of page step f = record { step = step; page = page; fields = f }
+abbrev pub step_record : (page step : ℕ) → StepFields → StepRecord
+step_record page step f = record { step = step; page = page; fields = f }
 
 -- the records from this step, which stands in this page, down to step 1, behind those before them
 unfoldable pub records_on : Image → (page step : ℕ) → List StepRecord → Found (List StepRecord)
 records_on pages page zero records = Is records
 records_on pages page (suc k) records =
-    page_of_step pages page (suc k) >>= (λ p. records_on pages (link_of p.1 0).page k (records ++ record_of page (suc k) p.0 ∷ []))
+    page_of_step pages page (suc k) >>= (λ p. records_on pages (link_at_level p.1 0).page k (records ++ step_record page (suc k) p.0 ∷ []))
 
 -- those of all steps, the last one first
 abbrev pub found_records : Image → Head → Found (List StepRecord)
@@ -51,7 +51,7 @@ copied_content pages r before = content_of pages r >>= (λ c. Is (before ++ (con
 module _ (dig : List ℕ → List ℕ) (h : History) (places : List Place) where
   -- the record of a step that is kept at these places
   abbrev pub record_at : ℕ → StepRecord
-  record_at i = record_of (place_of places i).page i (fields_at dig h places i)
+  record_at i = step_record (place_of_step places i).page i (fields_at dig h places i)
 
   -- those of the steps from this one down to step 1
   unfoldable pub records_down : ℕ → List StepRecord

@@ -12,7 +12,7 @@ use Rattle.tw_skiplist.specs.declared.info.StepInfo.{StepInfo}
 use Rattle.tw_disk.specs.Found.{Found, ◌>>=◌}
 use Rattle.tw_disk.specs.Found.Found.{Is}
 use Rattle.tw_skiplist.specs.Records.{info_record, link_record}
-use Rattle.tw_steppage.specs.StepPages.{link_of}
+use Rattle.tw_steppage.specs.StepPages.{link_at_level}
 use Rattle.tw_skiplist.specs.PagesOfSteps.{page_of_step}
 
 -- the link that a head is
@@ -23,7 +23,7 @@ head_ref head = record { page = head.page; auth = head.auth }
 
 -- the link of this level that the page of a step has
 abbrev pub link_in : Image → (page step level : ℕ) → Found StepRef
-link_in pages page step level = page_of_step pages page step >>= (λ p. Is (link_of p.1 level))
+link_in pages page step level = page_of_step pages page step >>= (λ p. Is (link_at_level p.1 level))
 
 -- From the link to the first of these steps of a greedy path, which goes down to a lower step: the link that the last one's
 -- page has to that step. The page of each is read, and its link of the path's level is followed.
@@ -37,7 +37,7 @@ walk pages link from to = walk_along pages to (greedy_steps from to) link
 module _ (dig : List ℕ → List ℕ) (pages : Image) where
   -- the same with the record of the link
   abbrev pub hop_in : (page step level : ℕ) → Found Hop
-  hop_in page step level = page_of_step pages page step >>= (λ p. Is (record { link = link_record dig step p.0 p.1 level; next = link_of p.1 level }))
+  hop_in page step level = page_of_step pages page step >>= (λ p. Is (record { link = link_record dig step p.0 p.1 level; next = link_at_level p.1 level }))
 
   -- the same walk, with the record of each link that it follows behind those before it
   unfoldable pub collect_along : (to : ℕ) → List ℕ → List Link → StepRef → Found Collected

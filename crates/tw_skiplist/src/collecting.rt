@@ -5,7 +5,7 @@ ghost use Rattle.tw_base.specs.kinds.Levels.{top_level};
 ghost use Rattle.tw_skipproof.specs.Paths.{HasShape};
 ghost use Rattle.tw_disk.specs.Answers.{ReadsPages};
 ghost use Rattle.tw_skiplist.specs.ListFaults.{list_faults};
-ghost use Rattle.tw_skiplist.specs.Infos.{IsTold};
+ghost use Rattle.tw_skiplist.specs.Infos.{IsInfoTold};
 ghost use Rattle.tw_skiplist.specs.Walks.{collected, hop_in, info_in};
 
 use crate::fault::ListFault;
@@ -91,7 +91,7 @@ pub(crate) fn read_info<P: Pages, H: Hasher>(
     requires { step < 2 ^ 40 }
     ensures reads { ReadsPages list_faults P.view P.same pages.old pages.new (λ x. x) result
         (λ ps. info_in H.dig ps link.now.page step) }
-    ensures ranges { IfOk result (IsTold step) }
+    ensures ranges { IfOk result (IsInfoTold step) }
 {
     let page = read_step(pages, link.page, step)?;
     let info = info_of_page::<H>(alloc, link.page, step, &page)?;

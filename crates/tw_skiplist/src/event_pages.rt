@@ -10,7 +10,7 @@ ghost use Rattle.tw_skiplist.specs.ListFaults.{list_faults};
 ghost use Rattle.tw_base.specs.history.Limits.{MayRecord};
 ghost use Rattle.tw_skiplist.specs.ScanSteps.{HasEventAt, IsNoEventAt, copied, tested};
 ghost use Rattle.tw_disk.specs.Found.Found.{Is, Bad};
-ghost use Rattle.tw_skiplist.specs.Events.{events_from, events_in, last_page, piece_behind, piece_count, piece_size as piece_size_of, pieces_from, stream_in};
+ghost use Rattle.tw_skiplist.specs.Events.{events_from, events_on, last_event_page, piece_behind, piece_count, piece_size as piece_size_of, pieces_from, stream_in};
 ghost use Rattle.tw_steppage.specs.StepBytes.{piece_codec};
 
 use crate::fault::ListFault;
@@ -86,7 +86,7 @@ fn add_stream<P: Pages>(pages: &mut P, at: &EventsAt, into: &mut Bytes) -> Resul
     requires { at.now.stream.size ≤ MOST_STREAM_BYTES }
     ensures reads { ReadsPages list_faults P.view P.same pages.old pages.new (λ _. into.new) result
         (λ ps. pieces_from ps at.now (piece_count at.now.stream.size) 0 into.old) }
-    ensures last { IfOk result (λ last. last ≡ last_page at.now (piece_count at.now.stream.size)) }
+    ensures last { IfOk result (λ last. last ≡ last_event_page at.now (piece_count at.now.stream.size)) }
     ensures grown { OnOk result (length into.old ≤ length into.new) }
 {
     let size = at.stream.size as u64;
@@ -119,7 +119,7 @@ fn read_stream<P: Pages>(
     requires { at.now.stream.size ≤ MOST_STREAM_BYTES }
     ensures reads { ReadsPages list_faults P.view P.same pages.old pages.new (λ r. r.bytes) result
         (λ ps. stream_in ps at.now) }
-    ensures last { IfOk result (λ r. r.last ≡ last_page at.now (piece_count at.now.stream.size)) }
+    ensures last { IfOk result (λ r. r.last ≡ last_event_page at.now (piece_count at.now.stream.size)) }
 {
     let mut bytes = Bytes::new(alloc);
     let last = add_stream(pages, at, &mut bytes)?;
@@ -157,8 +157,8 @@ fn event_size(bytes: &[u8], at: usize) -> Option<usize>
 /// a step.
 fn read_events(alloc: Global, bytes: &[u8], count: u32) -> Result<Option<EventList>, NoMemory>
     ensures answer { IfOk result (λ found. (page : ℕ)
-        → MatchOption found (events_in page count bytes.now ≡ Bad page)
-        (λ events. events_in page count bytes.now ≡ Is events)) }
+        → MatchOption found (events_on page count bytes.now ≡ Bad page)
+        (λ events. events_on page count bytes.now ≡ Is events)) }
     ensures limits { IfOk result (λ found. IfSome found (λ events. MayRecord events × (length events ≡ count))) }
 {
     if count as u64 > MOST_EVENTS {

@@ -19,9 +19,9 @@ ghost use Rattle.tw_skiplist.specs.Appended.{appended, bare_step};
 ghost use Rattle.tw_skiplist.specs.Events.{events_of_info};
 ghost use Rattle.tw_disk.specs.Found.Found.{Is};
 ghost use Rattle.tw_skiplist.specs.Infos.{IsInfoOf};
-ghost use Rattle.tw_skiplist.specs.Keeping.{AreAlike, GoOn, Keeps, MayBeKept, Place, place_of};
+ghost use Rattle.tw_skiplist.specs.Keeping.{AreAlike, GoOn, Keeps, MayBeKept, Place, place_of_step};
 ghost use Rattle.tw_skiplist.specs.StepRecords.{content_of, found_records, record_at, records_down};
-ghost use Rattle.tw_skiplist.specs.Readings.{found_events, found_link, found_path, found_proof, found_step};
+ghost use Rattle.tw_skiplist.specs.Readings.{found_events, found_link, found_proof, found_skip_path, found_step};
 
 use tw_base::Hasher;
 
@@ -62,7 +62,7 @@ pub fn reading_laws<H: Hasher>()
     // Each of its steps is found by its own page alone under the link that leads to it.
     ensures here { (ps : Image) (h : History) (head link : Head) (i : ℕ)
         → (kept : Keeps H.dig ps h head) → 1 ≤ i → i ≤ head.step → link.step ≡ i
-        → link.page ≡ (place_of kept.places i).page →
+        → link.page ≡ (place_of_step kept.places i).page →
         (info : StepInfo) × (found_step H.dig ps link i ≡ Is info) × IsInfoOf H.dig ps h kept.places i info }
     // Where they keep one, the path from each step down to one not above it, which may be step 0, is found, and is the
     // history's, and so is the authenticator that its last link leads to.
@@ -71,7 +71,7 @@ pub fn reading_laws<H: Hasher>()
         × (link.auth ≡ auth H.dig h i) }
     // The path alone is found too, and is the history's.
     ensures path { (ps : Image) (h : History) (head : Head) (n i : ℕ) → Keeps H.dig ps h head → i ≤ n → n ≤ head.step →
-        (path : Path) × (found_path H.dig ps head n i ≡ Is path) × IsPathOf H.dig h path.links n i }
+        (path : Path) × (found_skip_path H.dig ps head n i ≡ Is path) × IsPathOf H.dig h path.links n i }
     // Where they keep one, the path from a top down to a step from 1 on and that step are found, and are the history's.
     ensures proof { (ps : Image) (h : History) (head : Head) (top i : ℕ)
         → (kept : Keeps H.dig ps h head) → 1 ≤ i → i ≤ top → top ≤ head.step →

@@ -4,10 +4,10 @@ ghost use Rattle.std.specs.Prelude.{◌≡◌, ℕ, ◌*◌, ◌<◌, ◌≤◌,
 ghost use Rattle.tw_base.specs.history.Limits.{MayRecord};
 ghost use Rattle.tw_disk.specs.Answers.{ReadsPages, ReadsWhere};
 ghost use Rattle.tw_skipproof.specs.Paths.{HasShape};
-ghost use Rattle.tw_skiplist.specs.Infos.{IsTold};
+ghost use Rattle.tw_skiplist.specs.Infos.{IsInfoTold};
 ghost use Rattle.tw_skiplist.specs.ListFaults.{NoStepUnless, list_faults};
 ghost use Rattle.tw_skiplist.specs.Events.{events_of_info, events_told};
-ghost use Rattle.tw_skiplist.specs.Readings.{found_events, found_link, found_path, found_proof, found_step, found_way};
+ghost use Rattle.tw_skiplist.specs.Readings.{found_events, found_link, found_proof, found_skip_path, found_step, found_way};
 ghost use Rattle.tw_skiplist.specs.Walks.{head_ref};
 
 use crate::collecting::{Collected, collect, read_info};
@@ -56,7 +56,7 @@ pub fn step<P: Pages, H: Hasher>(
         (λ ps. found_step H.dig ps head.now i) }
     // Over any pages, told or not, what is told is of the step asked for, with at most 1,024 events, and a time and a
     // thread's step of at most 2^40 - 1.
-    ensures ranges { IfOk result (IsTold i) }
+    ensures ranges { IfOk result (IsInfoTold i) }
 {
     let last = head.step;
     if i == 0 || i > last {
@@ -145,7 +145,7 @@ pub fn link<P: Pages, H: Hasher>(
 }
 
 /// The path alone that `link` answers, with its faults.
-#[tactic(auto, unfolding(crate::specs::Readings::found_path))]
+#[tactic(auto, unfolding(crate::specs::Readings::found_skip_path))]
 pub fn path<P: Pages, H: Hasher>(
     alloc: Global,
     pages: &mut P,
@@ -162,7 +162,7 @@ pub fn path<P: Pages, H: Hasher>(
     // faults rose.
     ensures reads { ReadsWhere list_faults P.view P.same pages.old pages.new (λ x. x) result
         (NoStepUnless result head.now.step ((i ≤ n) × (n ≤ head.now.step)))
-        (λ ps. found_path H.dig ps head.now n i) }
+        (λ ps. found_skip_path H.dig ps head.now n i) }
     // Over any pages, told or not, a path has at most twice as many links as its upper step has binary digits.
     ensures bound { IfOk result (λ path. (digits : ℕ) → n < 2 ^ digits → length path.links ≤ 2 * digits) }
     // The path has the links of the greedy path, each with its number of labels.
@@ -201,7 +201,7 @@ pub fn prove<P: Pages, H: Hasher>(
     // The path has the links of the greedy path, each with its number of labels.
     ensures shape { IfOk result (λ proof. HasShape proof.path.links top i) }
     // What is told of the step is as at `step`.
-    ensures ranges { IfOk result (λ proof. IsTold i proof.info) }
+    ensures ranges { IfOk result (λ proof. IsInfoTold i proof.info) }
 {
     let last = head.step;
     if i == 0 || i > top || top > last {

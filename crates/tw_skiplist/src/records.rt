@@ -2,8 +2,8 @@
 
 ghost use Rattle.std.specs.Prelude.{◌≡◌, ℕ, suc, ◌+◌, ◌<◌, ◌≤◌, ◌^◌, ◌++◌, ◌∷◌, [], ◌==◌, List, length, remove, Some, IfOk, OnOk, if◌then◌else◌};
 ghost use Rattle.tw_base.specs.kinds.Texts.{link_text};
-ghost use Rattle.tw_steppage.specs.StepPages.{HasRanges, link_of};
-ghost use Rattle.tw_skiplist.specs.Infos.{IsTold};
+ghost use Rattle.tw_steppage.specs.StepPages.{HasRanges, link_at_level};
+ghost use Rattle.tw_skiplist.specs.Infos.{IsInfoTold};
 ghost use Rattle.tw_skiplist.specs.Records.{info_record, link_record, opening_record, other_labels, page_datum, page_labels};
 
 use crate::info::StepInfo;
@@ -17,7 +17,7 @@ use tw_steppage::{StepPage, StepRef};
 /// The link of this level.
 pub(crate) fn link_at(links: &[StepRef], level: u8) -> StepRef
     requires { level < length links.now }
-    ensures { result ≡ link_of links.now level }
+    ensures { result ≡ link_at_level links.now level }
 {
     links[level as usize]
 }
@@ -53,7 +53,7 @@ fn push_other<H: Hasher>(
     requires inside { level < length links.now }
     requires few { level < MOST_LINKS }
     ensures { OnOk result (labels.new ≡ (if level == without then labels.old else labels.old ++ H.dig
-        (link_text step level datum.now (link_of links.now level).auth) ∷ [])) }
+        (link_text step level datum.now (link_at_level links.now level).auth) ∷ [])) }
 {
     if level == without {
         return Ok(());
@@ -141,7 +141,7 @@ pub(crate) fn info_of_page<H: Hasher>(
     requires few { length page.now.links.items ≤ MOST_LINKS }
     requires ranges { HasRanges page.now.fields }
     ensures info { IfOk result (λ info. info ≡ info_record H.dig number step page.now.fields page.now.links.items) }
-    ensures ranges { IfOk result (IsTold step) }
+    ensures ranges { IfOk result (IsInfoTold step) }
 {
     let opening = opening_of_page::<H>(alloc, step, page)?;
     let fields = &page.fields;

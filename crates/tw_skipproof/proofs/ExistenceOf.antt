@@ -20,7 +20,7 @@ use Rattle.tw_base.proofs.lemmas.kinds.ListLemmas.{Each-get_or}
 use Rattle.tw_base.proofs.lemmas.history.SoundEvents.{sound-may_record, sound-time}
 use Rattle.tw_skipproof.specs.declared.existence.ExistenceProof.{ExistenceProof}
 use Rattle.tw_skipproof.specs.Acceptance.{IsAcceptedUnder, ShowsEvent}
-use Rattle.tw_skipproof.specs.Codecs.{event_codec}
+use Rattle.tw_skipproof.specs.Codecs.{event_part_codec}
 use Rattle.tw_skipproof.specs.Existence.{IsExistenceInRange, IsShaped, existence_bytes, existence_layout}
 use Rattle.tw_skipproof.specs.HistoryProofs.{IsExistenceOf}
 use Rattle.tw_skipproof.specs.Spelling.{FitsAsEvent}
@@ -89,7 +89,7 @@ module _ (dig : List ℕ → List ℕ) (h : History) (step index top : ℕ) (p :
 
   module _ (size : (text : List ℕ) → length (dig text) ≡ 32) (are : (text : List ℕ) → AreBytes (dig text)) where
     event-fits : IsSound h → FitsAsEvent p.event
-    unfolding event_codec seen pair number_codec sized_codec by_kind labels_codec many bytes_codec
+    unfolding event_part_codec seen pair number_codec sized_codec by_kind labels_codec many bytes_codec
     event-fits sound count inside short labels =
         let event = event_within AreBytes tt (sound-may_record h step sound).are.bytes in (
           (omega arith, omega (arith, inside)),

@@ -16,7 +16,7 @@ use Rattle.tw_skipproof.specs.declared.opening.Opening.{Opening}
 use Rattle.tw_skipproof.specs.declared.path.Link.{Link}
 use Rattle.tw_skipproof.specs.declared.existence.ExistenceProof.{ExistenceProof}
 use Rattle.tw_skipproof.specs.declared.existence.Part.{Part}
-use Rattle.tw_skipproof.specs.Codecs.{count_bytes, count_codec, counted_with, event_codec, existence_body, existence_codec, flagged_count, link_bytes, link_codec, opening_codec, part_codec, path_codec}
+use Rattle.tw_skipproof.specs.Codecs.{count_bytes, count_codec, counted_with, event_part_codec, existence_body, existence_codec, flagged_count, link_bytes, link_codec, opening_codec, part_codec, path_codec}
 use Rattle.tw_skipproof.specs.Existence.{IsExistenceInRange, IsShaped}
 use Rattle.tw_skipproof.specs.Paths.{HasShape, greedy_steps, hop}
 use Rattle.tw_skipproof.specs.Spelling.{FitsAsEvent, FitsAsLink, FitsAsOpening, FitsAsPart}
@@ -82,8 +82,8 @@ pub path-lawful : (from to : ℕ) → Lawful (path_codec from to)
 unfolding path_codec link_bytes link_codec seen pair labels_codec many bytes_codec
 path-lawful from to = lawful-each link_bytes link_codec link-lawful (λ step l fits. refl) (greedy_steps from to)
 
-pub event-lawful : (count : ℕ) → count ≤ MOST_EVENTS → Lawful (event_codec count)
-unfolding event_codec
+pub event-lawful : (count : ℕ) → count ≤ MOST_EVENTS → Lawful (event_part_codec count)
+unfolding event_part_codec
 event-lawful count few = search (lawful, arith) depth 20
 
 pub part-lawful : (least : ℕ) → least ≤ MOST_EVENTS → Lawful (part_codec least)
@@ -100,7 +100,7 @@ part-counts least p fits = fits.1.1.1.1.1.1.0.1.0
 pub body-lawful : Lawful existence_body
 unfolding existence_body
 body-lawful =
-    lawful-seen _ _ _ (λ t. refl) (λ p. refl) (lawful-pair (part_codec 1) (λ at. event_codec at.opening.count) (part-lawful 1 (lit≤ tt))
+    lawful-seen _ _ _ (λ t. refl) (λ p. refl) (lawful-pair (part_codec 1) (λ at. event_part_codec at.opening.count) (part-lawful 1 (lit≤ tt))
     (λ at fits. event-lawful at.opening.count (part-counts 1 at fits).1))
 
 pub existence-lawful : Lawful existence_codec

@@ -17,14 +17,14 @@ use Rattle.tw_skipproof.specs.Acceptance.{Reaches}
 use Rattle.tw_skipproof.specs.declared.opening.Opening.{Opening}
 use Rattle.tw_skipproof.specs.Codecs.{link_codec, opening_codec, path_codec}
 use Rattle.tw_skipproof.specs.Existence.{IsPartInRange, IsPartShaped}
-use Rattle.tw_skipproof.specs.HistoryProofs.{IsOpeningOf, IsPartOf, IsPathOf, labels_at}
+use Rattle.tw_skipproof.specs.HistoryProofs.{IsOpeningOf, IsPartOfHistory, IsPathOf, labels_at}
 use Rattle.tw_skipproof.specs.Openings.{IsOpeningAt, opening_auth}
 use Rattle.tw_skipproof.specs.Paths.{HasShape, climbed, hop}
 use Rattle.tw_skipproof.specs.Spelling.{FitsAsLink, FitsAsOpening, FitsAsPart}
 use Rattle.tw_skipproof.proofs.LawfulCodecs.{count-fits, part-fits, path-fits}
 use Rattle.tw_skipproof.proofs.OwnPaths.{opening-of, path-of}
 
-module _ (dig : List ℕ → List ℕ) (h : History) (step top : ℕ) (p : Part) (is : IsPartOf dig h step top p) where
+module _ (dig : List ℕ → List ℕ) (h : History) (step top : ℕ) (p : Part) (is : IsPartOfHistory dig h step top p) where
   opens : 0 < step → IsOpeningAt step p.opening × (opening_auth dig step p.opening ≡ auth dig h step)
   opens from_1 = opening-of dig h step p.opening from_1 is.opening
 
@@ -103,6 +103,6 @@ module _ (dig : List ℕ → List ℕ) (h : History) (size : (text : List ℕ) �
       )
 
   -- and so has a part of it
-  pub part-fits-made : (step top : ℕ) (p : Part) → IsPartOf dig h step top p → IsSound h → FitsAsPart p
+  pub part-fits-made : (step top : ℕ) (p : Part) → IsPartOfHistory dig h step top p → IsSound h → FitsAsPart p
   part-fits-made step top p is sound =
       part-fits p (subst IsName (sym is.service) sound.name) (links-fit p.path.links top step is.path) (opening-fits step p.opening is.opening)

@@ -16,7 +16,7 @@ use Rattle.tw_base.proofs.lemmas.kinds.Levels.{top_level-below}
 use Rattle.tw_skipproof.specs.declared.path.Link.{Link}
 use Rattle.tw_skipproof.specs.declared.existence.ExistenceProof.{ExistenceProof}
 use Rattle.tw_skipproof.specs.declared.existence.Part.{Part}
-use Rattle.tw_skipproof.specs.Codecs.{count_bytes, count_codec, event_codec, existence_body, existence_codec, link_bytes, link_codec, opening_codec, part_codec, path_codec}
+use Rattle.tw_skipproof.specs.Codecs.{count_bytes, count_codec, event_part_codec, existence_body, existence_codec, link_bytes, link_codec, opening_codec, part_codec, path_codec}
 use Rattle.tw_skipproof.specs.Existence.{IsExistenceInRange, IsPartInRange, IsPartShaped, IsShaped}
 use Rattle.tw_skipproof.specs.Paths.{HasShape, greedy_steps, hop}
 use Rattle.tw_skipproof.proofs.GreedySteps.{greedy_steps-more, greedy_steps-none}
@@ -51,7 +51,7 @@ part-shape least p fits =
     )
 
 pub existence-shape : (p : ExistenceProof) → existence_codec.Fits p → IsShaped p × IsExistenceInRange p
-unfolding existence_codec existence_body event_codec by_kind behind pair seen number_codec sized_codec labels_codec many
+unfolding existence_codec existence_body event_part_codec by_kind behind pair seen number_codec sized_codec labels_codec many
 existence-shape p fits =
     let at = part-shape 1 p.at fits.0 in
     let some = (part-counts 1 p.at fits.0).0 in
@@ -77,8 +77,8 @@ opening-most least step l =
     at_most-pair _ _ 12 1280 (count-most least) (λ _ _. at_most-pair _ _ 32 1248 (at_most-bytes 32) (λ _ _.
     at_most-labels _ 39 (omega (arith, top_level-below step (omega (arith, l)))))))))
 
-pub event-most : (count : ℕ) → count ≤ MOST_EVENTS → AtMost (event_codec count) 1352
-unfolding event_codec number_codec
+pub event-most : (count : ℕ) → count ≤ MOST_EVENTS → AtMost (event_part_codec count) 1352
+unfolding event_part_codec number_codec
 event-most count few =
     at_most-seen _ _ _ 1352 (at_most-pair _ _ 4 1348 (at_most-number 4 0 (count - 1)) (λ index f.
     at_most-pair _ _ 1028 320 (at_most-sized 4 0 1024) (λ _ _. at_most-labels _ 10 (path_length-le 10 count index few))))

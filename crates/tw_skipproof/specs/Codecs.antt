@@ -55,12 +55,12 @@ unfoldable pub path_bytes : List Link → List ℕ
 path_bytes = (path_codec 0 0).write
 
 -- a step from 1 on
-abbrev pub step_codec : Codec ℕ
-step_codec = number_codec 8 1 LAST_STEP
+abbrev pub step_number_codec : Codec ℕ
+step_number_codec = number_codec 8 1 LAST_STEP
 
 -- an event under an opening with this count of events: its index, its bytes behind their number, and its audit path
-unfoldable pub event_codec : (count : ℕ) → Codec EventPart
-event_codec count =
+unfoldable pub event_part_codec : (count : ℕ) → Codec EventPart
+event_part_codec count =
     seen (λ t. record { index = t.0; event = t.1.0; path = t.1.1 }) (λ e. (e.index, (e.event, e.path)))
     (pair (number_codec 4 0 (count - 1)) (λ index. pair (sized_codec 4 0 MOST_EVENT_BYTES) (λ event. labels_codec (path_length count index))))
 
@@ -70,7 +70,7 @@ unfoldable pub part_codec : (least : ℕ) → Codec Part
 part_codec least =
     seen (λ t. record { service = t.0; step = t.1.0; top = t.1.1.0; path = record { links = t.1.1.1.0 }; opening = t.1.1.1.1 })
     (λ p. (p.service, (p.step, (p.top, (p.path.links, p.opening)))))
-    (pair name_codec (λ service. pair step_codec (λ step. pair step_codec (λ top. pair (path_codec top step) (λ links. opening_codec least step)))))
+    (pair name_codec (λ service. pair step_number_codec (λ step. pair step_number_codec (λ top. pair (path_codec top step) (λ links. opening_codec least step)))))
 
 -- its bytes, which are the same whatever the least count
 unfoldable pub part_bytes : Part → List ℕ
@@ -79,7 +79,7 @@ part_bytes = (part_codec 0).write
 -- a proof of kind 1 behind its kind: a step with an event or more, and one of its events
 unfoldable pub existence_body : Codec ExistenceProof
 existence_body =
-    seen (λ t. record { at = t.0; event = t.1 }) (λ p. (p.at, p.event)) (pair (part_codec 1) (λ at. event_codec at.opening.count))
+    seen (λ t. record { at = t.0; event = t.1 }) (λ p. (p.at, p.event)) (pair (part_codec 1) (λ at. event_part_codec at.opening.count))
 
 -- the four bytes TWP1, with which each proof begins, and those with the kind 1
 abbrev pub proof_magic : List ℕ

@@ -31,7 +31,7 @@ module _ (dig : List ℕ → List ℕ) (h : History) where
 
   -- the part that the history has of a step under a top: the history's name, its path from the top down to the step, and its
   -- opening of the step
-  pub record IsPartOf (step top : ℕ) (p : Part) : Type 0 where
+  pub record IsPartOfHistory (step top : ℕ) (p : Part) : Type 0 where
     pub service : p.service ≡ h.name
     pub at_step : p.step ≡ step
     pub at_top : p.top ≡ top
@@ -42,7 +42,7 @@ module _ (dig : List ℕ → List ℕ) (h : History) where
     -- the proof that the history has of its event at this index of the step, under this top: the part of the step, and
     -- the event with its audit path among the step's events
     pub record IsExistenceOf (p : ExistenceProof) : Type 0 where
-      pub at : IsPartOf step top p.at
+      pub at : IsPartOfHistory step top p.at
       pub inside : index < length (events_at h step)
       pub event : p.event ≡ event_part dig (events_at h step) index
 

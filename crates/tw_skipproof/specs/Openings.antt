@@ -41,7 +41,7 @@ pub record Binds (dig : List ℕ → List ℕ) (h : History) (step : ℕ) (o : O
   pub prev : auth dig h (step - 1) ≡ o.prev
 
 -- the widths that the fields of an opening have; its digests are bytes
-pub record HasSizes (o : Opening) : Type 0 where
+pub record HasOpeningSizes (o : Opening) : Type 0 where
   pub event_root : HasBytes 32 o.event_root
   pub archive_root : HasBytes 32 o.archive_root
   pub count : o.count < 2 ^ 32

@@ -8,7 +8,7 @@ use Rattle.tw_skipproof.specs.declared.opening.Opening.{Opening}
 use Rattle.tw_skipproof.specs.declared.path.Link.{Link}
 use Rattle.tw_base.specs.declared.events.event_part.EventPart.{EventPart}
 use Rattle.tw_skipproof.specs.declared.existence.Part.{Part}
-use Rattle.tw_skipproof.specs.Codecs.{event_codec, link_codec, opening_codec, part_codec, path_codec}
+use Rattle.tw_skipproof.specs.Codecs.{event_part_codec, link_codec, opening_codec, part_codec, path_codec}
 use Rattle.tw_skipproof.specs.Existence.{IsPartInRange, IsPartShaped}
 use Rattle.tw_skipproof.specs.Paths.{HasShape}
 
@@ -22,7 +22,7 @@ FitsAsLink link = (step : ℕ) → length link.others ≡ top_level step → (li
 
 abbrev pub FitsAsEvent : EventPart → Type 0
 FitsAsEvent e =
-    (count : ℕ) → e.index < count → length e.event ≤ MOST_EVENT_BYTES → length e.path ≡ path_length count e.index → (event_codec count).Fits e
+    (count : ℕ) → e.index < count → length e.event ≤ MOST_EVENT_BYTES → length e.path ≡ path_length count e.index → (event_part_codec count).Fits e
 
 abbrev pub FitsAsPath : List Link → Type 0
 FitsAsPath links = (from to : ℕ) → HasShape links from to → (path_codec from to).Fits links

@@ -5,7 +5,7 @@ ghost use Rattle.std.specs.Prelude.{◌≡◌, ◌≤◌, length, IfOk};
 ghost use Rattle.tw_base.specs.declared.kinds.limits.TheConstants.{LAST_STEP, MOST_EVENTS};
 ghost use Rattle.tw_base.specs.format.Formats.{ReadsAs};
 ghost use Rattle.tw_base.specs.format.Taking.{Takes};
-ghost use Rattle.tw_skipproof.specs.Codecs.{event_codec, existence_body, existence_codec, part_codec};
+ghost use Rattle.tw_skipproof.specs.Codecs.{event_part_codec, existence_body, existence_codec, part_codec};
 ghost use Rattle.tw_skipproof.specs.Existence.{IsExistenceInRange, IsShaped, existence_layout};
 
 use crate::existence::{ExistenceProof, Part};
@@ -41,7 +41,7 @@ pub fn take_event(
     requires few { count ≤ MOST_EVENTS }
     // An event under an opening is taken at a place exactly as its codec reads it; else the place of the first bad byte is
     // told.
-    ensures { Takes (event_codec count) (λ e. e) bytes.now at.old at.new result }
+    ensures { Takes (event_part_codec count) (λ e. e) bytes.now at.old at.new result }
 {
     let index = take_number(bytes, at, 4, 0, count as u64 - 1)? as u32;
     let event = take_sized(alloc, bytes, at, 4, 0, MOST_EVENT_BYTES)?;

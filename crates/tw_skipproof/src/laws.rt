@@ -15,7 +15,7 @@ ghost use Rattle.tw_skipproof.specs.declared.path.Link.{Link};
 ghost use Rattle.tw_skipproof.specs.Acceptance.{IsAcceptedUnder, Reaches};
 ghost use Rattle.tw_skipproof.specs.Codecs.{existence_codec, opening_bytes, opening_codec, path_bytes, path_codec};
 ghost use Rattle.tw_skipproof.specs.Existence.{IsExistenceInRange, IsShaped, existence_bytes, existence_layout};
-ghost use Rattle.tw_skipproof.specs.HistoryProofs.{IsExistenceOf, IsOpeningOf, IsPartOf, IsPathOf};
+ghost use Rattle.tw_skipproof.specs.HistoryProofs.{IsExistenceOf, IsOpeningOf, IsPartOfHistory, IsPathOf};
 ghost use Rattle.tw_skipproof.specs.Openings.{IsOpeningAt, opening_auth};
 ghost use Rattle.tw_skipproof.specs.Paths.{HasShape, climbed};
 
@@ -51,7 +51,7 @@ pub fn making_laws<H: Hasher>()
     ensures path { (h : History) (links : List Link) (from to : ℕ) → to ≤ from → IsPathOf H.dig h links from to →
         HasShape links from to × (climbed H.dig links from to (auth H.dig h to) ≡ auth H.dig h from) }
     // The part that a history has of a step, under a top that isn't below it, leads to its authenticator of the top.
-    ensures part { (h : History) (step top : ℕ) (at : Part) → 0 < step → step ≤ top → IsPartOf H.dig h step top at →
+    ensures part { (h : History) (step top : ℕ) (at : Part) → 0 < step → step ≤ top → IsPartOfHistory H.dig h step top at →
         Reaches H.dig at (auth H.dig h top) }
     // A history's own proof of an event, under a top that isn't below its step, is accepted under its authenticator of
     // the top.

@@ -8,7 +8,7 @@ ghost use Rattle.tw_base.specs.kinds.Handing.{Hands};
 ghost use Rattle.tw_base.specs.history.History.{History};
 ghost use Rattle.tw_base.specs.history.HistoryTexts.{history_texts};
 ghost use Rattle.tw_base.specs.history.Sound.{IsSound};
-ghost use Rattle.tw_skipproof.specs.Openings.{Binds, HasSizes, IsOpeningAt, opening_auth, opening_texts};
+ghost use Rattle.tw_skipproof.specs.Openings.{Binds, HasOpeningSizes, IsOpeningAt, opening_auth, opening_texts};
 
 use arrayvec::ArrayVec;
 use tw_base::{
@@ -39,7 +39,7 @@ pub fn opening_auth_told<T: Transcript>(opening: &Opening, step: u64, texts: &mu
     ensures auth { result ≡ opening_auth T.dig step opening.now }
     // The texts of the opening are handed on.
     ensures took { Hands T.took texts.old texts.new (opening_texts T.dig step opening.now) }
-    ensures sizes { HasSizes opening.now }
+    ensures sizes { HasOpeningSizes opening.now }
 {
     see_digest(&opening.event_root);
     see_digest(&opening.archive_root);
@@ -63,7 +63,7 @@ fn computed<H: Hasher>(opening: &Opening, step: u64) -> Option<Digest>
     requires { step ≤ LAST_STEP }
     ensures answer { MatchOption result (IsOpeningAt step opening.now → ⊥)
         (λ d. IsOpeningAt step opening.now × (d ≡ opening_auth H.dig step opening.now)) }
-    ensures sizes { IfSome result (λ _. HasSizes opening.now) }
+    ensures sizes { IfSome result (λ _. HasOpeningSizes opening.now) }
 {
     if step == 0 || opening.others.len() != top_level(step) as usize {
         return None;
@@ -83,7 +83,7 @@ pub fn check_opening<H: Hasher>(opening: &Opening, step: u64) -> Option<Digest>
     // and the number of labels is the step's, with the authenticator that it computes.
     ensures answer { MatchOption result (IsOpeningAt step opening.now → ⊥)
         (λ d. IsOpeningAt step opening.now × (d ≡ opening_auth H.dig step opening.now)) }
-    ensures sizes { IfSome result (λ _. HasSizes opening.now) }
+    ensures sizes { IfSome result (λ _. HasOpeningSizes opening.now) }
     // Where an opening computes the authenticator of a sound history, its event root, archive label, count, time (or
     // that there is none) and previous authenticator are the history's, or two texts of the history and of the opening
     // clash.

@@ -8,7 +8,7 @@ ghost use Rattle.tw_base.specs.format.Formats.{Spells};
 ghost use Rattle.tw_base.specs.kinds.Levels.{top_level};
 ghost use Rattle.tw_base.specs.history.Limits.{IsTimeWithinLimits};
 ghost use Rattle.tw_base.specs.kinds.Lists.{Each};
-ghost use Rattle.tw_skipproof.specs.Codecs.{count_bytes, event_codec, existence_body, existence_codec, link_bytes, opening_bytes, opening_codec, part_bytes, path_bytes, path_codec};
+ghost use Rattle.tw_skipproof.specs.Codecs.{count_bytes, event_part_codec, existence_body, existence_codec, link_bytes, opening_bytes, opening_codec, part_bytes, path_bytes, path_codec};
 ghost use Rattle.tw_skipproof.specs.Existence.{IsExistenceInRange, IsShaped, existence_bytes, existence_layout};
 ghost use Rattle.tw_skipproof.specs.Paths.{HasShape};
 ghost use Rattle.tw_skipproof.specs.Spelling.{FitsAsEvent, FitsAsLink, FitsAsOpening, FitsAsPart, FitsAsPath};
@@ -90,7 +90,7 @@ fn put_links(into: &mut Bytes, links: &[Link]) -> Result<(), NoMemory>
 /// Appends the fields of the event.
 pub fn put_event(into: &mut Bytes, event: &EventPart) -> Result<(), NoMemory>
     // What is put of an event is its bytes in the format.
-    ensures ok { OnOk result (into.new ≡ into.old ++ (event_codec 1).write event.now) }
+    ensures ok { OnOk result (into.new ≡ into.old ++ (event_part_codec 1).write event.now) }
     // They spell it under each opening whose count of events is above its index, where it has at most 1,024 bytes and its
     // path has the labels that the count and the index give it.
     ensures fits { OnOk result (FitsAsEvent event.now) }

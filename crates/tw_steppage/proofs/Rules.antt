@@ -4,7 +4,7 @@ use Rattle.std.specs.Prelude.{nat_lt, ◌==◌, ◌&&◌, if◌then◌else◌}
 use Rattle.std.proofs.lemmas.Bool.{lt-ltb}
 use Rattle.std.proofs.lemmas.Bool.Decides.{eqb_tells}
 use Rattle.tw_steppage.specs.declared.link.StepRef.{StepRef}
-use Rattle.tw_steppage.specs.StepPages.{keeps_link_rules, lies_below, link_of}
+use Rattle.tw_steppage.specs.StepPages.{keeps_link_rules, lies_below, link_at_level}
 
 pub both_true : (a b : Bool) → a ≡ true → b ≡ true → (a && b) ≡ true
 both_true a b one two = ap (λ (x : Bool). x && b) one ∙ two
@@ -29,19 +29,19 @@ module _ (page step : ℕ) (links : List StepRef) where
   unfolding keeps_link_rules
   link_rules-first = refl
 
-  pub link_rules-more : (level : ℕ) → keeps_link_rules page step links (level + 1) ≡ (keeps_link_rules page step links level && lies_below (step == 2 ^ level) (link_of links level).page page)
+  pub link_rules-more : (level : ℕ) → keeps_link_rules page step links (level + 1) ≡ (keeps_link_rules page step links level && lies_below (step == 2 ^ level) (link_at_level links level).page page)
   unfolding keeps_link_rules
   link_rules-more level = ap (keeps_link_rules page step links) (let e : level + 1 ≡ suc level = omega arith in e)
 
   link_rules-suc : (count : ℕ) → keeps_link_rules page step links count ≡ false → keeps_link_rules page step links (suc count) ≡ false
   unfolding keeps_link_rules
-  link_rules-suc count e = ap (λ (b : Bool). b && lies_below (step == 2 ^ count) (link_of links count).page page) e
+  link_rules-suc count e = ap (λ (b : Bool). b && lies_below (step == 2 ^ count) (link_at_level links count).page page) e
 
   pub link_rules-no : (count d : ℕ) → keeps_link_rules page step links count ≡ false → keeps_link_rules page step links (count + d) ≡ false
   link_rules-no count zero e = ap (keeps_link_rules page step links) (let s : count + 0 ≡ count = omega arith in s) ∙ e
   link_rules-no count (suc d) e = ap (keeps_link_rules page step links) (let s : count + suc d ≡ suc (count + d) = omega arith in s) ∙ link_rules-suc (count + d) (link_rules-no count d e)
 
-  pub link_rules-all : (count : ℕ) → ((level : ℕ) → level < count → lies_below (step == 2 ^ level) (link_of links level).page page ≡ true) → keeps_link_rules page step links count ≡ true
+  pub link_rules-all : (count : ℕ) → ((level : ℕ) → level < count → lies_below (step == 2 ^ level) (link_at_level links level).page page ≡ true) → keeps_link_rules page step links count ≡ true
   unfolding keeps_link_rules
   link_rules-all zero each = refl
   link_rules-all (suc level) each = both_true (keeps_link_rules page step links level) _ (link_rules-all level (λ k l. each k (omega (arith, l)))) (each level (omega arith))

@@ -14,7 +14,7 @@ use Rattle.tw_steppage.specs.declared.link.StepRef.{StepRef}
 use Rattle.tw_steppage.specs.declared.fields.StepFields.{StepFields}
 use Rattle.tw_steppage.specs.declared.fields.StreamRef.{StreamRef}
 use Rattle.tw_steppage.specs.declared.limits.TheConstants.{MOST_STREAM_BYTES}
-use Rattle.tw_steppage.specs.StepBytes.{body_codec, counts_codec, kind_by, kind_of, kinds_codec, links_codec, no_stream, page_codec, page_thread_codec, received_codec, ref_codec, step_codec}
+use Rattle.tw_steppage.specs.StepBytes.{counts_codec, field_codec, fields_kind, kind_by, links_codec, no_stream, page_codec, page_thread_codec, paged_codec, received_codec, ref_codec, step_body_codec}
 use Rattle.tw_steppage.specs.StepPages.{HasRanges}
 
 pub ref-lawful : Lawful ref_codec
@@ -37,8 +37,8 @@ received-lawful : (is_events : Bool) → Lawful (received_codec is_events)
 unfolding received_codec
 received-lawful is_events = lawful-choose is_events _ _ (lawful-behind (replicate 56 0) _ (lawful-nothing None)) (lawful-present page_thread_codec page_thread-lawful)
 
-body-lawful : (step kind : ℕ) → Lawful (body_codec step kind)
-unfolding body_codec
+body-lawful : (step kind : ℕ) → Lawful (step_body_codec step kind)
+unfolding step_body_codec
 body-lawful step kind =
     let counts = counts-lawful (is_of_events kind) in
     let received = received-lawful (is_of_events kind) in
@@ -71,8 +71,8 @@ untimed time e = ap (λ (t : Option ℕ). kind_by t None) (sym e)
 of_received : (time : Option ℕ) (r : Option Thread) → r ≡ None → kind_by time r ≡ kind_by time None
 of_received time r e = ap (λ (x : Option Thread). kind_by time x) e
 
-pub kinds : (step kind : ℕ) (p : StepFields × List StepRef) → (number_codec 1 1 4).Fits kind → (body_codec step kind).Fits p → kind_of p.0 ≡ kind
-unfolding number_codec body_codec seen pair nothing
+pub kinds : (step kind : ℕ) (p : StepFields × List StepRef) → (number_codec 1 1 4).Fits kind → (step_body_codec step kind).Fits p → fields_kind p.0 ≡ kind
+unfolding number_codec step_body_codec seen pair nothing
 kinds step zero p fits is = absurd (omega (arith, fits.0))
 kinds step (suc zero) p fits is = of_received p.0.time p.0.received (none-received p.0.received is.1.1.1.1.0) ∙ untimed p.0.time is.1.1.1.1.1.1.1
 kinds step (suc (suc zero)) p fits is = by_thread p.0.time p.0.received is.1.1.1.1.0 ∙ ap (λ n. 1 + n) (untimed p.0.time is.1.1.1.1.1.1.1)
@@ -80,12 +80,12 @@ kinds step (suc (suc (suc zero))) p fits is = of_received p.0.time p.0.received 
 kinds step (suc (suc (suc (suc zero)))) p fits is = by_thread p.0.time p.0.received is.1.1.1.1.0 ∙ ap (λ n. 1 + n) (by_time p.0.time is.1.1.1.1.1.1.1)
 kinds step (suc (suc (suc (suc (suc n))))) p fits is = absurd (omega (arith, fits.1))
 
-kinds-lawful : (step : ℕ) → Lawful (kinds_codec step)
-unfolding kinds_codec
-kinds-lawful step = lawful-by_kind (λ (p : StepFields × List StepRef). kind_of p.0) (number_codec 1 1 4) (body_codec step) (search lawful) (λ kind _. body-lawful step kind) (kinds step)
+kinds-lawful : (step : ℕ) → Lawful (field_codec step)
+unfolding field_codec
+kinds-lawful step = lawful-by_kind (λ (p : StepFields × List StepRef). fields_kind p.0) (number_codec 1 1 4) (step_body_codec step) (search lawful) (λ kind _. body-lawful step kind) (kinds step)
 
-pub step-lawful : (step : ℕ) → Lawful (step_codec step)
-unfolding step_codec
+pub step-lawful : (step : ℕ) → Lawful (paged_codec step)
+unfolding paged_codec
 step-lawful step = lawful-behind _ _ (lawful-behind _ _ (kinds-lawful step))
 
 -- ---- what fits
@@ -132,8 +132,8 @@ module _ (step count : ℕ) (stream : StreamRef) (event_root : List ℕ) (archiv
   fields time received = record { count = count; stream = stream; event_root = event_root; archive = archive; received = received; auth = auth; time = time }
 
   pub step-fits : (time : Option ℕ) (received : Option Thread) → HasCounts received count stream → HasBytes 32 event_root → HasBytes 32 archive.label → archive.page < 2 ^ 64 → HasBytes 32 auth
-      → IsTimeWithinLimits time → length links ≡ suc (top_level step) → Each ref_codec.Fits links → (step_codec step).Fits (fields time received, links)
-  unfolding step_codec kinds_codec behind by_kind body_codec seen pair number_codec bytes_codec links_codec many
+      → IsTimeWithinLimits time → length links ≡ suc (top_level step) → Each ref_codec.Fits links → (paged_codec step).Fits (fields time received, links)
+  unfolding paged_codec field_codec behind by_kind step_body_codec seen pair number_codec bytes_codec links_codec many
   step-fits None None has root label page own within many_are each =
       ((omega arith, omega arith), (events-fit count stream has, (root, (label, ((omega arith, omega (arith, page)), (none-fits, (own, ((many_are, each), no-time-fits))))))))
   step-fits None (Some t) has root label page own within many_are each =
@@ -160,15 +160,15 @@ thread-within is None fits = tt
 thread-within true (Some t) fits = absurd cc
 thread-within false (Some t) fits = fits.1.0.1
 
-module _ (step : ℕ) (f : StepFields) (links : List StepRef) (fits : (step_codec step).Fits (f, links)) where
+module _ (step : ℕ) (f : StepFields) (links : List StepRef) (fits : (paged_codec step).Fits (f, links)) where
   pub links-count : length links ≡ suc (top_level step)
-  unfolding step_codec kinds_codec behind by_kind body_codec seen pair links_codec many
+  unfolding paged_codec field_codec behind by_kind step_body_codec seen pair links_codec many
   links-count = fits.1.1.1.1.1.1.1.0.0
 
   pub events-few : f.count ≤ 1024
-  unfolding step_codec kinds_codec behind by_kind body_codec seen pair
-  events-few = few-counts (is_of_events (kind_of f)) (f.count, f.stream) fits.1.0
+  unfolding paged_codec field_codec behind by_kind step_body_codec seen pair
+  events-few = few-counts (is_of_events (fields_kind f)) (f.count, f.stream) fits.1.0
 
   pub in-ranges : HasRanges f
-  unfolding step_codec kinds_codec behind by_kind body_codec seen pair
-  in-ranges = (events-few, time-within (is_timed (kind_of f)) f.time fits.1.1.1.1.1.1.1.1, thread-within (is_of_events (kind_of f)) f.received fits.1.1.1.1.1.0)
+  unfolding paged_codec field_codec behind by_kind step_body_codec seen pair
+  in-ranges = (events-few, time-within (is_timed (fields_kind f)) f.time fits.1.1.1.1.1.1.1.1, thread-within (is_of_events (fields_kind f)) f.received fits.1.1.1.1.1.0)

@@ -33,8 +33,8 @@ kind_by None (Some thread) = 2
 kind_by (Some time) None = 3
 kind_by (Some time) (Some thread) = 4
 
-abbrev pub kind_of : StepFields → ℕ
-kind_of f = kind_by f.time f.received
+abbrev pub fields_kind : StepFields → ℕ
+fields_kind f = kind_by f.time f.received
 
 -- the stream of a step without events, which has no page
 abbrev pub no_stream : StreamRef
@@ -60,8 +60,8 @@ received_codec is_events = choose is_events (behind (replicate 56 0) (nothing No
 
 -- what a step page of a kind has behind the kind: the counts, the root of the events, the label of the archive and the page of its
 -- root, the received thread, the authenticator, the links, and the time where the kind has one
-unfoldable pub body_codec : (step kind : ℕ) → Codec (StepFields × List StepRef)
-body_codec step kind =
+unfoldable pub step_body_codec : (step kind : ℕ) → Codec (StepFields × List StepRef)
+step_body_codec step kind =
     seen (λ t. (
       record {
         count = t.0.0;
@@ -79,15 +79,15 @@ body_codec step kind =
     pair (received_codec (is_of_events kind)) (λ received. pair digest_codec (λ auth. pair (links_codec step) (λ links. optional (is_timed kind) time_codec))))))))
 
 -- the kind, and what it has
-unfoldable pub kinds_codec : (step : ℕ) → Codec (StepFields × List StepRef)
-kinds_codec step = by_kind (λ p. kind_of p.0) (number_codec 1 1 4) (body_codec step)
+unfoldable pub field_codec : (step : ℕ) → Codec (StepFields × List StepRef)
+field_codec step = by_kind (λ p. fields_kind p.0) (number_codec 1 1 4) (step_body_codec step)
 
 -- a step page: 1, the step, its kind, and what the kind has
-unfoldable pub step_codec : (step : ℕ) → Codec (StepFields × List StepRef)
-step_codec step = behind (1 ∷ []) (behind (to_be_bytes w64 step) (kinds_codec step))
+unfoldable pub paged_codec : (step : ℕ) → Codec (StepFields × List StepRef)
+paged_codec step = behind (1 ∷ []) (behind (to_be_bytes w64 step) (field_codec step))
 
 abbrev pub step_page_bytes : (step : ℕ) → StepFields → List StepRef → List ℕ
-step_page_bytes step fields links = padded ((step_codec step).write (fields, links))
+step_page_bytes step fields links = padded ((paged_codec step).write (fields, links))
 
 -- each event behind its length
 abbrev pub stream : List (List ℕ) → List ℕ

@@ -8,8 +8,8 @@ use Rattle.tw_steppage.specs.declared.fields.StepFields.{StepFields}
 abbrev pub no_ref : StepRef
 no_ref = record { page = 0; auth = [] }
 
-abbrev pub link_of : List StepRef → (level : ℕ) → StepRef
-link_of links level = slice_index_or links level no_ref
+abbrev pub link_at_level : List StepRef → (level : ℕ) → StepRef
+link_at_level links level = slice_index_or links level no_ref
 
 -- what any page tells is in the ranges of its fields: at most 1,024 events, and a time and a thread's step of at most 2^40 - 1
 abbrev pub HasRanges : StepFields → Type 0
@@ -27,4 +27,4 @@ keeps_field_rules page f = lies_below (f.stream.size == 0) f.stream.page page &&
 unfoldable pub keeps_link_rules : (page step : ℕ) → List StepRef → (count : ℕ) → Bool
 keeps_link_rules page step links zero = true
 keeps_link_rules page step links (suc level) =
-    keeps_link_rules page step links level && lies_below (step == 2 ^ level) (link_of links level).page page
+    keeps_link_rules page step links level && lies_below (step == 2 ^ level) (link_at_level links level).page page

@@ -7,7 +7,7 @@ ghost use Rattle.tw_base.specs.format.Codecs.{HasBytes, many, optional};
 ghost use Rattle.tw_base.specs.kinds.Levels.{top_level as top_level_of};
 ghost use Rattle.tw_base.specs.kinds.Lists.{Each};
 ghost use Rattle.tw_base.specs.format.Taking.{Takes};
-ghost use Rattle.tw_steppage.specs.StepBytes.{body_codec, counts_codec, event_page_bytes, kind_of as kind_of_fields, kinds_codec, links_codec, page_thread_codec, piece_codec, received_codec, ref_codec, step_codec, step_page_bytes};
+ghost use Rattle.tw_steppage.specs.StepBytes.{counts_codec, event_page_bytes, field_codec, fields_kind, links_codec, page_thread_codec, paged_codec, piece_codec, received_codec, ref_codec, step_body_codec, step_page_bytes};
 ghost use Rattle.tw_steppage.specs.StepPages.{keeps_field_rules as field_rules, keeps_link_rules as link_rules, lies_below as is_below};
 
 use crate::fields::{StepFields, StreamRef};
@@ -48,7 +48,7 @@ fn put_links(page: &mut PageFront, links: &[StepRef])
 
 // The kind of a step with these fields.
 fn kind_of(fields: &StepFields) -> u64
-    ensures kind { result ≡ kind_of_fields fields.now }
+    ensures kind { result ≡ fields_kind fields.now }
     ensures range { (1 ≤ result) × (result ≤ 4) }
 {
     match fields.time {
@@ -124,7 +124,7 @@ fn put_body(page: &mut PageFront, step: u64, kind: u64, fields: &StepFields, lin
     requires few { length links.now ≤ MOST_LINKS }
     requires count { length links.now ≡ suc (top_level_of step) }
     requires room { length page.old ≤ 10 }
-    ensures { page.new ≡ page.old ++ (body_codec step kind).write (fields.now, links.now) }
+    ensures { page.new ≡ page.old ++ (step_body_codec step kind).write (fields.now, links.now) }
 {
     put_counts(page, is_of_events(kind), fields.count, &fields.stream);
     page.put_digest(&fields.event_root);
@@ -138,7 +138,7 @@ fn put_body(page: &mut PageFront, step: u64, kind: u64, fields: &StepFields, lin
 }
 
 /// The page of a step with these links, of which a step below 2^40 has one a level.
-#[tactic(auto, unfolding(crate::specs::StepBytes::kinds_codec, crate::specs::StepBytes::step_codec, tw_base::specs::format::Seen::codecs))]
+#[tactic(auto, unfolding(crate::specs::StepBytes::field_codec, crate::specs::StepBytes::paged_codec, tw_base::specs::format::Seen::codecs))]
 pub fn step_page(step: u64, fields: &StepFields, links: &[StepRef]) -> Page
     requires few { length links.now ≤ MOST_LINKS }
     requires count { length links.now ≡ suc (top_level_of step) }
@@ -262,11 +262,11 @@ fn take_received(bytes: &[u8], at: &mut u64, is_events: bool) -> Result<Option<T
 }
 
 // Takes what a step of this kind has behind the kind.
-#[tactic(auto, unfolding(crate::specs::StepBytes::body_codec, tw_base::specs::format::Seen::records))]
+#[tactic(auto, unfolding(crate::specs::StepBytes::step_body_codec, tw_base::specs::format::Seen::records))]
 fn take_body(bytes: &[u8], at: &mut u64, step: u64, kind: u64) -> Result<StepPage, ReadFault>
     requires within { at.old ≤ length bytes.now }
     requires step { step < 2 ^ 40 }
-    ensures takes { Takes (body_codec step kind) (λ p. (p.fields, p.links.items)) bytes.now at.old at.new result }
+    ensures takes { Takes (step_body_codec step kind) (λ p. (p.fields, p.links.items)) bytes.now at.old at.new result }
     ensures memory { IfErr result (λ fault. fault ≢ ReadFault.NoMemory) }
 {
     let (count, stream) = take_counts(bytes, at, is_of_events(kind))?;
@@ -295,7 +295,7 @@ fn take_body(bytes: &[u8], at: &mut u64, step: u64, kind: u64) -> Result<StepPag
 fn take_kinds(bytes: &[u8], at: &mut u64, step: u64) -> Result<StepPage, ReadFault>
     requires within { at.old ≤ length bytes.now }
     requires step { step < 2 ^ 40 }
-    ensures takes { Takes (kinds_codec step) (λ p. (p.fields, p.links.items)) bytes.now at.old at.new result }
+    ensures takes { Takes (field_codec step) (λ p. (p.fields, p.links.items)) bytes.now at.old at.new result }
     ensures memory { IfErr result (λ fault. fault ≢ ReadFault.NoMemory) }
 {
     let kind = take_number(bytes, at, 1, 1, 4)?;
@@ -303,11 +303,11 @@ fn take_kinds(bytes: &[u8], at: &mut u64, step: u64) -> Result<StepPage, ReadFau
 }
 
 /// Takes the fields and the links of the page of this step.
-#[tactic(auto, unfolding(crate::specs::StepBytes::step_codec, tw_base::specs::format::Codecs::behind))]
+#[tactic(auto, unfolding(crate::specs::StepBytes::paged_codec, tw_base::specs::format::Codecs::behind))]
 pub fn take_step(bytes: &[u8], at: &mut u64, step: u64) -> Result<StepPage, ReadFault>
     requires within { at.old ≤ length bytes.now }
     requires step { step < 2 ^ 40 }
-    ensures takes { Takes (step_codec step) (λ p. (p.fields, p.links.items)) bytes.now at.old at.new result }
+    ensures takes { Takes (paged_codec step) (λ p. (p.fields, p.links.items)) bytes.now at.old at.new result }
     ensures memory { IfErr result (λ fault. fault ≢ ReadFault.NoMemory) }
 {
     take_text(bytes, at, &[1])?;

@@ -40,8 +40,8 @@ use Rattle.tw_tmap.specs.declared.map_file.LowPart.{LowPart}
 use Rattle.tw_tmap.specs.declared.map_verdict.MapVerdict.{MapVerdict}
 use Rattle.tw_tmap.specs.declared.map_verdict.MapVerdict.TheVariants.{Yes, No, Gap}
 use Rattle.tw_tmap.specs.Binding.{BindsMap}
-use Rattle.tw_tmap.specs.Bounds.{IsBetween, high_bound, low_bound}
-use Rattle.tw_tmap.specs.Checking.{AreAccepted, before_checks, before_told, fit, high_ask, high_checks, high_part, high_told, low_ask, low_checks, low_part, low_told, map_checks, map_texts, map_verdict}
+use Rattle.tw_tmap.specs.Bounds.{IsBetweenSteps, high_bound, low_bound}
+use Rattle.tw_tmap.specs.Checking.{AreMapFilesAccepted, before_checks, before_told, fit, high_ask, high_checks, high_part, high_told, low_ask, low_checks, low_file_part, low_told, map_checks, map_texts, map_verdict}
 use Rattle.tw_tmap.proofs.Bounded.{high-is, low-is}
 use Rattle.tw_tmap.proofs.MapChecks.{yes-accepted}
 use Rattle.tw_tmap.proofs.MapCodec.{BeforeFits, HighFits, LowFits, LowPartFits}
@@ -104,7 +104,7 @@ module _ (s : Setting) where
 
   low-later : (f : LowFile) (p : LowPart) → LowPartFits f.top (f.step - 1) p → f.step ≤ f.top → AreChecked s (before_checks f p) → OrTheyClash s (LowBound f (before_told f p))
   low-later f p fits order checked =
-      let at : Part = low_part f p in
+      let at : Part = low_file_part f p in
       let sizes : PartSizes at = record { links = path-sizes f.top (f.step - 1) p.path.links fits.path; opening = opening-sizes 0 (f.step - 1) p.opening fits.opening } in
       let parts = parted s (under_anchor 0 at) (AnswerOf 0 p.opening.archive_root (low_ask f) p.shown ∷ []) checked in
       let held : HasStep (top_of at) = step-held (top_of at) parts.0.1.0 in
@@ -161,7 +161,7 @@ module _ (s : Setting) where
   -- ---- both
 
   both-bind : (low : LowFile) (high : HighFile) → LowFits low → HighFits high → fit low high ≡ true → AreChecked s (map_checks low high)
-      → OrTheyClash s (IsBetween s.family low.service low.step low.peer (low_told low) (high_told high) high.top)
+      → OrTheyClash s (IsBetweenSteps s.family low.service low.step low.peer (low_told low) (high_told high) high.top)
   both-bind low high low_fits high_fits fits checked =
       let parts = parted s (low_checks low) (high_checks high) checked in
       let names = and_parts (bytes_eq low.service high.peer) (low.step == high.step && bytes_eq low.peer high.service) fits in
@@ -186,7 +186,7 @@ module _ (s : Setting) where
 
 module _ (dig : List ℕ → List ℕ) (size : (text : List ℕ) → length (dig text) ≡ 32) (are : (text : List ℕ) → AreBytes (dig text)) (anchors : List Thread) (low : LowFile)
     (high : HighFile) (low_fits : LowFits low) (high_fits : HighFits high) where
-  accepted-binds : AreAccepted dig anchors low high → BindsMap dig anchors low high (Yes (low_told low) (high_told high) high.top)
+  accepted-binds : AreMapFilesAccepted dig anchors low high → BindsMap dig anchors low high (Yes (low_told low) (high_told high) high.top)
   accepted-binds accepted family sound has =
       let of_family : List (List ℕ) = family_texts dig family in
       let own : List (List ℕ) = map_texts dig low high in

@@ -9,7 +9,7 @@ use Rattle.tw_base.specs.declared.history.thread.Thread.{Thread}
 use Rattle.tw_base.specs.kinds.Lists.{Each}
 use Rattle.tw_chain.specs.Checks.{Check}
 use Rattle.tw_chain.specs.Checks.Check.{NeedsAnchor}
-use Rattle.tw_chain.specs.Finding.{found_in, found_with, is_lower, lower_of}
+use Rattle.tw_chain.specs.Finding.{found_in, is_lower, lower_of, reason_with}
 use Rattle.tw_chain.specs.Passing.{Passes, anchor_at, reason_of}
 use Rattle.tw_chain.proofs.FoundSteps.{found-append, found-one, lower-none}
 use Rattle.tw_chain.proofs.Lowest.{found-lowest, found-none, passing-fails}
@@ -17,7 +17,7 @@ use Rattle.tw_tmap.specs.declared.map_file.HighFile.{HighFile}
 use Rattle.tw_tmap.specs.declared.map_file.LowFile.{LowFile}
 use Rattle.tw_tmap.specs.declared.map_verdict.MapVerdict.{MapVerdict}
 use Rattle.tw_tmap.specs.declared.map_verdict.MapVerdict.TheVariants.{Yes, No, Gap}
-use Rattle.tw_tmap.specs.Checking.{AreAccepted, IsLowestReason, fit, high_checks, high_told, low_checks, low_told, map_checks, map_verdict}
+use Rattle.tw_tmap.specs.Checking.{AreMapFilesAccepted, IsLowestReason, fit, high_checks, high_told, low_checks, low_told, map_checks, map_verdict}
 
 -- where the lower of two is none, both are
 lower-none_left : (one other : Option Reason) → lower_of one other ≡ None → one ≡ None
@@ -58,12 +58,12 @@ module _ (dig : List ℕ → List ℕ) (anchors : List Thread) where
       ∙ found-behind one (found_in dig anchors (c ∷ [])) xs (c ∷ []) is refl
 
   -- an anchor that is held, and one that isn't
-  pub anchor-held : (found : Option Reason) (key : Key) (t : Thread) → anchor_at anchors key ≡ Some t → found ≡ found_with dig anchors found (NeedsAnchor key ∷ [])
+  pub anchor-held : (found : Option Reason) (key : Key) (t : Thread) → anchor_at anchors key ≡ Some t → found ≡ reason_with dig anchors found (NeedsAnchor key ∷ [])
   anchor-held found key t held =
       sym (lower-none found) ∙ found-one dig anchors found (NeedsAnchor key) true (λ sure. subst IsSome (sym held) refl, λ again. refl)
 
   pub anchor-missing : (found : Option Reason) (key : Key) → anchor_at anchors key ≡ None
-      → lower_of found (Some (NotHeld key.from key.step)) ≡ found_with dig anchors found (NeedsAnchor key ∷ [])
+      → lower_of found (Some (NotHeld key.from key.step)) ≡ reason_with dig anchors found (NeedsAnchor key ∷ [])
   anchor-missing found key missing =
       found-one dig anchors found (NeedsAnchor key) false (λ never. cc, λ held. (let none : false ≡ true = subst IsSome missing held in cc))
 
@@ -101,16 +101,16 @@ module _ (dig : List ℕ → List ℕ) (anchors : List Thread) where
     -- ---- when it is Yes
 
     pub yes-accepted : (l : ℕ) (h : Option ℕ) (upto : ℕ) → map_verdict dig anchors low high ≡ Yes l h upto
-        → AreAccepted dig anchors low high × (l ≡ low_told low) × (h ≡ high_told high) × (upto ≡ high.top)
+        → AreMapFilesAccepted dig anchors low high × (l ≡ low_told low) × (h ≡ high_told high) × (upto ≡ high.top)
     yes-accepted l h upto is = by (fit low high) (found_in dig anchors (map_checks low high)) refl refl is
       where
         by : (b : Bool) (found : Option Reason) → fit low high ≡ b → found_in dig anchors (map_checks low high) ≡ found → told_with b found ≡ Yes l h upto
-            → AreAccepted dig anchors low high × (l ≡ low_told low) × (h ≡ high_told high) × (upto ≡ high.top)
+            → AreMapFilesAccepted dig anchors low high × (l ≡ low_told low) × (h ≡ high_told high) × (upto ≡ high.top)
         by false found fits none is = absurd (cc)
         by true (Some reason) fits none is = absurd (cc)
         by true None fits none is = ((fits, found-none dig anchors false (map_checks low high) none), cc, cc, cc)
 
-    pub accepted-yes : AreAccepted dig anchors low high → map_verdict dig anchors low high ≡ Yes (low_told low) (high_told high) high.top
+    pub accepted-yes : AreMapFilesAccepted dig anchors low high → map_verdict dig anchors low high ≡ Yes (low_told low) (high_told high) high.top
     accepted-yes is =
         ap (λ b. told_with b (found_in dig anchors (map_checks low high))) is.0
         ∙ ap (told_with true) (passing-found (map_checks low high) is.1)

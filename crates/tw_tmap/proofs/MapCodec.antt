@@ -5,7 +5,7 @@ use Rattle.std.proofs.lemmas.Bool.{ltb-false, ltb-true}
 use Rattle.tw_base.specs.declared.kinds.limits.TheConstants.{LAST_STEP}
 use Rattle.tw_base.specs.format.Codecs.{behind, name_codec, nothing, number_codec, optional, pair, present, seen}
 use Rattle.tw_base.proofs.lemmas.format.CodecLaws.{Lawful, lawful, lawful-behind, lawful-name, lawful-optional, lawful-pair, lawful-seen}
-use Rattle.tw_skipproof.specs.Codecs.{opening_codec, path_codec, step_codec}
+use Rattle.tw_skipproof.specs.Codecs.{opening_codec, path_codec, step_number_codec}
 use Rattle.tw_skipproof.proofs.LawfulCodecs.{opening-lawful, path-lawful}
 use Rattle.tw_treeproof.specs.Codecs.{gap_codec}
 use Rattle.tw_treeproof.proofs.LawfulCodecs.{gap-lawful}
@@ -25,14 +25,14 @@ pub low-lawful : Lawful low_codec
 unfolding low_codec
 low-lawful =
     lawful-behind (kind_bytes 6) _ (lawful-seen _ _ _ (λ t. refl) (λ f. refl) (lawful-pair name_codec _ lawful-name (λ service _.
-    lawful-pair step_codec _ (search lawful) (λ step _. lawful-pair name_codec _ lawful-name (λ peer _. lawful-pair step_codec _ (search lawful) (λ top _.
+    lawful-pair step_number_codec _ (search lawful) (λ step _. lawful-pair name_codec _ lawful-name (λ peer _. lawful-pair step_number_codec _ (search lawful) (λ top _.
     lawful-optional (low_part_codec top (step - 1)) (low_part-lawful top (step - 1)) (nat_lt 1 step)))))))
 
 pub high-lawful : Lawful high_codec
 unfolding high_codec
 high-lawful =
     lawful-behind (kind_bytes 7) _ (lawful-seen _ _ _ (λ t. refl) (λ f. refl) (lawful-pair name_codec _ lawful-name (λ service _.
-    lawful-pair step_codec _ (search lawful) (λ top _. lawful-pair name_codec _ lawful-name (λ peer _. lawful-pair step_codec _ (search lawful) (λ step _.
+    lawful-pair step_number_codec _ (search lawful) (λ top _. lawful-pair name_codec _ lawful-name (λ peer _. lawful-pair step_number_codec _ (search lawful) (λ step _.
     lawful-pair (opening_codec 0 top) _ (opening-lawful 0 top (lit≤ tt)) (λ opening _. gap-lawful)))))))
 
 -- ---- the fields

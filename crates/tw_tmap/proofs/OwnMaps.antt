@@ -17,9 +17,9 @@ use Rattle.tw_base.proofs.lemmas.history.Trees.{tree-rises}
 use Rattle.tw_base.proofs.lemmas.kinds.ListLemmas.{Each-append}
 use Rattle.tw_skipproof.specs.declared.existence.Part.{Part}
 use Rattle.tw_skipproof.specs.Acceptance.{Reaches}
-use Rattle.tw_skipproof.specs.HistoryProofs.{IsPartOf}
+use Rattle.tw_skipproof.specs.HistoryProofs.{IsPartOfHistory}
 use Rattle.tw_skipproof.proofs.PartOf.{reaches-made}
-use Rattle.tw_treeproof.specs.Answers.{Checks, IsAnswer, ancestors_of, answer_of}
+use Rattle.tw_treeproof.specs.Answers.{Checks, IsAnswer, ancestors_of, shown_answer}
 use Rattle.tw_treeproof.specs.Making.{IsSo, proof_of}
 use Rattle.tw_treeproof.specs.Ways.{is_left, nearest_left, nearest_right}
 use Rattle.tw_treeproof.proofs.OwnProofs.{own-answers, own-checks}
@@ -31,7 +31,7 @@ use Rattle.tw_tmap.specs.declared.map_file.LowFile.{LowFile}
 use Rattle.tw_tmap.specs.declared.map_file.LowPart.{LowPart}
 use Rattle.tw_tmap.specs.declared.map_verdict.MapVerdict.TheVariants.{Yes}
 use Rattle.tw_tmap.specs.Bounds.{greatest_step, high_bound, low_bound}
-use Rattle.tw_tmap.specs.Checking.{before_checks, before_told, fit, high_ask, high_checks, high_part, high_told, low_ask, low_checks, low_part, low_told}
+use Rattle.tw_tmap.specs.Checking.{before_checks, before_told, fit, high_ask, high_checks, high_part, high_told, low_ask, low_checks, low_file_part, low_told}
 use Rattle.tw_tmap.specs.OwnFiles.{IsAnchoredAt, IsOwnHigh, IsOwnLow, OwnAreAccepted}
 use Rattle.tw_tmap.proofs.Bounded.{high-is, low-is}
 use Rattle.tw_tmap.proofs.MapBinds.{received-small}
@@ -43,7 +43,7 @@ module _ (dig : List ℕ → List ℕ) (anchors : List Thread) where
       → anchor_of anchors service step ≡ Some held.0
   anchor-at h top service step held named at = (λ k. anchor_of anchors (named k) (at k)) ∙ held.1
 
-  part-passes : (n : ℕ) (h : History) (step top : ℕ) (at : Part) → IsPartOf dig h step top at → 0 < step → step ≤ top → IsAnchoredAt dig anchors h top
+  part-passes : (n : ℕ) (h : History) (step top : ℕ) (at : Part) → IsPartOfHistory dig h step top at → 0 < step → step ≤ top → IsAnchoredAt dig anchors h top
       → Each (Passes dig anchors) (under_anchor n at)
   part-passes n h step top at is from_1 order held =
       let anchor : Thread = held.0 in
@@ -53,23 +53,23 @@ module _ (dig : List ℕ → List ℕ) (anchors : List Thread) where
         (subst IsSome (sym there) refl, (subst (λ (o : Option Thread). IfSome (option_map (λ (t : Thread). t.auth) o) (Reaches dig at)) (sym there) reaches, tt)),
       )
 
-  own-shown : (h : History) → IsSound h → (step top : ℕ) (at : Part) (asked : Ask) (shown : TreeProof) → IsPartOf dig h step top at → IsSo (entries (tree h step)) asked
+  own-shown : (h : History) → IsSound h → (step top : ℕ) (at : Part) (asked : Ask) (shown : TreeProof) → IsPartOfHistory dig h step top at → IsSo (entries (tree h step)) asked
       → shown ≡ proof_of dig (tree h step) asked → Checks dig at.opening.archive_root asked shown
   own-shown h sound step top at asked shown is so e =
       subst (Checks dig at.opening.archive_root asked) (sym e)
       (subst (λ root. Checks dig root asked (proof_of dig (tree h step) asked)) is.opening.binds.archive_root (own-checks dig (tree h step) asked (tree-rises h sound step) so))
 
   answered : (h : History) → IsSound h → (step : ℕ) (asked : Ask) (shown : TreeProof) → IsSo (entries (tree h step)) asked → shown ≡ proof_of dig (tree h step) asked
-      → IsAnswer (entries (tree h step)) asked (answer_of asked (ancestors_of shown))
+      → IsAnswer (entries (tree h step)) asked (shown_answer asked (ancestors_of shown))
   answered h sound step asked shown so e =
-      subst (λ (p : TreeProof). IsAnswer (entries (tree h step)) asked (answer_of asked (ancestors_of p))) (sym e) (own-answers dig (tree h step) asked (tree-rises h sound step) so)
+      subst (λ (p : TreeProof). IsAnswer (entries (tree h step)) asked (shown_answer asked (ancestors_of p))) (sym e) (own-answers dig (tree h step) asked (tree-rises h sound step) so)
 
   -- ---- the low file
 
   module _ (h : History) (sound : IsSound h) (step : ℕ) (peer : List ℕ) (top : ℕ) (some : 0 < step) (order : step ≤ top) (within : top ≤ length h.steps) (f : LowFile)
       (is : IsOwnLow dig h step peer top f) (held : IsAnchoredAt dig anchors h top) where
     abbrev Shown : Option LowPart → Type 0
-    Shown o = MatchOption o (step ≡ 1) (λ p. (1 < step) × IsPartOf dig h (step - 1) top (low_part f p) × (p.shown ≡ proof_of dig (tree h (step - 1)) (low_ask f)))
+    Shown o = MatchOption o (step ≡ 1) (λ p. (1 < step) × IsPartOfHistory dig h (step - 1) top (low_file_part f p) × (p.shown ≡ proof_of dig (tree h (step - 1)) (low_ask f)))
 
     ordered : f.step ≤ f.top
     ordered = omega (arith, order, is.at_step, is.at_top)
@@ -80,9 +80,9 @@ module _ (dig : List ℕ → List ℕ) (anchors : List Thread) where
         by : (o : Option LowPart) → Shown o → Each (Passes dig anchors) (option_map_or (before_checks f) o (NeedsAnchor (record { from = f.service; step = f.top }) ∷ []))
         by None first = (subst IsSome (sym (anchor-at h top f.service f.top held is.service is.at_top)) refl, tt)
         by (Some p) later =
-            Each-append (Passes dig anchors) (under_anchor 0 (low_part f p)) (AnswerOf 0 p.opening.archive_root (low_ask f) p.shown ∷ [])
-            (part-passes 0 h (step - 1) top (low_part f p) later.1 (omega (arith, later.0)) (omega (arith, order)) held)
-            (own-shown h sound (step - 1) top (low_part f p) (low_ask f) p.shown later.1 tt later.2, tt)
+            Each-append (Passes dig anchors) (under_anchor 0 (low_file_part f p)) (AnswerOf 0 p.opening.archive_root (low_ask f) p.shown ∷ [])
+            (part-passes 0 h (step - 1) top (low_file_part f p) later.1 (omega (arith, later.0)) (omega (arith, order)) held)
+            (own-shown h sound (step - 1) top (low_file_part f p) (low_ask f) p.shown later.1 tt later.2, tt)
 
     low-own : low_told f ≡ low_bound h step peer
     unfolding received
@@ -99,7 +99,7 @@ module _ (dig : List ℕ → List ℕ) (anchors : List Thread) where
 
   module _ (h : History) (sound : IsSound h) (top : ℕ) (service : List ℕ) (step : ℕ) (some : 0 < step) (from_1 : 0 < top) (within : top ≤ length h.steps) (f : HighFile)
       (is : IsOwnHigh dig h top service step f) (held : IsAnchoredAt dig anchors h top) where
-    part-is : IsPartOf dig h top top (high_part f)
+    part-is : IsPartOfHistory dig h top top (high_part f)
     part-is = record { service = is.of_peer; at_step = is.at_top; at_top = is.at_top; path = omega arith; opening = is.opening }
 
     high-passes : Each (Passes dig anchors) (high_checks f)

@@ -25,7 +25,7 @@ abbrev pub high_bound : (other : History) → (service : List ℕ) (step upto : 
 high_bound other service step upto = option_map (λ (e : Entry). e.archived) (first_from service step (received other upto))
 
 -- the service has the step, the peer has a step of this number, and the bounds are those of their histories
-pub record IsBetween (family : List History) (service : List ℕ) (step : ℕ) (peer : List ℕ) (low : ℕ) (high : Option ℕ) (upto : ℕ) : Type 0 where
+pub record IsBetweenSteps (family : List History) (service : List ℕ) (step : ℕ) (peer : List ℕ) (low : ℕ) (high : Option ℕ) (upto : ℕ) : Type 0 where
   pub own : History
   pub has_own : HasHistory family service own
   pub within : step ≤ length own.steps

@@ -15,7 +15,7 @@ use Rattle.tw_base.specs.kinds.Lists.{Each}
 use Rattle.tw_skipproof.specs.declared.existence.Part.{Part}
 use Rattle.tw_treeproof.specs.declared.shown.Shown.{Shown}
 use Rattle.tw_treeproof.specs.declared.shown.Shown.TheVariants.{Nearest}
-use Rattle.tw_treeproof.specs.Answers.{ancestors_of, answer_of}
+use Rattle.tw_treeproof.specs.Answers.{ancestors_of, shown_answer}
 use Rattle.tw_chain.specs.Checks.{Check, under_anchor}
 use Rattle.tw_chain.specs.Checks.Check.{AnswerOf, InOrder, NeedsAnchor}
 use Rattle.tw_chain.specs.Finding.{found_in}
@@ -34,33 +34,33 @@ abbrev pub fit : LowFile → HighFile → Bool
 fit low high = bytes_eq low.service high.peer && (low.step == high.step && bytes_eq low.peer high.service)
 
 -- the step before the low file's, under its top
-abbrev pub low_part : LowFile → LowPart → Part
-low_part f p = record { service = f.service; step = f.step - 1; top = f.top; path = p.path; opening = p.opening }
+abbrev pub low_file_part : LowFile → LowPart → Part
+low_file_part f p = record { service = f.service; step = f.step - 1; top = f.top; path = p.path; opening = p.opening }
 
 -- the top of the high file, under itself: a path of no link
 abbrev pub high_part : HighFile → Part
 high_part f = record { service = f.service; step = f.top; top = f.top; path = record { links = [] }; opening = f.opening }
 
 -- a service's last thread in an archive: no thread has a step of 2^40; and its first one of this step or of a later one
-abbrev pub last_of : (service : List ℕ) → Ask
-last_of service = Below (record { from = service; step = 2 ^ 40 })
+abbrev pub last_before : (service : List ℕ) → Ask
+last_before service = Below (record { from = service; step = 2 ^ 40 })
 
-abbrev pub first_of : (service : List ℕ) (step : ℕ) → Ask
-first_of service step = Above (record { from = service; step = step - 1 })
+abbrev pub first_after : (service : List ℕ) (step : ℕ) → Ask
+first_after service step = Above (record { from = service; step = step - 1 })
 
 -- the peer's last thread in the service's archive
 abbrev pub low_ask : LowFile → Ask
-low_ask f = last_of f.peer
+low_ask f = last_before f.peer
 
 -- the service's first thread of the step or a later one in the peer's archive
 abbrev pub high_ask : HighFile → Ask
-high_ask f = first_of f.peer f.step
+high_ask f = first_after f.peer f.step
 
 -- ---- what is checked
 
 -- of the step before the low file's: it stands under the anchor of the top, and the tree proof gives an answer there
 abbrev pub before_checks : LowFile → LowPart → List Check
-before_checks f p = under_anchor 0 (low_part f p) ++ AnswerOf 0 p.opening.archive_root (low_ask f) p.shown ∷ []
+before_checks f p = under_anchor 0 (low_file_part f p) ++ AnswerOf 0 p.opening.archive_root (low_ask f) p.shown ∷ []
 
 -- of the low file, which is part 0: its step isn't above its top; and what is checked of the step before, or, of step 1, that the
 -- anchor of the top is held
@@ -103,14 +103,14 @@ nearest_in _ = None
 
 -- low: by the entry that the low file shows; 0 of step 1, before which nothing was received
 abbrev pub before_told : LowFile → LowPart → ℕ
-before_told f p = step_if_of f.peer (nearest_in (answer_of (low_ask f) (ancestors_of p.shown)))
+before_told f p = step_if_of f.peer (nearest_in (shown_answer (low_ask f) (ancestors_of p.shown)))
 
 abbrev pub low_told : LowFile → ℕ
 low_told f = option_map_or (before_told f) f.shown 0
 
 -- high: by the entry that the high file shows
 abbrev pub high_told : HighFile → Option ℕ
-high_told f = archived_if_of f.peer (nearest_in (answer_of (high_ask f) (ancestors_of f.shown)))
+high_told f = archived_if_of f.peer (nearest_in (shown_answer (high_ask f) (ancestors_of f.shown)))
 
 -- that the files don't fit; else the lowest reason; else both bounds, and the peer's step up to which the high one is so
 abbrev pub map_verdict : (dig : List ℕ → List ℕ) → List Thread → LowFile → HighFile → MapVerdict
@@ -120,8 +120,8 @@ map_verdict dig anchors low high =
     else Gap
 
 -- they fit, and each check passes
-abbrev pub AreAccepted : (dig : List ℕ → List ℕ) → List Thread → LowFile → HighFile → Type 0
-AreAccepted dig anchors low high = (fit low high ≡ true) × Each (Passes dig anchors) (map_checks low high)
+abbrev pub AreMapFilesAccepted : (dig : List ℕ → List ℕ) → List Thread → LowFile → HighFile → Type 0
+AreMapFilesAccepted dig anchors low high = (fit low high ≡ true) × Each (Passes dig anchors) (map_checks low high)
 
 -- a check doesn't pass for this reason, which is the lowest of those for which one doesn't; of the anchors that aren't held it tells the
 -- first, in the order of the checks

@@ -6,13 +6,13 @@ use Rattle.tw_base.specs.history.Auth.{auth}
 use Rattle.tw_base.specs.history.History.{History}
 use Rattle.tw_base.specs.history.Sound.{IsSound}
 use Rattle.tw_base.specs.history.Tree.{tree}
-use Rattle.tw_skipproof.specs.HistoryProofs.{IsOpeningOf, IsPartOf}
+use Rattle.tw_skipproof.specs.HistoryProofs.{IsOpeningOf, IsPartOfHistory}
 use Rattle.tw_treeproof.specs.Making.{proof_of}
 use Rattle.tw_tmap.specs.declared.map_file.HighFile.{HighFile}
 use Rattle.tw_tmap.specs.declared.map_file.LowFile.{LowFile}
 use Rattle.tw_tmap.specs.declared.map_verdict.MapVerdict.TheVariants.{Yes}
 use Rattle.tw_tmap.specs.Bounds.{high_bound, low_bound}
-use Rattle.tw_tmap.specs.Checking.{high_ask, low_ask, low_part, map_verdict}
+use Rattle.tw_tmap.specs.Checking.{high_ask, low_ask, low_file_part, map_verdict}
 
 module _ (dig : List ℕ → List ℕ) where
   -- the low file that a history has of a step and a peer, under a top: from step 2 on its part of the step before, and its tree's own
@@ -24,7 +24,7 @@ module _ (dig : List ℕ → List ℕ) where
     pub at_top : f.top ≡ top
     pub shown :
         MatchOption f.shown (step ≡ 1)
-        (λ p. (1 < step) × IsPartOf dig h (step - 1) top (low_part f p) × (p.shown ≡ proof_of dig (tree h (step - 1)) (low_ask f)))
+        (λ p. (1 < step) × IsPartOfHistory dig h (step - 1) top (low_file_part f p) × (p.shown ≡ proof_of dig (tree h (step - 1)) (low_ask f)))
 
   -- the high file that a history has of a top, and of a step of the service
   pub record IsOwnHigh (h : History) (top : ℕ) (service : List ℕ) (step : ℕ) (f : HighFile) : Type 0 where

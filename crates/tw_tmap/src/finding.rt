@@ -4,9 +4,9 @@ ghost use Rattle.std.specs.Prelude.{◌≡◌, ◌↔◌, ℕ, ◌-◌, ◌<◌,
 ghost use Rattle.tw_base.specs.declared.kinds.limits.TheConstants.{LAST_STEP};
 ghost use Rattle.tw_chain.specs.Checks.{under_anchor as under_anchor_of};
 ghost use Rattle.tw_chain.specs.Checks.Check.{NeedsAnchor};
-ghost use Rattle.tw_chain.specs.Finding.{found_in, found_with, is_lower as is_lower_of, lower_of};
+ghost use Rattle.tw_chain.specs.Finding.{found_in, is_lower as is_lower_of, lower_of, reason_with};
 ghost use Rattle.tw_skipproof.specs.Acceptance.{Reaches};
-ghost use Rattle.tw_tmap.specs.Checking.{high_part, low_part};
+ghost use Rattle.tw_tmap.specs.Checking.{high_part, low_file_part};
 
 use crate::map_file::{HighFile, LowFile, LowPart};
 use tw_base::{Digest, Hasher, Name, Reason, Thread, find_anchor, is_same_digest};
@@ -54,7 +54,7 @@ pub(crate) fn with_anchor(
     step: u64,
     anchors: &[Thread],
 ) -> Option<Reason>
-    ensures { (dig : List ℕ → List ℕ) → result ≡ found_with dig anchors.now found (NeedsAnchor (record { from = service.now; step = step }) ∷ []) }
+    ensures { (dig : List ℕ → List ℕ) → result ≡ reason_with dig anchors.now found (NeedsAnchor (record { from = service.now; step = step }) ∷ []) }
 {
     match find_anchor(anchors, service, step) {
         None => lower(
@@ -74,7 +74,7 @@ fn low_reaches<H: Hasher>(low: &LowFile, part: &LowPart, upper: &Digest) -> bool
     requires some { 0 < low.now.step }
     requires step { low.now.step ≤ LAST_STEP }
     requires top { low.now.top ≤ LAST_STEP }
-    ensures { IsTrue result ↔ Reaches H.dig (low_part low.now part.now) upper.now }
+    ensures { IsTrue result ↔ Reaches H.dig (low_file_part low.now part.now) upper.now }
 {
     let step = low.step - 1;
     match check_opening::<H>(&part.opening, step) {
@@ -92,7 +92,7 @@ pub(crate) fn low_under<H: Hasher>(
     requires some { 0 < low.now.step }
     requires step { low.now.step ≤ LAST_STEP }
     requires top { low.now.top ≤ LAST_STEP }
-    ensures { result ≡ found_in H.dig anchors.now (under_anchor_of 0 (low_part low.now part.now)) }
+    ensures { result ≡ found_in H.dig anchors.now (under_anchor_of 0 (low_file_part low.now part.now)) }
 {
     let found = with_order(None, low.step - 1, low.top);
     match find_anchor(anchors, &low.service, low.top) {

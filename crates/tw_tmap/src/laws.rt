@@ -8,7 +8,7 @@ ghost use Rattle.tw_base.specs.format.Formats.{IsFront};
 ghost use Rattle.tw_tmap.specs.declared.map_file.HighFile.{HighFile};
 ghost use Rattle.tw_tmap.specs.declared.map_file.LowFile.{LowFile};
 ghost use Rattle.tw_tmap.specs.declared.map_verdict.MapVerdict.TheVariants.{Gap, No, Yes};
-ghost use Rattle.tw_tmap.specs.Checking.{AreAccepted, IsLowestReason, fit, high_told, low_told, map_checks, map_verdict};
+ghost use Rattle.tw_tmap.specs.Checking.{AreMapFilesAccepted, IsLowestReason, fit, high_told, low_told, map_checks, map_verdict};
 ghost use Rattle.tw_tmap.specs.MapFiles.{high_codec, high_layout, low_codec, low_layout};
 ghost use Rattle.tw_tmap.specs.OwnFiles.{OwnAreAccepted};
 
@@ -32,7 +32,7 @@ pub fn map_laws<H: Hasher>()
     // top of the high file.
     ensures yes { (anchors : List Thread) (low : LowFile) (high : HighFile) (l : ℕ) (h : Option ℕ) (upto : ℕ) →
         map_verdict H.dig anchors low high ≡ Yes l h upto
-        ↔ (AreAccepted H.dig anchors low high × (l ≡ low_told low) × (h ≡ high_told high) × (upto ≡ high.top)) }
+        ↔ (AreMapFilesAccepted H.dig anchors low high × (l ≡ low_told low) × (h ≡ high_told high) × (upto ≡ high.top)) }
     // They are told `Gap` exactly where they don't fit.
     ensures gap { (anchors : List Thread) (low : LowFile) (high : HighFile) → map_verdict H.dig anchors low high ≡ Gap ↔ (fit low high ≡ false) }
     // Where they are told `No`, they fit, and the reason is the lowest of those for which a check of theirs doesn't pass; of the

@@ -1,5 +1,5 @@
 // Reading map files.
-#![tactic(auto, unfolding(crate::specs::Seen::reading))]
+#![tactic(auto, unfolding(crate::specs::Seen::map_reading))]
 
 ghost use Rattle.std.specs.Prelude.{◌≡◌, ◌-◌, ◌<◌, ◌≤◌, length, IfOk, nat_lt};
 ghost use Rattle.tw_base.specs.declared.kinds.limits.TheConstants.{LAST_STEP};

@@ -2,9 +2,9 @@
 
 ghost use Rattle.std.specs.Prelude.{◌≡◌, ◌<◌, ◌≤◌, None, MatchOption};
 ghost use Rattle.tw_base.specs.declared.kinds.limits.TheConstants.{LAST_STEP};
-ghost use Rattle.tw_treeproof.specs.Answers.{Checks, ancestors_of, answer_of};
+ghost use Rattle.tw_treeproof.specs.Answers.{Checks, ancestors_of, shown_answer};
 ghost use Rattle.tw_chain.specs.Finding.{found_in};
-ghost use Rattle.tw_tmap.specs.Checking.{archived_if_of as archived_step_of, before_checks, before_told, first_of, high_ask as high_ask_of, high_checks, high_told, last_of, low_ask as low_ask_of, low_checks, low_told, nearest_in, step_if_of as step_of};
+ghost use Rattle.tw_tmap.specs.Checking.{archived_if_of as archived_step_of, before_checks, before_told, first_after, high_ask as high_ask_of, high_checks, high_told, last_before, low_ask as low_ask_of, low_checks, low_told, nearest_in, step_if_of as step_of};
 
 use crate::finding::{high_under, low_under, lower, lower_found, with_anchor};
 use crate::map_file::{HighFile, LowFile, LowPart};
@@ -43,7 +43,7 @@ fn archived_if_of(service: &Name, entry: Option<Entry>) -> Option<u64>
 /// The question for the service's last thread in an archive: no thread has a step of 2^40.
 pub fn ask_last(service: &Name) -> Ask
     // It asks for the nearest entry below the service's key of step 2^40.
-    ensures { result ≡ last_of service.now }
+    ensures { result ≡ last_before service.now }
 {
     Ask::Below(Key {
         from: *service,
@@ -55,7 +55,7 @@ pub fn ask_last(service: &Name) -> Ask
 pub fn ask_first(service: &Name, step: u64) -> Ask
     requires { 0 < step }
     // It asks for the nearest entry above the service's key of the step before.
-    ensures { result ≡ first_of service.now step }
+    ensures { result ≡ first_after service.now step }
 {
     Ask::Above(Key {
         from: *service,
@@ -68,7 +68,7 @@ pub fn ask_first(service: &Name, step: u64) -> Ask
 fn low_entry<H: Hasher>(low: &LowFile, part: &LowPart) -> Option<Option<Entry>>
     ensures { MatchOption result (Checks H.dig part.now.opening.archive_root (low_ask_of low.now) part.now.shown → ⊥)
         (λ entry. Checks H.dig part.now.opening.archive_root (low_ask_of low.now) part.now.shown
-        × (entry ≡ nearest_in (answer_of (low_ask_of low.now) (ancestors_of part.now.shown)))) }
+        × (entry ≡ nearest_in (shown_answer (low_ask_of low.now) (ancestors_of part.now.shown)))) }
 {
     match check::<H>(
         &part.opening.archive_root,
@@ -86,7 +86,7 @@ fn high_entry<H: Hasher>(high: &HighFile) -> Option<Option<Entry>>
     requires { 0 < high.now.step }
     ensures { MatchOption result (Checks H.dig high.now.opening.archive_root (high_ask_of high.now) high.now.shown → ⊥)
         (λ entry. Checks H.dig high.now.opening.archive_root (high_ask_of high.now) high.now.shown
-        × (entry ≡ nearest_in (answer_of (high_ask_of high.now) (ancestors_of high.now.shown)))) }
+        × (entry ≡ nearest_in (shown_answer (high_ask_of high.now) (ancestors_of high.now.shown)))) }
 {
     match check::<H>(
         &high.opening.archive_root,

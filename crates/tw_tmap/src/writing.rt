@@ -1,5 +1,5 @@
 // Writing map files.
-#![tactic(auto, unfolding(crate::specs::Seen::writing))]
+#![tactic(auto, unfolding(crate::specs::Seen::map_writing))]
 
 ghost use Rattle.std.specs.Prelude.{◌≡◌, ℕ, ◌-◌, ◌++◌, IfOk, OnOk, nat_lt};
 ghost use Rattle.tw_base.specs.format.Codecs.{optional};

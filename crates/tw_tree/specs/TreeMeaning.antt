@@ -5,6 +5,6 @@ use Rattle.tw_tree.specs.declared.tree.Tree.{Tree}
 use Rattle.tw_tree.specs.declared.tree.Tree.TheVariants.{Empty, Branch'}
 
 -- the tree as the definitions of archives have it
-abbrev pub tree_of : Tree → TreeOfEntries
-tree_of Empty = NoEntry
-tree_of (Branch' _ left entry _ right) = RootedAt (tree_of left) entry (tree_of right)
+abbrev pub meant_tree : Tree → TreeOfEntries
+meant_tree Empty = NoEntry
+meant_tree (Branch' _ left entry _ right) = RootedAt (meant_tree left) entry (meant_tree right)

@@ -5,7 +5,7 @@ ghost use Rattle.std.specs.Ordering.{is_lt};
 ghost use Rattle.tw_base.specs.history.Tree.{IsRising, entries};
 ghost use Rattle.tw_base.specs.history.WithLeaf.{with_leaf};
 ghost use Rattle.tw_tree.specs.Inserting.{Inserts};
-ghost use Rattle.tw_tree.specs.TreeMeaning.{tree_of};
+ghost use Rattle.tw_tree.specs.TreeMeaning.{meant_tree};
 
 use crate::searching::get;
 use crate::tree::Tree;
@@ -34,7 +34,7 @@ impl From<NoMemory> for InsertFault {
 
 /// A tree like this one. Calls itself as deep as the tree is high.
 fn copy(alloc: Global, tree: &Tree) -> Result<Tree, NoMemory>
-    ensures { IfOk result (λ copied. tree_of copied ≡ tree_of tree.now) }
+    ensures { IfOk result (λ copied. meant_tree copied ≡ meant_tree tree.now) }
 {
     match tree {
         Tree::Empty => Ok(Tree::Empty),
@@ -50,7 +50,7 @@ fn copy(alloc: Global, tree: &Tree) -> Result<Tree, NoMemory>
 /// deep as the tree is high.
 #[tactic(auto, unfolding(tw_base::specs::history::WithLeaf::with_leaf))]
 fn grown(alloc: Global, tree: &Tree, entry: &Entry) -> Result<Tree, NoMemory>
-    ensures { IfOk result (λ new. tree_of new ≡ with_leaf (tree_of tree.now) entry.now) }
+    ensures { IfOk result (λ new. meant_tree new ≡ with_leaf (meant_tree tree.now) entry.now) }
 {
     match tree {
         Tree::Empty => Tree::branch(alloc, Tree::Empty, *entry, Tree::Empty),
@@ -76,10 +76,10 @@ fn grown(alloc: Global, tree: &Tree, entry: &Entry) -> Result<Tree, NoMemory>
 /// as it is, and its nodes are copied. The tree's keys rise. `Present` exactly where it has an entry
 /// of the key; `NoMemory`: there was no memory. Calls itself as deep as the tree is high.
 pub fn insert_plain(alloc: Global, tree: &Tree, entry: Entry) -> Result<Tree, InsertFault>
-    requires { IsRising (entries (tree_of tree.now)) }
+    requires { IsRising (entries (meant_tree tree.now)) }
     // An entry is put into a tree whose keys rise at the empty place to which its key leads, so that the list of
     // entries has it in its place, and rises still; `Present` is answered exactly where the key is there.
-    ensures { Inserts (tree_of tree.now) entry result }
+    ensures { Inserts (meant_tree tree.now) entry result }
 {
     if get(tree, &entry_key(&entry)).is_some() {
         return Err(InsertFault::Present);

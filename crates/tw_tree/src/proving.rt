@@ -2,9 +2,9 @@
 
 ghost use Rattle.std.specs.Prelude.{◌≡◌, ◌↔◌, IfOk, IsTrue};
 ghost use Rattle.tw_base.specs.history.Tree.{IsRising, entries};
-ghost use Rattle.tw_tree.specs.TreeMeaning.{tree_of};
+ghost use Rattle.tw_tree.specs.TreeMeaning.{meant_tree};
 ghost use Rattle.tw_tree.specs.Proving.{Proves};
-ghost use Rattle.tw_treeproof.specs.Making.{IsSo, place_of, proof_at as proof_of_place, way_up};
+ghost use Rattle.tw_treeproof.specs.Making.{IsSo, place_of_ask, proof_at as proof_of_place, way_up};
 
 use crate::searching::get;
 use crate::tree::{Tree, label};
@@ -33,9 +33,9 @@ impl From<NoMemory> for ProveFault {
 }
 
 /// The part of the tree at the asked place.
-#[tactic(auto, unfolding(tw_treeproof::specs::Making::place_of))]
+#[tactic(auto, unfolding(tw_treeproof::specs::Making::place_of_ask))]
 fn place<'a>(tree: &'a Tree, ask: &Ask) -> &'a Tree
-    ensures { tree_of result.now ≡ place_of ask.now (tree_of tree.now) }
+    ensures { meant_tree result.now ≡ place_of_ask ask.now (meant_tree tree.now) }
 {
     let mut here = tree;
     while let Tree::Branch { left, entry, right } = here {
@@ -50,7 +50,7 @@ fn place<'a>(tree: &'a Tree, ask: &Ask) -> &'a Tree
 /// The nodes above the asked place, nearest first. Calls itself once for each of them.
 #[tactic(auto, unfolding(tw_treeproof::specs::Making::way_up))]
 fn nodes_above<H: Hasher>(alloc: Global, tree: &Tree, ask: &Ask) -> Result<AncestorList, NoMemory>
-    ensures { IfOk result (λ up. up ≡ way_up H.dig ask.now (tree_of tree.now)) }
+    ensures { IfOk result (λ up. up ≡ way_up H.dig ask.now (meant_tree tree.now)) }
 {
     match tree {
         Tree::Branch { left, entry, right } if !meets(ask, entry) => {
@@ -73,7 +73,7 @@ fn nodes_above<H: Hasher>(alloc: Global, tree: &Tree, ask: &Ask) -> Result<Ances
 
 /// The proof of a place below these nodes.
 fn proof_at<H: Hasher>(place: &Tree, ancestors: AncestorList) -> TreeProof
-    ensures { result ≡ proof_of_place H.dig (tree_of place.now) ancestors }
+    ensures { result ≡ proof_of_place H.dig (meant_tree place.now) ancestors }
 {
     match place {
         Tree::Empty => TreeProof::Gap { ancestors },
@@ -87,8 +87,8 @@ fn proof_at<H: Hasher>(place: &Tree, ancestors: AncestorList) -> TreeProof
 
 /// Whether what is asked is so of the tree.
 fn is_so(tree: &Tree, ask: &Ask) -> bool
-    requires { IsRising (entries (tree_of tree.now)) }
-    ensures { IsTrue result ↔ IsSo (entries (tree_of tree.now)) ask.now }
+    requires { IsRising (entries (meant_tree tree.now)) }
+    ensures { IsTrue result ↔ IsSo (entries (meant_tree tree.now)) ask.now }
 {
     match ask {
         Ask::Present(asked) => get(tree, &entry_key(asked)) == Some(*asked),
@@ -102,10 +102,10 @@ fn is_so(tree: &Tree, ask: &Ask) -> bool
 /// `Untrue` exactly where the asked entry isn't there or the key that is said to be absent is;
 /// `NoMemory`: there was no memory. No node is hashed twice.
 pub fn prove<H: Hasher>(alloc: Global, tree: &Tree, ask: &Ask) -> Result<TreeProof, ProveFault>
-    requires { IsRising (entries (tree_of tree.now)) }
+    requires { IsRising (entries (meant_tree tree.now)) }
     // Of a tree whose keys rise the tree's own proof is made exactly where what is asked is so of its entries: that it
     // has an entry, or lacks a key. That there is an entry next to a key, or none, always is.
-    ensures { Proves H.dig (tree_of tree.now) ask.now result }
+    ensures { Proves H.dig (meant_tree tree.now) ask.now result }
 {
     if !is_so(tree, ask) {
         return Err(ProveFault::Untrue);

@@ -3,7 +3,7 @@
 ghost use Rattle.std.specs.Prelude.{◌≡◌};
 ghost use Rattle.tw_base.specs.history.Asking.{entry_with, first_above, last_below};
 ghost use Rattle.tw_base.specs.history.Tree.{IsRising, entries};
-ghost use Rattle.tw_tree.specs.TreeMeaning.{tree_of};
+ghost use Rattle.tw_tree.specs.TreeMeaning.{meant_tree};
 
 use crate::tree::Tree;
 use std::cmp::Ordering;
@@ -12,9 +12,9 @@ use tw_base::{Entry, Key, compare_keys, entry_key, is_below};
 /// The entry of the key, or none where the tree has no entry of it. The tree's keys rise. Goes down
 /// one way, and takes no memory.
 pub fn get(tree: &Tree, key: &Key) -> Option<Entry>
-    requires { IsRising (entries (tree_of tree.now)) }
+    requires { IsRising (entries (meant_tree tree.now)) }
     // Asked for a key, a tree whose keys rise answers what the sorted list of its entries has of it.
-    ensures { result ≡ entry_with (entries (tree_of tree.now)) key.now }
+    ensures { result ≡ entry_with (entries (meant_tree tree.now)) key.now }
 {
     let mut here = tree;
     while let Tree::Branch { left, entry, right } = here {
@@ -30,10 +30,10 @@ pub fn get(tree: &Tree, key: &Key) -> Option<Entry>
 /// The entry with the greatest key below this one, or none where no key is below it. The tree's keys
 /// rise. Goes down one way, and takes no memory.
 pub fn before(tree: &Tree, key: &Key) -> Option<Entry>
-    requires { IsRising (entries (tree_of tree.now)) }
+    requires { IsRising (entries (meant_tree tree.now)) }
     // Asked for the entry before a key, a tree whose keys rise answers the last one below it of the sorted list of its
     // entries.
-    ensures { result ≡ last_below (entries (tree_of tree.now)) key.now }
+    ensures { result ≡ last_below (entries (meant_tree tree.now)) key.now }
 {
     let mut here = tree;
     let mut nearest = None;
@@ -51,10 +51,10 @@ pub fn before(tree: &Tree, key: &Key) -> Option<Entry>
 /// The entry with the least key above this one, or none where no key is above it. The tree's keys
 /// rise. Goes down one way, and takes no memory.
 pub fn after(tree: &Tree, key: &Key) -> Option<Entry>
-    requires { IsRising (entries (tree_of tree.now)) }
+    requires { IsRising (entries (meant_tree tree.now)) }
     // Asked for the entry after a key, a tree whose keys rise answers the first one above it of the sorted list of its
     // entries.
-    ensures { result ≡ first_above (entries (tree_of tree.now)) key.now }
+    ensures { result ≡ first_above (entries (meant_tree tree.now)) key.now }
 {
     let mut here = tree;
     let mut nearest = None;

@@ -5,7 +5,7 @@ ghost use Rattle.tw_base.specs.history.Auth.{tree_label};
 ghost use Rattle.tw_base.specs.kinds.Texts.{empty_tree_text};
 ghost use Rattle.tw_base.specs.history.Tree.{entries};
 ghost use Rattle.tw_base.specs.history.Tree.Tree.{Empty as NoEntry, Branch as RootedAt};
-ghost use Rattle.tw_tree.specs.TreeMeaning.{tree_of};
+ghost use Rattle.tw_tree.specs.TreeMeaning.{meant_tree};
 
 use std::alloc::Global;
 use tw_base::{Digest, Entries, Entry, Hasher, NoMemory, empty_tree, tree_node};
@@ -30,7 +30,7 @@ pub enum Tree {
 impl Tree {
     /// The tree without entries. Takes no memory.
     pub fn empty() -> Tree
-        ensures { tree_of result ≡ NoEntry }
+        ensures { meant_tree result ≡ NoEntry }
     {
         Tree::Empty
     }
@@ -39,7 +39,7 @@ impl Tree {
     /// no memory; both sides are then dropped.
     pub fn branch(alloc: Global, left: Tree, entry: Entry, right: Tree) -> Result<Tree, NoMemory>
         // A tree of an entry between two sides stands for that of the definitions.
-        ensures { IfOk result (λ tree. tree_of tree ≡ RootedAt (tree_of left) entry (tree_of right)) }
+        ensures { IfOk result (λ tree. meant_tree tree ≡ RootedAt (meant_tree left) entry (meant_tree right)) }
     {
         let left = Box::new(alloc, left)?;
         let right = Box::new(alloc, right)?;
@@ -52,7 +52,7 @@ impl Tree {
 /// deep as the tree is high.
 pub fn label<H: Hasher>(tree: &Tree) -> Digest
     // The label of a tree is that of the tree that it stands for.
-    ensures label { result ≡ tree_label H.dig (tree_of tree.now) }
+    ensures label { result ≡ tree_label H.dig (meant_tree tree.now) }
 {
     label_over::<H>(tree, &empty_tree::<H>())
 }
@@ -61,7 +61,7 @@ pub fn label<H: Hasher>(tree: &Tree) -> Digest
 #[tactic(auto, unfolding(tw_base::specs::history::Auth::tree_label))]
 fn label_over<H: Hasher>(tree: &Tree, empty: &Digest) -> Digest
     requires { empty.now ≡ H.dig empty_tree_text }
-    ensures { result ≡ tree_label H.dig (tree_of tree.now) }
+    ensures { result ≡ tree_label H.dig (meant_tree tree.now) }
 {
     match tree {
         Tree::Empty => *empty,
@@ -78,7 +78,7 @@ fn label_over<H: Hasher>(tree: &Tree, empty: &Digest) -> Digest
 /// is high.
 pub fn list(alloc: Global, tree: &Tree) -> Result<Entries, NoMemory>
     // The list of a tree is that of the tree that it stands for, in order.
-    ensures { IfOk result (λ listed. listed ≡ entries (tree_of tree.now)) }
+    ensures { IfOk result (λ listed. listed ≡ entries (meant_tree tree.now)) }
 {
     let mut listed = Entries::new(alloc);
     push_all(&mut listed, tree)?;
@@ -87,7 +87,7 @@ pub fn list(alloc: Global, tree: &Tree) -> Result<Entries, NoMemory>
 
 /// Appends the tree's entries in order.
 fn push_all(listed: &mut Entries, tree: &Tree) -> Result<(), NoMemory>
-    ensures { OnOk result (listed.new ≡ listed.old ++ entries (tree_of tree.now)) }
+    ensures { OnOk result (listed.new ≡ listed.old ++ entries (meant_tree tree.now)) }
 {
     match tree {
         Tree::Empty => Ok(()),

@@ -27,10 +27,10 @@ use Rattle.tw_base.proofs.lemmas.history.KeyTests.{same_key}
 use Rattle.tw_base.proofs.lemmas.history.TextBytes.{empty_tree_text-bytes, entry_text-bytes, tree_texts-bytes}
 use Rattle.tw_treeproof.specs.declared.shown.Shown.{Shown}
 use Rattle.tw_treeproof.specs.declared.shown.Shown.TheVariants.{Present as IsThere, Absent as IsNotThere, Nearest, Wrong}
-use Rattle.tw_treeproof.specs.Answers.{Checks, IsAnswer, Shows, ancestors_of, answer_of, place_text, proof_texts}
-use Rattle.tw_treeproof.specs.Making.{ancestor, place_of, way_up}
-use Rattle.tw_treeproof.specs.Sizes.{HasPlaceSizes, HasProofSizes, HasSizes}
-use Rattle.tw_treeproof.specs.Ways.{IsNotAsked, climbed, climb_texts, is_left, over_text}
+use Rattle.tw_treeproof.specs.Answers.{Checks, IsAnswer, Shows, ancestors_of, place_text, shown_answer, tree_proof_texts}
+use Rattle.tw_treeproof.specs.Making.{ancestor, place_of_ask, way_up}
+use Rattle.tw_treeproof.specs.Sizes.{HasPlaceSizes, HasProofSizes, HaveSizes}
+use Rattle.tw_treeproof.specs.Ways.{IsNotAsked, climbed_tree, climb_texts, is_left, over_text}
 use Rattle.tw_treeproof.proofs.OwnProofs.{way-answers}
 use Rattle.tw_treeproof.proofs.Places.{IsAt, so-at}
 use Rattle.tw_treeproof.proofs.Ways.{way-here, way-left, way-right}
@@ -69,8 +69,8 @@ module _ (dig : List ℕ → List ℕ) where
   Hangs ask (a ∷ up) s t = (o : Tree) × (a.other ≡ tree_label dig o) × Hangs ask up (if is_left ask a.entry then Branch s a.entry o else Branch o a.entry s) t
 
   -- then they are the last of the nodes above the place to which the question leads in t
-  own : (ask : Ask) (up : List Ancestor) (s t : Tree) → Hangs ask up s t → Each (IsNotAsked ask) up → (way_up dig ask t ≡ way_up dig ask s ++ up) × (place_of ask t ≡ place_of ask s)
-  own ask [] s t hangs free = (ap (way_up dig ask) (sym hangs) ∙ sym (append-nil (way_up dig ask s)), ap (place_of ask) (sym hangs))
+  own : (ask : Ask) (up : List Ancestor) (s t : Tree) → Hangs ask up s t → Each (IsNotAsked ask) up → (way_up dig ask t ≡ way_up dig ask s ++ up) × (place_of_ask ask t ≡ place_of_ask ask s)
+  own ask [] s t hangs free = (ap (way_up dig ask) (sym hangs) ∙ sym (append-nil (way_up dig ask s)), ap (place_of_ask ask) (sym hangs))
   own ask (a ∷ up) s t hangs free =
       by (is_left ask a.entry) refl (own ask up (if is_left ask a.entry then Branch s a.entry hangs.0 else Branch hangs.0 a.entry s) t hangs.2 free.1)
     where
@@ -78,18 +78,18 @@ module _ (dig : List ℕ → List ℕ) where
       here = λ i. record { entry = a.entry; other = sym hangs.1 i }
 
       Own : Tree → Type 0
-      Own u = (way_up dig ask t ≡ way_up dig ask u ++ up) × (place_of ask t ≡ place_of ask u)
+      Own u = (way_up dig ask t ≡ way_up dig ask u ++ up) × (place_of_ask ask t ≡ place_of_ask ask u)
 
       -- over the node
-      over : (u : Tree) → (way_up dig ask u ≡ way_up dig ask s ++ ancestor dig a.entry hangs.0 ∷ []) × (place_of ask u ≡ place_of ask s) → Own u
-          → (way_up dig ask t ≡ way_up dig ask s ++ a ∷ up) × (place_of ask t ≡ place_of ask s)
+      over : (u : Tree) → (way_up dig ask u ≡ way_up dig ask s ++ ancestor dig a.entry hangs.0 ∷ []) × (place_of_ask ask u ≡ place_of_ask ask s) → Own u
+          → (way_up dig ask t ≡ way_up dig ask s ++ a ∷ up) × (place_of_ask ask t ≡ place_of_ask ask s)
       over u down all = (
         all.0 ∙ ap (λ w. w ++ up) down.0 ∙ append_assoc (way_up dig ask s) (ancestor dig a.entry hangs.0 ∷ []) up ∙ ap (λ x. way_up dig ask s ++ x ∷ up) here,
         all.1 ∙ down.1,
       )
 
       by : (b : Bool) → is_left ask a.entry ≡ b → Own (if is_left ask a.entry then Branch s a.entry hangs.0 else Branch hangs.0 a.entry s)
-          → (way_up dig ask t ≡ way_up dig ask s ++ a ∷ up) × (place_of ask t ≡ place_of ask s)
+          → (way_up dig ask t ≡ way_up dig ask s ++ a ∷ up) × (place_of_ask ask t ≡ place_of_ask ask s)
       by true way all =
           over (Branch s a.entry hangs.0) (way-left dig ask s a.entry hangs.0 free.0 way)
           (subst (λ b. Own (if b then Branch s a.entry hangs.0 else Branch hangs.0 a.entry s)) way all)
@@ -141,9 +141,9 @@ module _ (dig : List ℕ → List ℕ) where
         (λ same. absurd (not_leaf (tree_label dig l) (tree_label dig r) e same))
 
     -- the asked place is in the tree, with the label from which the proof leads up
-    climbed-binds : (ask : Ask) (up : List Ancestor) (below : List ℕ) (t : Tree) → HasSizes up → length below ≡ 32 → IsPart (climbed dig (is_left ask) up below) t
+    climbed-binds : (ask : Ask) (up : List Ancestor) (below : List ℕ) (t : Tree) → HaveSizes up → length below ≡ 32 → IsPart (climbed_tree dig (is_left ask) up below) t
         → Within (climb_texts dig (is_left ask) up below) texts → OrClash dig texts ((s : Tree) × Hangs ask up s t × IsPart below s)
-    unfolding climbed climb_texts
+    unfolding climbed_tree climb_texts
     climbed-binds ask [] below t sizes n part within = inl (t, refl, part)
     climbed-binds ask (a ∷ up) below t sizes n part within =
         and_then dig texts _ _ (climbed-binds ask up (dig (over_text (is_left ask) a below)) t sizes.1 (size _) part (λ text p. within text (inr p)))
@@ -161,11 +161,11 @@ module _ (dig : List ℕ → List ℕ) where
 
     -- the proof's nodes are those above the tree's own place, which is one that what is asked leads to
     abbrev IsOwn : Tree → Ask → TreeProof → Type 0
-    IsOwn t ask proof = IsAt ask (place_of ask t) × (ancestors_of proof ≡ way_up dig ask t)
+    IsOwn t ask proof = IsAt ask (place_of_ask ask t) × (ancestors_of proof ≡ way_up dig ask t)
 
-    gap-own : (ask : Ask) (up : List Ancestor) (t : Tree) → IsAt ask Empty → HasSizes up → Each (IsNotAsked ask) up → IsPart (climbed dig (is_left ask) up (dig empty_tree_text)) t
+    gap-own : (ask : Ask) (up : List Ancestor) (t : Tree) → IsAt ask Empty → HaveSizes up → Each (IsNotAsked ask) up → IsPart (climbed_tree dig (is_left ask) up (dig empty_tree_text)) t
         → Within (empty_tree_text ∷ climb_texts dig (is_left ask) up (dig empty_tree_text)) texts → OrClash dig texts (IsOwn t ask (Gap up))
-    unfolding way_up place_of
+    unfolding way_up place_of_ask
     gap-own ask up t at sizes free part within =
         and_then dig texts _ _ (climbed-binds ask up (dig empty_tree_text) t sizes (size _) part (λ text a. within text (inr a)))
         (λ found. and_then dig texts _ _ (emptied found.0 (within _ (inl refl)) found.2)
@@ -173,8 +173,8 @@ module _ (dig : List ℕ → List ℕ) where
         let all = own ask up Empty t (subst (λ s. Hangs ask up s t) empty found.1) free in
         inl (subst (IsAt ask) (sym all.1) at, sym all.0)))
 
-    present-own : (e : Entry) (l r : List ℕ) (up : List Ancestor) (t : Tree) → length l ≡ 32 → IsFit e → HasSizes up → Each (IsNotAsked (Present e)) up
-        → IsPart (climbed dig (is_left (Present e)) up (dig (entry_text l e r))) t
+    present-own : (e : Entry) (l r : List ℕ) (up : List Ancestor) (t : Tree) → length l ≡ 32 → IsFit e → HaveSizes up → Each (IsNotAsked (Present e)) up
+        → IsPart (climbed_tree dig (is_left (Present e)) up (dig (entry_text l e r))) t
         → Within (entry_text l e r ∷ climb_texts dig (is_left (Present e)) up (dig (entry_text l e r))) texts → OrClash dig texts (IsOwn t (Present e) (OfEntry l r up))
     present-own e l r up t n fit sizes free part within =
         and_then dig texts _ _ (climbed-binds (Present e) up (dig (entry_text l e r)) t sizes (size _) part (λ text a. within text (inr a)))
@@ -186,8 +186,8 @@ module _ (dig : List ℕ → List ℕ) where
 
     -- whatever checks under the tree's label is of the tree
     checked-own : (ask : Ask) (proof : TreeProof) (root : List ℕ) (t : Tree) → HasProofSizes ask proof → Checks dig root ask proof → Each IsFit (entries t) → tree_label dig t ≡ root
-        → Within (tree_texts dig t) texts → Within (proof_texts dig ask proof) texts → OrClash dig texts (IsOwn t ask proof)
-    unfolding proof_texts
+        → Within (tree_texts dig t) texts → Within (tree_proof_texts dig ask proof) texts → OrClash dig texts (IsOwn t ask proof)
+    unfolding tree_proof_texts
     checked-own (Present e) (OfEntry l r up) root t sizes checks fits at of_tree of_proof =
         present-own e l r up t sizes.0.0.0 sizes.0.2 sizes.1 checks.free (record { label_is = at ∙ sym checks.label; fits = fits; within = of_tree }) of_proof
     checked-own (Present e) (Gap up) root t sizes checks fits at of_tree of_proof = absurd (let never = checks.kind in cc)
@@ -202,8 +202,8 @@ module _ (dig : List ℕ → List ℕ) where
         gap-own (Above key) up t tt sizes.1 checks.free (record { label_is = at ∙ sym checks.label; fits = fits; within = of_tree }) of_proof
 
   -- what a proof hashes is bytes
-  pub proof_texts-bytes : (are : (text : List ℕ) → AreBytes (dig text)) (ask : Ask) (proof : TreeProof) → HasProofSizes ask proof → Each AreBytes (proof_texts dig ask proof)
-  unfolding proof_texts climb_texts
+  pub proof_texts-bytes : (are : (text : List ℕ) → AreBytes (dig text)) (ask : Ask) (proof : TreeProof) → HasProofSizes ask proof → Each AreBytes (tree_proof_texts dig ask proof)
+  unfolding tree_proof_texts climb_texts
   proof_texts-bytes are ask proof sizes = (at_place ask proof sizes.0, above (ancestors_of proof) (dig (place_text ask proof)) (are _) sizes.1)
     where
       at_place : (a : Ask) (p : TreeProof) → HasPlaceSizes a p → AreBytes (place_text a p)
@@ -217,17 +217,17 @@ module _ (dig : List ℕ → List ℕ) where
       over true a below is other fit = entry_text-bytes below a.entry a.other is fit other.1
       over false a below is other fit = entry_text-bytes a.other a.entry below other.1 fit is
 
-      above : (up : List Ancestor) (below : List ℕ) → AreBytes below → HasSizes up → Each AreBytes (climb_texts dig (is_left ask) up below)
+      above : (up : List Ancestor) (below : List ℕ) → AreBytes below → HaveSizes up → Each AreBytes (climb_texts dig (is_left ask) up below)
       above [] below is sizes = tt
       above (a ∷ up) below is sizes = (over (is_left ask a.entry) a below is sizes.0.0 sizes.0.1, above up _ (are _) sizes.1)
 
   -- what is shown is so of each rising tree of that label
   pub check-binds : (size : (text : List ℕ) → length (dig text) ≡ 32) (are : (text : List ℕ) → AreBytes (dig text)) (root : List ℕ) (ask : Ask) (proof : TreeProof) (shown : Shown) → Shows dig root ask proof shown → (shown ≢ Wrong → HasProofSizes ask proof)
-      → (t : Tree) → IsRisingTree t → tree_label dig t ≡ root → OrClash dig (tree_texts dig t ++ proof_texts dig ask proof) (IsAnswer (entries t) ask shown)
+      → (t : Tree) → IsRisingTree t → tree_label dig t ≡ root → OrClash dig (tree_texts dig t ++ tree_proof_texts dig ask proof) (IsAnswer (entries t) ask shown)
   check-binds size are root ask proof shown shows sizes t rising at = cases shown shows sizes
     where
       texts : List (List ℕ)
-      texts = tree_texts dig t ++ proof_texts dig ask proof
+      texts = tree_texts dig t ++ tree_proof_texts dig ask proof
 
       nothing : (a : Ask) → IsAnswer (entries t) a Wrong
       nothing (Present e) = tt
@@ -235,11 +235,11 @@ module _ (dig : List ℕ → List ℕ) where
       nothing (Below key) = tt
       nothing (Above key) = tt
 
-      right : (s : Shown) → Checks dig root ask proof → HasProofSizes ask proof → s ≡ answer_of ask (ancestors_of proof) → OrClash dig texts (IsAnswer (entries t) ask s)
+      right : (s : Shown) → Checks dig root ask proof → HasProofSizes ask proof → s ≡ shown_answer ask (ancestors_of proof) → OrClash dig texts (IsAnswer (entries t) ask s)
       right s checks has is =
           and_then dig texts _ _
           (checked-own size texts (Each-append AreBytes (tree_texts dig t) _ (tree_texts-bytes dig size are t rising.fits) (proof_texts-bytes are ask proof has)) ask proof root t has checks rising.fits at (λ text a. Among-left text (tree_texts dig t) _ a) (λ text a. Among-right text (tree_texts dig t) _ a))
-          (λ own. inl (subst (IsAnswer (entries t) ask) (ap (answer_of ask) (sym own.1) ∙ sym is) (way-answers dig t ask rising.rising (so-at t ask rising.rising own.0))))
+          (λ own. inl (subst (IsAnswer (entries t) ask) (ap (shown_answer ask) (sym own.1) ∙ sym is) (way-answers dig t ask rising.rising (so-at t ask rising.rising own.0))))
 
       cases : (s : Shown) → Shows dig root ask proof s → (s ≢ Wrong → HasProofSizes ask proof) → OrClash dig texts (IsAnswer (entries t) ask s)
       cases Wrong never has = inl (nothing ask)

@@ -6,8 +6,8 @@ use Rattle.tw_base.specs.declared.history.tree_proof.Ask.{Ask}
 use Rattle.tw_base.specs.history.Entries.{IsFit}
 use Rattle.tw_base.specs.kinds.Bytes.{HasBytes}
 use Rattle.tw_base.specs.kinds.Lists.{Each}
-use Rattle.tw_treeproof.specs.Sizes.{HasSizes}
-use Rattle.tw_treeproof.specs.Ways.{IsNotAsked, climbed, is_left, over_text}
+use Rattle.tw_treeproof.specs.Sizes.{HaveSizes}
+use Rattle.tw_treeproof.specs.Ways.{IsNotAsked, climbed_tree, is_left, over_text}
 
 rest-from : (up : List Ancestor) (i : ℕ) (a : Ancestor) → i < length up → a ≡ get_or up i a → drop i up ≡ a ∷ drop (i + 1) up
 rest-from up i a l is = drop_more up i a l ∙ ap (λ x. x ∷ drop (i + 1) up) (sym is)
@@ -15,29 +15,29 @@ rest-from up i a l is = drop_more up i a l ∙ ap (λ x. x ∷ drop (i + 1) up) 
 module _ (dig : List ℕ → List ℕ) (ask : Ask) (up : List Ancestor) (place : List ℕ) where
   -- the ancestors before the i-th are climbed
   pub record Climbing (i : ℕ) (reached : List ℕ) : Type 0 where
-    pub label : climbed dig (is_left ask) (drop i up) reached ≡ climbed dig (is_left ask) up place
-    pub sizes : HasSizes (drop i up) → HasSizes up
+    pub label : climbed_tree dig (is_left ask) (drop i up) reached ≡ climbed_tree dig (is_left ask) up place
+    pub sizes : HaveSizes (drop i up) → HaveSizes up
 
   pub begins : Climbing 0 place
   begins = record { label = refl; sizes = λ all. all }
 
   pub climbs : (i : ℕ) (label : List ℕ) (a : Ancestor) → i < length up → a ≡ get_or up i a → Climbing i label
       → (above : List ℕ) → HasBytes 32 a.other → IsFit a.entry → above ≡ dig (over_text (is_left ask) a label) → Climbing (i + 1) above
-  unfolding climbed
+  unfolding climbed_tree
   climbs i label a l is so_far above other fits made =
       let rest = rest-from up i a l is in
-      let Q : List Ancestor → Type 0 = HasSizes in
+      let Q : List Ancestor → Type 0 = HaveSizes in
       record {
-        label = ap (climbed dig (is_left ask) (drop (i + 1) up)) made ∙ ap (λ x. climbed dig (is_left ask) x label) (sym rest) ∙ so_far.label;
+        label = ap (climbed_tree dig (is_left ask) (drop (i + 1) up)) made ∙ ap (λ x. climbed_tree dig (is_left ask) x label) (sym rest) ∙ so_far.label;
         sizes = λ all. so_far.sizes (subst Q (sym rest) ((other, fits), all));
       }
 
-  pub climbed_all : (i : ℕ) (label : List ℕ) → length up ≤ i → Climbing i label → (label ≡ climbed dig (is_left ask) up place) × HasSizes up
-  unfolding climbed
+  pub climbed_all : (i : ℕ) (label : List ℕ) → length up ≤ i → Climbing i label → (label ≡ climbed_tree dig (is_left ask) up place) × HaveSizes up
+  unfolding climbed_tree
   climbed_all i label l so_far =
       let none = drop_all i up l in
-      let Q : List Ancestor → Type 0 = HasSizes in (
-        ap (λ x. climbed dig (is_left ask) x label) (sym none) ∙ so_far.label,
+      let Q : List Ancestor → Type 0 = HaveSizes in (
+        ap (λ x. climbed_tree dig (is_left ask) x label) (sym none) ∙ so_far.label,
         so_far.sizes (subst Q (sym none) tt),
       )
 

@@ -16,10 +16,10 @@ use Rattle.tw_base.specs.history.Tree.Tree.{Empty, Branch}
 use Rattle.tw_base.proofs.lemmas.kinds.ListLemmas.{Each-append, Each-parts}
 use Rattle.tw_base.specs.history.EntryCodec.{entry_codec}
 use Rattle.tw_treeproof.specs.declared.limits.TheConstants.{MOST_ABOVE_PLACE}
-use Rattle.tw_treeproof.specs.Answers.{Checks, IsAnswer, ancestors_of, answer_of, asks_entry, is_of_entry, place_text}
+use Rattle.tw_treeproof.specs.Answers.{Checks, IsAnswer, ancestors_of, asks_entry, is_of_entry, place_text, shown_answer}
 use Rattle.tw_treeproof.specs.Codecs.{ancestor_codec, gap_codec, present_codec, tree_proof_codec}
-use Rattle.tw_treeproof.specs.Making.{IsSo, ancestor, height, place_of, proof_at, proof_of, way_up}
-use Rattle.tw_treeproof.specs.Ways.{IsNotAsked, climbed, has_asked_key, is_left}
+use Rattle.tw_treeproof.specs.Making.{IsSo, ancestor, height, place_of_ask, proof_at, proof_of, way_up}
+use Rattle.tw_treeproof.specs.Ways.{IsNotAsked, climbed_tree, has_asked_key, is_left}
 use Rattle.tw_treeproof.proofs.Places.{IsAt, at-place}
 use Rattle.tw_treeproof.proofs.Ways.{first-found, last-found, way-climbs, way-free, way-here, way-left, way-right}
 
@@ -52,47 +52,47 @@ module _ (dig : List ℕ → List ℕ) where
   pub own-checks : (t : Tree) (ask : Ask) → IsRising (entries t) → IsSo (entries t) ask → Checks dig (tree_label dig t) ask (proof_of dig t ask)
   own-checks t ask rising so =
       let at = at-place t ask rising so in
-      let same = at-ancestors (place_of ask t) (way_up dig ask t) in
+      let same = at-ancestors (place_of_ask ask t) (way_up dig ask t) in
       record {
-        kind = at-kind ask (place_of ask t) (way_up dig ask t) at;
+        kind = at-kind ask (place_of_ask ask t) (way_up dig ask t) at;
         free = subst (Each (IsNotAsked ask)) (sym same) (way-free dig ask t);
         label =
-            ap (λ up. climbed dig (is_left ask) up (dig (place_text ask (proof_of dig t ask)))) same
-            ∙ ap (climbed dig (is_left ask) (way_up dig ask t)) (at-label ask (place_of ask t) (way_up dig ask t) at)
+            ap (λ up. climbed_tree dig (is_left ask) up (dig (place_text ask (proof_of dig t ask)))) same
+            ∙ ap (climbed_tree dig (is_left ask) (way_up dig ask t)) (at-label ask (place_of_ask ask t) (way_up dig ask t) at)
             ∙ way-climbs dig ask t;
       }
 
   -- what the nodes above the place show is so of the entries
-  pub way-answers : (t : Tree) (ask : Ask) → IsRising (entries t) → IsSo (entries t) ask → IsAnswer (entries t) ask (answer_of ask (way_up dig ask t))
+  pub way-answers : (t : Tree) (ask : Ask) → IsRising (entries t) → IsSo (entries t) ask → IsAnswer (entries t) ask (shown_answer ask (way_up dig ask t))
   way-answers t (Present e) rising so = so
   way-answers t (Absent key) rising so = so
   way-answers t (Below key) rising so = last-found dig key t rising
   way-answers t (Above key) rising so = first-found dig key t rising
 
-  pub own-answers : (t : Tree) (ask : Ask) → IsRising (entries t) → IsSo (entries t) ask → IsAnswer (entries t) ask (answer_of ask (ancestors_of (proof_of dig t ask)))
+  pub own-answers : (t : Tree) (ask : Ask) → IsRising (entries t) → IsSo (entries t) ask → IsAnswer (entries t) ask (shown_answer ask (ancestors_of (proof_of dig t ask)))
   own-answers t ask rising so =
-      subst (λ up. IsAnswer (entries t) ask (answer_of ask up)) (sym (at-ancestors (place_of ask t) (way_up dig ask t))) (way-answers t ask rising so)
+      subst (λ up. IsAnswer (entries t) ask (shown_answer ask up)) (sym (at-ancestors (place_of_ask ask t) (way_up dig ask t))) (way-answers t ask rising so)
 
   -- the way down to the place, and what is below it, is no longer than the tree is high
-  way-short : (ask : Ask) (t : Tree) → length (way_up dig ask t) + height (place_of ask t) ≤ height t
-  unfolding way_up place_of height
+  way-short : (ask : Ask) (t : Tree) → length (way_up dig ask t) + height (place_of_ask ask t) ≤ height t
+  unfolding way_up place_of_ask height
   way-short ask Empty = omega arith
   way-short ask (Branch l e r) = by (has_asked_key ask e) (is_left ask e) refl refl (way-short ask l) (way-short ask r)
     where
       Short : Tree → Type 0
-      Short t = length (way_up dig ask t) + height (place_of ask t) ≤ height t
+      Short t = length (way_up dig ask t) + height (place_of_ask ask t) ≤ height t
 
-      along : (up : List Ancestor) (place : Tree) → way_up dig ask (Branch l e r) ≡ up → place_of ask (Branch l e r) ≡ place → length up + height place ≤ height (Branch l e r) → Short (Branch l e r)
-      along up place ways places short = subst (λ u. length u + height (place_of ask (Branch l e r)) ≤ height (Branch l e r)) (sym ways) (subst (λ p. length up + height p ≤ height (Branch l e r)) (sym places) short)
+      along : (up : List Ancestor) (place : Tree) → way_up dig ask (Branch l e r) ≡ up → place_of_ask ask (Branch l e r) ≡ place → length up + height place ≤ height (Branch l e r) → Short (Branch l e r)
+      along up place ways places short = subst (λ u. length u + height (place_of_ask ask (Branch l e r)) ≤ height (Branch l e r)) (sym ways) (subst (λ p. length up + height p ≤ height (Branch l e r)) (sym places) short)
 
       by : (meets left : Bool) → has_asked_key ask e ≡ meets → is_left ask e ≡ left → Short l → Short r → Short (Branch l e r)
       by true left is way one other = let here = way-here dig ask l e r is in along [] (Branch l e r) here.0 here.1 (omega arith)
       by false true is way one other =
           let down = way-left dig ask l e r is way in
-          along (way_up dig ask l ++ ancestor dig e r ∷ []) (place_of ask l) down.0 down.1 (omega (arith, one, length-append (way_up dig ask l) (ancestor dig e r ∷ []), le-max_left (height l) (height r)))
+          along (way_up dig ask l ++ ancestor dig e r ∷ []) (place_of_ask ask l) down.0 down.1 (omega (arith, one, length-append (way_up dig ask l) (ancestor dig e r ∷ []), le-max_left (height l) (height r)))
       by false false is way one other =
           let down = way-right dig ask l e r is way in
-          along (way_up dig ask r ++ ancestor dig e l ∷ []) (place_of ask r) down.0 down.1 (omega (arith, other, length-append (way_up dig ask r) (ancestor dig e l ∷ []), le-max_right (height l) (height r)))
+          along (way_up dig ask r ++ ancestor dig e l ∷ []) (place_of_ask ask r) down.0 down.1 (omega (arith, other, length-append (way_up dig ask r) (ancestor dig e l ∷ []), le-max_right (height l) (height r)))
 
   module _ (size : (text : List ℕ) → length (dig text) ≡ 32) (bytes : (text : List ℕ) → AreBytes (dig text)) where
     label-fits : (t : Tree) → (length (tree_label dig t) ≡ 32) × AreBytes (tree_label dig t)
@@ -133,4 +133,4 @@ module _ (dig : List ℕ → List ℕ) where
     pub own-fits : (t : Tree) (ask : Ask) → IsRising (entries t) → IsSo (entries t) ask → height t ≤ MOST_ABOVE_PLACE → Each entry_codec.Fits (entries t)
         → (tree_proof_codec (asks_entry ask)).Fits (proof_of dig t ask)
     own-fits t ask rising so low all =
-        at-fits ask (place_of ask t) (way_up dig ask t) (at-place t ask rising so) (omega (arith, way-short ask t, low)) (way-fits ask t all)
+        at-fits ask (place_of_ask ask t) (way_up dig ask t) (at-place t ask rising so) (omega (arith, way-short ask t, low)) (way-fits ask t all)

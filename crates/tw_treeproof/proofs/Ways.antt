@@ -16,18 +16,18 @@ use Rattle.tw_base.specs.history.Tree.{Tree, IsRising, entries}
 use Rattle.tw_base.specs.history.Tree.Tree.{Empty, Branch}
 use Rattle.tw_base.proofs.lemmas.kinds.ListLemmas.{Each-append}
 use Rattle.tw_base.proofs.lemmas.history.Asked.{above-left, above-right, below-left, below-right, cut, or-none}
-use Rattle.tw_treeproof.specs.Making.{ancestor, place_of, way_up}
-use Rattle.tw_treeproof.specs.Ways.{IsNotAsked, climbed, has_asked_key, is_left, nearest_left, nearest_right, over_text}
+use Rattle.tw_treeproof.specs.Making.{ancestor, place_of_ask, way_up}
+use Rattle.tw_treeproof.specs.Ways.{IsNotAsked, climbed_tree, has_asked_key, is_left, nearest_left, nearest_right, over_text}
 use Rattle.tw_treeproof.proofs.Places.{down-here, down-left, down-right}
 
 module _ (dig : List ℕ → List ℕ) where
-  climb-one : (left : Entry → Bool) (up : List Ancestor) (a : Ancestor) (below : List ℕ) → climbed dig left (up ++ a ∷ []) below ≡ dig (over_text left a (climbed dig left up below))
-  unfolding climbed
+  climb-one : (left : Entry → Bool) (up : List Ancestor) (a : Ancestor) (below : List ℕ) → climbed_tree dig left (up ++ a ∷ []) below ≡ dig (over_text left a (climbed_tree dig left up below))
+  unfolding climbed_tree
   climb-one left [] a below = refl
   climb-one left (b ∷ up) a below = climb-one left up a (dig (over_text left b below))
 
-  climb-none : (left : Entry → Bool) (below : List ℕ) → climbed dig left [] below ≡ below
-  unfolding climbed
+  climb-none : (left : Entry → Bool) (below : List ℕ) → climbed_tree dig left [] below ≡ below
+  unfolding climbed_tree
   climb-none left below = refl
 
   label-branch : (l : Tree) (e : Entry) (r : Tree) → dig (entry_text (tree_label dig l) e (tree_label dig r)) ≡ tree_label dig (Branch l e r)
@@ -36,47 +36,47 @@ module _ (dig : List ℕ → List ℕ) where
 
   -- the ways down from a node
   module _ (ask : Ask) (l : Tree) (e : Entry) (r : Tree) where
-    pub way-here : has_asked_key ask e ≡ true → (way_up dig ask (Branch l e r) ≡ []) × (place_of ask (Branch l e r) ≡ Branch l e r)
-    unfolding way_up place_of
+    pub way-here : has_asked_key ask e ≡ true → (way_up dig ask (Branch l e r) ≡ []) × (place_of_ask ask (Branch l e r) ≡ Branch l e r)
+    unfolding way_up place_of_ask
     way-here is = (down-here _ (is_left ask e) _ _ _ is, down-here _ (is_left ask e) _ _ _ is)
 
     pub way-left : has_asked_key ask e ≡ false → is_left ask e ≡ true
-        → (way_up dig ask (Branch l e r) ≡ way_up dig ask l ++ ancestor dig e r ∷ []) × (place_of ask (Branch l e r) ≡ place_of ask l)
-    unfolding way_up place_of
+        → (way_up dig ask (Branch l e r) ≡ way_up dig ask l ++ ancestor dig e r ∷ []) × (place_of_ask ask (Branch l e r) ≡ place_of_ask ask l)
+    unfolding way_up place_of_ask
     way-left is way = (down-left _ _ _ _ _ is way, down-left _ _ _ _ _ is way)
 
     pub way-right : has_asked_key ask e ≡ false → is_left ask e ≡ false
-        → (way_up dig ask (Branch l e r) ≡ way_up dig ask r ++ ancestor dig e l ∷ []) × (place_of ask (Branch l e r) ≡ place_of ask r)
-    unfolding way_up place_of
+        → (way_up dig ask (Branch l e r) ≡ way_up dig ask r ++ ancestor dig e l ∷ []) × (place_of_ask ask (Branch l e r) ≡ place_of_ask ask r)
+    unfolding way_up place_of_ask
     way-right is way = (down-right _ _ _ _ _ is way, down-right _ _ _ _ _ is way)
 
   -- the labels lead from the place up to the tree
-  pub way-climbs : (ask : Ask) (t : Tree) → climbed dig (is_left ask) (way_up dig ask t) (tree_label dig (place_of ask t)) ≡ tree_label dig t
-  unfolding climbed way_up place_of tree_label
+  pub way-climbs : (ask : Ask) (t : Tree) → climbed_tree dig (is_left ask) (way_up dig ask t) (tree_label dig (place_of_ask ask t)) ≡ tree_label dig t
+  unfolding climbed_tree way_up place_of_ask tree_label
   way-climbs ask Empty = refl
   way-climbs ask (Branch l e r) = by (has_asked_key ask e) (is_left ask e) refl refl (way-climbs ask l) (way-climbs ask r)
     where
       Leads : Tree → Type 0
-      Leads t = climbed dig (is_left ask) (way_up dig ask t) (tree_label dig (place_of ask t)) ≡ tree_label dig t
+      Leads t = climbed_tree dig (is_left ask) (way_up dig ask t) (tree_label dig (place_of_ask ask t)) ≡ tree_label dig t
 
       -- along these nodes and from this place
-      along : (up : List Ancestor) (place : Tree) → way_up dig ask (Branch l e r) ≡ up → place_of ask (Branch l e r) ≡ place
-          → climbed dig (is_left ask) up (tree_label dig place) ≡ tree_label dig (Branch l e r) → Leads (Branch l e r)
-      along up place ways places leads = ap (λ u. climbed dig (is_left ask) u (tree_label dig (place_of ask (Branch l e r)))) ways ∙ ap (λ p. climbed dig (is_left ask) up (tree_label dig p)) places ∙ leads
+      along : (up : List Ancestor) (place : Tree) → way_up dig ask (Branch l e r) ≡ up → place_of_ask ask (Branch l e r) ≡ place
+          → climbed_tree dig (is_left ask) up (tree_label dig place) ≡ tree_label dig (Branch l e r) → Leads (Branch l e r)
+      along up place ways places leads = ap (λ u. climbed_tree dig (is_left ask) u (tree_label dig (place_of_ask ask (Branch l e r)))) ways ∙ ap (λ p. climbed_tree dig (is_left ask) up (tree_label dig p)) places ∙ leads
 
       by : (meets left : Bool) → has_asked_key ask e ≡ meets → is_left ask e ≡ left → Leads l → Leads r → Leads (Branch l e r)
       by true left is way one other = let here = way-here ask l e r is in along [] (Branch l e r) here.0 here.1 (climb-none (is_left ask) (tree_label dig (Branch l e r)))
       by false true is way one other =
           let down = way-left ask l e r is way in
-          along (way_up dig ask l ++ ancestor dig e r ∷ []) (place_of ask l) down.0 down.1
-          (climb-one (is_left ask) (way_up dig ask l) (ancestor dig e r) (tree_label dig (place_of ask l))
-          ∙ ap (λ b. dig (if b then entry_text (climbed dig (is_left ask) (way_up dig ask l) (tree_label dig (place_of ask l))) e (tree_label dig r) else entry_text (tree_label dig r) e (climbed dig (is_left ask) (way_up dig ask l) (tree_label dig (place_of ask l))))) way
+          along (way_up dig ask l ++ ancestor dig e r ∷ []) (place_of_ask ask l) down.0 down.1
+          (climb-one (is_left ask) (way_up dig ask l) (ancestor dig e r) (tree_label dig (place_of_ask ask l))
+          ∙ ap (λ b. dig (if b then entry_text (climbed_tree dig (is_left ask) (way_up dig ask l) (tree_label dig (place_of_ask ask l))) e (tree_label dig r) else entry_text (tree_label dig r) e (climbed_tree dig (is_left ask) (way_up dig ask l) (tree_label dig (place_of_ask ask l))))) way
           ∙ ap (λ x. dig (entry_text x e (tree_label dig r))) one ∙ label-branch l e r)
       by false false is way one other =
           let down = way-right ask l e r is way in
-          along (way_up dig ask r ++ ancestor dig e l ∷ []) (place_of ask r) down.0 down.1
-          (climb-one (is_left ask) (way_up dig ask r) (ancestor dig e l) (tree_label dig (place_of ask r))
-          ∙ ap (λ b. dig (if b then entry_text (climbed dig (is_left ask) (way_up dig ask r) (tree_label dig (place_of ask r))) e (tree_label dig l) else entry_text (tree_label dig l) e (climbed dig (is_left ask) (way_up dig ask r) (tree_label dig (place_of ask r))))) way
+          along (way_up dig ask r ++ ancestor dig e l ∷ []) (place_of_ask ask r) down.0 down.1
+          (climb-one (is_left ask) (way_up dig ask r) (ancestor dig e l) (tree_label dig (place_of_ask ask r))
+          ∙ ap (λ b. dig (if b then entry_text (climbed_tree dig (is_left ask) (way_up dig ask r) (tree_label dig (place_of_ask ask r))) e (tree_label dig l) else entry_text (tree_label dig l) e (climbed_tree dig (is_left ask) (way_up dig ask r) (tree_label dig (place_of_ask ask r))))) way
           ∙ ap (λ x. dig (entry_text (tree_label dig l) e x)) other ∙ label-branch l e r)
 
   -- no node above the place has the asked key

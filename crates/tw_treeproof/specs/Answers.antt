@@ -12,7 +12,7 @@ use Rattle.tw_base.specs.kinds.Lists.{Each}
 use Rattle.tw_base.specs.kinds.Texts.{empty_tree_text}
 use Rattle.tw_treeproof.specs.declared.shown.Shown.{Shown}
 use Rattle.tw_treeproof.specs.declared.shown.Shown.TheVariants.{Present as IsThere, Absent as IsNotThere, Nearest, Wrong}
-use Rattle.tw_treeproof.specs.Ways.{IsNotAsked, climbed, climb_texts, is_left, nearest_left, nearest_right}
+use Rattle.tw_treeproof.specs.Ways.{IsNotAsked, climbed_tree, climb_texts, is_left, nearest_left, nearest_right}
 
 -- the question is about an entry, and the proof is of one
 abbrev pub asks_entry : Ask → Bool
@@ -40,26 +40,26 @@ place_text (Above key) proof = empty_tree_text
 module _ (dig : List ℕ → List ℕ) where
   -- the texts of a proof, that at the asked place and those of the ancestors upwards; checking hashes these where it
   -- doesn't show Wrong
-  unfoldable pub proof_texts : Ask → TreeProof → List (List ℕ)
-  proof_texts ask proof = place_text ask proof ∷ climb_texts dig (is_left ask) (ancestors_of proof) (dig (place_text ask proof))
+  unfoldable pub tree_proof_texts : Ask → TreeProof → List (List ℕ)
+  tree_proof_texts ask proof = place_text ask proof ∷ climb_texts dig (is_left ask) (ancestors_of proof) (dig (place_text ask proof))
 
   -- the proof is of the kind that the question asks for, no ancestor has the asked key, and the labels lead up to the root
   pub record Checks (root : List ℕ) (ask : Ask) (proof : TreeProof) : Type 0 where
     pub kind : is_of_entry proof ≡ asks_entry ask
     pub free : Each (IsNotAsked ask) (ancestors_of proof)
-    pub label : climbed dig (is_left ask) (ancestors_of proof) (dig (place_text ask proof)) ≡ root
+    pub label : climbed_tree dig (is_left ask) (ancestors_of proof) (dig (place_text ask proof)) ≡ root
 
 -- what a proof that checks shows, over its ancestors
-abbrev pub answer_of : Ask → List Ancestor → Shown
-answer_of (Present e) up = IsThere
-answer_of (Absent key) up = IsNotThere
-answer_of (Below key) up = Nearest (nearest_right (is_left (Below key)) up)
-answer_of (Above key) up = Nearest (nearest_left (is_left (Above key)) up)
+abbrev pub shown_answer : Ask → List Ancestor → Shown
+shown_answer (Present e) up = IsThere
+shown_answer (Absent key) up = IsNotThere
+shown_answer (Below key) up = Nearest (nearest_right (is_left (Below key)) up)
+shown_answer (Above key) up = Nearest (nearest_left (is_left (Above key)) up)
 
 -- what checking shows: the proof's answer where it checks, and else Wrong
 abbrev pub Shows : (dig : List ℕ → List ℕ) (root : List ℕ) → Ask → TreeProof → Shown → Type 0
 Shows dig root ask proof Wrong = Checks dig root ask proof → ⊥
-Shows dig root ask proof shown = Checks dig root ask proof × (shown ≡ answer_of ask (ancestors_of proof))
+Shows dig root ask proof shown = Checks dig root ask proof × (shown ≡ shown_answer ask (ancestors_of proof))
 
 -- what is shown is so of the entries, which rise by key; Wrong says nothing
 abbrev pub IsAnswer : List Entry → Ask → Shown → Type 0

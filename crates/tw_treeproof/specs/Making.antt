@@ -20,10 +20,10 @@ height (Branch left e right) = suc (max (height left) (height right))
 
 -- the part of the tree at the asked place: the way down ends at the asked key, in a question for one key, and else at an
 -- empty place
-unfoldable pub place_of : Ask → Tree → Tree
-place_of ask Empty = Empty
-place_of ask (Branch left e right) =
-    if has_asked_key ask e then Branch left e right else (if is_left ask e then place_of ask left else place_of ask right)
+unfoldable pub place_of_ask : Ask → Tree → Tree
+place_of_ask ask Empty = Empty
+place_of_ask ask (Branch left e right) =
+    if has_asked_key ask e then Branch left e right else (if is_left ask e then place_of_ask ask left else place_of_ask ask right)
 
 module _ (dig : List ℕ → List ℕ) where
   abbrev pub ancestor : Entry → (other : Tree) → Ancestor
@@ -43,7 +43,7 @@ module _ (dig : List ℕ → List ℕ) where
 
   -- the proof that the tree has, where what is asked is so
   abbrev pub proof_of : Tree → Ask → TreeProof
-  proof_of t ask = proof_at (place_of ask t) (way_up ask t)
+  proof_of t ask = proof_at (place_of_ask ask t) (way_up ask t)
 
 -- what is asked is so of the entries; that there is an entry next to a key, or none, always is
 abbrev pub IsSo : List Entry → Ask → Type 0

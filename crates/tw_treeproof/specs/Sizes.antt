@@ -10,12 +10,12 @@ use Rattle.tw_base.specs.kinds.Bytes.{HasBytes}
 use Rattle.tw_base.specs.kinds.Lists.{Each}
 use Rattle.tw_treeproof.specs.Answers.{ancestors_of}
 
-abbrev pub HasSizes : List Ancestor → Type 0
-HasSizes = Each (λ a. HasBytes 32 a.other × IsFit a.entry)
+abbrev pub HaveSizes : List Ancestor → Type 0
+HaveSizes = Each (λ a. HasBytes 32 a.other × IsFit a.entry)
 
 abbrev pub HasPlaceSizes : Ask → TreeProof → Type 0
 HasPlaceSizes (Present e) (OfEntry left right up) = HasBytes 32 left × HasBytes 32 right × IsFit e
 HasPlaceSizes ask proof = Unit {0}
 
 abbrev pub HasProofSizes : Ask → TreeProof → Type 0
-HasProofSizes ask proof = HasPlaceSizes ask proof × HasSizes (ancestors_of proof)
+HasProofSizes ask proof = HasPlaceSizes ask proof × HaveSizes (ancestors_of proof)

@@ -40,9 +40,9 @@ module _ (left : Entry → Bool) where
 
 module _ (dig : List ℕ → List ℕ) (left : Entry → Bool) where
   -- the label of the whole tree, over that of the part below the ancestors
-  unfoldable pub climbed : List Ancestor → (below : List ℕ) → List ℕ
-  climbed [] below = below
-  climbed (a ∷ up) below = climbed up (dig (over_text left a below))
+  unfoldable pub climbed_tree : List Ancestor → (below : List ℕ) → List ℕ
+  climbed_tree [] below = below
+  climbed_tree (a ∷ up) below = climbed_tree up (dig (over_text left a below))
 
   -- the texts of the ancestors, upwards
   unfoldable pub climb_texts : List Ancestor → (below : List ℕ) → List (List ℕ)

@@ -9,9 +9,9 @@ ghost use Rattle.tw_base.specs.history.Entries.{IsFit};
 ghost use Rattle.tw_base.specs.history.HistoryTexts.{tree_texts};
 ghost use Rattle.tw_base.specs.kinds.Lists.{Each};
 ghost use Rattle.tw_base.specs.history.Tree.{IsRisingTree, Tree, entries};
-ghost use Rattle.tw_treeproof.specs.Answers.{Checks, IsAnswer, Shows, ancestors_of, answer_of, asks_entry, is_of_entry, place_text, proof_texts};
-ghost use Rattle.tw_treeproof.specs.Ways.{IsNotAsked, climb_texts, climbed, is_left, nearest_left as left_of_way, nearest_right as right_of_way, over_text};
-ghost use Rattle.tw_treeproof.specs.Sizes.{HasPlaceSizes, HasProofSizes, HasSizes};
+ghost use Rattle.tw_treeproof.specs.Answers.{Checks, IsAnswer, Shows, ancestors_of, asks_entry, is_of_entry, place_text, shown_answer, tree_proof_texts};
+ghost use Rattle.tw_treeproof.specs.Ways.{IsNotAsked, climb_texts, climbed_tree, is_left, nearest_left as left_of_way, nearest_right as right_of_way, over_text};
+ghost use Rattle.tw_treeproof.specs.Sizes.{HasPlaceSizes, HasProofSizes, HaveSizes};
 ghost use Rattle.tw_treeproof.specs.declared.shown.Shown.TheVariants.{Wrong};
 
 use crate::shown::Shown;
@@ -59,9 +59,9 @@ fn climb_tree<T: Transcript>(
     place: Digest,
     texts: &mut T,
 ) -> Digest
-    ensures label { result ≡ climbed T.dig (is_left ask.now) ancestors.now place }
+    ensures label { result ≡ climbed_tree T.dig (is_left ask.now) ancestors.now place }
     ensures took { Hands T.took texts.old texts.new (climb_texts T.dig (is_left ask.now) ancestors.now place) }
-    ensures sizes { HasSizes ancestors.now }
+    ensures sizes { HaveSizes ancestors.now }
 {
     let mut label = place;
     for ancestor in ancestors {
@@ -82,12 +82,12 @@ fn ancestors_of_proof(proof: &TreeProof) -> &[Ancestor]
 
 /// The label of the whole tree to which a tree proof leads. Its texts are handed on: that at the asked place,
 /// and those of the nodes above it, upwards.
-#[tactic(auto, unfolding(crate::specs::Answers::proof_texts))]
+#[tactic(auto, unfolding(crate::specs::Answers::tree_proof_texts))]
 pub fn tree_label_told<T: Transcript>(ask: &Ask, proof: &TreeProof, texts: &mut T) -> Digest
     // The label is computed upwards from that of the asked place.
-    ensures label { result ≡ climbed T.dig (is_left ask.now) (ancestors_of proof.now) (T.dig (place_text ask.now proof.now)) }
+    ensures label { result ≡ climbed_tree T.dig (is_left ask.now) (ancestors_of proof.now) (T.dig (place_text ask.now proof.now)) }
     // The texts of the tree proof are handed on.
-    ensures took { Hands T.took texts.old texts.new (proof_texts T.dig ask.now proof.now) }
+    ensures took { Hands T.took texts.old texts.new (tree_proof_texts T.dig ask.now proof.now) }
     ensures sizes { HasProofSizes ask.now proof.now }
 {
     let place = place_label(ask, proof, texts);
@@ -154,7 +154,7 @@ fn nearest_left(ask: &Ask, ancestors: &[Ancestor]) -> Option<Entry>
 
 /// What a proof that checks shows.
 fn answer(ask: &Ask, ancestors: &[Ancestor]) -> Shown
-    ensures { result ≡ answer_of ask.now ancestors.now }
+    ensures { result ≡ shown_answer ask.now ancestors.now }
 {
     match ask {
         Ask::Present(_) => Shown::Present,
@@ -191,7 +191,7 @@ pub fn check<H: Hasher>(root: &Digest, ask: &Ask, proof: &TreeProof) -> Shown
     // What a tree proof shows is so of the entries of each rising tree with that label, be it that it has an entry, that
     // it lacks a key, or its entry next to a key, or two texts of the tree and of the proof clash.
     ensures binds { (t : Tree) → IsRisingTree t → tree_label H.dig t ≡ root.now →
-        OrClash H.dig (tree_texts H.dig t ++ proof_texts H.dig ask.now proof.now) (IsAnswer (entries t) ask.now result) }
+        OrClash H.dig (tree_texts H.dig t ++ tree_proof_texts H.dig ask.now proof.now) (IsAnswer (entries t) ask.now result) }
 {
     checked::<H>(root, ask, proof)
 }

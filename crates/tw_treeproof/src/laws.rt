@@ -10,7 +10,7 @@ ghost use Rattle.tw_base.specs.kinds.Lists.{Each};
 ghost use Rattle.tw_base.specs.history.Tree.{IsRising, Tree, entries};
 ghost use Rattle.tw_base.specs.history.EntryCodec.{entry_codec};
 ghost use Rattle.tw_treeproof.specs.declared.limits.TheConstants.{MOST_ABOVE_PLACE};
-ghost use Rattle.tw_treeproof.specs.Answers.{Checks, IsAnswer, ancestors_of, answer_of, asks_entry};
+ghost use Rattle.tw_treeproof.specs.Answers.{Checks, IsAnswer, ancestors_of, asks_entry, shown_answer};
 ghost use Rattle.tw_treeproof.specs.Codecs.{gap_codec, present_codec, tree_proof_codec};
 ghost use Rattle.tw_treeproof.specs.Making.{IsSo, height, proof_of};
 
@@ -40,7 +40,7 @@ pub fn tree_proof_laws<H: Hasher>()
         Checks H.dig (tree_label H.dig t) ask (proof_of H.dig t ask) }
     // It shows the answer of the tree's entries.
     ensures answers { (t : Tree) (ask : Ask) → IsRising (entries t) → IsSo (entries t) ask →
-        IsAnswer (entries t) ask (answer_of ask (ancestors_of (proof_of H.dig t ask))) }
+        IsAnswer (entries t) ask (shown_answer ask (ancestors_of (proof_of H.dig t ask))) }
     // Where no way down has more than 128 nodes, and the entries have spellings, the proof has one.
     ensures fits { (t : Tree) (ask : Ask) → IsRising (entries t) → IsSo (entries t) ask → height t ≤ MOST_ABOVE_PLACE →
         Each entry_codec.Fits (entries t) → (tree_proof_codec (asks_entry ask)).Fits (proof_of H.dig t ask) }

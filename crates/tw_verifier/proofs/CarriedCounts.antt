@@ -14,7 +14,7 @@ use Rattle.tw_chain.specs.declared.proof.PrecedenceProof.{PrecedenceProof}
 use Rattle.tw_chain.specs.declared.proof.Proof.{Proof}
 use Rattle.tw_chain.specs.declared.proof.Proof.TheVariants.{Exists, Precedes, Archived, Absent, Linked}
 use Rattle.tw_chain.specs.Accepting.{carried}
-use Rattle.tw_chain.specs.Checks.{Check, bind_checks, bind_of, end_of, hop_checks, hops_checks, link_checks, opening_checks, root_of, start_of, tail_checks}
+use Rattle.tw_chain.specs.Checks.{Check, bind_checks, bind_of, end_of_order, hop_checks, hops_checks, link_checks, opening_checks, opening_root, start_of, tail_checks}
 use Rattle.tw_chain.specs.Checks.Check.{CarriesThread}
 use Rattle.tw_chain.specs.Passing.{carried_by}
 use Rattle.tw_chain.specs.Proofs.{kinds_codec, precedence_body, proof_codec, proof_layout}
@@ -45,22 +45,22 @@ carried-hops : (part step : ℕ) (root : List ℕ) (hops : List HopPart) → len
 carried-hops part step root [] = omega arith
 carried-hops part step root (hop ∷ hops) =
     let here : List Check = hop_checks part step root hop in
-    let behind : List Check = hops_checks (suc part) hop.entry.thread.step (root_of hop.opening) hops in
+    let behind : List Check = hops_checks (suc part) hop.entry.thread.step (opening_root hop.opening) hops in
     omega (
       arith,
       carried-hop part step root hop,
-      carried-hops (suc part) hop.entry.thread.step (root_of hop.opening) hops,
+      carried-hops (suc part) hop.entry.thread.step (opening_root hop.opening) hops,
       ap length (flat_map-append carried_by here behind),
       length-append (carried_of here) (carried_of behind),
     )
 
 carried-chain : (p : PrecedenceProof) → length (carried (Precedes p)) ≤ length p.hops
 carried-chain p =
-    let hops : List Check = hops_checks 1 (start_of p).step (root_of p.before) p.hops in
-    let tail : List Check = tail_checks (suc (length p.hops)) (end_of p) p.tail in
+    let hops : List Check = hops_checks 1 (start_of p).step (opening_root p.before) p.hops in
+    let tail : List Check = tail_checks (suc (length p.hops)) (end_of_order p) p.tail in
     let same : carried (Precedes p) ≡ carried_of hops =
     carried-head p (hops ++ tail) ∙ flat_map-append carried_by hops tail ∙ append-nil (carried_of hops) in
-    omega (arith, carried-hops 1 (start_of p).step (root_of p.before) p.hops, ap length same)
+    omega (arith, carried-hops 1 (start_of p).step (opening_root p.before) p.hops, ap length same)
 
 most-hops : (p : PrecedenceProof) → proof_codec.Fits (Precedes p) → length p.hops ≤ MOST_HOPS
 unfolding proof_codec kinds_codec behind by_kind variant precedence_body number_codec

@@ -9,9 +9,9 @@ use Rattle.tw_base.specs.declared.history.thread.Thread.{Thread}
 use Rattle.tw_skipproof.specs.declared.opening.Opening.{Opening}
 use Rattle.tw_chain.specs.declared.proof.PrecedenceProof.{PrecedenceProof}
 use Rattle.tw_chain.specs.declared.proof.Proof.TheVariants.{Precedes}
-use Rattle.tw_chain.specs.Finding.{found_in, found_with, lower_of}
+use Rattle.tw_chain.specs.Finding.{found_in, lower_of, reason_with}
 use Rattle.tw_verifier.specs.Chaining.{behind_checks, chain_of, closed}
-use Rattle.tw_chain.specs.Checks.{Check, checks, end_of, head_checks, hops_checks, opening_checks, root_of, start_of, tail_checks}
+use Rattle.tw_chain.specs.Checks.{Check, checks, end_of_order, head_checks, hops_checks, opening_checks, opening_root, start_of, tail_checks}
 use Rattle.tw_verifier.specs.Judgements.{judgement_of}
 use Rattle.tw_chain.specs.Passing.{carried_by}
 use Rattle.tw_base.specs.declared.history.report.Hop.{Hop}
@@ -35,7 +35,7 @@ module _ (dig : List ℕ → List ℕ) (anchors : List Thread) (p : PrecedencePr
   parts : checks (Precedes p) ≡ head_checks p ++ behind
   parts =
       let part : suc (length p.hops) ≡ 1 + length p.hops = omega arith in
-      ap (λ n. head_checks p ++ (hops_checks 1 (start_of p).step (root_of p.before) p.hops ++ tail_checks n (end_of p) p.tail)) part
+      ap (λ n. head_checks p ++ (hops_checks 1 (start_of p).step (opening_root p.before) p.hops ++ tail_checks n (end_of_order p) p.tail)) part
 
   abbrev judgement : (found : Option Reason) (hops : List Hop) (carried : List Thread) → Judgement
   judgement found hops carried = record { found = found; report = record { claim = claim_of (Precedes p); hops = hops; carried = carried } }
@@ -44,7 +44,7 @@ module _ (dig : List ℕ → List ℕ) (anchors : List Thread) (p : PrecedencePr
   judgement-chain =
       ap (λ f. judgement f (hops_to p.head.service p.hops) (reverse (flat_map carried_by (checks (Precedes p)))))
       (ap (found_in dig anchors) parts ∙ found-append dig anchors (head_checks p) behind)
-      ∙ ap (λ hs. judgement (found_with dig anchors (found_in dig anchors (head_checks p)) behind) hs (reverse (flat_map carried_by (checks (Precedes p)))))
+      ∙ ap (λ hs. judgement (reason_with dig anchors (found_in dig anchors (head_checks p)) behind) hs (reverse (flat_map carried_by (checks (Precedes p)))))
       (sym (append-nil (hops_to p.head.service p.hops)))
-      ∙ ap (λ cs. judgement (found_with dig anchors (found_in dig anchors (head_checks p)) behind) (hops_to p.head.service p.hops ++ []) (reverse cs))
+      ∙ ap (λ cs. judgement (reason_with dig anchors (found_in dig anchors (head_checks p)) behind) (hops_to p.head.service p.hops ++ []) (reverse cs))
       (ap (flat_map carried_by) parts ∙ carried-head p behind)

@@ -6,11 +6,11 @@ use Rattle.tw_base.specs.declared.history.tree_proof.Ancestor.{Ancestor}
 use Rattle.tw_base.specs.declared.history.tree_proof.Ask.{Ask}
 use Rattle.tw_base.specs.declared.history.tree_proof.TreeProof.{TreeProof}
 use Rattle.tw_treeproof.specs.Answers.{Checks, ancestors_of, place_text}
-use Rattle.tw_treeproof.specs.Ways.{climbed, is_left, over_text}
+use Rattle.tw_treeproof.specs.Ways.{climbed_tree, is_left, over_text}
 
 module _ (dig : List ℕ → List ℕ) (size : (text : List ℕ) → length (dig text) ≡ 32) where
-  length-climbed : (left : Entry → Bool) (up : List Ancestor) (below : List ℕ) → length below ≡ 32 → length (climbed dig left up below) ≡ 32
-  unfolding climbed
+  length-climbed : (left : Entry → Bool) (up : List Ancestor) (below : List ℕ) → length below ≡ 32 → length (climbed_tree dig left up below) ≡ 32
+  unfolding climbed_tree
   length-climbed left [] below is = is
   length-climbed left (a ∷ up) below is = length-climbed left up (dig (over_text left a below)) (size (over_text left a below))
 

@@ -19,7 +19,7 @@ use Rattle.tw_pieces.proofs.SegmentLaws.{then_absent, then_assoc, then_behind, t
 use Rattle.tw_skipproof.specs.declared.existence.Part.{Part}
 use Rattle.tw_skipproof.specs.declared.opening.Opening.{Opening}
 use Rattle.tw_skipproof.specs.declared.path.Link.{Link}
-use Rattle.tw_skipproof.specs.Codecs.{event_codec, existence_body, link_bytes, link_codec, opening_codec, part_codec, path_codec, proof_magic, step_codec}
+use Rattle.tw_skipproof.specs.Codecs.{event_part_codec, existence_body, link_bytes, link_codec, opening_codec, part_codec, path_codec, proof_magic, step_number_codec}
 use Rattle.tw_skipproof.specs.Paths.{greedy_steps, hop}
 use Rattle.tw_skipproof.proofs.GreedySteps.{greedy_steps-more, greedy_steps-none}
 use Rattle.tw_treeproof.specs.declared.limits.TheConstants.{MOST_ABOVE_ENTRY, MOST_ABOVE_PLACE}
@@ -32,10 +32,10 @@ use Rattle.tw_chain.specs.declared.proof.Proof.{Proof}
 use Rattle.tw_chain.specs.declared.proof.Proof.TheVariants.{Exists, Precedes, Archived, Absent, Linked}
 use Rattle.tw_chain.specs.declared.proof.Tail.{Tail}
 use Rattle.tw_verifier.specs.Chaining.{behind_chain, chain_of, closed, with_hop}
-use Rattle.tw_chain.specs.Checks.{last_thread}
+use Rattle.tw_chain.specs.Checks.{last_hop_thread}
 use Rattle.tw_verifier.specs.Judgements.{judged_layout, judgement_of}
-use Rattle.tw_chain.specs.Proofs.{absence_body, absence_of, behind_codec, body_of_kind, existence_of, following, hop_bytes, hop_codec, hops_codec, key_codec, kind_codec, kind_of, kinds_codec, last_step, link_body, link_of, precedence_body, precedence_of, proof_codec, tail_codec, thread_body, thread_of}
-use Rattle.tw_verifier.specs.Stages.{behind_absent, behind_archived, behind_before, behind_first, behind_kind, behind_link, behind_only, behind_second, behind_shown, chain_with, counted_hops, event_of, gap_head, head_of, judged, kind_head, link_head, linked, nodes_of, part_head, part_of, path_of, present_head, tail_of, with_nodes}
+use Rattle.tw_chain.specs.Proofs.{absence_body, absence_of, behind_codec, body_of_kind, existence_of, following, hop_bytes, hop_codec, hops_codec, key_codec, kind_codec, kinds_codec, last_step, link_body, link_of, precedence_body, precedence_of, proof_codec, proof_kind, tail_codec, thread_body, thread_proof_of}
+use Rattle.tw_verifier.specs.Stages.{behind_absent, behind_archived, behind_before, behind_first, behind_kind, behind_link, behind_only, behind_second, behind_shown, chain_with, counted_hops, event_stage, gap_head, head_stage, judged_stage, kind_head, link_head, link_stage, nodes_of, part_head, part_stage, path_of, present_head, tail_of, with_tree_nodes}
 use Rattle.tw_verifier.proofs.ChainSteps.{closed-hop}
 use Rattle.tw_verifier.proofs.HeadStep.{judgement-chain}
 
@@ -66,30 +66,30 @@ module _ {Z : Type 0} (links : List Link) (at to : ℕ) (next : List Link → Fo
 -- ---- parts
 
 module _ {Z : Type 0} (least : ℕ) (h : Part → Format Z) where
-  pub part-flat : then_by (part_codec least).format h ≡ head_of least h
+  pub part-flat : then_by (part_codec least).format h ≡ head_stage least h
   unfolding part_codec part_head path_codec each
   part-flat =
       let to : (List ℕ × (ℕ × (ℕ × (List Link × Opening)))) → Part = λ t. record { service = t.0; step = t.1.0; top = t.1.1.0; path = record { links = t.1.1.1.0 }; opening = t.1.1.1.1 } in
       let path_at = λ (step top : ℕ). pair (path_codec top step) (λ links. opening_codec least step) in
-      let top_at = λ (step : ℕ). pair step_codec (path_at step) in
-      let step_at = λ (service : List ℕ). pair step_codec top_at in
-      let steps = λ (service : List ℕ). pair step_codec (λ step. step_codec) in
-      let end = λ (t : List ℕ × (ℕ × ℕ)). part_of least h t.0 t.1.0 t.1.1 in
+      let top_at = λ (step : ℕ). pair step_number_codec (path_at step) in
+      let step_at = λ (service : List ℕ). pair step_number_codec top_at in
+      let steps = λ (service : List ℕ). pair step_number_codec (λ step. step_number_codec) in
+      let end = λ (t : List ℕ × (ℕ × ℕ)). part_stage least h t.0 t.1.0 t.1.1 in
       then_seen to _ (pair name_codec step_at) h
       ∙ then_pair name_codec step_at (λ t. h (to t))
       ∙ (λ k. then_by name_codec.format (λ service. (
-      then_pair step_codec top_at (λ y. h (to (service, y)))
-      ∙ (λ k. then_by step_codec.format (λ step. (
-      then_pair step_codec (path_at step) (λ y. h (to (service, (step, y))))
-      ∙ (λ k. then_by step_codec.format (λ top. then_pair (path_codec top step) (λ links. opening_codec least step) (λ y. h (to (service, (step, (top, y))))) k))) k))
-      ∙ sym (then_pair step_codec (λ step. step_codec) (λ y. end (service, y)))) k))
+      then_pair step_number_codec top_at (λ y. h (to (service, y)))
+      ∙ (λ k. then_by step_number_codec.format (λ step. (
+      then_pair step_number_codec (path_at step) (λ y. h (to (service, (step, y))))
+      ∙ (λ k. then_by step_number_codec.format (λ top. then_pair (path_codec top step) (λ links. opening_codec least step) (λ y. h (to (service, (step, (top, y))))) k))) k))
+      ∙ sym (then_pair step_number_codec (λ step. step_number_codec) (λ y. end (service, y)))) k))
       ∙ sym (then_pair name_codec steps end)
 
 -- ---- tree proofs
 
 module _ {Z : Type 0} where
   pub present-flat : (h : TreeProof → Format Z)
-      → then_by present_codec.format h ≡ then_by present_head.format (λ t. then_by (many t.0 ancestor_codec).format (λ up. h (with_nodes (Present t.1.0 t.1.1 []) up)))
+      → then_by present_codec.format h ≡ then_by present_head.format (λ t. then_by (many t.0 ancestor_codec).format (λ up. h (with_tree_nodes (Present t.1.0 t.1.1 []) up)))
   unfolding present_codec present_head
   present-flat h =
       let count = number_codec 1 0 MOST_ABOVE_ENTRY in
@@ -105,16 +105,16 @@ module _ {Z : Type 0} where
       ∙ sym (then_pair count labels end)
 
   pub gap-flat : (h : TreeProof → Format Z)
-      → then_by gap_codec.format h ≡ then_by gap_head.format (λ n. then_by (many n ancestor_codec).format (λ up. h (with_nodes (Gap []) up)))
+      → then_by gap_codec.format h ≡ then_by gap_head.format (λ n. then_by (many n ancestor_codec).format (λ up. h (with_tree_nodes (Gap []) up)))
   unfolding gap_codec gap_head counted
   gap-flat h =
       then_variant Gap gap_of _ h ∙ then_kind length (number_codec 1 0 MOST_ABOVE_PLACE) (λ n. many n ancestor_codec) (λ up. h (Gap up))
 
-with-nodes : (shown : TreeProof) (a : Ancestor) (up : List Ancestor) → with_nodes shown (a ∷ up) ≡ with_nodes (with_nodes shown (a ∷ [])) up
+with-nodes : (shown : TreeProof) (a : Ancestor) (up : List Ancestor) → with_tree_nodes shown (a ∷ up) ≡ with_tree_nodes (with_tree_nodes shown (a ∷ [])) up
 with-nodes (Present left right have) a up = ap (Present left right) (sym (append_assoc have (a ∷ []) up))
 with-nodes (Gap have) a up = ap Gap (sym (append_assoc have (a ∷ []) up))
 
-with-none : (shown : TreeProof) → with_nodes shown [] ≡ shown
+with-none : (shown : TreeProof) → with_tree_nodes shown [] ≡ shown
 with-none (Present left right have) = ap (Present left right) (append-nil have)
 with-none (Gap have) = ap Gap (append-nil have)
 
@@ -122,16 +122,16 @@ with-none (Gap have) = ap Gap (append-nil have)
 
 module _ (dig : List ℕ → List ℕ) (anchors : List Thread) where
   abbrev judge : Proof → Format Judgement
-  judge = judged dig anchors
+  judge = judged_stage dig anchors
 
   nodes-one : (next : TreeProof → Format Judgement) (shown : TreeProof) (more : ℕ)
-      → nodes_of dig anchors next shown (suc more) ≡ then_by ancestor_codec.format (λ a. nodes_of dig anchors next (with_nodes shown (a ∷ [])) more)
+      → nodes_of dig anchors next shown (suc more) ≡ then_by ancestor_codec.format (λ a. nodes_of dig anchors next (with_tree_nodes shown (a ∷ [])) more)
   nodes-one next shown more =
-      then_many more ancestor_codec (λ up. next (with_nodes shown up))
+      then_many more ancestor_codec (λ up. next (with_tree_nodes shown up))
       ∙ (λ k. then_by ancestor_codec.format (λ a. then_by (many more ancestor_codec).format (λ up. next (with-nodes shown a up k))))
 
   pub nodes-more : (next : TreeProof → Format Judgement) (shown : TreeProof) (more : ℕ) → 0 < more
-      → nodes_of dig anchors next shown more ≡ then_by ancestor_codec.format (λ a. nodes_of dig anchors next (with_nodes shown (a ∷ [])) (more - 1))
+      → nodes_of dig anchors next shown more ≡ then_by ancestor_codec.format (λ a. nodes_of dig anchors next (with_tree_nodes shown (a ∷ [])) (more - 1))
   nodes-more next shown more some =
       let is : more ≡ suc (more - 1) = omega (arith, some) in
       ap (nodes_of dig anchors next shown) is ∙ nodes-one next shown (more - 1)
@@ -139,17 +139,17 @@ module _ (dig : List ℕ → List ℕ) (anchors : List Thread) where
   pub nodes-none : (next : TreeProof → Format Judgement) (shown : TreeProof) (more : ℕ) → more ≤ 0 → nodes_of dig anchors next shown more ≡ next shown
   nodes-none next shown more none =
       let zero_more : more ≡ 0 = omega (arith, none) in
-      ap (nodes_of dig anchors next shown) zero_more ∙ then_none ancestor_codec (λ up. next (with_nodes shown up)) ∙ ap next (with-none shown)
+      ap (nodes_of dig anchors next shown) zero_more ∙ then_none ancestor_codec (λ up. next (with_tree_nodes shown up)) ∙ ap next (with-none shown)
 
-  existence-flat : then_by existence_body.format (λ p. judge (Exists p)) ≡ head_of 1 (event_of (behind_only dig anchors))
+  existence-flat : then_by existence_body.format (λ p. judge (Exists p)) ≡ head_stage 1 (event_stage (behind_only dig anchors))
   unfolding existence_body
   existence-flat =
-      let events = λ (at : Part). event_codec at.opening.count in
+      let events = λ (at : Part). event_part_codec at.opening.count in
       then_seen _ _ (pair (part_codec 1) events) (λ p. judge (Exists p))
       ∙ then_pair (part_codec 1) events (λ t. judge (Exists (record { at = t.0; event = t.1 })))
-      ∙ part-flat 1 (event_of (behind_only dig anchors))
+      ∙ part-flat 1 (event_stage (behind_only dig anchors))
 
-  thread-flat : then_by thread_body.format (λ p. judge (Archived p)) ≡ head_of 0 (λ at. then_by entry_codec.format (behind_archived dig anchors at))
+  thread-flat : then_by thread_body.format (λ p. judge (Archived p)) ≡ head_stage 0 (λ at. then_by entry_codec.format (behind_archived dig anchors at))
   unfolding thread_body
   thread-flat =
       let behind = λ (at : Part). pair entry_codec (λ entry. present_codec) in
@@ -158,7 +158,7 @@ module _ (dig : List ℕ → List ℕ) (anchors : List Thread) where
       ∙ (λ k. then_by (part_codec 0).format (λ at. then_pair entry_codec (λ entry. present_codec) (λ y. judge (Archived (record { at = at; entry = y.0; shown = y.1 }))) k))
       ∙ part-flat 0 (λ at. then_by entry_codec.format (behind_archived dig anchors at))
 
-  absence-flat : then_by absence_body.format (λ p. judge (Absent p)) ≡ head_of 0 (λ at. then_by key_codec.format (behind_absent dig anchors at))
+  absence-flat : then_by absence_body.format (λ p. judge (Absent p)) ≡ head_stage 0 (λ at. then_by key_codec.format (behind_absent dig anchors at))
   unfolding absence_body
   absence-flat =
       let behind = λ (at : Part). pair key_codec (λ key. gap_codec) in
@@ -167,17 +167,17 @@ module _ (dig : List ℕ → List ℕ) (anchors : List Thread) where
       ∙ (λ k. then_by (part_codec 0).format (λ at. then_pair key_codec (λ key. gap_codec) (λ y. judge (Absent (record { at = at; key = y.0; shown = y.1 }))) k))
       ∙ part-flat 0 (λ at. then_by key_codec.format (behind_absent dig anchors at))
 
-  link-flat : then_by link_body.format (λ p. judge (Linked p)) ≡ linked dig anchors
+  link-flat : then_by link_body.format (λ p. judge (Linked p)) ≡ link_stage dig anchors
   unfolding link_body link_head path_codec each
   link-flat =
       let zero_step = number_codec 8 0 LAST_STEP in
       let links_at = λ (step top : ℕ) (auth : List ℕ). path_codec top step in
       let auth_at = λ (step top : ℕ). pair digest_codec (links_at step top) in
-      let top_at = λ (step : ℕ). pair step_codec (auth_at step) in
+      let top_at = λ (step : ℕ). pair step_number_codec (auth_at step) in
       let step_at = λ (service : List ℕ). pair zero_step top_at in
       let h = λ (t : List ℕ × (ℕ × (ℕ × (List ℕ × List Link)))). judge (Linked (record { service = t.0; step = t.1.0; top = t.1.1.0; auth = t.1.1.1.0; path = record { links = t.1.1.1.1 } })) in
       let auth_only = λ (top : ℕ). digest_codec in
-      let top_only = λ (step : ℕ). pair step_codec auth_only in
+      let top_only = λ (step : ℕ). pair step_number_codec auth_only in
       let step_only = λ (service : List ℕ). pair zero_step top_only in
       let end = λ (t : List ℕ × (ℕ × (ℕ × List ℕ))). path_of [] t.1.1.0 t.1.0 (λ links. h (t.0, (t.1.0, (t.1.1.0, (t.1.1.1, links))))) in
       then_seen _ _ (pair name_codec step_at) (λ p. judge (Linked p))
@@ -185,16 +185,16 @@ module _ (dig : List ℕ → List ℕ) (anchors : List Thread) where
       ∙ (λ k. then_by name_codec.format (λ service. (
       then_pair zero_step top_at (λ y. h (service, y))
       ∙ (λ k. then_by zero_step.format (λ step. (
-      then_pair step_codec (auth_at step) (λ y. h (service, (step, y)))
-      ∙ (λ k. then_by step_codec.format (λ top. then_pair digest_codec (links_at step top) (λ y. h (service, (step, (top, y)))) k))
-      ∙ sym (then_pair step_codec auth_only (λ y. end (service, (step, y))))) k))
+      then_pair step_number_codec (auth_at step) (λ y. h (service, (step, y)))
+      ∙ (λ k. then_by step_number_codec.format (λ top. then_pair digest_codec (links_at step top) (λ y. h (service, (step, (top, y)))) k))
+      ∙ sym (then_pair step_number_codec auth_only (λ y. end (service, (step, y))))) k))
       ∙ sym (then_pair zero_step top_only (λ y. end (service, y)))) k))
       ∙ sym (then_pair name_codec step_only end)
 
   abbrev proof : Part → EventPart → Option Opening → List HopPart → Tail → Format Judgement
   proof head e before hops tail = judge (Precedes (record { head = head; event = e; before = before; hops = hops; tail = tail }))
 
-  hops-flat : (n : ℕ) → then_by (hops_codec n).format (λ p. judge (Precedes p)) ≡ head_of 1 (event_of (behind_second dig anchors n))
+  hops-flat : (n : ℕ) → then_by (hops_codec n).format (λ p. judge (Precedes p)) ≡ head_stage 1 (event_stage (behind_second dig anchors n))
   unfolding hops_codec behind_codec
   hops-flat n =
       let opening = λ (head : Part). optional (nat_lt 0 n) (opening_codec 0 (head.step - 1)) in
@@ -202,15 +202,15 @@ module _ (dig : List ℕ → List ℕ) (anchors : List Thread) where
       let tail = λ (head : Part) (hops : List HopPart). tail_codec (last_step (head.step - 1) hops) in
       let rest = λ (head : Part) (before : Option Opening). pair list (tail head) in
       let behind = λ (head : Part) (e : EventPart). pair (opening head) (rest head) in
-      let event = λ (head : Part). pair (event_codec head.opening.count) (behind head) in
+      let event = λ (head : Part). pair (event_part_codec head.opening.count) (behind head) in
       then_seen _ _ (pair (part_codec 1) event) (λ p. judge (Precedes p))
       ∙ then_pair (part_codec 1) event (λ t. proof t.0 t.1.0 t.1.1.0 t.1.1.1.0 t.1.1.1.1)
       ∙ (λ k. then_by (part_codec 1).format (λ head. (
-      then_pair (event_codec head.opening.count) (behind head) (λ y. proof head y.0 y.1.0 y.1.1.0 y.1.1.1)
-      ∙ (λ k. then_by (event_codec head.opening.count).format (λ e. (
+      then_pair (event_part_codec head.opening.count) (behind head) (λ y. proof head y.0 y.1.0 y.1.1.0 y.1.1.1)
+      ∙ (λ k. then_by (event_part_codec head.opening.count).format (λ e. (
       then_pair (opening head) (rest head) (λ y. proof head e y.0 y.1.0 y.1.1)
       ∙ (λ k. then_by (opening head).format (λ before. then_pair list (tail head) (λ y. proof head e before y.0 y.1) k))) k))) k))
-      ∙ part-flat 1 (event_of (behind_second dig anchors n))
+      ∙ part-flat 1 (event_stage (behind_second dig anchors n))
 
   precedence-flat : then_by precedence_body.format (λ p. judge (Precedes p)) ≡ counted_hops dig anchors
   unfolding precedence_body hops_codec behind_codec
@@ -227,7 +227,7 @@ module _ (dig : List ℕ → List ℕ) (anchors : List Thread) where
   bodies kind =
       chosen (kind == 1) _ _ _ _ (then_variant Exists existence_of existence_body judge ∙ existence-flat)
       (chosen (kind == 2) _ _ _ _ (then_variant Precedes precedence_of precedence_body judge ∙ precedence-flat)
-      (chosen (kind == 3) _ _ _ _ (then_variant Archived thread_of thread_body judge ∙ thread-flat)
+      (chosen (kind == 3) _ _ _ _ (then_variant Archived thread_proof_of thread_body judge ∙ thread-flat)
       (chosen (kind == 4) _ _ _ _ (then_variant Absent absence_of absence_body judge ∙ absence-flat)
       (then_variant Linked link_of link_body judge ∙ link-flat))))
 
@@ -237,7 +237,7 @@ module _ (dig : List ℕ → List ℕ) (anchors : List Thread) where
   begun =
       then_behind proof_magic kinds_codec judge
       ∙ (λ k. then_by (text_codec proof_magic).format (λ t. (
-      then_kind kind_of kind_codec body_of_kind judge
+      then_kind proof_kind kind_codec body_of_kind judge
       ∙ (λ k. then_by kind_codec.format (λ kind. bodies kind k))) k))
       ∙ sym (then_behind proof_magic kind_codec (behind_kind dig anchors))
 
@@ -246,18 +246,18 @@ module _ (dig : List ℕ → List ℕ) (anchors : List Thread) where
   tail-flat : (c : Chain) → then_by (tail_codec c.known.step).format (λ tail. Done (closed dig anchors c [] tail)) ≡ tail_of dig anchors c
   unfolding tail_codec path_codec each
   tail-flat c =
-      let event = λ (step : ℕ) (opening : Opening). event_codec opening.count in
+      let event = λ (step : ℕ) (opening : Opening). event_part_codec opening.count in
       let opening = λ (step : ℕ) (links : List Link). pair (opening_codec 1 step) (event step) in
       let links = λ (step : ℕ). pair (path_codec c.known.step step) (opening step) in
       let h = λ (t : ℕ × (List Link × (Opening × EventPart))). Done (closed dig anchors c [] (record { step = t.0; path = record { links = t.1.0 }; opening = t.1.1.0; event = t.1.1.1 })) in
-      then_seen _ _ (pair step_codec links) (λ tail. Done (closed dig anchors c [] tail))
-      ∙ then_pair step_codec links h
-      ∙ (λ k. then_by step_codec.format (λ step. (
+      then_seen _ _ (pair step_number_codec links) (λ tail. Done (closed dig anchors c [] tail))
+      ∙ then_pair step_number_codec links h
+      ∙ (λ k. then_by step_number_codec.format (λ step. (
       then_pair (path_codec c.known.step step) (opening step) (λ y. h (step, y))
       ∙ (λ k. then_by (path_codec c.known.step step).format (λ ls. then_pair (opening_codec 1 step) (event step) (λ y. h (step, (ls, y))) k))) k))
 
   abbrev behind_hops : Chain → List HopPart → Format Judgement
-  behind_hops c hops = then_by (tail_codec (last_thread c.known hops).step).format (λ tail. Done (closed dig anchors c hops tail))
+  behind_hops c hops = then_by (tail_codec (last_hop_thread c.known hops).step).format (λ tail. Done (closed dig anchors c hops tail))
 
   -- where no hop follows, the first event does
   pub chain-tail : (c : Chain) → c.more ≤ 0 → behind_chain dig anchors c ≡ tail_of dig anchors c
@@ -272,7 +272,7 @@ module _ (dig : List ℕ → List ℕ) (anchors : List Thread) where
       ap (λ n. then_by (each_format hop_bytes hop_codec (following n)) (behind_hops c)) is
       ∙ then_each hop_bytes hop_codec more (following more) (behind_hops c)
       ∙ (λ k. then_by (hop_codec more).format (λ hop. then_by (each_format hop_bytes hop_codec (following more)) (λ hops.
-      then_by (tail_codec (last_thread hop.entry.thread hops).step).format (λ tail. Done (closed-hop dig anchors c hop hops tail more k)))))
+      then_by (tail_codec (last_hop_thread hop.entry.thread hops).step).format (λ tail. Done (closed-hop dig anchors c hop hops tail more k)))))
 
   hop-flat : (more : ℕ) (h : HopPart → Format Judgement) → then_by (hop_codec more).format h
       ≡ then_by entry_codec.format (λ entry. then_by present_codec.format (λ shown. then_by (number_codec 8 0 LAST_STEP).format (λ bind. path_of [] bind entry.thread.step (λ links.
@@ -300,7 +300,7 @@ module _ (dig : List ℕ → List ℕ) (anchors : List Thread) where
       let is : c.more ≡ suc (c.more - 1) = omega (arith, some) in
       chain-hop c more is ∙ hop-flat more (λ hop. behind_chain dig anchors (with_hop dig anchors c hop more))
 
-  last-step : (t : Thread) (hops : List HopPart) → last_step t.step hops ≡ (last_thread t hops).step
+  last-step : (t : Thread) (hops : List HopPart) → last_step t.step hops ≡ (last_hop_thread t hops).step
   last-step t [] = refl
   last-step t (hop ∷ hops) = last-step hop.entry.thread hops
 

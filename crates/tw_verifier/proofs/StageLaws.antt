@@ -18,7 +18,7 @@ use Rattle.tw_base.proofs.lemmas.format.CodecLaws.{Lawful, goes-then, lawful, la
 use Rattle.tw_skipproof.specs.declared.existence.Part.{Part}
 use Rattle.tw_skipproof.specs.declared.opening.Opening.{Opening}
 use Rattle.tw_skipproof.specs.declared.path.Link.{Link}
-use Rattle.tw_skipproof.specs.Codecs.{event_codec, link_codec, opening_codec, path_codec, proof_magic, step_codec}
+use Rattle.tw_skipproof.specs.Codecs.{event_part_codec, link_codec, opening_codec, path_codec, proof_magic, step_number_codec}
 use Rattle.tw_skipproof.proofs.LawfulCodecs.{event-lawful, opening-few, opening-lawful, path-lawful}
 use Rattle.tw_treeproof.specs.Codecs.{ancestor_codec, gap_codec, present_codec}
 use Rattle.tw_treeproof.proofs.LawfulCodecs.{ancestor-lawful, gap-lawful, present-lawful}
@@ -40,9 +40,9 @@ use Rattle.tw_verifier.specs.declared.stage.Stage.TheVariants as stage
 use Rattle.tw_verifier.specs.declared.stage.Way.{Way}
 use Rattle.tw_verifier.specs.declared.stage.Way.TheVariants as way
 use Rattle.tw_verifier.specs.Chaining.{behind_chain}
-use Rattle.tw_chain.specs.Checks.{last_thread}
+use Rattle.tw_chain.specs.Checks.{last_hop_thread}
 use Rattle.tw_chain.specs.Proofs.{following, hop_bytes, hop_codec, key_codec, kind_codec, last_step, tail_codec}
-use Rattle.tw_verifier.specs.Stages.{behind_absent, behind_archived, behind_before, behind_entry, behind_event, behind_first, behind_kind, behind_link, behind_only, behind_opening, behind_part, behind_path, behind_second, behind_shown, behind_tree, chain_with, counted_hops, event_of, gap_head, head_of, kind_head, least_of, least_opened, link_head, linked, nodes_of, part_head, part_of, path_of, present_head, rest, step_opened}
+use Rattle.tw_verifier.specs.Stages.{behind_absent, behind_archived, behind_before, behind_entry, behind_event, behind_first, behind_kind, behind_link, behind_only, behind_opening, behind_part, behind_path, behind_second, behind_shown, behind_tree, chain_with, counted_hops, event_stage, gap_head, head_stage, kind_head, least_of, least_opened, link_head, link_stage, nodes_of, part_head, part_stage, path_of, present_head, rest, step_opened}
 use Rattle.tw_chain.proofs.ProofCodec.{hop-lawful, hop-written, key-lawful, tail-lawful}
 
 -- ---- segments
@@ -103,8 +103,8 @@ pub opening-nothing : (least step : ℕ) → SpellsNothing (opening_codec least 
 unfolding opening_codec seen pair bytes_codec bytes byte_then
 opening-nothing least step x s = s
 
-pub event-nothing : (count : ℕ) → SpellsNothing (event_codec count).format []
-unfolding event_codec seen pair number_codec number
+pub event-nothing : (count : ℕ) → SpellsNothing (event_part_codec count).format []
+unfolding event_part_codec seen pair number_codec number
 event-nothing count x s = s
 
 pub entry-nothing : SpellsNothing entry_codec.format []
@@ -122,7 +122,7 @@ ancestor-nothing x s = s
 pub bind-lawful : Lawful (number_codec 8 0 LAST_STEP)
 bind-lawful = search lawful
 
-pub step-lawful : Lawful step_codec
+pub step-lawful : Lawful step_number_codec
 step-lawful = search lawful
 
 -- ---- what follows
@@ -137,15 +137,15 @@ module _ {Z : Type 0} where
       goes-then (opening_codec least step).format next (opening-lawful least step few).goes (λ word o s. goes o (opening-few least step o ((opening-lawful least step few).words word o s).1))
 
   pub part-goes : (least : ℕ) (next : Part → Format Z) → least ≤ MOST_EVENTS → ((at : Part) → at.opening.count ≤ MOST_EVENTS → GoesOn (next at)) → (service : List ℕ) (step top : ℕ)
-      → GoesOn (part_of least next service step top)
+      → GoesOn (part_stage least next service step top)
   part-goes least next few goes service step top =
       path-goes [] top step _ (λ links. opening-goes least step _ few (λ o small. goes (record { service = service; step = step; top = top; path = record { links = links }; opening = o }) small))
 
-  pub head-goes : (least : ℕ) (next : Part → Format Z) → least ≤ MOST_EVENTS → ((at : Part) → at.opening.count ≤ MOST_EVENTS → GoesOn (next at)) → GoesOn (head_of least next)
+  pub head-goes : (least : ℕ) (next : Part → Format Z) → least ≤ MOST_EVENTS → ((at : Part) → at.opening.count ≤ MOST_EVENTS → GoesOn (next at)) → GoesOn (head_stage least next)
   head-goes least next few goes = goes-then part_head.format _ part-lawful.goes (λ word t s. part-goes least next few goes t.0 t.1.0 t.1.1)
 
-  pub event-goes : (next : Part → EventPart → Format Z) (at : Part) → at.opening.count ≤ MOST_EVENTS → ((e : EventPart) → GoesOn (next at e)) → GoesOn (event_of next at)
-  event-goes next at few goes = goes-then (event_codec at.opening.count).format (next at) (event-lawful at.opening.count few).goes (λ word e s. goes e)
+  pub event-goes : (next : Part → EventPart → Format Z) (at : Part) → at.opening.count ≤ MOST_EVENTS → ((e : EventPart) → GoesOn (next at e)) → GoesOn (event_stage next at)
+  event-goes next at few goes = goes-then (event_part_codec at.opening.count).format (next at) (event-lawful at.opening.count few).goes (λ word e s. goes e)
 
   optional-goes : (is : Bool) (step : ℕ) (next : Option Opening → Format Z) → ((o : Option Opening) → GoesOn (next o)) → GoesOn (then_by (optional is (opening_codec 0 step)).format next)
   optional-goes is step next goes =
@@ -160,7 +160,7 @@ module _ (dig : List ℕ → List ℕ) (anchors : List Thread) where
   unfolding behind_chain
   chain-goes c =
       goes-then (each_format hop_bytes hop_codec (following c.more)) _ (hops-goes c.more) (λ word hops s.
-      goes-then (tail_codec (last_thread c.known hops).step).format _ (tail-lawful (last_thread c.known hops).step).goes (λ word tail t. tt))
+      goes-then (tail_codec (last_hop_thread c.known hops).step).format _ (tail-lawful (last_hop_thread c.known hops).step).goes (λ word tail t. tt))
 
   pub before-goes : (head : Part) (e : EventPart) (hops : ℕ) (before : Option Opening) → GoesOn (behind_before dig anchors head e hops before)
   unfolding each
@@ -221,10 +221,10 @@ module _ (dig : List ℕ → List ℕ) (anchors : List Thread) where
   least-few goal.Archived = lit≤ tt
   least-few goal.Absent = lit≤ tt
 
-  pub goal-head-goes : (g : Goal) → GoesOn (head_of (least_of g) (behind_part dig anchors g))
+  pub goal-head-goes : (g : Goal) → GoesOn (head_stage (least_of g) (behind_part dig anchors g))
   goal-head-goes g = head-goes (least_of g) (behind_part dig anchors g) (least-few g) (goal-goes g)
 
-  pub goal-part-goes : (g : Goal) (service : List ℕ) (step top : ℕ) → GoesOn (part_of (least_of g) (behind_part dig anchors g) service step top)
+  pub goal-part-goes : (g : Goal) (service : List ℕ) (step top : ℕ) → GoesOn (part_stage (least_of g) (behind_part dig anchors g) service step top)
   goal-part-goes g = part-goes (least_of g) (behind_part dig anchors g) (least-few g) (goal-goes g)
 
   pub way-goes : (w : Way) (links : List Link) → GoesOn (behind_path dig anchors w links)
@@ -232,10 +232,10 @@ module _ (dig : List ℕ → List ℕ) (anchors : List Thread) where
   way-goes (way.Bind h) links = link-goes h.hop.further.onward.chain.value h.hop.entry h.shown h.bind links
   way-goes (way.Link l) links = tt
 
-  linked-goes : GoesOn (linked dig anchors)
+  linked-goes : GoesOn (link_stage dig anchors)
   linked-goes = goes-then link_head.format _ head-lawful.goes (λ word t s. path-goes [] t.1.1.0 t.1.0 _ (λ links. tt))
 
-  pub counted-goes : (hops : ℕ) → GoesOn (head_of 1 (event_of (behind_second dig anchors hops)))
+  pub counted-goes : (hops : ℕ) → GoesOn (head_stage 1 (event_stage (behind_second dig anchors hops)))
   counted-goes hops = head-goes 1 _ (lit≤ tt) (λ at few. event-goes (behind_second dig anchors hops) at few (second-goes hops at))
 
   pub hops-number : Lawful (number_codec 1 0 MOST_HOPS)
@@ -252,13 +252,13 @@ module _ (dig : List ℕ → List ℕ) (anchors : List Thread) where
       (chosen (kind == 3) _ _ (goal-head-goes goal.Archived)
       (chosen (kind == 4) _ _ (goal-head-goes goal.Absent) linked-goes)))
 
-  pub first-goes : (c : Chain) (service : List ℕ) (step top : ℕ) → GoesOn (part_of 1 (event_of (behind_first dig anchors c)) service step top)
+  pub first-goes : (c : Chain) (service : List ℕ) (step top : ℕ) → GoesOn (part_stage 1 (event_stage (behind_first dig anchors c)) service step top)
   first-goes c = part-goes 1 _ (lit≤ tt) (λ at few. event-goes (behind_first dig anchors c) at few (λ e. tt))
 
 -- ---- sizes of what is taken
 
-pub event-small : (count : ℕ) (e : EventPart) → (event_codec count).Fits e → length e.event ≤ MOST_EVENT_BYTES
-unfolding event_codec seen pair sized_codec by_kind number_codec
+pub event-small : (count : ℕ) (e : EventPart) → (event_part_codec count).Fits e → length e.event ≤ MOST_EVENT_BYTES
+unfolding event_part_codec seen pair sized_codec by_kind number_codec
 event-small count e fits = fits.1.0.0.1
 
 pub entry-within : (entry : Entry) → entry_codec.Fits entry → entry.thread.step ≤ LAST_STEP
@@ -302,7 +302,7 @@ unfinished dig anchors (stage.Head g) not = nothing-first part_head.format _ par
 unfinished dig anchors stage.LinkHead not = nothing-first link_head.format _ head-nothing
 unfinished dig anchors (stage.Path p) not = nothing-first (link_codec p.at).format _ (link-nothing p.at)
 unfinished dig anchors (stage.Opening o) not = nothing-first (opening_codec (least_opened o) (step_opened o)).format _ (opening-nothing (least_opened o) (step_opened o))
-unfinished dig anchors (stage.Event e) not = nothing-first (event_codec e.at.part.opening.count).format _ (event-nothing e.at.part.opening.count)
+unfinished dig anchors (stage.Event e) not = nothing-first (event_part_codec e.at.part.opening.count).format _ (event-nothing e.at.part.opening.count)
 unfinished dig anchors (stage.Entry s) not = nothing-first entry_codec.format _ entry-nothing
 unfinished dig anchors (stage.Key r) not = nothing-first key_codec.format _ key-nothing
 unfinished dig anchors (stage.Tree (asked.Archived at entry)) not = nothing-first present_codec.format _ present-nothing
@@ -310,5 +310,5 @@ unfinished dig anchors (stage.Tree (asked.Absent at key)) not = nothing-first ga
 unfinished dig anchors (stage.Tree (asked.Hop h)) not = nothing-first present_codec.format _ present-nothing
 unfinished dig anchors (stage.Nodes c) not = nothing-first ancestor_codec.format _ ancestor-nothing
 unfinished dig anchors (stage.Bind h shown) not = nothing-first (number_codec 8 0 LAST_STEP).format _ (step-nothing 0 LAST_STEP)
-unfinished dig anchors (stage.Tail onward) not = nothing-first step_codec.format _ (step-nothing 1 LAST_STEP)
+unfinished dig anchors (stage.Tail onward) not = nothing-first step_number_codec.format _ (step-nothing 1 LAST_STEP)
 unfinished dig anchors (stage.Done j) not = absurd (not j refl)

@@ -2,6 +2,6 @@
 use Rattle.tw_base.specs.format.Seen.{records}
 use Rattle.tw_verifier.specs.Stages.{kind_head, link_head, part_head, present_head}
 
-unfoldable pub heads : Unit {0}
+unfoldable pub heads_seen : Unit {0}
 unfolding kind_head link_head part_head present_head records
-heads = tt
+heads_seen = tt

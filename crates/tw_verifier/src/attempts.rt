@@ -10,7 +10,7 @@ ghost use Rattle.tw_skipproof.specs.declared.path.Link.{Link as AnyLink};
 ghost use Rattle.tw_verifier.specs.declared.judgement.Judgement.{Judgement as AnyJudgement};
 ghost use Rattle.tw_skipproof.specs.Paths.{hop};
 ghost use Rattle.tw_verifier.specs.declared.stage.Stage.TheVariants.{Begun, Counted, Event, Head, LinkHead, Opening, Path};
-ghost use Rattle.tw_verifier.specs.Stages.{behind_kind as behind_kind_of, behind_path, behind_second, event_of, head_of, least_opened, path_of, rest, step_opened};
+ghost use Rattle.tw_verifier.specs.Stages.{behind_kind as behind_kind_of, behind_path, behind_second, event_stage, head_stage, least_opened, path_of, rest, step_opened};
 
 use crate::following::{along_path, behind_event, behind_opening};
 use crate::heads::{take_kind_head, take_link_head, take_part_head};
@@ -57,7 +57,7 @@ pub(crate) fn attempt_begun(held: &[u8]) -> Result<Attempt<Stage>, NoMemory>
 /// Behind the number of hops.
 fn behind_count(hops: u64) -> Stage
     requires { hops ≤ MOST_HOPS }
-    ensures { (dig : List ℕ → List ℕ) (anchors : List Anchor) → rest dig anchors result ≡ head_of 1 (event_of (behind_second dig anchors hops)) }
+    ensures { (dig : List ℕ → List ℕ) (anchors : List Anchor) → rest dig anchors result ≡ head_stage 1 (event_stage (behind_second dig anchors hops)) }
 {
     let hops = HopCount { count: hops as u8 };
     Stage::Head(Goal::Event(Role::Second(hops)))

@@ -7,9 +7,9 @@ ghost use Rattle.tw_base.specs.declared.history.thread.Thread.{Thread as Anchor}
 ghost use Rattle.tw_chain.specs.declared.proof.HopPart.{HopPart as AnyHop};
 ghost use Rattle.tw_chain.specs.declared.proof.Tail.{Tail as AnyTail};
 ghost use Rattle.tw_chain.specs.Accepting.{hop_from as hop_from_of};
-ghost use Rattle.tw_chain.specs.Finding.{found_with};
+ghost use Rattle.tw_chain.specs.Finding.{reason_with};
 ghost use Rattle.tw_verifier.specs.Chaining.{chain_of, closed, with_hop as with_hop_of};
-ghost use Rattle.tw_chain.specs.Checks.{bind_checks, hop_checks, root_of};
+ghost use Rattle.tw_chain.specs.Checks.{bind_checks, hop_checks, opening_root};
 ghost use Rattle.tw_chain.specs.Checks.Check.{AnswerOf, EventOf, InOrder, PathOf};
 ghost use Rattle.tw_chain.specs.Checks.Upper.{Known};
 ghost use Rattle.tw_chain.specs.Passing.{carried_by};
@@ -61,8 +61,8 @@ fn with_entry<H: Hasher>(
     opening: &Option<Opening>,
     hop: &HopPart,
 ) -> Option<Reason>
-    ensures { (anchors : List Anchor) → result ≡ found_with H.dig anchors found
-        (AnswerOf part (root_of opening.now) (Present hop.now.entry) hop.now.shown ∷ []) }
+    ensures { (anchors : List Anchor) → result ≡ reason_with H.dig anchors found
+        (AnswerOf part (opening_root opening.now) (Present hop.now.entry) hop.now.shown ∷ []) }
 {
     match opening {
         None => without_answer(found, part),
@@ -81,7 +81,7 @@ fn with_bind<H: Hasher>(
     anchors: &[Thread],
 ) -> Option<Reason>
     requires { hop.now.bind ≤ LAST_STEP }
-    ensures { result ≡ found_with H.dig anchors.now found (bind_checks part hop.now) }
+    ensures { result ≡ reason_with H.dig anchors.now found (bind_checks part hop.now) }
 {
     if hop.bind == 0 {
         return found;
@@ -100,7 +100,7 @@ fn with_hop_checks<H: Hasher>(
 ) -> Option<Reason>
     requires step { hop.now.entry.thread.step ≤ LAST_STEP }
     requires bind { hop.now.bind ≤ LAST_STEP }
-    ensures { result ≡ found_with H.dig anchors.now found (hop_checks part step (root_of opening.now) hop.now) }
+    ensures { result ≡ reason_with H.dig anchors.now found (hop_checks part step (opening_root opening.now) hop.now) }
 {
     let found = with_order(found, hop.entry.archived, step);
     let found = with_entry::<H>(found, part, opening, hop);
@@ -120,7 +120,7 @@ fn with_first<H: Hasher>(
     requires top { at.now.top ≤ LAST_STEP }
     requires few { at.now.opening.count ≤ MOST_EVENTS }
     requires small { length event.now.event ≤ MOST_EVENT_BYTES }
-    ensures { (anchors : List Anchor) → result ≡ found_with H.dig anchors found
+    ensures { (anchors : List Anchor) → result ≡ reason_with H.dig anchors found
         (InOrder at.now.step at.now.top ∷ PathOf part at.now (Known upper.now) ∷ EventOf part at.now.opening event.now ∷ []) }
 {
     let found = with_order(found, at.step, at.top);

@@ -1,5 +1,5 @@
 // Reading the segments of a proof that comes in pieces, but those that other crates read.
-#![tactic(auto, unfolding(crate::specs::Seen::heads))]
+#![tactic(auto, unfolding(crate::specs::Seen::heads_seen))]
 
 ghost use Rattle.std.specs.Prelude.{◌≤◌, length, IfOk};
 ghost use Rattle.tw_base.specs.format.Taking.{Takes};

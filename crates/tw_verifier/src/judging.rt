@@ -1,7 +1,7 @@
 // What a verifier in pieces takes, segment by segment.
 
 ghost use Rattle.std.specs.Prelude.{ℕ, List, Ok};
-ghost use Rattle.tw_pieces.specs.Resuming.{Attempts, EndsAs};
+ghost use Rattle.tw_pieces.specs.Resuming.{Attempts, EndsAsFormat};
 ghost use Rattle.tw_base.specs.declared.history.thread.Thread.{Thread as Anchor};
 ghost use Rattle.tw_verifier.specs.declared.stage.Stage.{Stage as AnyStage};
 ghost use Rattle.tw_verifier.specs.Stages.{rest};
@@ -53,7 +53,7 @@ fn attempt_stage<H: Hasher>(
 /// The judgement of a whole proof.
 #[tactic(auto)]
 fn ended(stage: Stage) -> Option<Judgement>
-    ensures { (dig : List ℕ → List ℕ) (anchors : List Anchor) → EndsAs (rest dig anchors stage) result }
+    ensures { (dig : List ℕ → List ℕ) (anchors : List Anchor) → EndsAsFormat (rest dig anchors stage) result }
 {
     match stage {
         Stage::Done(judgement) => Some(judgement),

@@ -12,7 +12,7 @@ ghost use Rattle.tw_pieces.specs.Resuming.{Attempts};
 ghost use Rattle.tw_skipproof.specs.declared.path.Link.{Link as AnyLink};
 ghost use Rattle.tw_treeproof.specs.Codecs.{gap_codec, present_codec};
 ghost use Rattle.tw_verifier.specs.declared.stage.Stage.TheVariants.{Bind, Done, Entry as OfEntry, Key, Nodes, Tail, Tree};
-ghost use Rattle.tw_verifier.specs.Stages.{behind_entry, behind_first, behind_links_of, behind_path, behind_tree, event_of, nodes_of, part_of, rest, with_nodes};
+ghost use Rattle.tw_verifier.specs.Stages.{behind_entry, behind_first, behind_links_of, behind_path, behind_tree, event_stage, nodes_of, part_stage, rest, with_tree_nodes};
 
 use crate::following::{along_path, along_tree};
 use crate::heads::take_present_head;
@@ -159,7 +159,7 @@ pub(crate) fn attempt_tree<H: Hasher>(
 
 /// The tree proof with a node more above.
 fn with_node(shown: TreeProof, node: Ancestor) -> Result<TreeProof, NoMemory>
-    ensures { IfOk result (λ tree. tree ≡ with_nodes shown (node ∷ [])) }
+    ensures { IfOk result (λ tree. tree ≡ with_tree_nodes shown (node ∷ [])) }
 {
     match shown {
         TreeProof::Present {
@@ -188,7 +188,7 @@ fn behind_node<H: Hasher>(
     climb: Climb,
     node: Ancestor,
 ) -> Result<Stage, NoMemory>
-    ensures { IfOk result (λ stage. rest H.dig anchors.now stage ≡ nodes_of H.dig anchors.now (behind_tree H.dig anchors.now climb.asked) (with_nodes climb.shown (node ∷ [])) (climb.more - 1)) }
+    ensures { IfOk result (λ stage. rest H.dig anchors.now stage ≡ nodes_of H.dig anchors.now (behind_tree H.dig anchors.now climb.asked) (with_tree_nodes climb.shown (node ∷ [])) (climb.more - 1)) }
 {
     let Climb { asked, shown, more } = climb;
     let shown = with_node(shown, node)?;
@@ -281,7 +281,7 @@ fn behind_step<H: Hasher>(
     requires some { 0 < step }
     requires within { step ≤ LAST_STEP }
     ensures { IfOk result (λ stage. rest H.dig anchors.now stage
-        ≡ part_of 1 (event_of (behind_first H.dig anchors.now onward.chain.value)) onward.chain.value.known.from step onward.chain.value.known.step) }
+        ≡ part_stage 1 (event_stage (behind_first H.dig anchors.now onward.chain.value)) onward.chain.value.known.from step onward.chain.value.known.step) }
 {
     let top = onward.chain.known.step;
     let way = way_down(onward, step);

@@ -2,7 +2,7 @@
 
 ghost use Rattle.std.specs.Prelude.{◌≡◌, ◌↔◌, IsTrue, ℕ, List, [], ◌++◌, Bool, IfOk, OnOk, OnErr};
 ghost use Rattle.tw_base.specs.declared.history.thread.Thread.{Thread as Anchor};
-ghost use Rattle.tw_pieces.specs.Feeding.{IsSpent, is_broken};
+ghost use Rattle.tw_pieces.specs.Feeding.{IsSpent, is_reader_broken};
 ghost use Rattle.tw_base.specs.format.Formats.{IsFront};
 ghost use Rattle.tw_chain.specs.Binding.{BindsHistories};
 ghost use Rattle.tw_chain.specs.Proofs.{proof_layout};
@@ -57,13 +57,13 @@ impl<H: Hasher> Verifier<H> {
         ensures fed { (anchors : List Anchor) (strict : Bool) (pieces : List ℕ) → IsFed H.dig anchors strict self.old pieces →
             IsFed H.dig anchors strict self.new (pieces ++ piece.now) }
         // Where no memory was left, this is known from now on, and of whether the pieces break what was known before.
-        ensures spends { OnErr result (IsSpent self.new.fed × (is_broken self.new.fed ≡ is_broken self.old.fed)) }
+        ensures spends { OnErr result (IsSpent self.new.fed × (is_reader_broken self.new.fed ≡ is_reader_broken self.old.fed)) }
         // Else memory was left for each piece so far.
         ensures unspent { OnOk result (IsSpent self.new.fed → ⊥) }
         // Behind a piece for which no memory was left none is taken.
         ensures spent { IsSpent self.old.fed → OnOk result ⊥ }
         // Pieces behind a bad byte change nothing.
-        ensures still { IsTrue (is_broken self.old.fed) → self.new.fed ≡ self.old.fed }
+        ensures still { IsTrue (is_reader_broken self.old.fed) → self.new.fed ≡ self.old.fed }
     {
         self.fed.feed(self.alloc, piece)
     }
@@ -71,7 +71,7 @@ impl<H: Hasher> Verifier<H> {
     /// Whether no proof goes on behind the pieces.
     pub fn broken(&self) -> bool
         // It is what the verifier knows of it.
-        ensures told { result ≡ is_broken self.now.fed }
+        ensures told { result ≡ is_reader_broken self.now.fed }
         // While memory was left for each piece, it is so exactly where the pieces are no front of a proof.
         ensures exact { (anchors : List Anchor) (strict : Bool) (pieces : List ℕ) → IsFed H.dig anchors strict self.now pieces →
             (IsSpent self.now.fed → ⊥) → IsTrue result ↔ (IsFront proof_layout pieces → ⊥) }

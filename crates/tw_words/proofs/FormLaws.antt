@@ -4,7 +4,7 @@ use Rattle.std.proofs.Math.Seq.{drop-cons}
 use Rattle.std.specs.Bool.{Decides}
 use Rattle.std.specs.Str.{bytes_eq}
 use Rattle.std.proofs.lemmas.Slice.Eq.{bytes_eq-Decides}
-use Rattle.tw_words.specs.Forms.{Form, choose, count_paths, form_named, next}
+use Rattle.tw_words.specs.Forms.{Form, choose_form, count_paths, form_named, next}
 
 -- the word names no form of the table
 abbrev pub IsOther : List (List ℕ × Form) → List ℕ → Type 0
@@ -21,11 +21,11 @@ none_named (row ∷ rows) word other = by (bytes_eq word row.0) (bytes_eq-Decide
 
 -- the word names no form, so none goes on at it
 pub none_chosen : (rows : List (List ℕ × Form)) (words : List (List ℕ)) (word : List ℕ) (behind : List (List ℕ)) → words ≡ word ∷ behind →
-    IsOther rows word → choose rows words ≡ Err (length words)
+    IsOther rows word → choose_form rows words ≡ Err (length words)
 unfolding next
-none_chosen rows words word behind is other = subst (λ ws. choose rows ws ≡ Err (length ws)) (sym is) stops
+none_chosen rows words word behind is other = subst (λ ws. choose_form rows ws ≡ Err (length ws)) (sym is) stops
   where
-    stops : choose rows (word ∷ behind) ≡ Err (suc (length behind))
+    stops : choose_form rows (word ∷ behind) ≡ Err (suc (length behind))
     stops = rw (none_named rows word other) refl
 
 -- the count from a word on, by whether that word is a path

@@ -4,13 +4,13 @@ use Rattle.std.proofs.lemmas.Bool.{cases_lt}
 use Rattle.std.specs.Str.{bytes_eq}
 use Rattle.std.proofs.lemmas.Slice.Eq.{bytes_eq-Decides}
 use Rattle.hex.proofs.OnLiterals.{hex_on_literals}
-use Rattle.tw_words.specs.Forms.{Form, Reading, any_paths, at_most_paths, choose, count_paths, digest, digest_value, either, either_reading, end, form_named, give, go_on, maybe_up_to, maybe_number, name, name_value, next, nothing, number, number_value, path, path_value, paths, then_form}
+use Rattle.tw_words.specs.Forms.{Form, WordsReading, any_paths, at_most_paths, choose_form, count_paths, digest_form, digest_value, either, either_reading, end, form_named, give, go_on, maybe_up_to, maybe_number, name_form, name_value, next, no_words, number_form, number_value, path, path_value, paths, then_form}
 use Rattle.tw_words.specs.declared.command.Command.{Command}
 
 unwrapped : {X : Type 0} (x y : X) → Some x ≡ Some y → x ≡ y
 unwrapped x y same = cc
 
-abbrev failed : ℕ → Reading Command
+abbrev failed : ℕ → WordsReading Command
 failed left = Err left
 
 unwrapped-err : (x y : ℕ) → failed x ≡ failed y → x ≡ y
@@ -39,7 +39,7 @@ pub record IsExact (form : Form) : Type 0 where
 -- ---- the end
 
 pub exact-end : (command : Command) → IsExact (end command)
-unfolding nothing
+unfolding no_words
 exact-end command = record { sample = []; had = refl; stops = stops }
   where
     stops : (words : List (List ℕ)) (left : ℕ) → end command words ≡ Err left → Stops (end command) words left
@@ -126,14 +126,14 @@ module _ {V : Type 0} (part : List ℕ → Option V) (form : V → Form) where
 pub exact-path : (form : List ℕ → Form) → ((v : List ℕ) → IsExact (form v)) → IsExact (path form)
 exact-path form exact = exact-then path_value form (codes "p") (codes "p") refl (λ word v is. exact v)
 
-pub exact-name : (form : List ℕ → Form) → ((v : List ℕ) → IsExact (form v)) → IsExact (name form)
+pub exact-name : (form : List ℕ → Form) → ((v : List ℕ) → IsExact (form v)) → IsExact (name_form form)
 exact-name form exact = exact-then name_value form (codes "s") _ refl (λ word v is. exact v)
 
 -- a number of one digit
-pub exact-number : (least most : ℕ) (form : ℕ → Form) → number_value least most (codes "1") ≡ Some 1 → ((n : ℕ) → IsExact (form n)) → IsExact (number least most form)
+pub exact-number : (least most : ℕ) (form : ℕ → Form) → number_value least most (codes "1") ≡ Some 1 → ((n : ℕ) → IsExact (form n)) → IsExact (number_form least most form)
 exact-number least most form fits exact = exact-then (number_value least most) form (codes "1") 1 fits (λ word n is. exact n)
 
-pub exact-digest : (form : List ℕ → Form) → ((v : List ℕ) → IsExact (form v)) → IsExact (digest form)
+pub exact-digest : (form : List ℕ → Form) → ((v : List ℕ) → IsExact (form v)) → IsExact (digest_form form)
 unfolding hex_on_literals
 exact-digest form exact = exact-then digest_value form (replicate 64 48) _ refl (λ word v is. exact v)
 
@@ -151,7 +151,7 @@ exact_named (row ∷ rows) each word form is = by (bytes_eq word row.0) is (exac
     by true same others = subst IsExact (unwrapped row.1 form same) each.0
     by false same others = others same
 
-pub exact-choose : (key : List ℕ) (form : Form) (rows : List (List ℕ × Form)) → EachExact ((key, form) ∷ rows) → IsExact (choose ((key, form) ∷ rows))
+pub exact-choose : (key : List ℕ) (form : Form) (rows : List (List ℕ × Form)) → EachExact ((key, form) ∷ rows) → IsExact (choose_form ((key, form) ∷ rows))
 exact-choose key form rows each =
     let named : form_named ((key, form) ∷ rows) key ≡ Some form = ap (λ b. if b then Some form else form_named rows key) (same_bytes key) in
     exact-then (form_named ((key, form) ∷ rows)) (λ f. f) key form named (exact_named ((key, form) ∷ rows) each)
@@ -159,28 +159,28 @@ exact-choose key form rows each =
 -- ---- two forms
 
 -- both stop, and fewer words are left of neither
-record AreLeft (one other : Reading Command) (left : ℕ) : Type 0 where
+record AreLeft (one other : WordsReading Command) (left : ℕ) : Type 0 where
   first : ℕ
   second : ℕ
   is_first : one ≡ Err first
   is_second : other ≡ Err second
   least : left ≡ min first second
 
-are_left : (one other : Reading Command) (left : ℕ) → either_reading one other ≡ Err left → AreLeft one other left
+are_left : (one other : WordsReading Command) (left : ℕ) → either_reading one other ≡ Err left → AreLeft one other left
 are_left (Ok command) other left e = absurd (cc)
 are_left (Err first) (Ok command) left e = absurd (cc)
 are_left (Err first) (Err second) left e = record { first = first; second = second; is_first = refl; is_second = refl; least = cc }
 
-from_one : (one other : Reading Command) → IsOk one → IsOk (either_reading one other)
+from_one : (one other : WordsReading Command) → IsOk one → IsOk (either_reading one other)
 from_one (Ok command) other ok = refl
 from_one (Err first) other ok = absurd (cc)
 
-from_other : (one other : Reading Command) → IsOk other → IsOk (either_reading one other)
+from_other : (one other : WordsReading Command) → IsOk other → IsOk (either_reading one other)
 from_other (Ok command) other ok = refl
 from_other (Err first) (Ok command) ok = refl
 from_other (Err first) (Err second) ok = absurd (cc)
 
-of_either : (one other : Reading Command) → IsOk (either_reading one other) → IsOk one ⊎ IsOk other
+of_either : (one other : WordsReading Command) → IsOk (either_reading one other) → IsOk one ⊎ IsOk other
 of_either (Ok command) other ok = inl refl
 of_either (Err first) (Ok command) ok = inr refl
 of_either (Err first) (Err second) ok = absurd (cc)
@@ -231,14 +231,14 @@ exact-either one other exact exact-other = record { sample = exact.sample; had =
 module _ (most : ℕ) (fits : number_value 0 most (codes "1") ≡ Some 1) (command : Option ℕ → Command) where
   -- the form where there is a word
   there : Form
-  there = number 0 most (λ n. end (command (Some n)))
+  there = number_form 0 most (λ n. end (command (Some n)))
 
   same : (word : List ℕ) (words : List (List ℕ)) → maybe_up_to most command (word ∷ words) ≡ there (word ∷ words)
-  unfolding there maybe_number next nothing
+  unfolding there maybe_number next no_words
   same word words = by (number_value 0 most word) words
     where
       by : (o : Option ℕ) (words : List (List ℕ))
-          → give command (go_on (next (λ w. o) (word ∷ words)) (λ number behind. give (λ done. Some number) (nothing behind)))
+          → give command (go_on (next (λ w. o) (word ∷ words)) (λ number behind. give (λ done. Some number) (no_words behind)))
           ≡ then_form (λ w. o) (λ n. end (command (Some n))) (word ∷ words)
       by None words = refl
       by (Some n) [] = refl
@@ -309,7 +309,7 @@ module _ (most : List (List ℕ) → ℕ) (command : List (List ℕ) → Command
   form : Form
   form words = at_most_paths (most words) command words
 
-  abbrev reading : Bool → List (List ℕ) → Reading Command
+  abbrev reading : Bool → List (List ℕ) → WordsReading Command
   reading b words = give command (if b then Ok words else Err (length words - min (most words) (count_paths words)))
 
   ok-taken : (words : List (List ℕ)) → min (most words) (count_paths words) ≡ length words → IsOk (form words)

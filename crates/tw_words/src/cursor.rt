@@ -3,9 +3,9 @@
 ghost use Rattle.std.specs.Prelude.{◌≡◌, ◌≤◌, IfOk, IfSome, map, length};
 ghost use Rattle.std.specs.String.{string_bytes};
 ghost use Rattle.tw_base.specs.declared.kinds.limits.TheConstants.{LAST_TIME};
-ghost use Rattle.tw_words.specs.Forms.{count_paths as count_paths_of, digest_value, maybe_number, name_value, nothing, number_value, path_value, paths};
+ghost use Rattle.tw_words.specs.Forms.{count_paths as count_paths_of, digest_value, maybe_number, name_value, no_words, number_value, path_value, paths};
 ghost use Rattle.tw_words.specs.declared.cursor.Stop.TheVariants as Stop;
-ghost use Rattle.tw_words.specs.Takings.{Reads, Takes};
+ghost use Rattle.tw_words.specs.Takings.{ReadsWords, TakesWords};
 
 use tw_base::limits::LAST_TIME;
 use tw_base::{Digest, Name, NoMemory};
@@ -41,7 +41,7 @@ impl<'a> Words<'a> {
     /// Takes a path: any word of at least one byte.
     #[tactic(auto, unfolding(crate::specs::Forms::next))]
     pub fn path(&mut self) -> Result<&'a str, Stop>
-        ensures { Takes path_value (λ path. path.now) (map string_bytes self.old.left.now) (map string_bytes self.new.left.now) result }
+        ensures { TakesWords path_value (λ path. path.now) (map string_bytes self.old.left.now) (map string_bytes self.new.left.now) result }
     {
         let Some((word, words)) = self.left.split_first() else {
             return Err(self.stop());
@@ -56,7 +56,7 @@ impl<'a> Words<'a> {
     /// Takes the name of a service.
     #[tactic(auto, unfolding(crate::specs::Forms::next))]
     pub fn name(&mut self) -> Result<Name, Stop>
-        ensures { Takes name_value (λ name. name) (map string_bytes self.old.left.now) (map string_bytes self.new.left.now) result }
+        ensures { TakesWords name_value (λ name. name) (map string_bytes self.old.left.now) (map string_bytes self.new.left.now) result }
     {
         let Some((word, words)) = self.left.split_first() else {
             return Err(self.stop());
@@ -71,7 +71,7 @@ impl<'a> Words<'a> {
     /// Takes a number within the range.
     #[tactic(auto, unfolding(crate::specs::Forms::next))]
     pub fn number(&mut self, least: u64, most: u64) -> Result<u64, Stop>
-        ensures takes { Takes (number_value least most) (λ n. n) (map string_bytes self.old.left.now) (map string_bytes self.new.left.now) result }
+        ensures takes { TakesWords (number_value least most) (λ n. n) (map string_bytes self.old.left.now) (map string_bytes self.new.left.now) result }
         ensures range { IfOk result (λ n. (least ≤ n) × (n ≤ most)) }
     {
         let Some((word, words)) = self.left.split_first() else {
@@ -87,7 +87,7 @@ impl<'a> Words<'a> {
     /// Takes a digest in hexadecimal digits of either case.
     #[tactic(auto, unfolding(crate::specs::Forms::next))]
     pub fn digest(&mut self) -> Result<Digest, Stop>
-        ensures { Takes digest_value (λ digest. digest) (map string_bytes self.old.left.now) (map string_bytes self.new.left.now) result }
+        ensures { TakesWords digest_value (λ digest. digest) (map string_bytes self.old.left.now) (map string_bytes self.new.left.now) result }
     {
         let Some((word, words)) = self.left.split_first() else {
             return Err(self.stop());
@@ -100,9 +100,9 @@ impl<'a> Words<'a> {
     }
 
     /// That there are no more words.
-    #[tactic(auto, unfolding(crate::specs::Forms::nothing))]
+    #[tactic(auto, unfolding(crate::specs::Forms::no_words))]
     pub fn end(&self) -> Result<(), Stop>
-        ensures { Reads (nothing (map string_bytes self.now.left.now)) (λ done. done) result }
+        ensures { ReadsWords (no_words (map string_bytes self.now.left.now)) (λ done. done) result }
     {
         if self.left.is_empty() {
             Ok(())
@@ -114,7 +114,7 @@ impl<'a> Words<'a> {
     /// One more word, which is a number of 64 bits, or none.
     #[tactic(auto, unfolding(crate::specs::Forms::maybe_number))]
     pub fn maybe_number(&mut self) -> Result<Option<u64>, Stop>
-        ensures { Reads (maybe_number 0xffff_ffff_ffff_ffff (map string_bytes self.old.left.now)) (λ number. number) result }
+        ensures { ReadsWords (maybe_number 0xffff_ffff_ffff_ffff (map string_bytes self.old.left.now)) (λ number. number) result }
     {
         if self.left.is_empty() {
             return Ok(None);
@@ -127,7 +127,7 @@ impl<'a> Words<'a> {
     /// One more word, which is a time, or none.
     #[tactic(auto, unfolding(crate::specs::Forms::maybe_number))]
     pub fn maybe_time(&mut self) -> Result<Option<ClaimedTime>, Stop>
-        ensures { Reads (maybe_number LAST_TIME (map string_bytes self.old.left.now)) (λ time. time) result }
+        ensures { ReadsWords (maybe_number LAST_TIME (map string_bytes self.old.left.now)) (λ time. time) result }
     {
         if self.left.is_empty() {
             return Ok(None);
@@ -140,7 +140,7 @@ impl<'a> Words<'a> {
     /// The words, all of them paths, and at most so many.
     #[tactic(auto, unfolding(crate::specs::Forms::paths))]
     pub fn paths(&self, most: usize) -> Result<&'a [String], Stop>
-        ensures { Reads (paths most (map string_bytes self.now.left.now)) (λ words. map string_bytes words.now) result }
+        ensures { ReadsWords (paths most (map string_bytes self.now.left.now)) (λ words. map string_bytes words.now) result }
     {
         let taken = most.min(count_paths(self.left));
         if taken == self.left.len() {

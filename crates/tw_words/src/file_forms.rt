@@ -4,7 +4,7 @@ ghost use Rattle.std.specs.Prelude.{◌≡◌, ◌++◌, ℕ, List, map, Err, On
 ghost use Rattle.std.specs.String.{string_bytes};
 ghost use Rattle.tw_words.specs.CommandLine as forms;
 ghost use Rattle.tw_words.specs.Forms.{Form, either};
-ghost use Rattle.tw_words.specs.Takings.{Makes};
+ghost use Rattle.tw_words.specs.Takings.{MakesCommand};
 
 use crate::command::Command;
 use crate::cursor::{Stop, Words};
@@ -17,7 +17,7 @@ use tw_text::FilePath;
 /// `show HISTORY STEP INDEX`
 #[tactic(auto, unfolding(crate::specs::CommandLine::show))]
 pub(crate) fn show(alloc: Global, mut words: Words<'_>) -> Result<Command, Stop>
-    ensures { Makes (forms.show (map string_bytes words.entry.left.now)) result }
+    ensures { MakesCommand (forms.show (map string_bytes words.entry.left.now)) result }
 {
     let history = words.path()?;
     let step = words.number(0, u64::MAX)?;
@@ -34,7 +34,7 @@ pub(crate) fn show(alloc: Global, mut words: Words<'_>) -> Result<Command, Stop>
 /// `join FILE FILE ..`
 #[tactic(auto, unfolding(crate::specs::CommandLine::join))]
 pub(crate) fn join(alloc: Global, mut words: Words<'_>) -> Result<Command, Stop>
-    ensures { Makes (forms.join (map string_bytes words.entry.left.now)) result }
+    ensures { MakesCommand (forms.join (map string_bytes words.entry.left.now)) result }
 {
     let one = words.path()?;
     let two = words.path()?;
@@ -49,7 +49,7 @@ pub(crate) fn join(alloc: Global, mut words: Words<'_>) -> Result<Command, Stop>
 /// `verify PROOF ANCHORS`, and else `verify PROOF NAME POS HEX`
 #[tactic(auto, unfolding(crate::specs::CommandLine::verify))]
 pub(crate) fn verify(alloc: Global, mut words: Words<'_>) -> Result<Command, Stop>
-    ensures { Makes (forms.verify (map string_bytes words.entry.left.now)) result }
+    ensures { MakesCommand (forms.verify (map string_bytes words.entry.left.now)) result }
 {
     let proof = words.path()?;
     match verify_file(alloc, proof, words) {
@@ -61,7 +61,7 @@ pub(crate) fn verify(alloc: Global, mut words: Words<'_>) -> Result<Command, Sto
 /// `ANCHORS`, behind `verify PROOF`
 #[tactic(auto, unfolding(crate::specs::CommandLine::verify_file))]
 fn verify_file(alloc: Global, proof: &str, mut words: Words<'_>) -> Result<Command, Stop>
-    ensures { Makes (forms.verify_file proof.now (map string_bytes words.entry.left.now)) result }
+    ensures { MakesCommand (forms.verify_file proof.now (map string_bytes words.entry.left.now)) result }
 {
     let anchors = words.path()?;
     words.end()?;
@@ -73,7 +73,7 @@ fn verify_file(alloc: Global, proof: &str, mut words: Words<'_>) -> Result<Comma
 /// `NAME POS HEX`, behind `verify PROOF`
 #[tactic(auto, unfolding(crate::specs::CommandLine::verify_one))]
 fn verify_one(alloc: Global, proof: &str, mut words: Words<'_>) -> Result<Command, Stop>
-    ensures { Makes (forms.verify_one proof.now (map string_bytes words.entry.left.now)) result }
+    ensures { MakesCommand (forms.verify_one proof.now (map string_bytes words.entry.left.now)) result }
 {
     let from = words.name()?;
     let step = words.number(1, LAST_STEP)?;
@@ -87,7 +87,7 @@ fn verify_one(alloc: Global, proof: &str, mut words: Words<'_>) -> Result<Comman
 /// `strict PROOF ANCHORS`
 #[tactic(auto, unfolding(crate::specs::CommandLine::strict))]
 pub(crate) fn strict(alloc: Global, mut words: Words<'_>) -> Result<Command, Stop>
-    ensures { Makes (forms.strict (map string_bytes words.entry.left.now)) result }
+    ensures { MakesCommand (forms.strict (map string_bytes words.entry.left.now)) result }
 {
     let proof = words.path()?;
     let anchors = words.path()?;
@@ -100,7 +100,7 @@ pub(crate) fn strict(alloc: Global, mut words: Words<'_>) -> Result<Command, Sto
 /// `checkmap LOW HIGH ANCHORS`
 #[tactic(auto, unfolding(crate::specs::CommandLine::check_map))]
 pub(crate) fn check_map(alloc: Global, mut words: Words<'_>) -> Result<Command, Stop>
-    ensures { Makes (forms.check_map (map string_bytes words.entry.left.now)) result }
+    ensures { MakesCommand (forms.check_map (map string_bytes words.entry.left.now)) result }
 {
     let low = words.path()?;
     let high = words.path()?;
@@ -116,7 +116,7 @@ pub(crate) fn check_map(alloc: Global, mut words: Words<'_>) -> Result<Command, 
 /// `audit PROOF ANCHORS HISTORY ..`
 #[tactic(auto, unfolding(crate::specs::CommandLine::audit))]
 pub(crate) fn audit(alloc: Global, mut words: Words<'_>) -> Result<Command, Stop>
-    ensures { Makes (forms.audit (map string_bytes words.entry.left.now)) result }
+    ensures { MakesCommand (forms.audit (map string_bytes words.entry.left.now)) result }
 {
     let proof = words.path()?;
     let anchors = words.path()?;
@@ -135,7 +135,7 @@ pub(crate) fn audit(alloc: Global, mut words: Words<'_>) -> Result<Command, Stop
 /// `replay FILE`
 #[tactic(auto, unfolding(crate::specs::CommandLine::replay))]
 pub(crate) fn replay(alloc: Global, mut words: Words<'_>) -> Result<Command, Stop>
-    ensures { Makes (forms.replay (map string_bytes words.entry.left.now)) result }
+    ensures { MakesCommand (forms.replay (map string_bytes words.entry.left.now)) result }
 {
     let file = words.path()?;
     words.end()?;
@@ -146,7 +146,7 @@ pub(crate) fn replay(alloc: Global, mut words: Words<'_>) -> Result<Command, Sto
 /// `generate NUMBER STEPS`
 #[tactic(auto, unfolding(crate::specs::CommandLine::generate))]
 pub(crate) fn generate(mut words: Words<'_>) -> Result<Command, Stop>
-    ensures { Makes (forms.generate (map string_bytes words.entry.left.now)) result }
+    ensures { MakesCommand (forms.generate (map string_bytes words.entry.left.now)) result }
 {
     let number = words.number(0, u64::MAX)?;
     let steps = words.number(1, MOST_GENERATED)?;
@@ -156,7 +156,7 @@ pub(crate) fn generate(mut words: Words<'_>) -> Result<Command, Stop>
 
 /// What the second of two forms answers, where the first stopped with so many words left.
 pub(crate) fn or_further(left: usize, second: Result<Command, Stop>) -> Result<Command, Stop>
-    ensures { (one other : Form) (words : List (List ℕ)) → one words ≡ Err left → Makes (other words) second → Makes (either one other words) result }
+    ensures { (one other : Form) (words : List (List ℕ)) → one words ≡ Err left → MakesCommand (other words) second → MakesCommand (either one other words) result }
 {
     match second {
         Err(Stop::At { left: other }) => Err(Stop::At {

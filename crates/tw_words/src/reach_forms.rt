@@ -3,7 +3,7 @@
 ghost use Rattle.std.specs.Prelude.{map};
 ghost use Rattle.std.specs.String.{string_bytes};
 ghost use Rattle.tw_words.specs.CommandLine as forms;
-ghost use Rattle.tw_words.specs.Takings.{Makes};
+ghost use Rattle.tw_words.specs.Takings.{MakesCommand};
 
 use crate::command::Command;
 use crate::cursor::{Stop, Words};
@@ -17,7 +17,7 @@ use tw_text::FilePath;
 /// `atlas NAME POS FILE ..`
 #[tactic(auto, unfolding(crate::specs::CommandLine::atlas))]
 pub(crate) fn atlas(alloc: Global, mut words: Words<'_>) -> Result<Command, Stop>
-    ensures { Makes (forms.atlas (map string_bytes words.entry.left.now)) result }
+    ensures { MakesCommand (forms.atlas (map string_bytes words.entry.left.now)) result }
 {
     let name = words.name()?;
     let pos = words.number(1, LAST_STEP)?;
@@ -32,7 +32,7 @@ pub(crate) fn atlas(alloc: Global, mut words: Words<'_>) -> Result<Command, Stop
 /// `accuse PROOF PROOF`, and else `accuse PROOF PROOF LINK`
 #[tactic(auto, unfolding(crate::specs::CommandLine::accuse))]
 pub(crate) fn accuse(alloc: Global, mut words: Words<'_>) -> Result<Command, Stop>
-    ensures { Makes (forms.accuse (map string_bytes words.entry.left.now)) result }
+    ensures { MakesCommand (forms.accuse (map string_bytes words.entry.left.now)) result }
 {
     let first = words.path()?;
     let second = words.path()?;
@@ -45,7 +45,7 @@ pub(crate) fn accuse(alloc: Global, mut words: Words<'_>) -> Result<Command, Sto
 /// No more words, behind `accuse PROOF PROOF`
 #[tactic(auto, unfolding(crate::specs::CommandLine::accuse_two))]
 fn accuse_two(alloc: Global, first: &str, second: &str, words: Words<'_>) -> Result<Command, Stop>
-    ensures { Makes (forms.accuse_two first.now second.now (map string_bytes words.entry.left.now)) result }
+    ensures { MakesCommand (forms.accuse_two first.now second.now (map string_bytes words.entry.left.now)) result }
 {
     words.end()?;
     Ok(Command::Accuse {
@@ -63,7 +63,7 @@ fn accuse_linked(
     second: &str,
     mut words: Words<'_>,
 ) -> Result<Command, Stop>
-    ensures { Makes (forms.accuse_linked first.now second.now (map string_bytes words.entry.left.now)) result }
+    ensures { MakesCommand (forms.accuse_linked first.now second.now (map string_bytes words.entry.left.now)) result }
 {
     let link = words.path()?;
     words.end()?;
@@ -77,7 +77,7 @@ fn accuse_linked(
 /// `checkfork FILE ANCHORS`
 #[tactic(auto, unfolding(crate::specs::CommandLine::check_fork))]
 pub(crate) fn check_fork(alloc: Global, mut words: Words<'_>) -> Result<Command, Stop>
-    ensures { Makes (forms.check_fork (map string_bytes words.entry.left.now)) result }
+    ensures { MakesCommand (forms.check_fork (map string_bytes words.entry.left.now)) result }
 {
     let file = words.path()?;
     let anchors = words.path()?;
@@ -90,7 +90,7 @@ pub(crate) fn check_fork(alloc: Global, mut words: Words<'_>) -> Result<Command,
 /// `adopt HISTORY ANCHORS PROOF ..`
 #[tactic(auto, unfolding(crate::specs::CommandLine::adopt))]
 pub(crate) fn adopt(alloc: Global, mut words: Words<'_>) -> Result<Command, Stop>
-    ensures { Makes (forms.adopt (map string_bytes words.entry.left.now)) result }
+    ensures { MakesCommand (forms.adopt (map string_bytes words.entry.left.now)) result }
 {
     let history = words.path()?;
     let anchors = words.path()?;

@@ -3,7 +3,7 @@
 ghost use Rattle.std.specs.Prelude.{map};
 ghost use Rattle.std.specs.String.{string_bytes};
 ghost use Rattle.tw_words.specs.CommandLine as forms;
-ghost use Rattle.tw_words.specs.Takings.{Makes};
+ghost use Rattle.tw_words.specs.Takings.{MakesCommand};
 
 use crate::command::Command;
 use crate::cursor::{Stop, Words};
@@ -14,7 +14,7 @@ use tw_text::FilePath;
 /// `init DIR NAME`
 #[tactic(auto, unfolding(crate::specs::CommandLine::init))]
 pub(crate) fn init(mut words: Words<'_>) -> Result<Command, Stop>
-    ensures { Makes (forms.init (map string_bytes words.entry.left.now)) result }
+    ensures { MakesCommand (forms.init (map string_bytes words.entry.left.now)) result }
 {
     words.path()?;
     let name = words.name()?;
@@ -25,7 +25,7 @@ pub(crate) fn init(mut words: Words<'_>) -> Result<Command, Stop>
 /// `append DIR FILE [TIME]`
 #[tactic(auto, unfolding(crate::specs::CommandLine::append))]
 pub(crate) fn append(alloc: Global, mut words: Words<'_>) -> Result<Command, Stop>
-    ensures { Makes (forms.append (map string_bytes words.entry.left.now)) result }
+    ensures { MakesCommand (forms.append (map string_bytes words.entry.left.now)) result }
 {
     words.path()?;
     let file = words.path()?;
@@ -37,7 +37,7 @@ pub(crate) fn append(alloc: Global, mut words: Words<'_>) -> Result<Command, Sto
 /// `thread DIR SINCE`
 #[tactic(auto, unfolding(crate::specs::CommandLine::thread))]
 pub(crate) fn thread(mut words: Words<'_>) -> Result<Command, Stop>
-    ensures { Makes (forms.thread (map string_bytes words.entry.left.now)) result }
+    ensures { MakesCommand (forms.thread (map string_bytes words.entry.left.now)) result }
 {
     words.path()?;
     let since = words.number(0, u64::MAX)?;
@@ -48,7 +48,7 @@ pub(crate) fn thread(mut words: Words<'_>) -> Result<Command, Stop>
 /// `receive DIR FILE [TIME]`
 #[tactic(auto, unfolding(crate::specs::CommandLine::receive))]
 pub(crate) fn receive(alloc: Global, mut words: Words<'_>) -> Result<Command, Stop>
-    ensures { Makes (forms.receive (map string_bytes words.entry.left.now)) result }
+    ensures { MakesCommand (forms.receive (map string_bytes words.entry.left.now)) result }
 {
     words.path()?;
     let file = words.path()?;
@@ -60,7 +60,7 @@ pub(crate) fn receive(alloc: Global, mut words: Words<'_>) -> Result<Command, St
 /// `prove DIR event`, `thread`, `absent` or `link`, each with what its kind has
 #[tactic(auto, unfolding(crate::specs::CommandLine::prove, crate::specs::Forms::next))]
 pub(crate) fn prove(mut words: Words<'_>) -> Result<Command, Stop>
-    ensures { Makes (forms.prove (map string_bytes words.entry.left.now)) result }
+    ensures { MakesCommand (forms.prove (map string_bytes words.entry.left.now)) result }
 {
     words.path()?;
     let Some((kind, left)) = words.left.split_first() else {
@@ -78,7 +78,7 @@ pub(crate) fn prove(mut words: Words<'_>) -> Result<Command, Stop>
 /// `STEP INDEX [TOP]`
 #[tactic(auto, unfolding(crate::specs::CommandLine::prove_event))]
 fn prove_event(mut words: Words<'_>) -> Result<Command, Stop>
-    ensures { Makes (forms.prove_event (map string_bytes words.entry.left.now)) result }
+    ensures { MakesCommand (forms.prove_event (map string_bytes words.entry.left.now)) result }
 {
     let step = words.number(0, u64::MAX)?;
     let index = words.number(0, u64::MAX)?;
@@ -89,7 +89,7 @@ fn prove_event(mut words: Words<'_>) -> Result<Command, Stop>
 /// `STEP PEER K [TOP]`
 #[tactic(auto, unfolding(crate::specs::CommandLine::prove_thread))]
 fn prove_thread(mut words: Words<'_>) -> Result<Command, Stop>
-    ensures { Makes (forms.prove_thread (map string_bytes words.entry.left.now)) result }
+    ensures { MakesCommand (forms.prove_thread (map string_bytes words.entry.left.now)) result }
 {
     let step = words.number(0, u64::MAX)?;
     let peer = words.name()?;
@@ -101,7 +101,7 @@ fn prove_thread(mut words: Words<'_>) -> Result<Command, Stop>
 /// `STEP PEER K [TOP]`
 #[tactic(auto, unfolding(crate::specs::CommandLine::prove_absent))]
 fn prove_absent(mut words: Words<'_>) -> Result<Command, Stop>
-    ensures { Makes (forms.prove_absent (map string_bytes words.entry.left.now)) result }
+    ensures { MakesCommand (forms.prove_absent (map string_bytes words.entry.left.now)) result }
 {
     let step = words.number(0, u64::MAX)?;
     let peer = words.name()?;
@@ -113,7 +113,7 @@ fn prove_absent(mut words: Words<'_>) -> Result<Command, Stop>
 /// `STEP [TOP]`
 #[tactic(auto, unfolding(crate::specs::CommandLine::prove_link))]
 fn prove_link(mut words: Words<'_>) -> Result<Command, Stop>
-    ensures { Makes (forms.prove_link (map string_bytes words.entry.left.now)) result }
+    ensures { MakesCommand (forms.prove_link (map string_bytes words.entry.left.now)) result }
 {
     let step = words.number(0, u64::MAX)?;
     let top = words.maybe_number()?;
@@ -123,7 +123,7 @@ fn prove_link(mut words: Words<'_>) -> Result<Command, Stop>
 /// `map DIR low` or `high`, each with what its bound has
 #[tactic(auto, unfolding(crate::specs::CommandLine::map, crate::specs::Forms::next))]
 pub(crate) fn map(mut words: Words<'_>) -> Result<Command, Stop>
-    ensures { Makes (forms.map (map string_bytes words.entry.left.now)) result }
+    ensures { MakesCommand (forms.map (map string_bytes words.entry.left.now)) result }
 {
     words.path()?;
     let Some((bound, left)) = words.left.split_first() else {
@@ -139,7 +139,7 @@ pub(crate) fn map(mut words: Words<'_>) -> Result<Command, Stop>
 /// `STEP PEER [TOP]`
 #[tactic(auto, unfolding(crate::specs::CommandLine::map_low))]
 fn map_low(mut words: Words<'_>) -> Result<Command, Stop>
-    ensures { Makes (forms.map_low (map string_bytes words.entry.left.now)) result }
+    ensures { MakesCommand (forms.map_low (map string_bytes words.entry.left.now)) result }
 {
     let step = words.number(0, u64::MAX)?;
     let peer = words.name()?;
@@ -150,7 +150,7 @@ fn map_low(mut words: Words<'_>) -> Result<Command, Stop>
 /// `POS PEER [TOP]`
 #[tactic(auto, unfolding(crate::specs::CommandLine::map_high))]
 fn map_high(mut words: Words<'_>) -> Result<Command, Stop>
-    ensures { Makes (forms.map_high (map string_bytes words.entry.left.now)) result }
+    ensures { MakesCommand (forms.map_high (map string_bytes words.entry.left.now)) result }
 {
     let pos = words.number(1, LAST_STEP)?;
     let peer = words.name()?;
@@ -161,7 +161,7 @@ fn map_high(mut words: Words<'_>) -> Result<Command, Stop>
 /// `export DIR`
 #[tactic(auto, unfolding(crate::specs::CommandLine::export))]
 pub(crate) fn export(mut words: Words<'_>) -> Result<Command, Stop>
-    ensures { Makes (forms.export (map string_bytes words.entry.left.now)) result }
+    ensures { MakesCommand (forms.export (map string_bytes words.entry.left.now)) result }
 {
     words.path()?;
     words.end()?;
@@ -171,7 +171,7 @@ pub(crate) fn export(mut words: Words<'_>) -> Result<Command, Stop>
 /// `watch DIR NAME`
 #[tactic(auto, unfolding(crate::specs::CommandLine::watch))]
 pub(crate) fn watch(mut words: Words<'_>) -> Result<Command, Stop>
-    ensures { Makes (forms.watch (map string_bytes words.entry.left.now)) result }
+    ensures { MakesCommand (forms.watch (map string_bytes words.entry.left.now)) result }
 {
     words.path()?;
     let name = words.name()?;
@@ -182,7 +182,7 @@ pub(crate) fn watch(mut words: Words<'_>) -> Result<Command, Stop>
 /// `offer DIR FILE`
 #[tactic(auto, unfolding(crate::specs::CommandLine::offer))]
 pub(crate) fn offer(alloc: Global, mut words: Words<'_>) -> Result<Command, Stop>
-    ensures { Makes (forms.offer (map string_bytes words.entry.left.now)) result }
+    ensures { MakesCommand (forms.offer (map string_bytes words.entry.left.now)) result }
 {
     words.path()?;
     let file = words.path()?;
@@ -194,7 +194,7 @@ pub(crate) fn offer(alloc: Global, mut words: Words<'_>) -> Result<Command, Stop
 /// `heads DIR`
 #[tactic(auto, unfolding(crate::specs::CommandLine::heads))]
 pub(crate) fn heads(mut words: Words<'_>) -> Result<Command, Stop>
-    ensures { Makes (forms.heads (map string_bytes words.entry.left.now)) result }
+    ensures { MakesCommand (forms.heads (map string_bytes words.entry.left.now)) result }
 {
     words.path()?;
     words.end()?;

@@ -3,9 +3,9 @@
 ghost use Rattle.std.specs.Prelude.{◌≡◌, map, IfNone, IfOk, IfSome, IsErrAnd, MatchResult};
 ghost use Rattle.std.specs.String.{string_bytes};
 ghost use Rattle.tw_words.specs.CommandLine.{IsBadWord, command_of, commands};
-ghost use Rattle.tw_words.specs.Forms.{choose};
+ghost use Rattle.tw_words.specs.Forms.{choose_form};
 ghost use Rattle.tw_words.specs.Ranges.{IsWithinRanges};
-ghost use Rattle.tw_words.specs.Takings.{Makes};
+ghost use Rattle.tw_words.specs.Takings.{MakesCommand};
 
 use crate::command::Command;
 use crate::cursor::{Stop, Words};
@@ -45,7 +45,7 @@ pub fn read_words(alloc: Global, words: &[String]) -> Result<Command, WordFault>
 /// The command of the form that the first word names.
 #[tactic(auto, unfolding(crate::specs::Forms::next))]
 fn command(alloc: Global, words: Words<'_>) -> Result<Command, Stop>
-    ensures { Makes (choose commands (map string_bytes words.entry.left.now)) result }
+    ensures { MakesCommand (choose_form commands (map string_bytes words.entry.left.now)) result }
 {
     let Some((word, left)) = words.left.split_first() else {
         return Err(words.stop());

@@ -13,15 +13,15 @@ use Rattle.tw_answers.specs.declared.refusal.Refusal.{Refusal}
 use Rattle.tw_answers.specs.declared.refusal.Refusal.TheVariants.{BadPage, DiskFault, Malformed, NoMemory, Reopen}
 use Rattle.tw_answers.proofs.TableAnswers.{NoFault, Of, append_no_fault}
 use Rattle.tw_disk.specs.Image.{Image}
-use Rattle.tw_disk.specs.MemDisk.{view_of}
+use Rattle.tw_disk.specs.MemDisk.{mem_disk_view}
 use Rattle.tw_disk.specs.declared.memory_disk.MemDisk.{MemDisk}
 use Rattle.tw_msg.specs.Messages.{message_layout}
 use Rattle.tw_msg.specs.declared.message.Message.{Message}
 use Rattle.tw_msg.specs.declared.receipt.Receipt.{Receipt}
 use Rattle.tw_msg.proofs.MessageCodec.{message-lawful}
-use Rattle.tw_service.specs.Adding.{Appends, Receives, ReceivesBytes}
-use Rattle.tw_service.specs.EventSteps.{with_events}
-use Rattle.tw_service.specs.Machine.{Answers, Call, IsStepOf, NextOf, RepliesTo, Reply, append_table, last_thread, receipt_by}
+use Rattle.tw_service.specs.Adding.{AppendsEvents, Receives, ReceivesBytes}
+use Rattle.tw_service.specs.EventSteps.{with_events_at}
+use Rattle.tw_service.specs.Machine.{AnswersByMachine, Call, IsStepOf, NextOf, RepliesTo, Reply, append_table, last_thread, receipt_by}
 use Rattle.tw_service.specs.Machine.Call.{Append, Receive}
 use Rattle.tw_service.specs.Machine.Reply.{OfReceipt, OfThread, Refused}
 use Rattle.tw_service.specs.Receiving.{RefusesNoMessage}
@@ -29,7 +29,7 @@ use Rattle.tw_service.specs.Serves.{Serves, clock_of, has_failed, name_of, steps
 use Rattle.tw_service.specs.Stands.{StandsFor, StandsForOneOf}
 use Rattle.tw_service.specs.declared.service.Service.{Service}
 use Rattle.tw_service.proofs.Answering.{append_done, fails, is_disk_fault}
-use Rattle.tw_world.specs.Hosts.{Answered, AnswersRefusal, Given, IsNextOf, StandsAs, Takes}
+use Rattle.tw_world.specs.Hosts.{Answered, AnswersRefusal, Given, IsNextOf, StandsAs, TakesGiven}
 use Rattle.tw_world.specs.Hosts.Given.{OfBytes, OfEvents}
 use Rattle.tw_world.specs.declared.told.Answer.{Answer}
 use Rattle.tw_world.specs.declared.told.Answer.TheVariants as answer
@@ -52,7 +52,7 @@ if-ok (Err e) P Q to is = is
 module _ {H : Type 0} {g : _} {k : _} (given : Given) (h : History) (new : Service MemDisk H g k) where
   -- a refusal, which the machine answers; or a disk fault
   from-refusal : {T : Type 0} (call : Call) (reply : T → Reply) (r : Refusal) (o : Option Answer) → AnswersRefusal r o
-      → Answers sha256 h call reply (Err r) (Serves sha256 view_of new) → (IsStepOf sha256 h call (Refused r) h → Takes given h (Refused r) h)
+      → AnswersByMachine sha256 h call reply (Err r) (Serves sha256 mem_disk_view new) → (IsStepOf sha256 h call (Refused r) h → TakesGiven given h (Refused r) h)
       → (r ≡ DiskFault → Answered given h new None) → Answered given h new o
   from-refusal call reply (BadPage page) o after answers takes fault = absurd answers
   from-refusal call reply Reopen o after answers takes fault = absurd answers
@@ -63,7 +63,7 @@ module _ {H : Type 0} {g : _} {k : _} (given : Given) (h : History) (new : Servi
       (record { next = h; named = refl; reply = Refused r; takes = takes answers.0; is = refl; serves = answers.1 })
 
 -- what was served, and what any call of it leaves
-module _ {H : Type 0} {g : _} {k : _} (old new : Service MemDisk H g k) (h : History) (served : Serves sha256 view_of old h) (whole : has_failed old ≡ false) where
+module _ {H : Type 0} {g : _} {k : _} (old new : Service MemDisk H g k) (h : History) (served : Serves sha256 mem_disk_view old h) (whole : has_failed old ≡ false) where
   -- ---- appending
 
   module _ (events : List (List ℕ)) where
@@ -77,10 +77,10 @@ module _ {H : Type 0} {g : _} {k : _} (old new : Service MemDisk H g k) (h : His
         let none = by-table (append_refusal (has_failed old) (steps_of old) (clock_of old) events None) table (append_no_fault (has_failed old) (steps_of old) (clock_of old) events None) in
         sym none ∙ (λ j. append_refusal (whole j) (served.keeps.whole.steps.step j) (served.keeps.whole.time j) events None)
 
-    append-fault : Appends sha256 view_of events None old new (Err DiskFault) → Answered (OfEvents events) h new None
+    append-fault : AppendsEvents sha256 mem_disk_view events None old new (Err DiskFault) → Answered (OfEvents events) h new None
     append-fault a =
         let s = a.steps h served in
-        let next : History = with_events h events None in
+        let next : History = with_events_at h events None in
         let step : IsStepOf sha256 h (Append events None) (OfThread (last_thread sha256 next)) next =
         append_done sha256 h events None (last_thread sha256 next) (append-none a.table) refl in record {
           next = next;
@@ -89,12 +89,12 @@ module _ {H : Type 0} {g : _} {k : _} (old new : Service MemDisk H g k) (h : His
           leaves = λ c may. stands-one c (name_of old) h next (subst (λ (x : History). StandsForOneOf sha256 (name_of old) h x c) s.is_next (s.any_moment.now c may));
         }
 
-    pub append-answered : (r : Refusal) (o : Option Answer) → AnswersRefusal r o → Appends sha256 view_of events None old new (Err r) → Answered (OfEvents events) h new o
+    pub append-answered : (r : Refusal) (o : Option Answer) → AnswersRefusal r o → AppendsEvents sha256 mem_disk_view events None old new (Err r) → Answered (OfEvents events) h new o
     append-answered r o after a =
         from-refusal (OfEvents events) h new (Append events None) OfThread r o after ((a.steps h served).machine whole) (λ step. (None, refl, tt, step))
-        (λ is. append-fault (subst (λ (x : Refusal). Appends sha256 view_of events None old new (Err x)) is a))
+        (λ is. append-fault (subst (λ (x : Refusal). AppendsEvents sha256 mem_disk_view events None old new (Err x)) is a))
 
-    pub append-done : (t : Thread) (n : ℕ) → Appends sha256 view_of events None old new (Ok t) → ((x : History) → Serves sha256 view_of new x → n ≡ length x.steps)
+    pub append-done : (t : Thread) (n : ℕ) → AppendsEvents sha256 mem_disk_view events None old new (Ok t) → ((x : History) → Serves sha256 mem_disk_view new x → n ≡ length x.steps)
         → Answered (OfEvents events) h new (Some (answer.Stepped n))
     append-done t n a counts =
         let s = a.steps h served in
@@ -110,7 +110,7 @@ module _ {H : Type 0} {g : _} {k : _} (old new : Service MemDisk H g k) (h : His
   -- ---- receiving
 
   module _ (bytes : List ℕ) where
-    takes : (m : Message) → Spells message_layout bytes m → (reply : Reply) (next : History) → IsStepOf sha256 h (Receive m None) reply next → Takes (OfBytes bytes) h reply next
+    takes : (m : Message) → Spells message_layout bytes m → (reply : Reply) (next : History) → IsStepOf sha256 h (Receive m None) reply next → TakesGiven (OfBytes bytes) h reply next
     takes m spells reply next step = (None, refl, tt, inl (m, spells, step))
 
     next-of : (m : Message) → Spells message_layout bytes m → (next : History) → NextOf sha256 (Receive m None) h next → IsNextOf (OfBytes bytes) h next
@@ -123,7 +123,7 @@ module _ {H : Type 0} {g : _} {k : _} (old new : Service MemDisk H g k) (h : His
     next-named m next (inl same) = ap (λ (x : History). x.name) same
     next-named m next (inr more) = let made = more.1 in ap (λ (x : History). x.name) made.1
 
-    receive-fault : (m : Message) → Spells message_layout bytes m → Receives sha256 view_of m None old new (Err DiskFault) → Answered (OfBytes bytes) h new None
+    receive-fault : (m : Message) → Spells message_layout bytes m → Receives sha256 mem_disk_view m None old new (Err DiskFault) → Answered (OfBytes bytes) h new None
     receive-fault m spells a =
         let s = a.steps h served in
         record {
@@ -134,11 +134,11 @@ module _ {H : Type 0} {g : _} {k : _} (old new : Service MemDisk H g k) (h : His
         }
 
     -- a message that was received
-    received : (m : Message) → Spells message_layout bytes m → (r : Refusal) (o : Option Answer) → AnswersRefusal r o → Receives sha256 view_of m None old new (Err r)
+    received : (m : Message) → Spells message_layout bytes m → (r : Refusal) (o : Option Answer) → AnswersRefusal r o → Receives sha256 mem_disk_view m None old new (Err r)
         → Answered (OfBytes bytes) h new o
     received m spells r o after a =
         from-refusal (OfBytes bytes) h new (Receive m None) OfReceipt r o after ((a.steps h served).machine whole) (takes m spells (Refused r) h)
-        (λ is. receive-fault m spells (subst (λ (x : Refusal). Receives sha256 view_of m None old new (Err x)) is a))
+        (λ is. receive-fault m spells (subst (λ (x : Refusal). Receives sha256 mem_disk_view m None old new (Err x)) is a))
 
     no-memory : (r : Refusal) (o : Option Answer) → r ≡ NoMemory → AnswersRefusal r o → Answered (OfBytes bytes) h new o
     no-memory r o is after = absurd (subst (λ (x : Refusal). AnswersRefusal x o) is after)
@@ -155,7 +155,7 @@ module _ {H : Type 0} {g : _} {k : _} (old new : Service MemDisk H g k) (h : His
           reply = Refused (Malformed place);
           takes = (None, refl, tt, inr (nothing, refl, (place, at, refl)));
           is = refl;
-          serves = subst (λ (s : Service MemDisk H g k). Serves sha256 view_of s h) (sym same) served;
+          serves = subst (λ (s : Service MemDisk H g k). Serves sha256 mem_disk_view s h) (sym same) served;
         })
 
     -- either some message is spelled, or none
@@ -170,7 +170,7 @@ module _ {H : Type 0} {g : _} {k : _} (old new : Service MemDisk H g k) (h : His
             ]
         by (Err place) is = inr (whole-stops message_layout message-lawful.goes bytes place is).0
 
-    pub receive-answered : (r : Refusal) (o : Option Answer) → AnswersRefusal r o → ReceivesBytes sha256 view_of bytes None old new (Err r) → Answered (OfBytes bytes) h new o
+    pub receive-answered : (r : Refusal) (o : Option Answer) → AnswersRefusal r o → ReceivesBytes sha256 mem_disk_view bytes None old new (Err r) → Answered (OfBytes bytes) h new o
     receive-answered r o after a =
         elim message-or-none [
           | inl m ↦ elim (a.message m.0 m.1) [
@@ -183,7 +183,7 @@ module _ {H : Type 0} {g : _} {k : _} (old new : Service MemDisk H g k) (h : His
           ]
         ]
 
-    pub receive-done : (receipt : Receipt) → ReceivesBytes sha256 view_of bytes None old new (Ok receipt) → Answered (OfBytes bytes) h new (Some (answer.Archived receipt.by.step))
+    pub receive-done : (receipt : Receipt) → ReceivesBytes sha256 mem_disk_view bytes None old new (Ok receipt) → Answered (OfBytes bytes) h new (Some (answer.Archived receipt.by.step))
     receive-done receipt a =
         elim message-or-none [
           | inl m ↦ elim (a.message m.0 m.1) [

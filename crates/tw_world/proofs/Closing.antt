@@ -27,7 +27,7 @@ use Rattle.tw_chain.specs.declared.proof.HopPart.{HopPart}
 use Rattle.tw_chain.specs.declared.proof.PrecedenceProof.{PrecedenceProof}
 use Rattle.tw_chain.specs.declared.proof.Proof.TheVariants.{Precedes}
 use Rattle.tw_chain.specs.Accepting.{IsAccepted, held, hop_from, hops_of, hops_to, named as named_by, proof_texts}
-use Rattle.tw_chain.specs.Checks.{Check, bind_checks, bind_of, checks, end_of, head_checks, hop_checks, hops_checks, link_checks, opening_checks, root_of, start_of, tail_checks, under_anchor}
+use Rattle.tw_chain.specs.Checks.{Check, bind_checks, bind_of, checks, end_of_order, head_checks, hop_checks, hops_checks, link_checks, opening_checks, opening_root, start_of, tail_checks, under_anchor}
 use Rattle.tw_chain.specs.Checks.Check.{AnswerOf, CarriesThread, EventOf, InOrder, NeedsAnchor, OpeningOf}
 use Rattle.tw_chain.specs.Passing.{Passes, anchor_at, carried_by, check_texts, held_by, needed_by}
 use Rattle.tw_chain.specs.Proofs.{behind_codec, following, hop_bytes, hop_codec, hops_codec, kinds_codec, precedence_body, proof_codec, proof_layout}
@@ -130,14 +130,14 @@ module _ (s : Setting) (closed : HasOwnThreads s.dig s.family) where
 
   -- the hops from a thread on are checked with the threads that they carry
   hops-checked : (hops : List HopPart) (part at : ℕ) (t : Thread) (opening : Option Opening) → EachFits hop_bytes hop_codec (following (length hops)) hops → FitsOpening (length hops) t.step opening
-      → HasThread s.dig s.family t → ArePassed (opening_checks part t opening) → ArePassed (hops_checks at t.step (root_of opening) hops)
-      → Each (λ (hop : HopPart). IsSome (history_of s.family hop.entry.thread.from)) hops → OrTheyClash s (AreChecked s (hops_checks at t.step (root_of opening) hops))
+      → HasThread s.dig s.family t → ArePassed (opening_checks part t opening) → ArePassed (hops_checks at t.step (opening_root opening) hops)
+      → Each (λ (hop : HopPart). IsSome (history_of s.family hop.entry.thread.from)) hops → OrTheyClash s (AreChecked s (hops_checks at t.step (opening_root opening) hops))
   hops-checked [] part at t opening fits opens thread opened passed there = inl tt
   hops-checked (hop ∷ hops) part at t None fits opens thread opened passed there = absurd (some-opening (length hops) t.step None opens)
   hops-checked (hop ∷ hops) part at t (Some o) fits opens thread opened passed there =
       let more : ℕ = length hops in
       let own : List Check = hop_checks at t.step o.archive_root hop in
-      let onward : List Check = hops_checks (suc at) hop.entry.thread.step (root_of hop.opening) hops in
+      let onward : List Check = hops_checks (suc at) hop.entry.thread.step (opening_root hop.opening) hops in
       let bind : List Check = bind_checks at hop in
       let next : List Check = opening_checks at hop.entry.thread hop.opening in
       let parts = Each-parts Passed own onward passed in
@@ -179,15 +179,15 @@ module _ (s : Setting) (closed : HasOwnThreads s.dig s.family) where
   unfolding CarriesNone
   head-none p = (refl, (refl, (refl, (refl, opening-none 0 (start_of p) p.before))))
 
-  tail-none : (p : PrecedenceProof) → Each CarriesNone (tail_checks (suc (length p.hops)) (end_of p) p.tail)
+  tail-none : (p : PrecedenceProof) → Each CarriesNone (tail_checks (suc (length p.hops)) (end_of_order p) p.tail)
   unfolding CarriesNone
   tail-none p = (refl, (refl, (refl, tt)))
 
   chain-checked : (p : PrecedenceProof) → ChainFits p → ArePassed (checks (Precedes p)) → Each (λ (hop : HopPart). IsSome (history_of s.family hop.entry.thread.from)) p.hops
       → OrTheyClash s (AreChecked s (checks (Precedes p)))
   chain-checked p fits passed there =
-      let hops : List Check = hops_checks 1 (start_of p).step (root_of p.before) p.hops in
-      let tail : List Check = tail_checks (suc (length p.hops)) (end_of p) p.tail in
+      let hops : List Check = hops_checks 1 (start_of p).step (opening_root p.before) p.hops in
+      let tail : List Check = tail_checks (suc (length p.hops)) (end_of_order p) p.tail in
       let parts = Each-parts Passed (head_checks p) (hops ++ tail) passed in
       let rest = Each-parts Passed hops tail parts.1 in
       let head : AreChecked s (head_checks p) = all-checked (head_checks p) parts.0 (head-none p) in

@@ -9,7 +9,7 @@ use Rattle.std.proofs.Math.Seq.{drop-cons}
 use Rattle.serde_json.specs.Data.{Members, member, no_members, number, put, unsigned}
 use Rattle.serde_json.specs.Written.{has_float, members_have_float}
 use Rattle.tw_base.specs.kinds.Names.{name_text}
-use Rattle.tw_world.specs.Hosts.{summary_of, with_counted}
+use Rattle.tw_world.specs.Hosts.{hosts_summary, with_counted}
 use Rattle.tw_world.specs.declared.counts.Counts.{Counts}
 use Rattle.tw_world.specs.declared.host.Host.{Host}
 
@@ -53,5 +53,5 @@ counted-no-float [] named is = is
 counted-no-float (host ∷ hosts) named is =
     counted-no-float hosts (put (name_text host.name) (number (unsigned host.steps)) named) (put-no-float (name_text host.name) host.steps named is)
 
-pub summary-no-float : (counts : Counts) (hosts : List Host) → has_float (summary_of counts hosts) ≡ false
+pub summary-no-float : (counts : Counts) (hosts : List Host) → has_float (hosts_summary counts hosts) ≡ false
 summary-no-float counts hosts = ap (λ b. b || false) (counted-no-float hosts no_members refl)

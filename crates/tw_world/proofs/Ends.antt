@@ -5,13 +5,13 @@ use Rattle.sha2.specs.Sha256.{sha256}
 use Rattle.tw_base.specs.history.History.{History}
 use Rattle.tw_disk.specs.Disk.{IsAtRest}
 use Rattle.tw_disk.specs.Image.{Image}
-use Rattle.tw_disk.specs.MemDisk.{view_of}
+use Rattle.tw_disk.specs.MemDisk.{mem_disk_view}
 use Rattle.tw_disk.specs.declared.memory_disk.MemDisk.{MemDisk}
 use Rattle.tw_service.specs.Serves.{Serves, disk_of, name_of}
 use Rattle.tw_service.specs.Stands.{StandsFor}
 use Rattle.tw_service.specs.declared.service.Service.{Service}
-use Rattle.tw_world.specs.Hosts.{Answered, Ends, Given, RestsAs, StandsAs, StandsForGood, crash_told, own_answer}
-use Rattle.tw_world.specs.Runs.{answer_of}
+use Rattle.tw_world.specs.Hosts.{Answered, Given, LineEnds, RestsAs, StandsAs, StandsForGood, crash_told, own_answer}
+use Rattle.tw_world.specs.Runs.{answer_to_reply}
 use Rattle.tw_world.specs.declared.told.Answer.{Answer}
 use Rattle.tw_world.specs.declared.told.Told.{Told}
 use Rattle.tw_world.specs.declared.told.Told.TheVariants.{Crashed, Plain, Stopped}
@@ -19,7 +19,7 @@ use Rattle.tw_world.proofs.Resting.{stands-closed, stands-each}
 
 module _ {H : Type 0} {g : _} {k : _} (given : Given) (h : History) (service : Service MemDisk H g k) (after : MemDisk) (steps : ℕ) (told : Told) where
   -- no crash waited
-  pub ends-plain : (a : Answer) → told ≡ Plain a → ((x : History) → Serves sha256 view_of service x → RestsAs after steps x) → Answered given h service (Some a) → Ends given false h told after steps
+  pub ends-plain : (a : Answer) → told ≡ Plain a → ((x : History) → Serves sha256 mem_disk_view service x → RestsAs after steps x) → Answered given h service (Some a) → LineEnds given false h told after steps
   ends-plain a is rests answered =
       record {
         next = answered.next;
@@ -29,15 +29,15 @@ module _ {H : Type 0} {g : _} {k : _} (given : Given) (h : History) (service : S
       }
 
   module _ (disk : MemDisk) (closed : disk ≡ disk_of service)
-      (stands : (x : History) → Serves sha256 view_of service x → IsAtRest (view_of disk) (λ i. StandsFor sha256 i (name_of service) x))
-      (reopens : (one other : History) → ((c : Image) → (view_of disk).may_leave c → StandsAs one c ⊎ StandsAs other c) → RestsAs after steps one ⊎ RestsAs after steps other) where
+      (stands : (x : History) → Serves sha256 mem_disk_view service x → IsAtRest (mem_disk_view disk) (λ i. StandsFor sha256 i (name_of service) x))
+      (reopens : (one other : History) → ((c : Image) → (mem_disk_view disk).may_leave c → StandsAs one c ⊎ StandsAs other c) → RestsAs after steps one ⊎ RestsAs after steps other) where
     -- it was opened again as this history
     as-one : (x : History) → RestsAs after steps x ⊎ RestsAs after steps x → RestsAs after steps x
     as-one x (inl r) = r
     as-one x (inr r) = r
 
     -- a crash waited, and came after the answer
-    answered-crash : (a : Answer) → told ≡ Crashed a steps → Answered given h service (Some a) → Ends given true h told after steps
+    answered-crash : (a : Answer) → told ≡ Crashed a steps → Answered given h service (Some a) → LineEnds given true h told after steps
     answered-crash a is answered =
         let next : History = answered.next in
         let good : StandsForGood disk next = stands-closed disk (name_of service) next (stands next answered.serves) in
@@ -48,13 +48,13 @@ module _ {H : Type 0} {g : _} {k : _} (given : Given) (h : History) (service : S
           goes = inl (
             answered.reply,
             answered.takes,
-            inl (is ∙ ap (λ x. Crashed x steps) answered.is ∙ ap (Crashed (answer_of (own_answer given next answered.reply) answered.reply)) rests.0),
+            inl (is ∙ ap (λ x. Crashed x steps) answered.is ∙ ap (Crashed (answer_to_reply (own_answer given next answered.reply) answered.reply)) rests.0),
           );
           rests = rests;
         }
 
     -- nothing was done
-    undone : told ≡ Stopped steps → (x : History) → x ≡ h → RestsAs after steps x → Ends given true h told after steps
+    undone : told ≡ Stopped steps → (x : History) → x ≡ h → RestsAs after steps x → LineEnds given true h told after steps
     undone is x same rests = record {
       next = x;
       named = ap (λ (y : History). y.name) same;
@@ -63,11 +63,11 @@ module _ {H : Type 0} {g : _} {k : _} (given : Given) (h : History) (service : S
     }
 
     -- it stopped the line
-    stopped-crash : told ≡ Stopped steps → Answered given h service None → Ends given true h told after steps
+    stopped-crash : told ≡ Stopped steps → Answered given h service None → LineEnds given true h told after steps
     stopped-crash is answered =
         let next : History = answered.next in
-        let leaves : (c : Image) → (view_of disk).may_leave c → StandsAs h c ⊎ StandsAs next c =
-        λ c may. answered.leaves c (subst (λ (d : MemDisk). (view_of d).may_leave c) closed may) in
+        let leaves : (c : Image) → (mem_disk_view disk).may_leave c → StandsAs h c ⊎ StandsAs next c =
+        λ c may. answered.leaves c (subst (λ (d : MemDisk). (mem_disk_view d).may_leave c) closed may) in
         elim (reopens h next leaves) [
           | inl rests ↦ undone is h refl rests
           | inr rests ↦ elim answered.is_next [
@@ -76,6 +76,6 @@ module _ {H : Type 0} {g : _} {k : _} (given : Given) (h : History) (service : S
           ]
         ]
 
-    pub ends-crashed : (answer : Option Answer) → told ≡ crash_told answer steps → Answered given h service answer → Ends given true h told after steps
+    pub ends-crashed : (answer : Option Answer) → told ≡ crash_told answer steps → Answered given h service answer → LineEnds given true h told after steps
     ends-crashed (Some a) is answered = answered-crash a is answered
     ends-crashed None is answered = stopped-crash is answered

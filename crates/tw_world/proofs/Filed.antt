@@ -5,7 +5,7 @@ use Rattle.std.proofs.Math.Seq.{take-suc}
 use Rattle.tw_base.specs.format.Formats.{Spells}
 use Rattle.tw_chain.specs.Proofs.{proof_layout}
 use Rattle.tw_chain.specs.declared.proof.Proof.{Proof}
-use Rattle.tw_world.specs.Players.{AreFiled, AreProofsOf}
+use Rattle.tw_world.specs.Players.{AreFiled, AreProofsOfNumbers}
 use Rattle.tw_world.specs.Runs.{AreFiles, AreProofs}
 use Rattle.tw_world.specs.Worlds.{World, numbered}
 
@@ -46,7 +46,7 @@ module _ (w : World) where
       let rest = files-there numbers all.1 in (first.0 ∷ rest.0, (first.1, rest.1))
 
   -- one of them wasn't made
-  pub files-without : (numbers : List ℕ) (i d : ℕ) → i < length numbers → numbered w.files (get_or numbers i d) ≡ Some None → AreFiled w numbers → AreProofsOf w numbers None
+  pub files-without : (numbers : List ℕ) (i d : ℕ) → i < length numbers → numbered w.files (get_or numbers i d) ≡ Some None → AreFiled w numbers → AreProofsOfNumbers w numbers None
   files-without [] i d within is all = absurd (omega (arith, within))
   files-without (n ∷ numbers) zero d within is all = let rest = files-there numbers all.1 in (None ∷ rest.0, (is, rest.1), inl refl)
   files-without (n ∷ numbers) (suc i) d within is all =

@@ -7,8 +7,8 @@ use Rattle.std.specs.Prelude.{map, option_map, Option, Some, None, Result, is_so
 use Rattle.tw_answers.specs.declared.refusal.Refusal.{Refusal}
 use Rattle.tw_base.specs.declared.history.question.Question.{Question}
 use Rattle.tw_base.specs.history.History.{History}
-use Rattle.tw_world.specs.Hosts.{Given, Gives, GoesOn, Holds, Takes, own_answer}
-use Rattle.tw_world.specs.Players.{AreHostsOf, Follows, IsFirst, IsHostOf, mail_kept}
+use Rattle.tw_world.specs.Hosts.{Given, GivesReply, GoesOnByReply, HoldsHistory, TakesGiven, own_answer}
+use Rattle.tw_world.specs.Players.{AreHostsOf, IsFirst, IsHostOf, PlayerFollows, mail_kept}
 use Rattle.tw_world.specs.Runs.{IsMember, Moves}
 use Rattle.tw_world.specs.Worlds.{Mail, Member, World, after_line, with_member, without_message}
 use Rattle.tw_world.specs.declared.host.Host.{Host}
@@ -20,7 +20,7 @@ use Rattle.tw_world.proofs.Following.{find-member, keep-host, put-host}
 use Rattle.tw_world.proofs.LineMoves.{goes-moves}
 use Rattle.tw_world.proofs.Members.{named}
 
-pub later : (p : Player) (w : World) → Follows p w → Follows p (after_line w)
+pub later : (p : Player) (w : World) → PlayerFollows p w → PlayerFollows p (after_line w)
 later p w f = record { hosts = f.hosts; messages = f.messages; files = f.files; anchors = f.anchors }
 
 -- the service of this name stands here; it is in another state, and all else is as it was
@@ -52,7 +52,7 @@ host-there (x ∷ hosts) zero within = (x, refl)
 host-there (x ∷ hosts) (suc at) within = host-there hosts at (omega (arith, within))
 
 -- the world's message at a place
-pub message-there : (p : Player) (w : World) (index : ℕ) (kept : KeptMail) → Follows p w → index < length p.messages.items → kept ≡ get_or p.messages.items index kept
+pub message-there : (p : Player) (w : World) (index : ℕ) (kept : KeptMail) → PlayerFollows p w → index < length p.messages.items → kept ≡ get_or p.messages.items index kept
     → slice_get w.messages index ≡ Some (mail_kept kept)
 message-there p w index kept f within is =
     ap (λ (ms : List Mail). slice_get ms index) (sym f.messages) ∙ slice_get-map mail_kept p.messages.items index
@@ -65,14 +65,14 @@ file-there p w index file same within is =
     ap (λ (fs : List (Option (List ℕ))). slice_get fs index) (sym same) ∙ slice_get-get_or p.files.items index file within ∙ ap Some (sym is)
 
 -- the world's messages without the one at a place
-pub message-lost : (p : Player) (w : World) (index number : ℕ) → Follows p w → index + 1 ≡ number → map mail_kept (slice_set p.messages.items index Dropped) ≡ (without_message w number).messages
+pub message-lost : (p : Player) (w : World) (index number : ℕ) → PlayerFollows p w → index + 1 ≡ number → map mail_kept (slice_set p.messages.items index Dropped) ≡ (without_message w number).messages
 message-lost p w index number f at =
     map-set mail_kept p.messages.items index Dropped ∙ ap (λ (ms : List Mail). slice_set ms index (mail_kept Dropped)) f.messages
     ∙ ap (λ i. slice_set w.messages i (mail_kept Dropped)) (omega (arith, at))
 
-module _ (old new : Player) (name : List ℕ) (at : ℕ) (host one : Host) (served : IsServedAt old new name at host one) (w : World) (f : Follows old w) where
+module _ (old new : Player) (name : List ℕ) (at : ℕ) (host one : Host) (served : IsServedAt old new name at host one) (w : World) (f : PlayerFollows old w) where
   -- it is another member of the name
-  pub follows-put : (n : Member) → IsHostOf one n → n.history.name ≡ name → Follows new (after_line (with_member w n))
+  pub follows-put : (n : Member) → IsHostOf one n → n.history.name ≡ name → PlayerFollows new (after_line (with_member w n))
   follows-put n is same = record {
     hosts = subst (λ (hosts : List Host). AreHostsOf hosts (with_member w n).members) (sym served.hosts)
         (put-host old.hosts.items w.members name at one n f.hosts served.first is same);
@@ -82,7 +82,7 @@ module _ (old new : Player) (name : List ℕ) (at : ℕ) (host one : Host) (serv
   }
 
   -- it is the same member
-  pub follows-kept : ((m : Member) → IsHostOf host m → IsHostOf one m) → Follows new w
+  pub follows-kept : ((m : Member) → IsHostOf host m → IsHostOf one m) → PlayerFollows new w
   follows-kept to = record {
     hosts = subst (λ (hosts : List Host). AreHostsOf hosts w.members) (sym served.hosts) (keep-host old.hosts.items w.members at host one f.hosts served.there to);
     messages = ap (map mail_kept) served.messages ∙ f.messages;
@@ -91,8 +91,8 @@ module _ (old new : Player) (name : List ℕ) (at : ℕ) (host one : Host) (serv
   }
 
   -- a line that only asked
-  pub follows-asked : (question : Question) (given : Result (List ℕ) Refusal) → ((h : History) → Holds host h → Gives h question given × Holds one h)
-      → one.crash ≡ host.crash → (m : Member) × IsMember w name m × Gives m.history question given × Follows new w
+  pub follows-asked : (question : Question) (given : Result (List ℕ) Refusal) → ((h : History) → HoldsHistory host h → GivesReply h question given × HoldsHistory one h)
+      → one.crash ≡ host.crash → (m : Member) × IsMember w name m × GivesReply m.history question given × PlayerFollows new w
   follows-asked question given gives crash =
       let found = find-member old.hosts.items w.members name at host f.hosts served.first served.there in (
         found.member,
@@ -103,23 +103,23 @@ module _ (old new : Player) (name : List ℕ) (at : ℕ) (host one : Host) (serv
 
   -- a line that may have added a step
   pub follows-moved : (given : Given) (told : Told)
-      → ((h : History) → Holds host h → (next : History) × GoesOn given (is_some host.crash) h next told × Holds one next) → one.name ≡ host.name → one.crash ≡ None
-      → (m : Member) × IsMember w name m × ((next : World) × Moves (Takes given) (own_answer given) w m told next × Follows new next)
+      → ((h : History) → HoldsHistory host h → (next : History) × GoesOnByReply given (is_some host.crash) h next told × HoldsHistory one next) → one.name ≡ host.name → one.crash ≡ None
+      → (m : Member) × IsMember w name m × ((next : World) × Moves (TakesGiven given) (own_answer given) w m told next × PlayerFollows new next)
   follows-moved given told goes same crash =
       let found = find-member old.hosts.items w.members name at host f.hosts served.first served.there in
       let m : Member = found.member in
       let gone = goes m.history found.is.holds in
       let next : History = gone.0 in
-      let moved = goes-moves given w m next told (subst (λ b. GoesOn given b m.history next told) found.is.waits gone.1) in
+      let moved = goes-moves given w m next told (subst (λ b. GoesOnByReply given b m.history next told) found.is.waits gone.1) in
       let is = moved.2 in
       let n : Member = is.member in
-      let holds : Holds one n.history = subst (Holds one) (sym is.history) gone.2 in
+      let holds : HoldsHistory one n.history = subst (HoldsHistory one) (sym is.history) gone.2 in
       let names : n.history.name ≡ name = sym holds.named ∙ same ∙ found.is.holds.named ∙ named w.members name m found.there in (
         m,
         found.there,
         (
           moved.0,
           moved.1,
-          subst (Follows new) (sym is.is) (follows-put n (record { holds = holds; waits = ap is_some crash ∙ sym is.waits }) names),
+          subst (PlayerFollows new) (sym is.is) (follows-put n (record { holds = holds; waits = ap is_some crash ∙ sym is.waits }) names),
         ),
       )

@@ -2,7 +2,7 @@
 use Rattle.std.proofs.Common.{◌≡◌, ◌-◌, length, refl, sym, inl, inr, false}
 use Rattle.std.specs.Prelude.{replicate, ◌++◌}
 use Rattle.tw_base.specs.history.History.{History}
-use Rattle.tw_world.specs.Hosts.{Given, GoesOn, Takes, own_answer}
+use Rattle.tw_world.specs.Hosts.{Given, GoesOnByReply, TakesGiven, own_answer}
 use Rattle.tw_world.specs.Runs.{Moves}
 use Rattle.tw_world.specs.Worlds.{Member, World, after_line, moved, with_member}
 use Rattle.tw_world.specs.declared.told.Told.{Told}
@@ -14,8 +14,8 @@ pub record IsMovedTo (w : World) (next : History) (after : World) : Type 0 where
   pub waits : member.waits ≡ false
   pub is : after ≡ after_line (with_member w member)
 
-pub goes-moves : (given : Given) (w : World) (m : Member) (next : History) (told : Told) → GoesOn given m.waits m.history next told
-    → (after : World) × Moves (Takes given) (own_answer given) w m told after × IsMovedTo w next after
+pub goes-moves : (given : Given) (w : World) (m : Member) (next : History) (told : Told) → GoesOnByReply given m.waits m.history next told
+    → (after : World) × Moves (TakesGiven given) (own_answer given) w m told after × IsMovedTo w next after
 goes-moves given w m next told (inl replied) = (
   after_line (moved w m next),
   inl (record { reply = replied.0; history = next; replies = replied.1; tells = replied.2; becomes = refl }),

@@ -23,7 +23,7 @@ use Rattle.tw_service.specs.Machine.{IsStepOf, Makes, Reply}
 use Rattle.tw_service.specs.Machine.Call.{Ask}
 use Rattle.tw_service.specs.Machine.Reply.{OfBytes, Refused}
 use Rattle.tw_service.specs.Questions.{history_refusal}
-use Rattle.tw_world.specs.Runs.{Appending, IsDelivered, IsMember, IsReached, IsTold, IsUndone, JoinTold, Moves, ProofTold, Receiving, Runs, mail_of}
+use Rattle.tw_world.specs.Runs.{Appending, IsDelivered, IsLineTold, IsMember, IsReached, IsUndone, JoinTold, Moves, ProofTold, Receiving, RunsLines, mail_of}
 use Rattle.tw_world.specs.declared.told.Answer.{Answer}
 use Rattle.tw_world.specs.declared.told.Told.{Told}
 use Rattle.tw_world.specs.Worlds.{Mail, Member, World, after_line, member_of, no_world, numbered, with_message}
@@ -133,7 +133,7 @@ module _ (dig : List ℕ → List ℕ) (may_claim : Option ℕ → Bool) where
     proof-good (Refused refusal) told next is = subst Good (sym is.1) later
     proof-good _ told next is = absurd is
 
-    pub line-good : (line : Line) (told : Told) (next : World) → IsTold dig may_claim w line told next → Good next
+    pub line-good : (line : Line) (told : Told) (next : World) → IsLineTold dig may_claim w line told next → Good next
     line-good (Service name) told next is =
         subst Good (sym is.2) (ordered-service dig w.members w.hostile w.messages w.anchors (w.place + 1) later name is.0.0 (is-none (member_of w.members name) is.0.1) is.0.2)
     line-good (Hostile name) told next is =
@@ -157,8 +157,8 @@ module _ (dig : List ℕ → List ℕ) (may_claim : Option ℕ → Bool) where
 
   -- ---- runs
 
-  pub runs-good : (lines : List Line) (told : List Told) (w end : World) → Good w → Runs dig may_claim w lines told end → Good end
-  unfolding Runs
+  pub runs-good : (lines : List Line) (told : List Told) (w end : World) → Good w → RunsLines dig may_claim w lines told end → Good end
+  unfolding RunsLines
   runs-good [] [] w end o is = subst Good is o
   runs-good [] (t ∷ told) w end o is = absurd is
   runs-good (line ∷ lines) [] w end o is = absurd is

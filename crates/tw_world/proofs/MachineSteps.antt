@@ -14,13 +14,13 @@ use Rattle.tw_base.specs.kinds.Bytes.{AreBytes}
 use Rattle.tw_base.specs.kinds.Lists.{Each}
 use Rattle.tw_msg.specs.Messages.{message_layout}
 use Rattle.tw_msg.specs.declared.message.Message.{Message}
-use Rattle.tw_archive.specs.Judging.{judged}
+use Rattle.tw_archive.specs.Judging.{judged_message}
 use Rattle.tw_archive.specs.declared.judgement.Judgement.{Judgement}
 use Rattle.tw_archive.specs.declared.judgement.Judgement.TheVariants.{Known, Forked, Stale, BadLink, Accept}
 use Rattle.tw_base.specs.history.Tree.{entries, tree}
 use Rattle.tw_service.specs.Receiving.{reception, refuse_or}
-use Rattle.tw_service.specs.EventSteps.{event_step, with_events}
-use Rattle.tw_answers.specs.Limits.{append_refusal, archive_refusal, bytes_of, clock_refusal, first_long, full_refusal, length_refusal, limits_refusal, or_else, own_refusal}
+use Rattle.tw_service.specs.EventSteps.{event_step, with_events_at}
+use Rattle.tw_answers.specs.Limits.{append_refusal, archive_refusal, clock_refusal, events_size, first_long, full_refusal, length_refusal, limits_refusal, or_else, own_refusal}
 use Rattle.tw_service.specs.Machine.{Archives, IsStepOf, Reply, RepliesTo, append_table, last_thread}
 use Rattle.tw_service.specs.Machine.Reply.{OfThread, Refused}
 use Rattle.tw_service.specs.Machine.Call.{Append as AppendEvents}
@@ -56,10 +56,10 @@ within-limits : (events : List (List ℕ)) → Each AreBytes events → limits_r
 unfolding limits_refusal
 within-limits events are none = by (nat_lt MOST_EVENTS (length events)) refl none
   where
-    by : (b : Bool) → nat_lt MOST_EVENTS (length events) ≡ b → (if b then Some (TooMany (length events)) else length_refusal (first_long events) (bytes_of events)) ≡ None → MayRecord events
+    by : (b : Bool) → nat_lt MOST_EVENTS (length events) ≡ b → (if b then Some (TooMany (length events)) else length_refusal (first_long events) (events_size events)) ≡ None → MayRecord events
     by true is none = cc
     by false is none =
-        let both = short (first_long events) (bytes_of events) none in
+        let both = short (first_long events) (events_size events) none in
         record { are = record { count = omega (arith, ltb-false MOST_EVENTS (length events) is); sizes = none_long events both.0; bytes = are }; fit = both.1 }
 
 allowed : (steps : ℕ) (clock : Option ℕ) (events : List (List ℕ)) (time : Option ℕ) → Each AreBytes events → append_refusal false steps clock events time ≡ None
@@ -77,7 +77,7 @@ module _ (dig : List ℕ → List ℕ) where
   append-goes h next events time reply sound are within step = by (append_table h events time) refl step
     where
       by : (o : Option Refusal) → append_table h events time ≡ o
-          → MatchOption o ((next ≡ with_events h events time) × (reply ≡ OfThread (last_thread dig next))) (λ refusal. (next ≡ h) × (reply ≡ Refused refusal))
+          → MatchOption o ((next ≡ with_events_at h events time) × (reply ≡ OfThread (last_thread dig next))) (λ refusal. (next ≡ h) × (reply ≡ Refused refusal))
           → (next ≡ h) ⊎ ((s : Step) × (next ≡ plus h s) × IsSound next × (thread_of (Some s) ≡ None))
       by (Some refusal) is step = inl step.0
       by None is step =
@@ -118,7 +118,7 @@ module _ (dig : List ℕ → List ℕ) where
       → (next ≡ h) ⊎ ((m : Message) × Spells message_layout bytes m × ((s : Step) × (next ≡ plus h s) × IsSound next × (thread_of (Some s) ≡ Some m.thread)))
   given-goes h next bytes time reply (inr none) = inl none.1
   given-goes h next bytes time reply (inl (m, spells, step)) =
-      elim (judged-goes h next m time reply (own_refusal false h.name m.thread.from) (judged dig (entries (tree h (length h.steps))) m) step) [
+      elim (judged-goes h next m time reply (own_refusal false h.name m.thread.from) (judged_message dig (entries (tree h (length h.steps))) m) step) [
         | inl same ↦ inl same
         | inr more ↦ inr (m, spells, more)
       ]

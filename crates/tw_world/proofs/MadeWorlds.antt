@@ -11,7 +11,7 @@ use Rattle.tw_base.specs.declared.history.thread.Thread.{Thread}
 use Rattle.tw_base.specs.kinds.Lists.{Each, In}
 use Rattle.tw_base.proofs.lemmas.kinds.ListLemmas.{In-cases_append, In-left, In-right}
 use Rattle.tw_script.specs.Allowed as allowed
-use Rattle.tw_script.specs.Allowed.{is_file, is_free, is_hostile, is_service, nothing_made}
+use Rattle.tw_script.specs.Allowed.{is_file, is_hostile, is_name_free, is_service, nothing_made}
 use Rattle.tw_script.specs.declared.limits.TheConstants.{MOST_SCRIPT_NAMES}
 use Rattle.tw_script.specs.declared.made.Declared.{Declared}
 use Rattle.tw_script.specs.declared.made.Made.{Made}
@@ -158,7 +158,7 @@ module _ (made : Made) (w : World) (o : HasMade made w) where
           hostile-more made new name ∙ or_right (is_hostile made name) (bytes_eq new name) (ap (λ (n : List ℕ). bytes_eq new n) is ∙ is_same new)
       lied name (inr (inr none)) = absurd none
 
-  pub made-mail : (one : Mail) → is_there one ≡ true → HasMade (allowed.with_message made) (after_line (with_message w one))
+  pub made-mail : (one : Mail) → is_there one ≡ true → HasMade (allowed.with_made_message made) (after_line (with_message w one))
   made-mail one is = record {
     services = o.services;
     hostile = o.hostile;
@@ -167,7 +167,7 @@ module _ (made : Made) (w : World) (o : HasMade made w) where
     files = o.files;
   }
 
-  pub made-lost : (number : ℕ) → HasMade (allowed.without_message made number) (after_line (without_message w number))
+  pub made-lost : (number : ℕ) → HasMade (allowed.without_made_message made number) (after_line (without_message w number))
   made-lost number = record {
     services = o.services;
     hostile = o.hostile;
@@ -176,7 +176,7 @@ module _ (made : Made) (w : World) (o : HasMade made w) where
     files = o.files;
   }
 
-  pub made-file : (file : Option (List ℕ)) → HasMade (allowed.with_file made) (after_line (with_file w file))
+  pub made-file : (file : Option (List ℕ)) → HasMade (allowed.with_made_file made) (after_line (with_file w file))
   made-file file = record {
     services = o.services;
     hostile = o.hostile;
@@ -201,7 +201,7 @@ module _ (made : Made) (w : World) (o : HasMade made w) where
   and-no : (a b : Bool) → a ≡ false → (a && b) ≡ false
   and-no a b is = ap (λ (c : Bool). c && b) is
 
-  pub free-new : (name : List ℕ) → is_free made name ≡ true → (is_some (member_of w.members name) ≡ false) × (In name w.hostile → ⊥)
+  pub free-new : (name : List ℕ) → is_name_free made name ≡ true → (is_some (member_of w.members name) ≡ false) × (In name w.hostile → ⊥)
   free-new name free =
       let none : list_any (λ (d : Declared). bytes_eq d.name name) made.names ≡ false =
       not-true (list_any (λ (d : Declared). bytes_eq d.name name) made.names)

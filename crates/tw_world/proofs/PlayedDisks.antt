@@ -12,10 +12,10 @@ use Rattle.tw_base.specs.kinds.Lists.{Each, In}
 use Rattle.tw_base.proofs.lemmas.kinds.ListLemmas.{Each-map}
 use Rattle.tw_script.specs.declared.line.Line.{Line}
 use Rattle.tw_world.specs.Hosts.{StandsForGood, claims_none}
-use Rattle.tw_world.specs.PlayedLines.{AreHostDisks, disk_of}
+use Rattle.tw_world.specs.PlayedLines.{AreHostDisks, host_disk}
 use Rattle.tw_world.specs.Players.{AreHostsOf}
 use Rattle.tw_world.specs.Playing.{AreDisksOf}
-use Rattle.tw_world.specs.Runs.{IsMember, Runs}
+use Rattle.tw_world.specs.Runs.{IsMember, RunsLines}
 use Rattle.tw_world.specs.Worlds.{Member, World, family, histories_of, no_world}
 use Rattle.tw_world.specs.declared.host.Host.{Host}
 use Rattle.tw_world.specs.declared.replaying.WorldDisk.{WorldDisk}
@@ -49,7 +49,7 @@ module _ (fam : List History) where
   Stands d = (h : History) × HasHistory fam d.name h × StandsForGood d.disk h
 
   hosts-stand : (hosts : List Host) (members : List Member) → AreHostsOf hosts members → Each (λ (m : Member). HasHistory fam m.history.name m.history) members
-      → Each (λ (host : Host). Stands (disk_of host)) hosts
+      → Each (λ (host : Host). Stands (host_disk host)) hosts
   hosts-stand [] members are found = tt
   hosts-stand (host ∷ hosts) [] are found = absurd are
   hosts-stand (host ∷ hosts) (m ∷ members) are found =
@@ -85,7 +85,7 @@ names-sorted (host ∷ hosts) sorted = λ k d low high.
     ∙ ap (λ (name : List ℕ). is_lt (slice_cmp nat_cmp (get_or (host ∷ hosts) (k + 1) host).name name)) (get_or-map name_of (host ∷ hosts) k host d (omega (arith, later)))
     ∙ sorted k host low later
 
-disks-named : (hosts : List Host) → map (λ (d : WorldDisk). d.name) (map disk_of hosts) ≡ map name_of hosts
+disks-named : (hosts : List Host) → map (λ (d : WorldDisk). d.name) (map host_disk hosts) ≡ map name_of hosts
 disks-named [] = refl
 disks-named (host ∷ hosts) = ap (λ (names : List (List ℕ)). host.name ∷ names) (disks-named hosts)
 
@@ -100,12 +100,12 @@ disks-are members hosts disks are found (sorted, from, is) =
           (subst (λ (names : List (List ℕ)). IsPermutation names (map name_of sorted)) (hosts-named hosts members are) (IsPermutation-map name_of hosts sorted from.moved));
       in_order = subst (IsSorted (slice_cmp nat_cmp)) (sym (disks-named sorted)) (names-sorted sorted from.in_order);
       stand =
-          each-image (Stands (histories_of members)) disk_of sorted
-          (each-moved (λ (host : Host). Stands (histories_of members) (disk_of host)) hosts sorted from.moved (hosts-stand (histories_of members) hosts members are found));
+          each-image (Stands (histories_of members)) host_disk sorted
+          (each-moved (λ (host : Host). Stands (histories_of members) (host_disk host)) hosts sorted from.moved (hosts-stand (histories_of members) hosts members are found));
     })
 
 -- where a run leads, each service's history is the one of its name
-pub own-histories : (lines : List Line) (told : List Told) (end : World) → Runs sha256 claims_none no_world lines told end
+pub own-histories : (lines : List Line) (told : List Told) (end : World) → RunsLines sha256 claims_none no_world lines told end
     → Each (λ (m : Member). HasHistory (family end) m.history.name m.history) end.members
 own-histories lines told end runs =
     Each-map (λ (m : Member). IsMember end m.history.name m × (In m.history.name end.hostile → ⊥)) (λ (m : Member). HasHistory (family end) m.history.name m.history) end.members

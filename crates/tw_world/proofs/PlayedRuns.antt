@@ -32,10 +32,10 @@ use Rattle.tw_script.proofs.LineValues.{HasValues, line-has}
 use Rattle.tw_service.specs.Machine.{Reply}
 use Rattle.tw_service.specs.Machine.Reply.{OfBytes, Refused}
 use Rattle.tw_world.specs.Hosts.{claims_none}
-use Rattle.tw_world.specs.PlayedLines.{IsRead}
+use Rattle.tw_world.specs.PlayedLines.{AreLinesRead}
 use Rattle.tw_world.specs.Players.{MayTell}
-use Rattle.tw_world.specs.Playing.{lines_of}
-use Rattle.tw_world.specs.Runs.{Appending, IsDelivered, IsTold, JoinTold, Moves, ProofTold, Receiving, Runs, mail_of}
+use Rattle.tw_world.specs.Playing.{script_lines}
+use Rattle.tw_world.specs.Runs.{Appending, IsDelivered, IsLineTold, JoinTold, Moves, ProofTold, Receiving, RunsLines, mail_of}
 use Rattle.tw_world.specs.Worlds.{Mail, Member, World, no_world, numbered}
 use Rattle.tw_world.specs.Worlds.Mail.{Made as MadeMail, Unmade, Dropped}
 use Rattle.tw_world.specs.declared.told.Answer.{Answer}
@@ -64,29 +64,29 @@ module _ (dig : List ℕ → List ℕ) (may_claim : Option ℕ → Bool) (made :
   sent-there (OfBytes bytes) = refl
   sent-there _ = refl
 
-  proof-made : (reply : Reply) (told : Told) (next : World) → ProofTold w reply told next → HasMade (allowed.with_file made) next
-  proof-made (OfBytes bytes) told next is = subst (HasMade (allowed.with_file made)) (sym is.1) (made-file made w o (Some bytes))
-  proof-made (Refused refusal) told next is = subst (HasMade (allowed.with_file made)) (sym is.1) (made-file made w o None)
+  proof-made : (reply : Reply) (told : Told) (next : World) → ProofTold w reply told next → HasMade (allowed.with_made_file made) next
+  proof-made (OfBytes bytes) told next is = subst (HasMade (allowed.with_made_file made)) (sym is.1) (made-file made w o (Some bytes))
+  proof-made (Refused refusal) told next is = subst (HasMade (allowed.with_made_file made)) (sym is.1) (made-file made w o None)
   proof-made _ told next is = absurd is
 
-  joined-made : (joined : Result Proof JoinFault) (told : Told) (next : World) → JoinTold w joined told next → HasMade (allowed.with_file made) next
-  joined-made (Ok p) told next is = subst (HasMade (allowed.with_file made)) (sym is.1) (made-file made w o (Some (proof_bytes p)))
-  joined-made (Err (Gap place)) told next is = subst (HasMade (allowed.with_file made)) (sym is.1) (made-file made w o None)
+  joined-made : (joined : Result Proof JoinFault) (told : Told) (next : World) → JoinTold w joined told next → HasMade (allowed.with_made_file made) next
+  joined-made (Ok p) told next is = subst (HasMade (allowed.with_made_file made)) (sym is.1) (made-file made w o (Some (proof_bytes p)))
+  joined-made (Err (Gap place)) told next is = subst (HasMade (allowed.with_made_file made)) (sym is.1) (made-file made w o None)
   joined-made (Err NoMemory) told next is = absurd is
 
-  line-made : (line : Line) (told : Told) (next : World) → IsTold dig may_claim w line told next → HasMade (made_by made line) next
+  line-made : (line : Line) (told : Told) (next : World) → IsLineTold dig may_claim w line told next → HasMade (made_by made line) next
   unfolding made_by
   line-made (Service name) told next is = subst (HasMade (allowed.with_name made name false)) (sym is.2) (made-service made w o name)
   line-made (Hostile name) told next is = subst (HasMade (allowed.with_name made name true)) (sym is.2) (made-hostile made w o name)
   line-made (Append name events) told next (bytes, (m, there, is)) = moves-made (Appending dig may_claim events) _ m told next is
   line-made (Send name since) told next (m, there, (reply, step, text, same)) =
-      subst (HasMade (allowed.with_message made)) (sym same) (made-mail made w o (mail_of reply) (sent-there reply))
-  line-made (Inject name bytes) told next (lies, own, text, same) = subst (HasMade (allowed.with_message made)) (sym same) (made-mail made w o (MadeMail bytes) refl)
+      subst (HasMade (allowed.with_made_message made)) (sym same) (made-mail made w o (mail_of reply) (sent-there reply))
+  line-made (Inject name bytes) told next (lies, own, text, same) = subst (HasMade (allowed.with_made_message made)) (sym same) (made-mail made w o (MadeMail bytes) refl)
   line-made (Deliver number name) told next (m, there, is) = delivered-made (numbered w.messages number) m told next is
-  line-made (Lose number) told next (mail, there, text, same) = subst (HasMade (allowed.without_message made number)) (sym same) (made-lost made w o number)
+  line-made (Lose number) told next (mail, there, text, same) = subst (HasMade (allowed.without_made_message made number)) (sym same) (made-lost made w o number)
   line-made (Crash name call choice) told next (m, there, text, same) = subst (HasMade made) (sym same) (made-member made w o (record m { waits = true }))
   line-made (Prove name asked) told next (m, there, (reply, step, is)) = proof-made reply told next is
-  line-made (Join numbers) told next (two, (files, there, inl none)) = subst (HasMade (allowed.with_file made)) (sym none.1.1) (made-file made w o None)
+  line-made (Join numbers) told next (two, (files, there, inl none)) = subst (HasMade (allowed.with_made_file made)) (sym none.1.1) (made-file made w o None)
   line-made (Join numbers) told next (two, (files, there, inr (proofs, spelled, (joined, joins, is)))) = joined-made joined told next is
   line-made (Anchor name step) told next (m, there, inl (within, text, same)) =
       subst (HasMade made) (sym same) (made-anchor made w o (record { from = name; step = step; auth = auth dig m.history step }))
@@ -121,9 +121,9 @@ module _ (made : Made) (w : World) (o : HasMade made w) where
 -- ---- runs
 
 module _ (dig : List ℕ → List ℕ) (may_claim : Option ℕ → Bool) where
-  made-runs : (script : List NumberedLine) (made : Made) (w : World) (told : List Told) (end : World) → HasMade made w → Runs dig may_claim w (lines_of script) told end
+  made-runs : (script : List NumberedLine) (made : Made) (w : World) (told : List Told) (end : World) → HasMade made w → RunsLines dig may_claim w (script_lines script) told end
       → HasMade (made_by_all made script) end
-  unfolding Runs
+  unfolding RunsLines
   made-runs [] made w [] end o is = subst (HasMade made) is o
   made-runs [] made w (t ∷ told) end o is = absurd is
   made-runs (l ∷ script) made w [] end o is = absurd is
@@ -131,22 +131,22 @@ module _ (dig : List ℕ → List ℕ) (may_claim : Option ℕ → Bool) where
       made-runs script (made_by made l.line) next told end (line-made dig may_claim made w o l.line t next first) rest
 
   -- no line was told yet
-  pub runs-none : (w : World) → Runs dig may_claim w [] [] w
-  unfolding Runs
+  pub runs-none : (w : World) → RunsLines dig may_claim w [] [] w
+  unfolding RunsLines
   runs-none w = refl
 
   -- one line more at the end
-  pub runs-more : (lines : List Line) (told : List Told) (w end : World) (line : Line) (t : Told) (next : World) → Runs dig may_claim w lines told end
-      → IsTold dig may_claim end line t next → Runs dig may_claim w (lines ++ line ∷ []) (told ++ t ∷ []) next
-  unfolding Runs
-  runs-more [] [] w end line t next is more = (next, subst (λ (v : World). IsTold dig may_claim v line t next) (sym is) more, refl)
+  pub runs-more : (lines : List Line) (told : List Told) (w end : World) (line : Line) (t : Told) (next : World) → RunsLines dig may_claim w lines told end
+      → IsLineTold dig may_claim end line t next → RunsLines dig may_claim w (lines ++ line ∷ []) (told ++ t ∷ []) next
+  unfolding RunsLines
+  runs-more [] [] w end line t next is more = (next, subst (λ (v : World). IsLineTold dig may_claim v line t next) (sym is) more, refl)
   runs-more [] (u ∷ told) w end line t next is more = absurd is
   runs-more (l ∷ lines) [] w end line t next is more = absurd is
   runs-more (l ∷ lines) (u ∷ told) w end line t next (mid, first, rest) more = (mid, first, runs-more lines told mid end line t next rest more)
 
   -- each line is told
-  pub runs-length : (lines : List Line) (told : List Told) (w end : World) → Runs dig may_claim w lines told end → length told ≡ length lines
-  unfolding Runs
+  pub runs-length : (lines : List Line) (told : List Told) (w end : World) → RunsLines dig may_claim w lines told end → length told ≡ length lines
+  unfolding RunsLines
   runs-length [] [] w end is = refl
   runs-length [] (t ∷ told) w end is = absurd is
   runs-length (l ∷ lines) [] w end is = absurd is
@@ -166,8 +166,8 @@ each-at P (y ∷ xs) zero x all within at = subst P at all.0
 each-at P (y ∷ xs) (suc i) x all within at = each-at P xs i x all.1 (omega (arith, within)) at
 
 -- the next line of a script, whatever was told of those before it
-pub may-next : (script : List NumberedLine) (i : ℕ) (l : NumberedLine) (told : List Told) (w : World) → IsRead script → i < length script → get_or script i l ≡ l
-    → Runs sha256 claims_none no_world (lines_of (take i script)) told w → MayTell w l.line
+pub may-next : (script : List NumberedLine) (i : ℕ) (l : NumberedLine) (told : List Told) (w : World) → AreLinesRead script → i < length script → get_or script i l ≡ l
+    → RunsLines sha256 claims_none no_world (script_lines (take i script)) told w → MayTell w l.line
 may-next script i l told w (bytes, read) within at runs =
     let is : IsScript bytes script = is-script bytes script read in
     let of : IsLineOf 1 (line_texts bytes) l = each-at (IsLineOf 1 (line_texts bytes)) script i l is.of_texts within at in
@@ -175,5 +175,5 @@ may-next script i l told w (bytes, read) within at runs =
     (line-has of.text l.line of.line_is) (allowed-at script nothing_made i l is.allowed within at)
 
 -- and it is asked what a service may be asked
-pub asks-next : (script : List NumberedLine) (i : ℕ) (l : NumberedLine) → IsRead script → i < length script → get_or script i l ≡ l → AsksWell l.line
+pub asks-next : (script : List NumberedLine) (i : ℕ) (l : NumberedLine) → AreLinesRead script → i < length script → get_or script i l ≡ l → AsksWell l.line
 asks-next script i l read within at = each-at (λ (n : NumberedLine). AsksWell n.line) script i l (script-asks read.0 script read.1) within at

@@ -6,7 +6,7 @@ use Rattle.serde_json.specs.Written.{compact_text}
 use Rattle.tw_base.specs.history.History.{History}
 use Rattle.tw_base.specs.kinds.Names.{name_text}
 use Rattle.tw_script.specs.declared.script.NumberedLine.{NumberedLine}
-use Rattle.tw_world.specs.Hosts.{summary_of, with_counted}
+use Rattle.tw_world.specs.Hosts.{hosts_summary, with_counted}
 use Rattle.tw_world.specs.Playing.{counts_of}
 use Rattle.tw_world.specs.Telling.{replayed_text, told_line, told_lines, with_steps}
 use Rattle.tw_world.specs.declared.counts.Counts.{Counts}
@@ -34,9 +34,9 @@ counted-steps (host ∷ hosts) (h ∷ fam) named are =
 -- ---- the text
 
 pub played-text : (script : List NumberedLine) (told : List Told) (counts : Counts) (hosts : List Host) (fam : List History) (text : List ℕ) → AreCounted hosts fam
-    → counts ≡ counts_of told → text ≡ told_lines script told ++ compact_text (summary_of counts hosts) ++ codes "\n" → text ≡ replayed_text script told fam
+    → counts ≡ counts_of told → text ≡ told_lines script told ++ compact_text (hosts_summary counts hosts) ++ codes "\n" → text ≡ replayed_text script told fam
 played-text script told counts hosts fam text are same is =
-    is ∙ ap (λ (cs : Counts). told_lines script told ++ compact_text (summary_of cs hosts) ++ codes "\n") same
+    is ∙ ap (λ (cs : Counts). told_lines script told ++ compact_text (hosts_summary cs hosts) ++ codes "\n") same
     ∙ ap (λ (ms : Members). told_lines script told ++ compact_text (of_members ms) ++ codes "\n") (counted-steps hosts fam no_members are)
   where
     of_members : Members → Data

@@ -5,7 +5,7 @@ use Rattle.tw_base.specs.history.History.{History}
 use Rattle.tw_disk.specs.Disk.{IsAtRest}
 use Rattle.tw_disk.specs.Image.{Image}
 use Rattle.tw_disk.specs.KeptCalls.{written_of}
-use Rattle.tw_disk.specs.MemDisk.{IsSameMemDisk, view_of}
+use Rattle.tw_disk.specs.MemDisk.{IsSameMemDisk, mem_disk_view}
 use Rattle.tw_disk.specs.Model.{IsImage}
 use Rattle.tw_disk.specs.declared.memory_disk.MemDisk.{MemDisk}
 use Rattle.tw_service.specs.Stands.{StandsFor}
@@ -22,7 +22,7 @@ stands-same old new h same stands = record {
 }
 
 -- what is left by a crash is one of what it might leave
-pub stands-left : (disk : MemDisk) (may_leave : Image → Type 0) (one other : History) → IsAtRest (view_of disk) may_leave
+pub stands-left : (disk : MemDisk) (may_leave : Image → Type 0) (one other : History) → IsAtRest (mem_disk_view disk) may_leave
     → ((c : Image) → may_leave c → StandsAs one c ⊎ StandsAs other c) → StandsForGood disk one ⊎ StandsForGood disk other
 stands-left disk may_leave one other rest all =
     elim (all rest.image rest.has) [
@@ -31,11 +31,11 @@ stands-left disk may_leave one other rest all =
     ]
 
 -- whatever a crash may leave of a disk that stands for a history for good stands for it
-pub stands-each : (disk : MemDisk) (h : History) → StandsForGood disk h → (c : Image) → (view_of disk).may_leave c → StandsAs h c
+pub stands-each : (disk : MemDisk) (h : History) → StandsForGood disk h → (c : Image) → (mem_disk_view disk).may_leave c → StandsAs h c
 stands-each disk h stands c may = subst (StandsAs h) (sym (stands.only c may)) stands.has
 
 -- a disk that was closed
-pub stands-closed : (disk : MemDisk) (name : List ℕ) (h : History) → IsAtRest (view_of disk) (λ i. StandsFor sha256 i name h) → StandsForGood disk h
+pub stands-closed : (disk : MemDisk) (name : List ℕ) (h : History) → IsAtRest (mem_disk_view disk) (λ i. StandsFor sha256 i name h) → StandsForGood disk h
 stands-closed disk name h rest = record {
   image = rest.image;
   told = rest.told;
@@ -44,5 +44,5 @@ stands-closed disk name h rest = record {
 }
 
 -- so is what is left by a crash of such a disk
-pub stands-left_one : (old new : MemDisk) (h : History) → IsAtRest (view_of new) (view_of old).may_leave → StandsForGood old h → StandsForGood new h
+pub stands-left_one : (old new : MemDisk) (h : History) → IsAtRest (mem_disk_view new) (mem_disk_view old).may_leave → StandsForGood old h → StandsForGood new h
 stands-left_one old new h rest stands = record { image = rest.image; told = rest.told; only = rest.only; has = stands-each old h stands rest.image rest.has }

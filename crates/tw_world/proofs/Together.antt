@@ -12,12 +12,12 @@ use Rattle.tw_base.specs.history.History.{History, Step, events_at, events_of}
 use Rattle.tw_base.specs.kinds.Bytes.{AreBytes}
 use Rattle.tw_base.proofs.lemmas.kinds.Clashes.{and_then}
 use Rattle.tw_chain.specs.Accepting.{IsAccepted, hops_of, proof_texts, seen_at}
-use Rattle.tw_chain.specs.Checks.{end_of, tail_at}
+use Rattle.tw_chain.specs.Checks.{end_of_order, tail_at}
 use Rattle.tw_chain.specs.Proofs.{proof_layout}
 use Rattle.tw_chain.specs.declared.proof.Proof.{Proof}
 use Rattle.tw_chain.specs.declared.proof.Proof.TheVariants.{Exists, Precedes, Archived, Absent, Linked}
 use Rattle.tw_chain.proofs.Headline.{headline}
-use Rattle.tw_world.specs.Order.{IsEarlier, ShowsOrder, step_of}
+use Rattle.tw_world.specs.Order.{IsEarlier, ShowsOrder, place_key}
 use Rattle.tw_world.specs.Worlds.{Member, World, born, family, member_of, numbered}
 use Rattle.tw_world.proofs.Closing.{closes}
 use Rattle.tw_world.proofs.Leading.{family-sound, leads-later, received-present, to-step}
@@ -35,14 +35,14 @@ step-there h (suc i) index event is = by (slice_get h.steps i) refl is
 module _ (dig : List ℕ → List ℕ) (w : World) (o : IsOrderedWorld dig w) where
   -- where an event precedes another by hops, its step was made first
   precedence-ordered : (hops : List Hop) (first second : Seen) → hops ≢ [] → Precedence dig (family w) hops first second
-      → IsEarlier (born w (step_of first.place)) (born w (step_of second.place))
+      → IsEarlier (born w (place_key first.place)) (born w (place_key second.place))
   precedence-ordered hops first second some p =
       let h : History = p.second_stands.history in
       let at = step-there h second.place.step second.place.index second.event p.second_stands.stands in
       let from = step-there p.first_stands.history first.place.step first.place.index first.event p.first_stands.stands in
-      let begun : IsEarlier (born w (step_of first.place)) (born w (record { from = second.place.service; step = second.place.step - 1 })) =
+      let begun : IsEarlier (born w (place_key first.place)) (born w (record { from = second.place.service; step = second.place.step - 1 })) =
       leads-later dig w o hops (step_of first.place) (record { from = second.place.service; step = second.place.step - 1 }) h some p.leads from.0 p.second_stands.has (omega (arith, at.1)) in
-      to-step dig w o second.place.service h (second.place.step - 1) second.place.step (born w (step_of first.place)) p.second_stands.has
+      to-step dig w o second.place.service h (second.place.step - 1) second.place.step (born w (place_key first.place)) p.second_stands.has
       (born-step second.place.service (second.place.step - 1) begun.1 begun.3) (omega arith) at.1 begun
     where
       born-step : (name : List ℕ) (step b : ℕ) → born w (record { from = name; step = step }) ≡ Some b → 1 ≤ step
@@ -63,4 +63,4 @@ module _ (dig : List ℕ → List ℕ) (w : World) (o : IsOrderedWorld dig w) wh
       let texts : List (List ℕ) = family_texts dig (family w) ++ proof_texts dig (Precedes p) in
       and_then dig texts _ _ (closes dig size are (family w) anchors bytes p (family-sound dig w o) (received-present dig w o) spells accepted present there)
       (λ has. and_then dig texts _ _ (headline dig size are anchors bytes (Precedes p) spells accepted (family w) (family-sound dig w o) has)
-      (λ facts. inl (precedence-ordered (hops_of (Precedes p)) (seen_at (tail_at (end_of p) p.tail) p.tail.event) (seen_at p.head p.event) some facts.0)))
+      (λ facts. inl (precedence-ordered (hops_of (Precedes p)) (seen_at (tail_at (end_of_order p) p.tail) p.tail.event) (seen_at p.head p.event) some facts.0)))

@@ -24,9 +24,9 @@ use Rattle.tw_service.specs.Machine.{IsStepOf, Makes, MakesLink, Reply}
 use Rattle.tw_service.specs.Machine.Call.{Ask}
 use Rattle.tw_service.specs.Machine.Reply.{OfBytes, Refused}
 use Rattle.tw_service.specs.Questions.{history_refusal, pages_refusal, question_refusal}
-use Rattle.tw_world.specs.Hosts.{Gives, claims_none}
-use Rattle.tw_world.specs.Players.{thread_of}
-use Rattle.tw_world.specs.Runs.{HasStep, IsDelivered, IsMember, IsTold, loss_answer, verdict_answer}
+use Rattle.tw_world.specs.Hosts.{GivesReply, claims_none}
+use Rattle.tw_world.specs.Players.{thread_of_link}
+use Rattle.tw_world.specs.Runs.{HasStep, IsDelivered, IsLineTold, IsMember, loss_answer, verdict_answer}
 use Rattle.tw_world.specs.Worlds.{Mail, Member, World, after_line, numbered, with_anchor, without_message}
 use Rattle.tw_world.specs.declared.told.Answer.{Answer}
 use Rattle.tw_world.specs.declared.told.Answer.TheVariants as answer
@@ -42,20 +42,20 @@ module _ (w : World) where
   -- ---- messages
 
   pub told-delivered : (name : List ℕ) (number index : ℕ) (m : Member) (mail : Mail) (told : Told) (next : World) → IsMember w name m → index + 1 ≡ number
-      → slice_get w.messages index ≡ Some mail → IsDelivered sha256 claims_none w mail m told next → IsTold sha256 claims_none w (Deliver number name) told next
+      → slice_get w.messages index ≡ Some mail → IsDelivered sha256 claims_none w mail m told next → IsLineTold sha256 claims_none w (Deliver number name) told next
   told-delivered name number index m mail told next is at there delivered =
       let found : numbered w.messages number ≡ Some mail = numbered-at w.messages index number at ∙ there in
       (m, is, subst (λ (o : Option Mail). MatchOption o ⊥ (λ mail. IsDelivered sha256 claims_none w mail m told next)) (sym found) delivered)
 
   pub told-lost : (number index : ℕ) (mail : Mail) (lost : Answer) → index + 1 ≡ number → slice_get w.messages index ≡ Some mail → loss_answer mail ≡ Some lost
-      → IsTold sha256 claims_none w (Lose number) (Plain lost) (after_line (without_message w number))
+      → IsLineTold sha256 claims_none w (Lose number) (Plain lost) (after_line (without_message w number))
   told-lost number index mail lost at there is =
       (mail, numbered-at w.messages index number at ∙ there, subst (λ (o : Option Answer). MatchOption o ⊥ (λ l. Plain lost ≡ Plain l)) (sym is) refl, refl)
 
   -- ---- files
 
   pub told-verified : (number index : ℕ) (bytes : List ℕ) (verdict : Verdict) → index + 1 ≡ number → slice_get w.files index ≡ Some (Some bytes)
-      → IsVerdict sha256 w.anchors false bytes verdict → IsTold sha256 claims_none w (Verify number) (Plain (verdict_answer verdict)) (after_line w)
+      → IsVerdict sha256 w.anchors false bytes verdict → IsLineTold sha256 claims_none w (Verify number) (Plain (verdict_answer verdict)) (after_line w)
   told-verified number index bytes verdict at there is = (
     refl,
     subst (λ (o : Option (Option (List ℕ))). MatchOption o ⊥ (λ file. MatchOption file (Plain (verdict_answer verdict) ≡ Plain answer.Nothing)
@@ -119,12 +119,12 @@ module _ (w : World) (name : List ℕ) (step : ℕ) (m : Member) (is : IsMember 
       let made : MakesLink sha256 m.history step (length m.history.steps) bytes = makes in
       let owns = made.2 in
       let same : link ≡ made.0 = same-link link made.0 ((unambiguous proof_codec proof-lawful).one_value bytes (Linked link) (Linked made.0) spells made.1) in
-      ap thread_of same ∙ ap (λ n. record { from = n; step = made.0.step; auth = made.0.auth }) (owns.service ∙ named w.members name m is)
+      ap thread_of_link same ∙ ap (λ n. record { from = n; step = made.0.step; auth = made.0.auth }) (owns.service ∙ named w.members name m is)
       ∙ ap (λ n. record { from = name; step = n; auth = made.0.auth }) owns.at_step ∙ ap (λ a. record { from = name; step = step; auth = a }) owns.given
 
   -- the authenticator that a proof tells is held
-  pub told-anchored : (bytes : List ℕ) (link : LinkProof) → Gives m.history (Link step None) (Ok bytes) → Spells proof_layout bytes (Linked link)
-      → IsTold sha256 claims_none w (Anchor name step) (Plain answer.Done) (after_line (with_anchor w (thread_of link)))
+  pub told-anchored : (bytes : List ℕ) (link : LinkProof) → GivesReply m.history (Link step None) (Ok bytes) → Spells proof_layout bytes (Linked link)
+      → IsLineTold sha256 claims_none w (Anchor name step) (Plain answer.Done) (after_line (with_anchor w (thread_of_link link)))
   told-anchored bytes link gives spells =
       elim (link-cases m.history step one) [
         | inl has ↦
@@ -135,8 +135,8 @@ module _ (w : World) (name : List ℕ) (step : ℕ) (m : Member) (is : IsMember 
       ]
 
   -- there is no such step
-  pub told-unanchored : (refusal : Refusal) → Gives m.history (Link step None) (Err refusal)
-      → IsTold sha256 claims_none w (Anchor name step) (Plain (answer.Refused refusal)) (after_line w)
+  pub told-unanchored : (refusal : Refusal) → GivesReply m.history (Link step None) (Err refusal)
+      → IsLineTold sha256 claims_none w (Anchor name step) (Plain (answer.Refused refusal)) (after_line w)
   told-unanchored refusal gives =
       elim (link-cases m.history step one) [
         | inl has ↦ (let made = replies (Refused refusal) None has.1 gives in absurd (no-bytes made.0 refusal (sym made.2)))

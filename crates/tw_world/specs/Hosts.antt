@@ -9,7 +9,7 @@ use Rattle.tw_answers.specs.declared.refusal.Refusal.{Refusal}
 use Rattle.tw_answers.specs.declared.refusal.Refusal.TheVariants.{DiskFault, NoMemory}
 use Rattle.tw_disk.specs.Disk.{IsAtRest}
 use Rattle.tw_disk.specs.Image.{Image}
-use Rattle.tw_disk.specs.MemDisk.{view_of}
+use Rattle.tw_disk.specs.MemDisk.{mem_disk_view}
 use Rattle.tw_disk.specs.declared.memory_disk.MemDisk.{MemDisk}
 use Rattle.tw_service.specs.Machine.{IsStepOf, Reply}
 use Rattle.tw_service.specs.Machine.Call.{Ask}
@@ -17,7 +17,7 @@ use Rattle.tw_service.specs.Machine.Reply.{OfBytes as ReplyBytes, Refused}
 use Rattle.tw_service.specs.Serves.{Serves, disk_of}
 use Rattle.tw_service.specs.Stands.{StandsFor}
 use Rattle.tw_service.specs.declared.service.Service.{Service}
-use Rattle.tw_world.specs.Runs.{Appending, Receiving, Tells, answer_of, receipt_step}
+use Rattle.tw_world.specs.Runs.{Appending, Receiving, TellsLine, answer_to_reply, receipt_step}
 use Rattle.tw_world.specs.declared.counts.Counts.{Counts}
 use Rattle.tw_world.specs.declared.host.Host.{Host}
 use Rattle.tw_world.specs.declared.told.Answer.{Answer}
@@ -33,10 +33,10 @@ StandsAs h image = StandsFor sha256 image h.name h
 
 -- the disk is at rest and stands for the history for good: every image that a crash may leave does
 abbrev pub StandsForGood : MemDisk → History → Type 0
-StandsForGood disk h = IsAtRest (view_of disk) (StandsAs h)
+StandsForGood disk h = IsAtRest (mem_disk_view disk) (StandsAs h)
 
 -- the service has this history, on its disk for good
-pub record Holds (host : Host) (h : History) : Type 0 where
+pub record HoldsHistory (host : Host) (h : History) : Type 0 where
   pub named : host.name ≡ h.name
   pub counted : host.steps ≡ length h.steps
   pub stands : StandsForGood host.disk h
@@ -53,9 +53,9 @@ pub data Given : Type 0 where
   OfBytes : (bytes : List ℕ) → Given
 
 -- which replies and next histories it has
-abbrev pub Takes : Given → History → Reply → History → Type 0
-Takes (OfEvents events) = Appending sha256 claims_none events
-Takes (OfBytes bytes) = Receiving sha256 claims_none bytes
+abbrev pub TakesGiven : Given → History → Reply → History → Type 0
+TakesGiven (OfEvents events) = Appending sha256 claims_none events
+TakesGiven (OfBytes bytes) = Receiving sha256 claims_none bytes
 
 -- what is told of a reply that is no refusal
 abbrev pub own_answer : Given → History → Reply → Answer
@@ -64,7 +64,7 @@ own_answer (OfBytes bytes) next reply = Archived (receipt_step reply)
 
 -- the history stays, or is the next one by a reply
 abbrev pub IsNextOf : Given → (h next : History) → Type 0
-IsNextOf given h next = (next ≡ h) ⊎ ((reply : Reply) × Takes given h reply next)
+IsNextOf given h next = (next ≡ h) ⊎ ((reply : Reply) × TakesGiven given h reply next)
 
 -- the answer to a refusal; a disk fault has none, and after want of memory nothing is told
 abbrev pub AnswersRefusal : Refusal → Option Answer → Type 0
@@ -77,16 +77,16 @@ pub record HasReplied {H : Type 0} {g : _} {k : _} (given : Given) (h : History)
   pub next : History
   pub named : next.name ≡ h.name
   pub reply : Reply
-  pub takes : Takes given h reply next
-  pub is : answer ≡ answer_of (own_answer given next reply) reply
-  pub serves : Serves sha256 view_of service next
+  pub takes : TakesGiven given h reply next
+  pub is : answer ≡ answer_to_reply (own_answer given next reply) reply
+  pub serves : Serves sha256 mem_disk_view service next
 
 -- after a disk fault every image that a crash may leave stands for it, or for the next one
 pub record HasFailed {H : Type 0} {g : _} {k : _} (given : Given) (h : History) (service : Service MemDisk H g k) : Type 0 where
   pub next : History
   pub named : next.name ≡ h.name
   pub is_next : IsNextOf given h next
-  pub leaves : (c : Image) → (view_of (disk_of service)).may_leave c → StandsAs h c ⊎ StandsAs next c
+  pub leaves : (c : Image) → (mem_disk_view (disk_of service)).may_leave c → StandsAs h c ⊎ StandsAs next c
 
 -- what became of it, by the answer, which a disk fault hasn't
 abbrev pub Answered : {H : Type 0} {g : _} {k : _} → Given → History → Service MemDisk H g k → Option Answer → Type 0
@@ -103,24 +103,24 @@ crash_told (Some answer) steps = Crashed answer steps
 crash_told None steps = Stopped steps
 
 -- the service replies and has the next history, and is told so; or it was stopped by the crash that waited, and has done nothing
-abbrev pub GoesOn : Given → (waits : Bool) → (h next : History) → Told → Type 0
-GoesOn given waits h next told =
-    ((reply : Reply) × Takes given h reply next × Tells waits (answer_of (own_answer given next reply) reply) (length next.steps) told)
+abbrev pub GoesOnByReply : Given → (waits : Bool) → (h next : History) → Told → Type 0
+GoesOnByReply given waits h next told =
+    ((reply : Reply) × TakesGiven given h reply next × TellsLine waits (answer_to_reply (own_answer given next reply) reply) (length next.steps) told)
     ⊎ ((waits ≡ true) × (next ≡ h) × (told ≡ Stopped (length h.steps)))
 
 -- so the line ended, with the next history on this disk for good
-pub record Ends (given : Given) (waits : Bool) (h : History) (told : Told) (disk : MemDisk) (steps : ℕ) : Type 0 where
+pub record LineEnds (given : Given) (waits : Bool) (h : History) (told : Told) (disk : MemDisk) (steps : ℕ) : Type 0 where
   pub next : History
   pub named : next.name ≡ h.name
-  pub goes : GoesOn given waits h next told
+  pub goes : GoesOnByReply given waits h next told
   pub rests : RestsAs disk steps next
 
 -- ---- what it is asked
 
 -- the machine replies so to the question, by bytes or by a refusal, and the history stays
-abbrev pub Gives : History → Question → Result (List ℕ) Refusal → Type 0
-Gives h question (Ok bytes) = IsStepOf sha256 h (Ask question) (ReplyBytes bytes) h
-Gives h question (Err refusal) = IsStepOf sha256 h (Ask question) (Refused refusal) h
+abbrev pub GivesReply : History → Question → Result (List ℕ) Refusal → Type 0
+GivesReply h question (Ok bytes) = IsStepOf sha256 h (Ask question) (ReplyBytes bytes) h
+GivesReply h question (Err refusal) = IsStepOf sha256 h (Ask question) (Refused refusal) h
 
 -- the reply is given as it is; after a disk fault and want of memory nothing is given
 abbrev pub IsGiven : (reply given : Result (List ℕ) Refusal) → Type 0
@@ -136,8 +136,8 @@ with_counted named [] = named
 with_counted named (host ∷ hosts) = with_counted (put (name_text host.name) (number (unsigned host.steps)) named) hosts
 
 -- the summary of these counts and services
-abbrev pub summary_of : Counts → List Host → Data
-summary_of counts hosts =
+abbrev pub hosts_summary : Counts → List Host → Data
+hosts_summary counts hosts =
     object (member (codes "accepted") (number (unsigned counts.accepted))
     (member (codes "none") (number (unsigned counts.none))
     (member (codes "refused") (number (unsigned counts.refused))

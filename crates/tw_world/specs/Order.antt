@@ -22,8 +22,8 @@ abbrev pub IsEarlier : (one other : Option ℕ) → Type 0
 IsEarlier one other = (a : ℕ) × (b : ℕ) × (one ≡ Some a) × (other ≡ Some b) × (a < b)
 
 -- the step of an event's place
-abbrev pub step_of : Place → Key
-step_of place = record { from = place.service; step = place.step }
+abbrev pub place_key : Place → Key
+place_key place = record { from = place.service; step = place.step }
 
 module _ (w : World) where
   -- of two steps of a service the one of the lower number was made first
@@ -38,7 +38,7 @@ module _ (w : World) where
 
   -- of a claim that an event precedes another: the first was recorded before the second
   abbrev pub IsRecordedInOrder : Claim → Type 0
-  IsRecordedInOrder (Precedes first second) = IsEarlier (born w (step_of first.place)) (born w (step_of second.place))
+  IsRecordedInOrder (Precedes first second) = IsEarlier (born w (place_key first.place)) (born w (place_key second.place))
   IsRecordedInOrder _ = ⊥
 
 module _ (dig : List ℕ → List ℕ) where

@@ -8,8 +8,8 @@ use Rattle.tw_script.specs.Scripts.{ReadsScript}
 use Rattle.tw_script.specs.declared.line.Line.{Line}
 use Rattle.tw_script.specs.declared.script.NumberedLine.{NumberedLine}
 use Rattle.tw_world.specs.Hosts.{claims_none}
-use Rattle.tw_world.specs.Players.{Follows, MayTell}
-use Rattle.tw_world.specs.Runs.{IsTold, Runs}
+use Rattle.tw_world.specs.Players.{MayTell, PlayerFollows}
+use Rattle.tw_world.specs.Runs.{IsLineTold, RunsLines}
 use Rattle.tw_world.specs.Worlds.{World, no_world}
 use Rattle.tw_world.specs.declared.host.Host.{Host}
 use Rattle.tw_world.specs.declared.player.Player.{Player}
@@ -17,18 +17,18 @@ use Rattle.tw_world.specs.declared.replaying.WorldDisk.{WorldDisk}
 use Rattle.tw_world.specs.declared.told.Told.{Told}
 
 -- the lines are those that some bytes are read as
-abbrev pub IsRead : List NumberedLine → Type 0
-IsRead script = (bytes : List ℕ) × ReadsScript bytes (Ok script)
+abbrev pub AreLinesRead : List NumberedLine → Type 0
+AreLinesRead script = (bytes : List ℕ) × ReadsScript bytes (Ok script)
 
 -- where the line may be told of the world that is played, one more is told, and what is played then is the next world
 abbrev pub TellsNext : (old new : Player) → Line → (before after : List Told) → Type 0
 TellsNext old new line before after =
-    (w : World) → Follows old w → MayTell w line
-    → (told : Told) × (next : World) × IsTold sha256 claims_none w line told next × (after ≡ before ++ told ∷ []) × Follows new next
+    (w : World) → PlayerFollows old w → MayTell w line
+    → (told : Told) × (next : World) × IsLineTold sha256 claims_none w line told next × (after ≡ before ++ told ∷ []) × PlayerFollows new next
 
 -- the lines were told, from a world of nothing on, and what is played is the world at their end
 abbrev pub HasPlayed : List Line → List Told → Player → Type 0
-HasPlayed lines told player = (end : World) × Runs sha256 claims_none no_world lines told end × Follows player end
+HasPlayed lines told player = (end : World) × RunsLines sha256 claims_none no_world lines told end × PlayerFollows player end
 
 -- the same services, sorted by name
 pub record AreSorted (hosts sorted : List Host) : Type 0 where
@@ -36,9 +36,9 @@ pub record AreSorted (hosts sorted : List Host) : Type 0 where
   pub in_order : IsSortedByKey (λ (host : Host). host.name) (slice_cmp nat_cmp) sorted
 
 -- a service's disk
-abbrev pub disk_of : Host → WorldDisk
-disk_of host = record { name = host.name; disk = host.disk }
+abbrev pub host_disk : Host → WorldDisk
+host_disk host = record { name = host.name; disk = host.disk }
 
 -- the services' disks, sorted by name
 abbrev pub AreHostDisks : List Host → List WorldDisk → Type 0
-AreHostDisks hosts disks = (sorted : List Host) × AreSorted hosts sorted × (disks ≡ map disk_of sorted)
+AreHostDisks hosts disks = (sorted : List Host) × AreSorted hosts sorted × (disks ≡ map host_disk sorted)

@@ -14,8 +14,8 @@ use Rattle.tw_msg.specs.Messages.{message_layout}
 use Rattle.tw_msg.specs.declared.message.Message.{Message}
 use Rattle.tw_script.specs.declared.line.Line.{Line}
 use Rattle.tw_script.specs.declared.line.Line.TheVariants.{Service, Hostile, Append, Inject, Join, Anchor}
-use Rattle.tw_world.specs.Hosts.{Gives, Holds, claims_none}
-use Rattle.tw_world.specs.Runs.{AreFiles, AreProofs, IsMember, IsNew, IsTold}
+use Rattle.tw_world.specs.Hosts.{GivesReply, HoldsHistory, claims_none}
+use Rattle.tw_world.specs.Runs.{AreFiles, AreProofs, IsLineTold, IsMember, IsNew}
 use Rattle.tw_world.specs.Worlds.{Mail, Member, World, numbered}
 use Rattle.tw_world.specs.Worlds.Mail.{Made, Unmade, Dropped}
 use Rattle.tw_world.specs.declared.host.Host.{Host}
@@ -26,7 +26,7 @@ use Rattle.tw_world.specs.declared.told.Told.{Told}
 
 -- the service has the member's history on its disk for good, and a crash waits for it where one waits for the member
 pub record IsHostOf (host : Host) (m : Member) : Type 0 where
-  pub holds : Holds host m.history
+  pub holds : HoldsHistory host m.history
   pub waits : is_some host.crash ≡ m.waits
 
 abbrev pub AreHostsOf : List Host → List Member → Type 0
@@ -47,7 +47,7 @@ mail_kept kept.Dropped = Dropped
 
 -- what is played is the world: its services' histories are on their disks for good; and messages, files and anchors are the world's. Hostile
 -- names, births and the place in the schedule aren't played
-pub record Follows (player : Player) (w : World) : Type 0 where
+pub record PlayerFollows (player : Player) (w : World) : Type 0 where
   pub hosts : AreHostsOf player.hosts.items w.members
   pub messages : map mail_kept player.messages.items ≡ w.messages
   pub files : player.files.items ≡ w.files
@@ -68,19 +68,19 @@ MayTell w (Anchor name step) = 1 ≤ step
 MayTell w _ = Unit {0}
 
 -- the proofs that the files of these numbers are, or none where one of them wasn't made
-abbrev pub AreProofsOf : World → (numbers : List ℕ) → Option (List Proof) → Type 0
-AreProofsOf w numbers proofs = (files : List (Option (List ℕ))) × AreFiles w numbers files × MatchOption proofs (In None files) (AreProofs files)
+abbrev pub AreProofsOfNumbers : World → (numbers : List ℕ) → Option (List Proof) → Type 0
+AreProofsOfNumbers w numbers proofs = (files : List (Option (List ℕ))) × AreFiles w numbers files × MatchOption proofs (In None files) (AreProofs files)
 
 -- the thread whose authenticator a proof tells
-abbrev pub thread_of : LinkProof → Thread
-thread_of link = record { from = link.service; step = link.step; auth = link.auth }
+abbrev pub thread_of_link : LinkProof → Thread
+thread_of_link link = record { from = link.service; step = link.step; auth = link.auth }
 
 -- the service of this name gives this, and what is played stays the world
 abbrev pub HasGiven : (old new : Player) → (name : List ℕ) → Question → Result (List ℕ) Refusal → Type 0
 HasGiven old new name question given =
-    (w : World) → Follows old w → (m : Member) × IsMember w name m × Gives m.history question given × Follows new w
+    (w : World) → PlayerFollows old w → (m : Member) × IsMember w name m × GivesReply m.history question given × PlayerFollows new w
 
 -- where a line may be told of the world that is played, it is told so, and what is played then is the next world
-abbrev pub Plays : (old new : Player) → Line → Told → Type 0
-Plays old new line told =
-    (w : World) → Follows old w → MayTell w line → (next : World) × IsTold sha256 claims_none w line told next × Follows new next
+abbrev pub PlaysLine : (old new : Player) → Line → Told → Type 0
+PlaysLine old new line told =
+    (w : World) → PlayerFollows old w → MayTell w line → (next : World) × IsLineTold sha256 claims_none w line told next × PlayerFollows new next

@@ -12,8 +12,8 @@ use Rattle.tw_script.specs.declared.line.Line.{Line}
 use Rattle.tw_script.specs.declared.script.NumberedLine.{NumberedLine}
 use Rattle.tw_script.specs.declared.script.ScriptFault.{ScriptFault}
 use Rattle.tw_world.specs.Hosts.{StandsForGood, claims_none}
-use Rattle.tw_world.specs.Runs.{Runs}
-use Rattle.tw_world.specs.Telling.{count_of, replayed_text}
+use Rattle.tw_world.specs.Runs.{RunsLines}
+use Rattle.tw_world.specs.Telling.{replayed_text, told_count_of}
 use Rattle.tw_world.specs.Worlds.{World, family, no_world}
 use Rattle.tw_world.specs.declared.counts.Counts.{Counts}
 use Rattle.tw_world.specs.declared.replaying.Played.{Played}
@@ -23,10 +23,10 @@ use Rattle.tw_world.specs.declared.told.Told.{Told}
 -- how many answers begin with each of the four words
 abbrev pub counts_of : List Told → Counts
 counts_of told = record {
-  accepted = count_of (codes "accepted") told;
-  none = count_of (codes "none") told;
-  refused = count_of (codes "refused") told;
-  rejected = count_of (codes "rejected") told;
+  accepted = told_count_of (codes "accepted") told;
+  none = told_count_of (codes "none") told;
+  refused = told_count_of (codes "refused") told;
+  rejected = told_count_of (codes "rejected") told;
 }
 
 -- one disk for each of the histories, in the order of their names, of which no two are the same; each is at rest and stands for the history
@@ -37,15 +37,15 @@ pub record AreDisksOf (fam : List History) (disks : List WorldDisk) : Type 0 whe
   pub stand : Each (λ (d : WorldDisk). (h : History) × HasHistory fam d.name h × StandsForGood d.disk h) disks
 
 -- the lines of a script, without their numbers
-abbrev pub lines_of : List NumberedLine → List Line
-lines_of script = map (λ (l : NumberedLine). l.line) script
+abbrev pub script_lines : List NumberedLine → List Line
+script_lines script = map (λ (l : NumberedLine). l.line) script
 
 -- what came of a script: its lines were told, one after another, from a world of nothing on, in which no service claims a time. The text is
 -- that of what was told and of the histories at the end, the counts are those of what was told, and the disks are those of the histories
 pub record IsPlayed (script : List NumberedLine) (played : Played) : Type 0 where
   pub told : List Told
   pub end : World
-  pub runs : Runs sha256 claims_none no_world (lines_of script) told end
+  pub runs : RunsLines sha256 claims_none no_world (script_lines script) told end
   pub text : played.text ≡ replayed_text script told (family end)
   pub counts : played.counts ≡ counts_of told
   pub disks : AreDisksOf (family end) played.disks

@@ -46,9 +46,9 @@ abbrev pub HasStep : History → (step : ℕ) → Type 0
 HasStep h step = (1 ≤ step) × (step ≤ length h.steps)
 
 -- the answer to a reply: what is told of one that is no refusal, or the refusal
-abbrev pub answer_of : (own : Answer) → Reply → Answer
-answer_of own (Refused refusal) = answer.Refused refusal
-answer_of own _ = own
+abbrev pub answer_to_reply : (own : Answer) → Reply → Answer
+answer_to_reply own (Refused refusal) = answer.Refused refusal
+answer_to_reply own _ = own
 
 -- ---- what is made
 
@@ -106,9 +106,9 @@ receipt_step _ = 0
 
 -- what is told of a line that may add a step and has done what it does. No crash waited: its answer. One waited: its answer, and then the
 -- crash came; or it was stopped
-abbrev pub Tells : (waits : Bool) → Answer → (steps : ℕ) → Told → Type 0
-Tells false answer steps told = told ≡ Plain answer
-Tells true answer steps told = (told ≡ Crashed answer steps) ⊎ (told ≡ Stopped steps)
+abbrev pub TellsLine : (waits : Bool) → Answer → (steps : ℕ) → Told → Type 0
+TellsLine false answer steps told = told ≡ Plain answer
+TellsLine true answer steps told = (told ≡ Crashed answer steps) ⊎ (told ≡ Stopped steps)
 
 module _ (dig : List ℕ → List ℕ) where
   -- what a service does with bytes that it receives, at this time or none: those that are no message are refused
@@ -122,7 +122,7 @@ pub record Replies (Rule : History → Reply → History → Type 0) (own : Hist
   pub reply : Reply
   pub history : History
   pub replies : Rule m.history reply history
-  pub tells : Tells m.waits (answer_of (own history reply) reply) (length history.steps) told
+  pub tells : TellsLine m.waits (answer_to_reply (own history reply) reply) (length history.steps) told
   pub becomes : next ≡ after_line (moved w m history)
 
 -- a line that was stopped by the crash that waited, and has done nothing
@@ -151,46 +151,46 @@ module _ (dig : List ℕ → List ℕ) (may_claim : Option ℕ → Bool) where
   IsDelivered w Dropped m told next = ⊥
 
   -- the line is told so, and this is the world after it. No line is told that uses a service, a message or a file that isn't there
-  abbrev pub IsTold : World → Line → Told → World → Type 0
-  IsTold w (Service name) told next = IsNew w name × (told ≡ Plain answer.Done) × (next ≡ after_line (with_service w name))
-  IsTold w (Hostile name) told next = IsNew w name × (told ≡ Plain answer.Done) × (next ≡ after_line (with_hostile w name))
-  IsTold w (Append name events) told next =
+  abbrev pub IsLineTold : World → Line → Told → World → Type 0
+  IsLineTold w (Service name) told next = IsNew w name × (told ≡ Plain answer.Done) × (next ≡ after_line (with_service w name))
+  IsLineTold w (Hostile name) told next = IsNew w name × (told ≡ Plain answer.Done) × (next ≡ after_line (with_hostile w name))
+  IsLineTold w (Append name events) told next =
       Each AreBytes events × ((m : Member) × IsMember w name m × Moves (Appending events) (λ h reply. answer.Stepped (length h.steps)) w m told next)
-  IsTold w (Send name since) told next =
+  IsLineTold w (Send name since) told next =
       (m : Member) × IsMember w name m × ((reply : Reply) × IsStepOf dig m.history (Ask (ThreadOut since)) reply m.history
-      × (told ≡ Plain (answer_of (answer.Sent (suc (length w.messages))) reply)) × (next ≡ after_line (with_message w (mail_of reply))))
-  IsTold w (Inject name bytes) told next =
+      × (told ≡ Plain (answer_to_reply (answer.Sent (suc (length w.messages))) reply)) × (next ≡ after_line (with_message w (mail_of reply))))
+  IsLineTold w (Inject name bytes) told next =
       In name w.hostile × ((m : Message) → Spells message_layout bytes m → m.thread.from ≡ name)
       × (told ≡ Plain (answer.Sent (suc (length w.messages)))) × (next ≡ after_line (with_message w (Made bytes)))
-  IsTold w (Deliver number name) told next =
+  IsLineTold w (Deliver number name) told next =
       (m : Member) × IsMember w name m × MatchOption (numbered w.messages number) ⊥ (λ mail. IsDelivered w mail m told next)
-  IsTold w (Lose number) told next =
+  IsLineTold w (Lose number) told next =
       (mail : Mail) × (numbered w.messages number ≡ Some mail) × MatchOption (loss_answer mail) ⊥ (λ lost. told ≡ Plain lost)
       × (next ≡ after_line (without_message w number))
   -- a crash waits now, whether or not one waited already; at which call, and what it leaves, isn't the world's
-  IsTold w (Crash name call choice) told next =
+  IsLineTold w (Crash name call choice) told next =
       (m : Member) × IsMember w name m × (told ≡ Plain answer.Done) × (next ≡ after_line (with_member w (record m { waits = true })))
-  IsTold w (Prove name asked) told next =
+  IsLineTold w (Prove name asked) told next =
       (m : Member) × IsMember w name m × ((reply : Reply) × IsStepOf dig m.history (Ask asked) reply m.history × ProofTold w reply told next)
-  IsTold w (Join numbers) told next =
+  IsLineTold w (Join numbers) told next =
       (2 ≤ length numbers) × ((files : List (Option (List ℕ))) × AreFiles w numbers files
       × ((In None files × IsNotFiled w answer.Nothing told next)
       ⊎ ((proofs : List Proof) × AreProofs files proofs × ((joined : Result Proof JoinFault) × Joins proofs joined × JoinTold w joined told next))))
-  IsTold w (Anchor name step) told next =
+  IsLineTold w (Anchor name step) told next =
       (m : Member) × IsMember w name m
       × ((HasStep m.history step × (told ≡ Plain answer.Done) × (next ≡ after_line (with_anchor w (record { from = name; step = step; auth = auth dig m.history step }))))
       ⊎ ((HasStep m.history step → ⊥) × (told ≡ Plain (answer.Refused (NoStep (length m.history.steps)))) × (next ≡ after_line w)))
-  IsTold w (Verify number) told next =
+  IsLineTold w (Verify number) told next =
       (next ≡ after_line w) × MatchOption (numbered w.files number) ⊥
       (λ file. MatchOption file (told ≡ Plain answer.Nothing)
       (λ bytes. (verdict : Verdict) × IsVerdict dig w.anchors false bytes verdict × (told ≡ Plain (verdict_answer verdict))))
 
   -- the lines are told one after another, from one world to another
-  unfoldable pub Runs : World → List Line → List Told → World → Type 0
-  Runs w [] [] end = w ≡ end
-  Runs w (line ∷ lines) (told ∷ more) end = (next : World) × IsTold w line told next × Runs next lines more end
-  Runs w _ _ end = ⊥
+  unfoldable pub RunsLines : World → List Line → List Told → World → Type 0
+  RunsLines w [] [] end = w ≡ end
+  RunsLines w (line ∷ lines) (told ∷ more) end = (next : World) × IsLineTold w line told next × RunsLines next lines more end
+  RunsLines w _ _ end = ⊥
 
   -- some schedule leads to the world
   abbrev pub IsReached : World → Type 0
-  IsReached w = (lines : List Line) × (told : List Told) × Runs no_world lines told w
+  IsReached w = (lines : List Line) × (told : List Told) × RunsLines no_world lines told w

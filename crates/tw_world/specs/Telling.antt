@@ -81,8 +81,8 @@ begins_with word (Word first ∷ fields) = bytes_eq first word
 begins_with word _ = false
 
 -- how many answers begin with the word
-abbrev pub count_of : (word : List ℕ) → List Told → ℕ
-count_of word told = count_by (λ (t : Told). begins_with word (told_fields t)) told
+abbrev pub told_count_of : (word : List ℕ) → List Told → ℕ
+told_count_of word told = count_by (λ (t : Told). begins_with word (told_fields t)) told
 
 -- the numbers of steps of histories, by their names, beside what is there
 unfoldable pub with_steps : Members → List History → Members
@@ -92,14 +92,14 @@ with_steps named (h ∷ family) = with_steps (put (name_text h.name) (number (un
 abbrev pub steps_by_name : List History → Members
 steps_by_name family = with_steps no_members family
 
-abbrev pub summary : List Told → List History → Data
-summary told family =
-    object (member (codes "accepted") (number (unsigned (count_of (codes "accepted") told)))
-    (member (codes "none") (number (unsigned (count_of (codes "none") told)))
-    (member (codes "refused") (number (unsigned (count_of (codes "refused") told)))
-    (member (codes "rejected") (number (unsigned (count_of (codes "rejected") told)))
+abbrev pub replay_summary : List Told → List History → Data
+replay_summary told family =
+    object (member (codes "accepted") (number (unsigned (told_count_of (codes "accepted") told)))
+    (member (codes "none") (number (unsigned (told_count_of (codes "none") told)))
+    (member (codes "refused") (number (unsigned (told_count_of (codes "refused") told)))
+    (member (codes "rejected") (number (unsigned (told_count_of (codes "rejected") told)))
     (member (codes "services") (object (steps_by_name family)) no_members)))))
 
 -- all that is written of a script's lines, what is told of them, and the histories at the end
 abbrev pub replayed_text : List NumberedLine → List Told → List History → List ℕ
-replayed_text lines told family = told_lines lines told ++ compact_text (summary told family) ++ codes "\n"
+replayed_text lines told family = told_lines lines told ++ compact_text (replay_summary told family) ++ codes "\n"

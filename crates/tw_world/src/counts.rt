@@ -2,7 +2,7 @@
 
 ghost use Rattle.std.specs.Prelude.{◌≡◌, codes};
 ghost use Rattle.tw_world.specs.Playing.{counts_of};
-ghost use Rattle.tw_world.specs.Telling.{begins_with, count_of, told_fields};
+ghost use Rattle.tw_world.specs.Telling.{begins_with, told_count_of, told_fields};
 
 use crate::told::{Answer, Told};
 
@@ -49,28 +49,28 @@ fn is_rejected(told: &Told) -> bool
 
 /// How many answers are `accepted`.
 fn count_accepted(told: &[Told]) -> u64
-    ensures { result ≡ count_of (codes "accepted") told.now }
+    ensures { result ≡ told_count_of (codes "accepted") told.now }
 {
     told.iter().filter(|t| is_accepted(t)).count() as u64
 }
 
 /// How many answers are `none`.
 fn count_none(told: &[Told]) -> u64
-    ensures { result ≡ count_of (codes "none") told.now }
+    ensures { result ≡ told_count_of (codes "none") told.now }
 {
     told.iter().filter(|t| is_none(t)).count() as u64
 }
 
 /// How many answers are refusals.
 fn count_refused(told: &[Told]) -> u64
-    ensures { result ≡ count_of (codes "refused") told.now }
+    ensures { result ≡ told_count_of (codes "refused") told.now }
 {
     told.iter().filter(|t| is_refused(t)).count() as u64
 }
 
 /// How many answers are rejections.
 fn count_rejected(told: &[Told]) -> u64
-    ensures { result ≡ count_of (codes "rejected") told.now }
+    ensures { result ≡ told_count_of (codes "rejected") told.now }
 {
     told.iter().filter(|t| is_rejected(t)).count() as u64
 }

@@ -11,9 +11,9 @@ ghost use Rattle.tw_chain.specs.declared.proof.Proof.TheVariants.{Linked};
 ghost use Rattle.tw_chain.specs.declared.verdict.Verdict.{Verdict as VerdictOf};
 ghost use Rattle.tw_script.specs.AskedWords.{AsksWell};
 ghost use Rattle.tw_script.specs.declared.line.Line.TheVariants.{Service, Append, Send, Inject, Deliver, Lose, Crash, Prove, Join, Anchor, Verify};
-ghost use Rattle.tw_world.specs.PlayedLines.{HasPlayed, IsRead, TellsNext};
-ghost use Rattle.tw_world.specs.Players.{AreFiled, AreProofsOf, Follows, HasGiven, IsFirst, Plays, mail_kept, thread_of};
-ghost use Rattle.tw_world.specs.Playing.{lines_of};
+ghost use Rattle.tw_world.specs.PlayedLines.{AreLinesRead, HasPlayed, TellsNext};
+ghost use Rattle.tw_world.specs.Players.{AreFiled, AreProofsOfNumbers, HasGiven, IsFirst, PlayerFollows, PlaysLine, mail_kept, thread_of_link};
+ghost use Rattle.tw_world.specs.Playing.{script_lines};
 ghost use Rattle.tw_world.specs.Runs.{IsFiled, IsNotFiled, loss_answer as loss_answer_of, verdict_answer};
 ghost use Rattle.tw_world.specs.Worlds.{World, after_line, no_world, with_anchor, with_message};
 ghost use Rattle.tw_world.specs.declared.told.Answer.TheVariants.{Done};
@@ -53,7 +53,7 @@ pub(crate) struct Player {
 impl Player {
     /// Nothing.
     pub(crate) fn new(alloc: Global) -> Self
-        ensures { Follows result no_world }
+        ensures { PlayerFollows result no_world }
     {
         Player {
             alloc,
@@ -73,9 +73,9 @@ impl Player {
 
     /// Plays the lines of a script, one after another, where nothing was played before, and tells what came of each.
     pub(crate) fn play_lines(&mut self, script: &Script) -> Result<ToldList, NoMemory>
-        requires read { IsRead script.now }
-        requires nothing { Follows self.old no_world }
-        ensures { IfOk result (λ told. HasPlayed (lines_of script.now) told self.new) }
+        requires read { AreLinesRead script.now }
+        requires nothing { PlayerFollows self.old no_world }
+        ensures { IfOk result (λ told. HasPlayed (script_lines script.now) told self.new) }
     {
         let mut told = ToldList::new(self.alloc);
         let lines = script.as_slice();
@@ -101,7 +101,7 @@ impl Player {
     /// Plays the line. The script's lines use only what is there.
     fn play(&mut self, line: &Line) -> Result<Told, NoMemory>
         requires { AsksWell line.now }
-        ensures { IfOk result (Plays self.old self.new line.now) }
+        ensures { IfOk result (PlaysLine self.old self.new line.now) }
     {
         match line {
             Line::Service { name } => self.make(*name),
@@ -143,7 +143,7 @@ impl Player {
 
     /// Makes a service.
     fn make(&mut self, name: Name) -> Result<Told, NoMemory>
-        ensures { IfOk result (Plays self.old self.new (Service name)) }
+        ensures { IfOk result (PlaysLine self.old self.new (Service name)) }
     {
         let host = Host::make(self.alloc, name)?;
         self.hosts.push(host)?;
@@ -152,7 +152,7 @@ impl Player {
 
     /// Appends a step of these events to the service's history.
     fn append(&mut self, service: &Name, events: &EventList) -> Result<Told, NoMemory>
-        ensures { IfOk result (Plays self.old self.new (Append service.now events.now)) }
+        ensures { IfOk result (PlaysLine self.old self.new (Append service.now events.now)) }
     {
         let at = self.find(service)?;
         let told = self.hosts[at].append(self.alloc, events)?;
@@ -161,8 +161,8 @@ impl Player {
 
     /// Makes the next message, or none, and tells its number.
     fn add_message(&mut self, mail: Mail) -> Result<u64, NoMemory>
-        ensures { IfOk result (λ number. (w : World) → Follows self.old w
-            → (number ≡ suc (length w.messages)) × Follows self.new (after_line (with_message w (mail_kept mail)))) }
+        ensures { IfOk result (λ number. (w : World) → PlayerFollows self.old w
+            → (number ≡ suc (length w.messages)) × PlayerFollows self.new (after_line (with_message w (mail_kept mail)))) }
     {
         self.messages.push(mail)?;
         Ok(self.messages.len() as u64)
@@ -184,7 +184,7 @@ impl Player {
 
     /// Makes the next message, of the service's last step.
     fn send(&mut self, service: &Name, since: u64) -> Result<Told, NoMemory>
-        ensures { IfOk result (Plays self.old self.new (Send service.now since)) }
+        ensures { IfOk result (PlaysLine self.old self.new (Send service.now since)) }
     {
         match self.ask(service, &Question::ThreadOut { since })? {
             Ok(bytes) => {
@@ -200,7 +200,7 @@ impl Player {
 
     /// Makes the next message of these bytes, whatever name lies.
     fn inject(&mut self, bytes: &[u8]) -> Result<Told, NoMemory>
-        ensures { IfOk result (λ told. (name : List ℕ) → Plays self.old self.new (Inject name bytes.now) told) }
+        ensures { IfOk result (λ told. (name : List ℕ) → PlaysLine self.old self.new (Inject name bytes.now) told) }
     {
         let bytes = Bytes::from_slice(self.alloc, bytes)?;
         let number = self.add_message(Mail::Made(bytes))?;
@@ -209,7 +209,7 @@ impl Player {
 
     /// Gives a message to the service. NoMemory also where it was dropped, which no script's line names.
     fn deliver(&mut self, number: u64, service: &Name) -> Result<Told, NoMemory>
-        ensures { IfOk result (Plays self.old self.new (Deliver number service.now)) }
+        ensures { IfOk result (PlaysLine self.old self.new (Deliver number service.now)) }
     {
         let at = self.find(service)?;
         let index = index_of(number, self.messages.len())?;
@@ -225,7 +225,7 @@ impl Player {
 
     /// Drops a message.
     fn lose(&mut self, number: u64) -> Result<Told, NoMemory>
-        ensures { IfOk result (Plays self.old self.new (Lose number)) }
+        ensures { IfOk result (PlaysLine self.old self.new (Lose number)) }
     {
         let index = index_of(number, self.messages.len())?;
         let answer = loss_answer(&self.messages[index])?;
@@ -235,7 +235,7 @@ impl Player {
 
     /// A crash waits for the service's next append or delivery, in place of another that waited.
     fn plan(&mut self, service: &Name, planned: Planned) -> Result<Told, NoMemory>
-        ensures { IfOk result (Plays self.old self.new (Crash service.now planned.call planned.choice)) }
+        ensures { IfOk result (PlaysLine self.old self.new (Crash service.now planned.call planned.choice)) }
     {
         let at = self.find(service)?;
         self.hosts[at].crash = Some(planned);
@@ -244,7 +244,7 @@ impl Player {
 
     /// Makes the next file of these bytes.
     fn add_file(&mut self, bytes: Bytes) -> Result<Told, NoMemory>
-        ensures { IfOk result (λ told. (w : World) → Follows self.old w → (next : World) × IsFiled w bytes told next × Follows self.new next) }
+        ensures { IfOk result (λ told. (w : World) → PlayerFollows self.old w → (next : World) × IsFiled w bytes told next × PlayerFollows self.new next) }
     {
         self.files.push(Some(bytes))?;
         Ok(Told::Plain(Answer::Filed {
@@ -254,7 +254,7 @@ impl Player {
 
     /// The next file isn't made, for this reason.
     fn add_none(&mut self, why: Answer) -> Result<Told, NoMemory>
-        ensures { IfOk result (λ told. (w : World) → Follows self.old w → (next : World) × IsNotFiled w why told next × Follows self.new next) }
+        ensures { IfOk result (λ told. (w : World) → PlayerFollows self.old w → (next : World) × IsNotFiled w why told next × PlayerFollows self.new next) }
     {
         self.files.push(None)?;
         Ok(Told::Plain(why))
@@ -263,7 +263,7 @@ impl Player {
     /// Makes the next file, a proof of the service's history.
     fn prove(&mut self, service: &Name, asked: &Question) -> Result<Told, NoMemory>
         requires { MayAsk asked.now }
-        ensures { IfOk result (Plays self.old self.new (Prove service.now asked.now)) }
+        ensures { IfOk result (PlaysLine self.old self.new (Prove service.now asked.now)) }
     {
         match self.ask(service, asked)? {
             Ok(bytes) => self.add_file(bytes),
@@ -273,7 +273,7 @@ impl Player {
 
     /// The proofs that these files are; None where one of them wasn't made.
     fn proofs(&self, numbers: &[u64]) -> Result<Option<Sequence<Proof>>, NoMemory>
-        ensures { IfOk result (λ proofs. (w : World) → Follows self.now w → AreFiled w numbers.now → AreProofsOf w numbers.now proofs) }
+        ensures { IfOk result (λ proofs. (w : World) → PlayerFollows self.now w → AreFiled w numbers.now → AreProofsOfNumbers w numbers.now proofs) }
     {
         let mut proofs = Sequence::new(self.alloc);
         for number in numbers {
@@ -291,7 +291,7 @@ impl Player {
 
     /// Joins files into the next one.
     fn join(&mut self, numbers: &[u64]) -> Result<Told, NoMemory>
-        ensures { IfOk result (Plays self.old self.new (Join numbers.now)) }
+        ensures { IfOk result (PlaysLine self.old self.new (Join numbers.now)) }
     {
         let Some(proofs) = self.proofs(numbers)? else {
             return self.add_none(Answer::Nothing);
@@ -308,7 +308,7 @@ impl Player {
 
     /// Holds the service's authenticator at a step.
     fn anchor(&mut self, service: &Name, step: u64) -> Result<Told, NoMemory>
-        ensures { IfOk result (Plays self.old self.new (Anchor service.now step)) }
+        ensures { IfOk result (PlaysLine self.old self.new (Anchor service.now step)) }
     {
         match self.ask(service, &Question::Link { step, top: None })? {
             Err(refusal) => Ok(Told::Plain(Answer::Refused(refusal))),
@@ -318,8 +318,8 @@ impl Player {
 
     /// Holds the authenticator that the bytes of a proof tell.
     fn hold_linked(&mut self, bytes: &[u8]) -> Result<Told, NoMemory>
-        ensures { IfOk result (λ told. (told ≡ Plain Done) × ((w : World) → Follows self.old w → (link : LinkProof)
-            × Spells proof_layout bytes.now (Linked link) × Follows self.new (after_line (with_anchor w (thread_of link))))) }
+        ensures { IfOk result (λ told. (told ≡ Plain Done) × ((w : World) → PlayerFollows self.old w → (link : LinkProof)
+            × Spells proof_layout bytes.now (Linked link) × PlayerFollows self.new (after_line (with_anchor w (thread_of_link link))))) }
     {
         let anchor = linked_thread(self.alloc, bytes)?;
         self.hold(anchor)?;
@@ -328,7 +328,7 @@ impl Player {
 
     /// Holds an anchor in place of one of its service.
     fn hold(&mut self, anchor: Thread) -> Result<(), NoMemory>
-        ensures { OnOk result ((w : World) → Follows self.old w → Follows self.new (after_line (with_anchor w anchor))) }
+        ensures { OnOk result ((w : World) → PlayerFollows self.old w → PlayerFollows self.new (after_line (with_anchor w anchor))) }
     {
         self.anchors.retain(|held| held.from != anchor.from);
         self.anchors.push(anchor)?;
@@ -337,7 +337,7 @@ impl Player {
 
     /// Judges a file under the anchors held.
     fn verify(&mut self, number: u64) -> Result<Told, NoMemory>
-        ensures { IfOk result (Plays self.old self.new (Verify number)) }
+        ensures { IfOk result (PlaysLine self.old self.new (Verify number)) }
     {
         let index = index_of(number, self.files.len())?;
         let Some(bytes) = &self.files[index] else {
@@ -350,7 +350,7 @@ impl Player {
 
 /// The thread of the authenticator that the bytes of a proof tell. A service gives no other bytes for it.
 fn linked_thread(alloc: Global, bytes: &[u8]) -> Result<Thread, NoMemory>
-    ensures { IfOk result (λ t. (link : LinkProof) × Spells proof_layout bytes.now (Linked link) × (t ≡ thread_of link)) }
+    ensures { IfOk result (λ t. (link : LinkProof) × Spells proof_layout bytes.now (Linked link) × (t ≡ thread_of_link link)) }
 {
     match read_proof(alloc, bytes) {
         Ok(Proof::Linked(link)) => Ok(Thread {

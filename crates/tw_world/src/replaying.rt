@@ -2,9 +2,9 @@
 
 ghost use Rattle.std.specs.Prelude.{◌≡◌, ◌++◌, codes, length, IfOk, OnOk};
 ghost use Rattle.serde_json.specs.Written.{compact_text};
-ghost use Rattle.tw_world.specs.Hosts.{summary_of};
+ghost use Rattle.tw_world.specs.Hosts.{hosts_summary};
 ghost use Rattle.tw_world.specs.Telling.{told_lines};
-ghost use Rattle.tw_world.specs.PlayedLines.{AreHostDisks, AreSorted, IsRead};
+ghost use Rattle.tw_world.specs.PlayedLines.{AreHostDisks, AreLinesRead, AreSorted};
 ghost use Rattle.tw_world.specs.Playing.{IsPlayed, Replays};
 
 use crate::counts::Counts;
@@ -57,7 +57,7 @@ pub fn replay(alloc: Global, bytes: &[u8]) -> Result<Played, ScriptFault>
 
 /// Plays the lines of a script.
 fn play(alloc: Global, script: &Script) -> Result<Played, NoMemory>
-    requires { IsRead script.now }
+    requires { AreLinesRead script.now }
     ensures { IfOk result (IsPlayed script.now) }
 {
     let mut player = Player::new(alloc);
@@ -82,7 +82,7 @@ fn print_all(
     hosts: &[Host],
 ) -> Result<Bytes, NoMemory>
     requires { length told.now ≡ length script.now }
-    ensures { IfOk result (λ text. text ≡ told_lines script.now told.now ++ compact_text (summary_of counts.now hosts.now) ++ codes "\n") }
+    ensures { IfOk result (λ text. text ≡ told_lines script.now told.now ++ compact_text (hosts_summary counts.now hosts.now) ++ codes "\n") }
 {
     let mut text = print_lines(alloc, script, told)?;
     text.extend_from_slice(print_summary(alloc, counts, hosts)?.as_bytes())?;

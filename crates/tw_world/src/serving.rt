@@ -5,10 +5,10 @@ ghost use Rattle.sha2.specs.Sha256.{sha256};
 ghost use Rattle.tw_base.specs.history.History.{History};
 ghost use Rattle.tw_base.specs.history.Questions.{MayAsk};
 ghost use Rattle.tw_disk.specs.Image.{Image};
-ghost use Rattle.tw_disk.specs.MemDisk.{is_stopped, view_of};
+ghost use Rattle.tw_disk.specs.MemDisk.{is_stopped, mem_disk_view};
 ghost use Rattle.tw_service.specs.Serves.{Serves, disk_of, has_failed};
 ghost use Rattle.tw_service.specs.Stands.{no_history};
-ghost use Rattle.tw_world.specs.Hosts.{Given, Answered, AnswersRefusal, Ends, Gives, GoesOn, Holds, IsGiven, RestsAs, StandsAs, StandsForGood, crash_told as crash_told_of};
+ghost use Rattle.tw_world.specs.Hosts.{Given, Answered, AnswersRefusal, LineEnds, GivesReply, GoesOnByReply, HoldsHistory, IsGiven, RestsAs, StandsAs, StandsForGood, crash_told as crash_told_of};
 ghost use Rattle.tw_world.specs.Hosts.Given.{OfBytes, OfEvents};
 
 use crate::host::{Host, Planned};
@@ -26,7 +26,7 @@ type MemService = Service<MemDisk, Sha>;
 
 /// Opens the service of a disk; a fault comes from want of memory.
 fn open(alloc: Global, disk: MemDisk) -> Result<MemService, NoMemory>
-    ensures serves { IfOk result (λ service. (h : History) → StandsForGood disk h → Serves sha256 view_of service h) }
+    ensures serves { IfOk result (λ service. (h : History) → StandsForGood disk h → Serves sha256 mem_disk_view service h) }
     ensures whole { IfOk result (λ service. has_failed service ≡ false) }
 {
     match MemService::open(alloc, disk) {
@@ -51,7 +51,7 @@ fn stopping(disk: MemDisk, crash: Option<Planned>) -> MemDisk
 
 /// Opens it, where a crash waits so that the service is stopped at its call.
 fn open_for(alloc: Global, disk: MemDisk, crash: Option<Planned>) -> Result<MemService, NoMemory>
-    ensures serves { IfOk result (λ service. (h : History) → StandsForGood disk h → Serves sha256 view_of service h) }
+    ensures serves { IfOk result (λ service. (h : History) → StandsForGood disk h → Serves sha256 mem_disk_view service h) }
     ensures whole { IfOk result (λ service. has_failed service ≡ false) }
 {
     let service = open(alloc, stopping(disk, crash))?;
@@ -88,7 +88,7 @@ fn settled(disk: MemDisk) -> MemDisk
 
 /// Closes a service.
 fn closed(service: MemService) -> Rested
-    ensures { (h : History) → Serves sha256 view_of service h → RestsAs result.disk result.steps h }
+    ensures { (h : History) → Serves sha256 mem_disk_view service h → RestsAs result.disk result.steps h }
 {
     let steps = service.steps();
     Rested {
@@ -99,7 +99,7 @@ fn closed(service: MemService) -> Rested
 
 /// Crashes, and opens the service again.
 fn reopened(alloc: Global, disk: MemDisk, planned: Planned) -> Result<Rested, NoMemory>
-    ensures { IfOk result (λ rested. (one other : History) → ((c : Image) → (view_of disk).may_leave c → StandsAs one c ⊎ StandsAs other c)
+    ensures { IfOk result (λ rested. (one other : History) → ((c : Image) → (mem_disk_view disk).may_leave c → StandsAs one c ⊎ StandsAs other c)
         → RestsAs rested.disk rested.steps one ⊎ RestsAs rested.disk rested.steps other) }
 {
     let mut disk = disk;
@@ -143,7 +143,7 @@ fn crashed(
     answer: Option<Answer>,
 ) -> Result<Ended, NoMemory>
     ensures ends { IfOk result (λ ended. (given : Given) (h : History) → Answered given h service answer
-        → Ends given true h ended.told ended.rested.disk ended.rested.steps) }
+        → LineEnds given true h ended.told ended.rested.disk ended.rested.steps) }
     ensures told { IfOk result (λ ended. ended.told ≡ crash_told_of answer ended.rested.steps) }
     ensures stopped { IfOk result (λ _. IsNone answer → IsTrue (is_stopped (disk_of service))) }
 {
@@ -165,7 +165,7 @@ fn end_line(
     answer: Option<Answer>,
 ) -> Result<Ended, NoMemory>
     ensures { IfOk result (λ ended. (given : Given) (h : History) → Answered given h service answer
-        → Ends given (is_some crash) h ended.told ended.rested.disk ended.rested.steps) }
+        → LineEnds given (is_some crash) h ended.told ended.rested.disk ended.rested.steps) }
 {
     match crash {
         Some(planned) => {
@@ -198,7 +198,7 @@ fn refused(refusal: Refusal) -> Result<Option<Answer>, NoMemory>
 
 /// Appends a step of these events.
 fn appended(service: &mut MemService, events: &EventList) -> Result<Option<Answer>, NoMemory>
-    ensures { IfOk result (λ answer. (h : History) → Serves sha256 view_of service.old h → has_failed service.old ≡ false
+    ensures { IfOk result (λ answer. (h : History) → Serves sha256 mem_disk_view service.old h → has_failed service.old ≡ false
         → Answered (OfEvents events.now) h service.new answer) }
 {
     match service.append(events) {
@@ -211,7 +211,7 @@ fn appended(service: &mut MemService, events: &EventList) -> Result<Option<Answe
 
 /// Receives the bytes of a message.
 fn received(service: &mut MemService, bytes: &[u8]) -> Result<Option<Answer>, NoMemory>
-    ensures { IfOk result (λ answer. (h : History) → Serves sha256 view_of service.old h → has_failed service.old ≡ false
+    ensures { IfOk result (λ answer. (h : History) → Serves sha256 mem_disk_view service.old h → has_failed service.old ≡ false
         → Answered (OfBytes bytes.now) h service.new answer) }
 {
     match service.receive(bytes) {
@@ -239,7 +239,7 @@ fn given(reply: Result<Bytes, Refusal>) -> Result<Result<Bytes, Refusal>, NoMemo
 impl Host {
     /// Makes a service on a new disk.
     pub(crate) fn make(alloc: Global, name: Name) -> Result<Self, NoMemory>
-        ensures holds { IfOk result (λ host. Holds host (no_history name)) }
+        ensures holds { IfOk result (λ host. HoldsHistory host (no_history name)) }
         ensures waits { IfOk result (λ host. host.crash ≡ None) }
     {
         match MemService::init(alloc, MemDisk::new(alloc), name) {
@@ -280,8 +280,8 @@ impl Host {
 
     /// Appends a step of these events. After want of memory the host has to be given up; so everywhere here.
     pub(crate) fn append(&mut self, alloc: Global, events: &EventList) -> Result<Told, NoMemory>
-        ensures goes { IfOk result (λ told. (h : History) → Holds self.old h
-            → (next : History) × GoesOn (OfEvents events.now) (is_some self.old.crash) h next told × Holds self.new next) }
+        ensures goes { IfOk result (λ told. (h : History) → HoldsHistory self.old h
+            → (next : History) × GoesOnByReply (OfEvents events.now) (is_some self.old.crash) h next told × HoldsHistory self.new next) }
         ensures same { OnOk result ((self.new.name ≡ self.old.name) × (self.new.crash ≡ None)) }
     {
         let mut service = open_for(alloc, self.take_disk(alloc), self.crash)?;
@@ -292,8 +292,8 @@ impl Host {
 
     /// Gives the bytes of a message to the service.
     pub(crate) fn deliver(&mut self, alloc: Global, bytes: &[u8]) -> Result<Told, NoMemory>
-        ensures goes { IfOk result (λ told. (h : History) → Holds self.old h
-            → (next : History) × GoesOn (OfBytes bytes.now) (is_some self.old.crash) h next told × Holds self.new next) }
+        ensures goes { IfOk result (λ told. (h : History) → HoldsHistory self.old h
+            → (next : History) × GoesOnByReply (OfBytes bytes.now) (is_some self.old.crash) h next told × HoldsHistory self.new next) }
         ensures same { OnOk result ((self.new.name ≡ self.old.name) × (self.new.crash ≡ None)) }
     {
         let mut service = open_for(alloc, self.take_disk(alloc), self.crash)?;
@@ -309,7 +309,7 @@ impl Host {
         question: &Question,
     ) -> Result<Result<Bytes, Refusal>, NoMemory>
         requires { MayAsk question.now }
-        ensures gives { IfOk result (λ given. (h : History) → Holds self.old h → Gives h question.now given × Holds self.new h) }
+        ensures gives { IfOk result (λ given. (h : History) → HoldsHistory self.old h → GivesReply h question.now given × HoldsHistory self.new h) }
         ensures waits { OnOk result (self.new.crash ≡ self.old.crash) }
     {
         let mut service = open(alloc, self.take_disk(alloc))?;

@@ -5,7 +5,7 @@ ghost use Rattle.serde_json.specs.Data.{member, no_members, number, object, put 
 ghost use Rattle.serde_json.specs.View.{members_view, view};
 ghost use Rattle.serde_json.specs.Written.{compact_text};
 ghost use Rattle.tw_base.specs.kinds.Names.{name_text};
-ghost use Rattle.tw_world.specs.Hosts.{summary_of, with_counted};
+ghost use Rattle.tw_world.specs.Hosts.{hosts_summary, with_counted};
 
 use crate::counts::Counts;
 use crate::host::Host;
@@ -80,7 +80,7 @@ pub(crate) fn print_summary(
     counts: &Counts,
     hosts: &[Host],
 ) -> Result<String, NoMemory>
-    ensures { IfOk result (λ text. string_bytes text ≡ compact_text (summary_of counts.now hosts.now)) }
+    ensures { IfOk result (λ text. string_bytes text ≡ compact_text (hosts_summary counts.now hosts.now)) }
 {
     let services = services(alloc, hosts)?;
     let value = summary(alloc, counts, &services)?;

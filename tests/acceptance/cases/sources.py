@@ -148,7 +148,7 @@ C_PARAMETERS = {
 }
 
 # How the contract of a function for C begins, where another function for C has the same parameters: no prover tells their names apart.
-C_CLAUSES = {"timeweave_verify": "IsAnswer false proof.now anchors.now", "timeweave_strict": "IsAnswer true proof.now anchors.now"}
+C_CLAUSES = {"timeweave_verify": "IsVerifierAnswer false proof.now anchors.now", "timeweave_strict": "IsVerifierAnswer true proof.now anchors.now"}
 
 
 def header(program):

@@ -7,9 +7,9 @@ unfoldable pub threads : Unit {0}
 unfolding fields records thread_codec
 threads = tt
 
-unfoldable pub entries : Unit {0}
+unfoldable pub entries_seen : Unit {0}
 unfolding entry_codec threads
-entries = tt
+entries_seen = tt
 
 unfoldable pub contents : Unit {0}
 unfolding choices content_codec records thread_codec

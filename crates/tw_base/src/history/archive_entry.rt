@@ -1,5 +1,5 @@
 // The entries of an archive, read and written.
-#![tactic(auto, unfolding(crate::specs::history::Seen::entries))]
+#![tactic(auto, unfolding(crate::specs::history::Seen::entries_seen))]
 
 ghost use Rattle.std.specs.Prelude.{◌≡◌, ◌≢◌, ◌≤◌, ◌++◌, length, IfErr, OnOk};
 ghost use Rattle.tw_base.specs.history.EntryCodec.{entry_codec};

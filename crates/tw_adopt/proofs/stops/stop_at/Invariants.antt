@@ -1,6 +1,6 @@
 use Rattle.std.proofs.Common.{◌≡◌, drop}
-use Rattle.tw_adopt.specs.Stops.{stopped_at}
+use Rattle.tw_adopt.specs.Stops.{stop_shown_at}
 use Rattle.tw_adopt.proofs.stops.stop_at.Given as goal
 
 abbrev pub invariant-loop-stop : goal.invariant-loop-stop
-invariant-loop-stop l = stopped_at (drop l.stop-index l.stops) l.step ≡ stopped_at l.stops l.step
+invariant-loop-stop l = stop_shown_at (drop l.stop-index l.stops) l.step ≡ stop_shown_at l.stops l.step

@@ -12,16 +12,16 @@ use Rattle.tw_skiplist.specs.Events.{events_of_info}
 use Rattle.tw_skiplist.specs.ListFaults.{list_faults}
 use Rattle.tw_skiplist.specs.Readings.{found_proof}
 use Rattle.tw_answers.specs.declared.refusal.Refusal.{Refusal}
-use Rattle.tw_answers.specs.Finds.{event_proof, proof_bytes, unless}
+use Rattle.tw_answers.specs.Finds.{event_proof, event_proof_bytes, unless}
 use Rattle.tw_answers.specs.Limits.{event_refusal}
-use Rattle.tw_answers.specs.Refusals.{IsNoEvent, refusal_of, refusals}
+use Rattle.tw_answers.specs.Refusals.{IsNoEvent, list_refusal, service_refusals}
 use Rattle.tw_answers.proofs.TableAnswers.{event_told, no_event_told, of_some}
 use Rattle.tw_answers.proofs.FoundAnswers.{fault_own, of_disk, same_sort, table_found}
 use Rattle.tw_answers.proofs.proving.make_proof.Goals as goal
 
 -- what follows the step and its path
 abbrev events_then : (dig : List ℕ → List ℕ) (ps : Image) (name : List ℕ) (index top : ℕ) → StepProof → Found (Result (List ℕ) Refusal)
-events_then dig ps name index top proof = events_of_info ps proof.info >>= (λ events. Is (Ok (proof_bytes dig name top index proof events)))
+events_then dig ps name index top proof = events_of_info ps proof.info >>= (λ events. Is (Ok (event_proof_bytes dig name top index proof events)))
 
 -- where the proof is there, what the table of events comes to
 step_told : (dig : List ℕ → List ℕ) (ps : Image) (name : List ℕ) (head : Head) (step index top : ℕ) (proof : StepProof) (o : Option Refusal) → found_proof dig ps head top step ≡ Is proof → event_refusal proof.info.count index ≡ o
@@ -62,11 +62,11 @@ returns-in_err-events g c =
     let before = c.in_ok-proof.ensures.reads in
     let whole : Image → Found (Result (List ℕ) Refusal) = λ ps. event_proof dig ps name head step index top in
     record {
-      reads = as_or refusals g.P.Pages.view g.P.Pages.same _ _ (λ bytes. Ok bytes) (λ bytes. bytes) result _ whole _ handed (fault_own result fault handed c.in_err-events.ensures.reads.own)
-          (stopped list_faults refusals g.P.Pages.view g.P.Pages.same g.met.P.Pages.same_on _ _ _ _ (λ bytes. Ok bytes) (λ ps. events_of_info ps proof.info) whole fault (refusal_of fault) result
+      reads = as_or service_refusals g.P.Pages.view g.P.Pages.same _ _ (λ bytes. Ok bytes) (λ bytes. bytes) result _ whole _ handed (fault_own result fault handed c.in_err-events.ensures.reads.own)
+          (stopped list_faults service_refusals g.P.Pages.view g.P.Pages.same g.met.P.Pages.same_on _ _ _ _ (λ bytes. Ok bytes) (λ ps. events_of_info ps proof.info) whole fault (list_refusal fault) result
           (reads_weaker g.P.Pages.view g.P.Pages.same _ _ _ _ (λ good. refl) before.kept) before.faults.later (same_sort fault) handed
           (λ ps told page bad.
           step_told dig ps name head step index top proof _ (before.answer ps told) (sym (sym c.in_default.is ∙ c.event_refusal.ensures.answer))
-          ∙ bad_ends (events_of_info ps proof.info) (λ events. Is (Ok (proof_bytes dig name top index proof events))) page bad)
+          ∙ bad_ends (events_of_info ps proof.info) (λ events. Is (Ok (event_proof_bytes dig name top index proof events))) page bad)
           c.in_err-events.ensures.reads);
     }

@@ -10,17 +10,17 @@ use Rattle.tw_disk.proofs.ReadingLaws.{only_reads_on}
 use Rattle.tw_skiplist.specs.declared.head.Head.{Head}
 use Rattle.tw_skiplist.specs.declared.info.StepProof.{StepProof}
 use Rattle.tw_skiplist.specs.Readings.{found_proof}
-use Rattle.tw_answers.specs.Finds.{absence_bytes, found_absence_of, absence_proof, written}
-use Rattle.tw_answers.specs.Refusals.{IsFault, IsHasThread, refusals}
+use Rattle.tw_answers.specs.Finds.{absence_bytes, found_absence_of, absence_proof, written_found}
+use Rattle.tw_answers.specs.Refusals.{IsFault, IsHasThread, service_refusals}
 use Rattle.tw_answers.proofs.HandedOn.{handed-answer, handed-failed, handed-own}
 use Rattle.tw_answers.proofs.showing.make_absence.Goals as goal
 
 -- where the step is found, what is shown in its archive is written
 step_told : (dig : List ℕ → List ℕ) (ps : Image) (name : List ℕ) (head : Head) (step : ℕ) (key : Key) (top : ℕ) (proof : StepProof) → found_proof dig ps head top step ≡ Is proof
-    → absence_proof dig ps name head step key top ≡ (found_absence_of dig ps proof.info.archive key >>= written (absence_bytes name key top proof))
+    → absence_proof dig ps name head step key top ≡ (found_absence_of dig ps proof.info.archive key >>= written_found (absence_bytes name key top proof))
 unfolding absence_proof
 step_told dig ps name head step key top proof is =
-    is_on (found_proof dig ps head top step) (λ proof. found_absence_of dig ps proof.info.archive key >>= written (absence_bytes name key top proof)) proof is
+    is_on (found_proof dig ps head top step) (λ proof. found_absence_of dig ps proof.info.archive key >>= written_found (absence_bytes name key top proof)) proof is
 
 pub returns-in_err-tree : goal.returns-in_err-tree
 returns-in_err-tree g c =
@@ -37,7 +37,7 @@ returns-in_err-tree g c =
     record {
       reads = record {
         answer = λ ps told.
-            subst (AnswersOr refusals (λ (b : List ℕ). b) result) (sym (step_told dig ps name c.args.head.now c.args.step key top proof (before.answer ps told)))
+            subst (AnswersOr service_refusals (λ (b : List ℕ). b) result) (sym (step_told dig ps name c.args.head.now c.args.step key top proof (before.answer ps told)))
             (handed-answer (absence_bytes name key top proof) result fault (found_absence_of dig ps proof.info.archive key) handed (reads.answer ps (before.kept.list_kept ∙ told)));
         own = handed-own result fault (λ why. IsFault why ⊎ IsHasThread why) handed reads.own;
         kept = only_reads_on g.P.Pages.view g.P.Pages.same _ _ _ _ _ _ g.met.P.Pages.same_on (λ good. refl) (λ good. sym (handed-failed result fault handed) ∙ good) before.kept reads.kept;
@@ -61,7 +61,7 @@ returns g c =
       reads = record {
         answer = λ ps told.
             step_told dig ps name c.args.head.now c.args.step key top proof (before.answer ps told)
-            ∙ is_on (found_absence_of dig ps proof.info.archive key) (written (absence_bytes name key top proof)) (Ok c.in_ok-tree.tree) (reads.answer ps (before.kept.list_kept ∙ told))
+            ∙ is_on (found_absence_of dig ps proof.info.archive key) (written_found (absence_bytes name key top proof)) (Ok c.in_ok-tree.tree) (reads.answer ps (before.kept.list_kept ∙ told))
             ∙ ap (λ (b : List ℕ). Is (Ok b)) (sym c.in_ok-write_absence.ensures);
         own = tt;
         kept = only_reads_on g.P.Pages.view g.P.Pages.same _ _ _ _ _ _ g.met.P.Pages.same_on (λ good. refl) (λ good. refl) before.kept reads.kept;

@@ -3,7 +3,7 @@ use Rattle.tw_disk.specs.Answers.{SaysOf, is_of_disk}
 use Rattle.tw_disk.proofs.ReadingLaws.{reads_weaker}
 use Rattle.tw_rbtree.specs.FaultWords.{tree_faults}
 use Rattle.tw_answers.specs.Finds.{tree_shown}
-use Rattle.tw_answers.specs.Refusals.{IsFault, refusals}
+use Rattle.tw_answers.specs.Refusals.{IsFault, service_refusals}
 use Rattle.tw_answers.specs.declared.refusal.Refusal.{Refusal}
 use Rattle.tw_answers.proofs.TreeAnswers.{shown-says, shown-told, tree-failed, tree-fault}
 use Rattle.tw_answers.proofs.showing.show.Goals as goal
@@ -28,10 +28,10 @@ returns-in-Err g c =
     let asked = c.args.ask.now in
     let fault = c.in-Err.fault in
     let is = c.refusal_of_tree.ensures in
-    let failed : is_of_disk (refusals c.refusal_of_tree.result) ≡ is_of_disk (tree_faults fault) = ap (λ (r : Refusal). is_of_disk (refusals r)) is ∙ tree-failed root fault in
+    let failed : is_of_disk (service_refusals c.refusal_of_tree.result) ≡ is_of_disk (tree_faults fault) = ap (λ (r : Refusal). is_of_disk (service_refusals r)) is ∙ tree-failed root fault in
     record {
       reads = record {
-        answer = λ ps told. subst (λ (r : Refusal). SaysOf refusals (refusals r) (tree_shown dig ps root asked)) (sym is) (shown-says dig ps root asked fault reads.own (reads.answer ps told));
+        answer = λ ps told. subst (λ (r : Refusal). SaysOf service_refusals (service_refusals r) (tree_shown dig ps root asked)) (sym is) (shown-says dig ps root asked fault reads.own (reads.answer ps told));
         own = subst IsFault (sym is) (tree-fault root fault);
         kept = reads_weaker g.P.Pages.view g.P.Pages.same _ _ _ _ (λ good. sym failed ∙ good) reads.kept;
         faults = record { later = reads.faults.later; rose = λ rose. reads.faults.rose (sym failed ∙ rose) };

@@ -1,6 +1,6 @@
 use Rattle.std.proofs.Common.{◌≡◌, ◌∙◌, List, ap, sym}
 use Rattle.tw_base.specs.declared.history.report.Hop.{Hop}
-use Rattle.tw_atlas.specs.Checks.{passes}
+use Rattle.tw_atlas.specs.Checks.{atlas_passes}
 use Rattle.tw_atlas.proofs.CheckLaws.{passes-decides}
 use Rattle.tw_atlas.proofs.Leastness.{earliest}
 use Rattle.tw_atlas.proofs.checking.check_atlas.Goals as goal
@@ -8,8 +8,8 @@ use Rattle.tw_atlas.proofs.checking.check_atlas.Goals as goal
 pub returns-clause-exact : goal.returns-clause-exact
 returns-clause-exact c =
     let law = passes-decides c.args.hops.now (record { from = c.args.from.now; step = c.args.step }) c.args.atlas.now in
-    let test : c.all_pass.result ≡ passes c.args.hops.now (record { from = c.args.from.now; step = c.args.step }) c.args.atlas.now =
-    c.all_pass.ensures ∙ ap (λ (hs : List Hop). passes hs (record { from = c.args.from.now; step = c.args.step }) c.args.atlas.now) c.as_slice.ensures in
+    let test : c.all_pass.result ≡ atlas_passes c.args.hops.now (record { from = c.args.from.now; step = c.args.step }) c.args.atlas.now =
+    c.all_pass.ensures ∙ ap (λ (hs : List Hop). atlas_passes hs (record { from = c.args.from.now; step = c.args.step }) c.args.atlas.now) c.as_slice.ensures in
     ((λ passed. law.0 (sym test ∙ passed)), (λ is. test ∙ law.1 is))
 
 pub returns-clause-earliest : goal.returns-clause-earliest

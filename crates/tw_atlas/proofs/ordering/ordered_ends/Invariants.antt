@@ -1,7 +1,7 @@
 use Rattle.std.proofs.Common.{◌≡◌, take}
-use Rattle.tw_atlas.specs.HopEnds.{entries_of}
+use Rattle.tw_atlas.specs.HopEnds.{hop_entries}
 use Rattle.tw_atlas.specs.Rounds.{ordered}
 use Rattle.tw_atlas.proofs.ordering.ordered_ends.Given as goal
 
 abbrev pub invariant-loop-hop : goal.invariant-loop-hop
-invariant-loop-hop l = l.all.entries ≡ entries_of (ordered (take l.hop-index l.hops))
+invariant-loop-hop l = l.all.entries ≡ hop_entries (ordered (take l.hop-index l.hops))

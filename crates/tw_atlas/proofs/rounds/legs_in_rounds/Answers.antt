@@ -4,7 +4,7 @@ use Rattle.std.proofs.Math.Seq.{take-append_seam}
 use Rattle.tw_base.specs.declared.history.thread.Key.{Key}
 use Rattle.tw_atlas.specs.declared.atlas.Leg.{Leg}
 use Rattle.tw_atlas.specs.Reaching.{target}
-use Rattle.tw_atlas.specs.Rounds.{after_of, left_over, round}
+use Rattle.tw_atlas.specs.Rounds.{after_of, left_over, round_of_hops}
 use Rattle.tw_atlas.proofs.RoundSteps.{SoFar, so-far-all, so-far-few, so-far-more, so-far-none, so-far-still}
 use Rattle.tw_atlas.proofs.rounds.legs_in_rounds.Goals as goal
 
@@ -29,7 +29,7 @@ pub loop-i-preserved : goal.loop-i-preserved
 loop-i-preserved c =
     let s = c.loop-i.invariant.so_far in
     let at : List Key = c.loop-i.listed.stops.items in
-    let more : List Leg = round at (left_over (take c.loop-i.first at) c.args.hops.now) in
+    let more : List Leg = round_of_hops at (left_over (take c.loop-i.first at) c.args.hops.now) in
     let targets : List Key = map (λ (leg : Leg). target leg.hop) more in
     let count : length at ≡ c.len-count.result = sym (c.len-count.ensures ∙ c.loop-i.listed.stops.ok.0) in
     let size : c.loop-i.marks.len ≡ length c.mark_from_all.new.marks = sym (c.mark_from_all.auto.marks ∙ c.deref_mut.ensures.len) in

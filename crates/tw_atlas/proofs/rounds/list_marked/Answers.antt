@@ -4,7 +4,7 @@ use Rattle.tw_base.specs.declared.history.thread.Key.{Key}
 use Rattle.tw_atlas.specs.declared.atlas.Leg.{Leg}
 use Rattle.tw_atlas.specs.Marking.{marked_leg}
 use Rattle.tw_atlas.specs.Reaching.{target}
-use Rattle.tw_atlas.specs.Rounds.{left_over, round}
+use Rattle.tw_atlas.specs.Rounds.{left_over, round_of_hops}
 use Rattle.tw_atlas.proofs.MarkLaws.{list-more}
 use Rattle.tw_atlas.proofs.RoundLaws.{map-append}
 use Rattle.tw_atlas.proofs.rounds.list_marked.Goals as goal
@@ -12,7 +12,7 @@ use Rattle.tw_atlas.proofs.rounds.list_marked.Goals as goal
 pub loop-i-preserved : goal.loop-i-preserved
 loop-i-preserved c =
     let at : List Key = c.args.listed.now.stops.items in
-    let before : List Leg = round at (left_over (take c.args.first at) (take c.loop-i.i c.args.hops.now)) in
+    let before : List Leg = round_of_hops at (left_over (take c.args.first at) (take c.loop-i.i c.args.hops.now)) in
     let one : List Leg = marked_leg c.args.first (get_or c.args.marks.now c.loop-i.i None) c.index-hops-i.result in
     let more = list-more at c.args.first c.loop-i.i c.args.hops.now c.index-hops-i.result c.args.marks.now c.requires.first c.loop-i-test.true c.index-hops-i.is c.requires.marked in
     record {

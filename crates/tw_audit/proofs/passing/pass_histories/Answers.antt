@@ -4,7 +4,7 @@ use Rattle.tw_base.specs.history.Family.{family_texts}
 use Rattle.tw_base.specs.history.History.{History}
 use Rattle.tw_base.specs.history.HistoryTexts.{history_texts}
 use Rattle.tw_base.proofs.lemmas.kinds.HandedTexts.{hands-same, hands-then}
-use Rattle.tw_audit.specs.Stops.{AnswerInTurn, AnswersFor}
+use Rattle.tw_audit.specs.Stops.{AnswerInTurn, AnswersForHeld}
 use Rattle.tw_audit.proofs.LoopLaws.{family-more, turn-more}
 use Rattle.tw_audit.proofs.StopLaws.{turn-answers}
 use Rattle.tw_audit.proofs.passing.pass_histories.Goals as goal
@@ -17,7 +17,7 @@ loop-history-preserved g c =
     let i = c.loop-history.history-index in
     let item = c.history-item.result in
     let turned = turn-more dig held family i item c.loop-history.passed.items c.in_ok-one.one c.loop-history-test.true c.loop-history.invariant.turn
-    (subst (λ (h : History). AnswersFor dig held h c.in_ok-one.one) c.history-item.is c.in_ok-one.ensures.answers) in
+    (subst (λ (h : History). AnswersForHeld dig held h c.in_ok-one.one) c.history-item.is c.in_ok-one.ensures.answers) in
     record {
       turn = subst (AnswerInTurn dig held (take (i + 1) family)) (sym c.in_ok-push.ensures.items) turned;
       took =

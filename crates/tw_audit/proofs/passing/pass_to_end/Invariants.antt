@@ -1,13 +1,13 @@
 use Rattle.std.proofs.Common.{◌-◌, ◌≤◌}
 use Rattle.tw_history.specs.PassSteps.{HandsOn, HasPassed}
-use Rattle.tw_audit.specs.Stops.{HasStops}
+use Rattle.tw_audit.specs.Stops.{HasStopsHeld}
 use Rattle.tw_audit.proofs.passing.pass_to_end.Given as goal
 
 abbrev pub invariant-loop-at : goal.invariant-loop-at
 invariant-loop-at g l = record {
   inside : l.at ≤ l.last;
   passed : HasPassed g.T.Transcript.dig l.history l.at l.digests;
-  stops : HasStops g.T.Transcript.dig l.history l.held l.stops.items l.at;
+  stops : HasStopsHeld g.T.Transcript.dig l.history l.held l.stops.items l.at;
   took : HandsOn g.T.Transcript.dig l.history g.T.Transcript.took l.initial.texts l.texts 0 l.at;
 }
 

@@ -5,7 +5,7 @@ use Rattle.tw_base.specs.events.AuditPath.{audit_texts}
 use Rattle.tw_base.specs.kinds.Lists.{Each}
 use Rattle.tw_skipproof.specs.Acceptance.{part_texts}
 use Rattle.tw_skipproof.specs.Paths.{HasShape}
-use Rattle.tw_chain.specs.Checks.{end_of}
+use Rattle.tw_chain.specs.Checks.{end_of_order}
 use Rattle.tw_base.proofs.lemmas.kinds.HandedTexts.{hands-same, hands-then}
 use Rattle.tw_audit.specs.PieceTexts.{hop_texts, opened_texts}
 use Rattle.tw_audit.specs.Shapes.{IsHopShaped}
@@ -52,6 +52,6 @@ returns g c =
     (hands-same g.T.Transcript.took _ _ _ _ (ap (λ n. opened_texts dig n p.before) before) c.hash_opened.ensures))
     (hands-same g.T.Transcript.took _ _ _ _ (ap (flat_map (hop_texts dig)) c.as_slice.ensures) c.hash_hops.ensures))
     (hands-same g.T.Transcript.took _ _ _ _
-    (ap (λ n. part_texts dig (record { service = (end_of p).from; step = p.tail.step; top = n; path = p.tail.path; opening = p.tail.opening })
+    (ap (λ n. part_texts dig (record { service = (end_of_order p).from; step = p.tail.step; top = n; path = p.tail.path; opening = p.tail.opening })
     ++ audit_texts dig p.tail.opening.count p.tail.event.index p.tail.event.event p.tail.event.path) end)
-    (hands-then g.T.Transcript.took _ _ _ _ _ (c.hash_part.ensures (end_of p).from) c.root_over_told.ensures.took)))
+    (hands-then g.T.Transcript.took _ _ _ _ _ (c.hash_part.ensures (end_of_order p).from) c.root_over_told.ensures.took)))

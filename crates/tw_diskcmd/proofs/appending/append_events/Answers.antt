@@ -1,12 +1,12 @@
 use Rattle.std.proofs.Common.{inl, refl, subst}
 use Rattle.sha2.specs.Sha256.{sha256}
 use Rattle.tw_base.specs.declared.history.thread.Thread.{Thread}
-use Rattle.tw_pages.specs.Records.{Written, written}
+use Rattle.tw_pages.specs.Records.{Written, written_record}
 use Rattle.tw_pages.proofs.AtRest.{left_on}
 use Rattle.tw_pages.proofs.Standing.{written_once}
 use Rattle.tw_answers.specs.declared.root.RootRecord.{RootRecord}
 use Rattle.tw_answers.specs.Roots.{root_kind}
-use Rattle.tw_service.specs.EventSteps.{with_events}
+use Rattle.tw_service.specs.EventSteps.{with_events_at}
 use Rattle.tw_service.specs.Machine.Call.{Append}
 use Rattle.tw_service.specs.Machine.Reply.{OfThread}
 use Rattle.tw_service.specs.Serves.{disk_of, record_of}
@@ -15,8 +15,8 @@ use Rattle.tw_service.proofs.Standing.{once}
 use Rattle.tw_diskcmd.specs.Leaves.{StaysOr}
 use Rattle.tw_diskcmd.specs.Steps.{AddsFrom}
 use Rattle.tw_diskcmd.proofs.StoreSteps.{adds_on, unopened_adds}
-use Rattle.tw_diskcmd.specs.Appending.{MachineAdds, TableAdds, added}
-use Rattle.tw_diskcmd.specs.Disks.{IsOf, IsService, NextBy, StepsBy}
+use Rattle.tw_diskcmd.specs.Appending.{MachineAdds, TableAdds, append_found}
+use Rattle.tw_diskcmd.specs.Disks.{IsImageOfHeads, IsService, NextBy, StepsBy}
 use Rattle.tw_diskcmd.proofs.Results.{unserved}
 use Rattle.tw_diskcmd.proofs.appending.append_events.Goals as goal
 
@@ -29,20 +29,20 @@ pub returns-in-Ok-clause-leaves : goal.returns-in-Ok-clause-leaves
 returns-in-Ok-clause-leaves g c =
     let d = g.D.Disk in
     let call = Append c.args.events.now c.args.time in
-    adds_on IsOf d.view (NextBy call) (λ (thread : Thread). StepsBy call (OfThread thread)) c.args.disk (disk_of c.in-Ok.service) c.append_to.result.disk c.append_to.result.outcome
+    adds_on IsImageOfHeads d.view (NextBy call) (λ (thread : Thread). StepsBy call (OfThread thread)) c.args.disk (disk_of c.in-Ok.service) c.append_to.result.disk c.append_to.result.outcome
     c.in-Ok.ensures.any_moment (λ h reads. c.append_to.ensures.leaves h (c.in-Ok.ensures.served reads.image h.name h reads.told reads.stands))
 
 pub returns-in-Err-clause-comes : goal.returns-in-Err-clause-comes
 returns-in-Err-clause-comes g c =
     let d = g.D.Disk in
     let events = c.args.events.now in
-    unserved (added events c.args.time) (TableAdds events c.args.time) (MachineAdds events c.args.time) (λ cause. tt) (d.view c.args.disk).content (d.view c.args.disk).faults (d.view c.in-Err.disk).faults
+    unserved (append_found events c.args.time) (TableAdds events c.args.time) (MachineAdds events c.args.time) (λ cause. tt) (d.view c.args.disk).content (d.view c.args.disk).faults (d.view c.in-Err.disk).faults
     c.in-Err.fault c.in-Err.ensures.refused c.in-Err.ensures.answers c.in-Err.ensures.fault c.fault_of_store.result c.fault_of_store.ensures
 
 pub returns-in-Err-clause-leaves : goal.returns-in-Err-clause-leaves
 returns-in-Err-clause-leaves g c =
     let call = Append c.args.events.now c.args.time in
-    unopened_adds IsOf g.D.Disk.view (NextBy call) (λ (thread : Thread). StepsBy call (OfThread thread)) (λ h. (with_events h c.args.events.now c.args.time, refl)) c.args.disk c.in-Err.disk
+    unopened_adds IsImageOfHeads g.D.Disk.view (NextBy call) (λ (thread : Thread). StepsBy call (OfThread thread)) (λ h. (with_events_at h c.args.events.now c.args.time, refl)) c.args.disk c.in-Err.disk
     c.in-Err.fault c.fault_of_store.result c.fault_of_store.ensures c.in-Err.ensures.answers c.in-Err.ensures.unchanged c.in-Err.ensures.any_moment_err
 
 pub returns-in-Ok-clause-unwritten : goal.returns-in-Ok-clause-unwritten
@@ -67,7 +67,7 @@ returns-in-Ok-clause-writes g c =
     adds_on IsService d.view Next Answers c.args.disk (disk_of s) c.append_to.result.disk c.append_to.result.outcome c.in-Ok.ensures.any_moment (λ w reads.
     let own = c.in-Ok.ensures.over reads.image reads.told in
     subst (λ (v : Written RootRecord). AddsFrom IsService d.view (disk_of s) c.append_to.result.disk Next Answers v c.append_to.result.outcome)
-    (written_once root_kind once reads.image (written (record_of s) own.0) w own.2 reads.stands) (c.append_to.ensures.writes own.0 own.3))
+    (written_once root_kind once reads.image (written_record (record_of s) own.0) w own.2 reads.stands) (c.append_to.ensures.writes own.0 own.3))
 
 pub returns-in-Err-clause-writes : goal.returns-in-Err-clause-writes
 returns-in-Err-clause-writes g c =

@@ -9,12 +9,12 @@ use Rattle.tw_service.specs.Machine.Call.{Append}
 use Rattle.tw_service.specs.Machine.Reply.{OfThread}
 use Rattle.tw_service.specs.Serves.{Serves, disk_of, pages_of, record_of}
 use Rattle.tw_service.specs.Writing.{AppendsTo, IsThreadOfNext}
-use Rattle.tw_pages.specs.Records.{written}
+use Rattle.tw_pages.specs.Records.{written_record}
 use Rattle.tw_diskcmd.specs.Leaves.{StaysOr}
 use Rattle.tw_diskcmd.specs.Steps.{AddsFrom}
 use Rattle.tw_diskcmd.proofs.StoreAtRest.{rose_since, same_left}
 use Rattle.tw_diskcmd.proofs.StoreSteps.{answered_commits, nothing_written, refused_commits}
-use Rattle.tw_diskcmd.specs.Disks.{IsLeft, IsOf, IsService, NextBy, StepsBy, found_disk}
+use Rattle.tw_diskcmd.specs.Disks.{IsImageOfHeads, IsLeft, IsService, NextBy, StepsBy, found_disk}
 use Rattle.tw_diskcmd.specs.Faults.{fault_of_service}
 use Rattle.tw_diskcmd.proofs.AtRest.{answered_steps, refused_steps}
 use Rattle.tw_diskcmd.proofs.Steps.{step_done, step_refused}
@@ -41,14 +41,14 @@ pub returns-in-Ok-clause-leaves : goal.returns-in-Ok-clause-leaves
 returns-in-Ok-clause-leaves g c = λ h served.
     let d = g.D.Disk in
     let call = Append c.args.events.now c.args.time in
-    subst (λ disk. AddsFrom IsOf d.view (disk_of c.args.service) disk (NextBy call) (λ thread. StepsBy call (OfThread thread)) h (Ok c.in-Ok.thread)) (sym c.close.ensures.disk)
+    subst (λ disk. AddsFrom IsImageOfHeads d.view (disk_of c.args.service) disk (NextBy call) (λ thread. StepsBy call (OfThread thread)) h (Ok c.in-Ok.thread)) (sym c.close.ensures.disk)
     (answered_steps d.view g.met.D.Disk.only_now call (λ (thread : Thread). OfThread thread) c.args.service c.add.new.service h c.in-Ok.thread (c.in-Ok.ensures.steps h served))
 
 pub returns-in-Err-clause-leaves : goal.returns-in-Err-clause-leaves
 returns-in-Err-clause-leaves g c = λ h served.
     let d = g.D.Disk in
     let call = Append c.args.events.now c.args.time in
-    subst (λ disk. AddsFrom IsOf d.view (disk_of c.args.service) disk (NextBy call) (λ thread. StepsBy call (OfThread thread)) h (Err c.fault_of_service.result)) (sym c.close-in-Err.ensures.disk)
+    subst (λ disk. AddsFrom IsImageOfHeads d.view (disk_of c.args.service) disk (NextBy call) (λ thread. StepsBy call (OfThread thread)) h (Err c.fault_of_service.result)) (sym c.close-in-Err.ensures.disk)
     (refused_steps d.view g.met.D.Disk.only_now call (λ (thread : Thread). OfThread thread) c.args.service c.add.new.service h c.in-Err.refusal c.fault_of_service.result c.fault_of_service.ensures (c.in-Err.ensures.steps h served))
 
 pub returns-in-Err-clause-unwritten : goal.returns-in-Err-clause-unwritten
@@ -66,7 +66,7 @@ returns-in-Ok-clause-writes g c = λ ps over.
     let old = c.args.service in
     let new = c.add.new.service in
     let events = c.args.events.now in
-    subst (λ disk. AddsFrom IsService d.view (disk_of old) disk (StaysOr (AppendsTo sha256 events c.args.time)) (IsThreadOfNext sha256 events c.args.time) (written (record_of old) ps) (Ok c.in-Ok.thread)) (sym c.close.ensures.disk)
+    subst (λ disk. AddsFrom IsService d.view (disk_of old) disk (StaysOr (AppendsTo sha256 events c.args.time)) (IsThreadOfNext sha256 events c.args.time) (written_record (record_of old) ps) (Ok c.in-Ok.thread)) (sym c.close.ensures.disk)
     (answered_commits d.view root_kind service.DiskFault (AppendsTo sha256 events c.args.time) (IsThreadOfNext sha256 events c.args.time) old.recorded.kept.store new.recorded.kept.store (record_of old) (record_of new) ps
     c.in-Ok.thread (c.in-Ok.ensures.written ps over))
 
@@ -76,6 +76,6 @@ returns-in-Err-clause-writes g c = λ ps over.
     let old = c.args.service in
     let new = c.add.new.service in
     let events = c.args.events.now in
-    subst (λ disk. AddsFrom IsService d.view (disk_of old) disk (StaysOr (AppendsTo sha256 events c.args.time)) (IsThreadOfNext sha256 events c.args.time) (written (record_of old) ps) (Err c.fault_of_service.result)) (sym c.close-in-Err.ensures.disk)
+    subst (λ disk. AddsFrom IsService d.view (disk_of old) disk (StaysOr (AppendsTo sha256 events c.args.time)) (IsThreadOfNext sha256 events c.args.time) (written_record (record_of old) ps) (Err c.fault_of_service.result)) (sym c.close-in-Err.ensures.disk)
     (refused_commits d.view root_kind service.DiskFault (AppendsTo sha256 events c.args.time) (IsThreadOfNext sha256 events c.args.time) old.recorded.kept.store new.recorded.kept.store (record_of old) (record_of new) ps
     fault_of_service refl c.in-Err.refusal c.fault_of_service.result c.fault_of_service.ensures (c.in-Err.ensures.written ps over))

@@ -1,6 +1,6 @@
 use Rattle.std.proofs.Common.{ℕ, List, subst}
-use Rattle.tw_pages.specs.Disks.{Rests as RestsAs}
-use Rattle.tw_pages.specs.Records.{Written, written}
+use Rattle.tw_pages.specs.Disks.{RestsAtState}
+use Rattle.tw_pages.specs.Records.{Written, written_record}
 use Rattle.tw_pages.proofs.Standing.{written_once}
 use Rattle.tw_answers.specs.declared.root.RootRecord.{RootRecord}
 use Rattle.tw_answers.specs.Roots.{root_kind}
@@ -11,7 +11,7 @@ use Rattle.tw_diskcmd.specs.Answers.{MachineAnswers, TableAnswersOr}
 use Rattle.tw_diskcmd.specs.Asking.{AnswersBy, AskComes, asked_bytes, asked_call, asked_table}
 use Rattle.tw_pages.proofs.AtRest.{left_on}
 use Rattle.tw_diskcmd.proofs.Landings.{leaves_of_reading, unopened_reading_leaves}
-use Rattle.tw_diskcmd.specs.Disks.{IsOf, IsService}
+use Rattle.tw_diskcmd.specs.Disks.{IsImageOfHeads, IsService}
 use Rattle.tw_diskcmd.proofs.Results.{unserved}
 use Rattle.tw_diskcmd.proofs.asking.ask.Goals as goal
 
@@ -24,14 +24,14 @@ pub returns-in-Ok-clause-leaves : goal.returns-in-Ok-clause-leaves
 returns-in-Ok-clause-leaves g c =
     let d = g.D.Disk in
     let mid = disk_of c.in-Ok.service in
-    leaves_of_reading root_kind IsOf d.view c.args.disk c.ask_by.result.disk c.ask_by.result.outcome
+    leaves_of_reading root_kind IsImageOfHeads d.view c.args.disk c.ask_by.result.disk c.ask_by.result.outcome
     (left_on d.view c.args.disk mid c.ask_by.result.disk (c.in-Ok.ensures.unchanged, c.in-Ok.ensures.any_moment) c.ask_by.ensures.leaves) (
       λ h reads. c.ask_by.ensures.rests h (c.in-Ok.ensures.served reads.image h.name h reads.told reads.stands),
       λ w reads.
           let s = c.in-Ok.service in
           let own = c.in-Ok.ensures.over reads.image reads.told in
-          subst (λ (v : Written RootRecord). RestsAs IsService d.view c.ask_by.result.disk v)
-          (written_once root_kind once reads.image (written (record_of s) own.0) w own.2 reads.stands) (c.ask_by.ensures.over own.0 own.3),
+          subst (λ (v : Written RootRecord). RestsAtState IsService d.view c.ask_by.result.disk v)
+          (written_once root_kind once reads.image (written_record (record_of s) own.0) w own.2 reads.stands) (c.ask_by.ensures.over own.0 own.3),
     )
 
 pub returns-in-Err-clause-comes : goal.returns-in-Err-clause-comes
@@ -45,5 +45,5 @@ returns-in-Err-clause-comes g c =
 
 pub returns-in-Err-clause-leaves : goal.returns-in-Err-clause-leaves
 returns-in-Err-clause-leaves g c =
-    unopened_reading_leaves root_kind IsOf g.D.Disk.view c.args.disk c.in-Err.disk (List ℕ) c.in-Err.fault c.fault_of_store.result c.fault_of_store.ensures
+    unopened_reading_leaves root_kind IsImageOfHeads g.D.Disk.view c.args.disk c.in-Err.disk (List ℕ) c.in-Err.fault c.fault_of_store.result c.fault_of_store.ensures
     c.in-Err.ensures.answers.0 (c.in-Err.ensures.unchanged, c.in-Err.ensures.any_moment_err)

@@ -2,8 +2,8 @@ use Rattle.std.proofs.Common.{sym, subst}
 use Rattle.sha2.specs.Sha256.{sha256}
 use Rattle.tw_base.specs.kinds.Faults.{Rose}
 use Rattle.tw_service.specs.Serves.{Serves, disk_of, has_failed, name_of, pages_of, record_of}
-use Rattle.tw_pages.specs.Disks.{Rests as RestsAs}
-use Rattle.tw_pages.specs.Records.{written}
+use Rattle.tw_pages.specs.Disks.{RestsAtState}
+use Rattle.tw_pages.specs.Records.{written_record}
 use Rattle.tw_pages.proofs.AtRest.{own_rest as own_rest_as}
 use Rattle.tw_pages.proofs.Written.{rest_for_good, still_rests}
 use Rattle.tw_answers.specs.Roots.{root_kind}
@@ -40,7 +40,7 @@ returns-clause-over g c = λ ps over.
     let d = g.D.Disk in
     let old = c.args.service in
     let new = c.ask.new.self in
-    let w = written (record_of old) ps in
-    subst (λ disk. RestsAs IsService d.view disk w) (sym c.close.ensures.disk)
+    let w = written_record (record_of old) ps in
+    subst (λ disk. RestsAtState IsService d.view disk w) (sym c.close.ensures.disk)
     (own_rest_as IsService d.view (disk_of new) w (rest_for_good d.view root_kind new.recorded.kept.store w
     (still_rests d.view root_kind old.recorded.kept.store new.recorded.kept.store w c.ask.ensures.asks.unwritten over)))

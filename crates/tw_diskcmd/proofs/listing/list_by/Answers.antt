@@ -3,15 +3,15 @@ use Rattle.std.specs.Prelude.{Err, IfOk}
 use Rattle.sha2.specs.Sha256.{sha256}
 use Rattle.tw_base.specs.kinds.Faults.{Rose}
 use Rattle.tw_follow.specs.Follows.{disk_of, pages_of}
-use Rattle.tw_pages.specs.Records.{written}
+use Rattle.tw_pages.specs.Records.{written_record}
 use Rattle.tw_pages.proofs.Written.{rest_for_good, still_rests, told_list}
 use Rattle.tw_follow.specs.Stands.{root_kind}
 use Rattle.tw_text.specs.declared.fault.CommandFault.{CommandFault}
-use Rattle.tw_pages.specs.Disks.{Rests as RestsAs}
+use Rattle.tw_pages.specs.Disks.{RestsAtState}
 use Rattle.tw_pages.proofs.AtRest.{own_rest}
 use Rattle.tw_diskcmd.proofs.StoreAtRest.{rose_since, same_left}
 use Rattle.tw_diskcmd.specs.FollowerDisks.{IsFollower, IsLeft, IsOf, found_disk}
-use Rattle.tw_diskcmd.specs.Listing.{HeadsComes, lines_of}
+use Rattle.tw_diskcmd.specs.Listing.{HeadsComes, head_lines}
 use Rattle.tw_diskcmd.proofs.Listed.{listed, never_reopened, unlisted}
 use Rattle.tw_diskcmd.proofs.listing.list_by.Goals as goal
 
@@ -21,9 +21,9 @@ returns-in-Ok-clause-comes g c = λ found before opens follows le.
     let old = c.args.follower in
     listed found before (d.view c.close.result).faults old.recorded.root (pages_of d.view old) opens
     (λ k reads. let at = follows k reads in
-    (at.pages, told_list d.view (root_kind sha256) old.recorded.store (written old.recorded.root at.pages) at.rests old.clean, at.keeps.found))
+    (at.pages, told_list d.view (root_kind sha256) old.recorded.store (written_record old.recorded.root at.pages) at.rests old.clean, at.keeps.found))
     c.in-Ok.heads c.print_heads.result c.in-Ok.ensures.rises (c.in-Ok.ensures.answer c.requires)
-    (subst (λ hs. IfOk c.print_heads.result (λ text. text ≡ lines_of hs)) c.as_slice.ensures c.print_heads.ensures.lines) c.print_heads.ensures.memory
+    (subst (λ hs. IfOk c.print_heads.result (λ text. text ≡ head_lines hs)) c.as_slice.ensures c.print_heads.ensures.lines) c.print_heads.ensures.memory
 
 pub returns-in-Ok-clause-leaves : goal.returns-in-Ok-clause-leaves
 returns-in-Ok-clause-leaves g c =
@@ -43,7 +43,7 @@ returns-in-Err-clause-comes g c = λ found before opens follows le.
     subst (λ (f : CommandFault). HeadsComes (found_disk found before (d.view c.close-in-Err.result).faults) (Err f)) (sym c.fault_of_follower.ensures)
     (unlisted found before (d.view c.close-in-Err.result).faults old.recorded.root (pages_of d.view old) opens
     (λ k reads. let at = follows k reads in
-    (at.pages, told_list d.view (root_kind sha256) old.recorded.store (written old.recorded.root at.pages) at.rests old.clean, at.keeps.found))
+    (at.pages, told_list d.view (root_kind sha256) old.recorded.store (written_record old.recorded.root at.pages) at.rests old.clean, at.keeps.found))
     c.in-Err.refusal (tells.answer c.requires) tells.faults (never_reopened old.is_broken c.requires c.in-Err.refusal tells.reopen)
     (λ is. rose_since before (d.view (disk_of old)).faults (d.view c.close-in-Err.result).faults le
     (subst (λ disk. Rose (d.view (disk_of old)).faults (d.view disk).faults) (sym c.close-in-Err.ensures.disk) (tells.fault (ap (λ r. Err r) is)))))
@@ -62,8 +62,8 @@ pub returns-in-Ok-clause-over : goal.returns-in-Ok-clause-over
 returns-in-Ok-clause-over g c = λ ps over.
     let d = g.D.Disk in
     let old = c.args.follower in
-    let w = written old.recorded.root ps in
-    subst (λ disk. RestsAs IsFollower d.view disk w) (sym c.close.ensures.disk)
+    let w = written_record old.recorded.root ps in
+    subst (λ disk. RestsAtState IsFollower d.view disk w) (sym c.close.ensures.disk)
     (own_rest IsFollower d.view (disk_of c.heads.new.self) w (rest_for_good d.view (root_kind sha256) c.heads.new.self.recorded.store w
     (still_rests d.view (root_kind sha256) old.recorded.store c.heads.new.self.recorded.store w c.in-Ok.ensures.unwritten over)))
 
@@ -71,7 +71,7 @@ pub returns-in-Err-clause-over : goal.returns-in-Err-clause-over
 returns-in-Err-clause-over g c = λ ps over.
     let d = g.D.Disk in
     let old = c.args.follower in
-    let w = written old.recorded.root ps in
-    subst (λ disk. RestsAs IsFollower d.view disk w) (sym c.close-in-Err.ensures.disk)
+    let w = written_record old.recorded.root ps in
+    subst (λ disk. RestsAtState IsFollower d.view disk w) (sym c.close-in-Err.ensures.disk)
     (own_rest IsFollower d.view (disk_of c.heads.new.self) w (rest_for_good d.view (root_kind sha256) c.heads.new.self.recorded.store w
     (still_rests d.view (root_kind sha256) old.recorded.store c.heads.new.self.recorded.store w c.in-Err.ensures.unwritten over)))

@@ -1,8 +1,8 @@
 use Rattle.std.proofs.Common.{ℕ, List, subst, sym}
 use Rattle.std.specs.Prelude.{Err}
 use Rattle.sha2.specs.Sha256.{sha256}
-use Rattle.tw_pages.specs.Disks.{Rests as RestsAs}
-use Rattle.tw_pages.specs.Records.{Written, written}
+use Rattle.tw_pages.specs.Disks.{RestsAtState}
+use Rattle.tw_pages.specs.Records.{Written, written_record}
 use Rattle.tw_pages.proofs.Standing.{written_once}
 use Rattle.tw_follow.specs.Follows.{disk_of, record_of}
 use Rattle.tw_follow.specs.Stands.{root_kind}
@@ -30,8 +30,8 @@ returns-in-Ok-clause-leaves g c =
       λ w reads.
           let f = c.in-Ok.follower in
           let own = c.in-Ok.ensures.over reads.image reads.told in
-          subst (λ (v : Written RootRecord). RestsAs IsFollower d.view c.list_by.result.disk v)
-          (written_once (root_kind sha256) (once sha256) reads.image (written (record_of f) own.0) w own.2 reads.stands) (c.list_by.ensures.over own.0 own.3),
+          subst (λ (v : Written RootRecord). RestsAtState IsFollower d.view c.list_by.result.disk v)
+          (written_once (root_kind sha256) (once sha256) reads.image (written_record (record_of f) own.0) w own.2 reads.stands) (c.list_by.ensures.over own.0 own.3),
     )
 
 pub returns-in-Err-clause-comes : goal.returns-in-Err-clause-comes

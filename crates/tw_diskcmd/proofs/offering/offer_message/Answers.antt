@@ -2,7 +2,7 @@ use Rattle.std.proofs.Common.{refl, subst, sym}
 use Rattle.std.specs.Prelude.{Err}
 use Rattle.sha2.specs.Sha256.{sha256}
 use Rattle.tw_base.specs.declared.history.thread.Thread.{Thread}
-use Rattle.tw_pages.specs.Records.{Written, written}
+use Rattle.tw_pages.specs.Records.{Written, written_record}
 use Rattle.tw_pages.proofs.AtRest.{left_on}
 use Rattle.tw_pages.proofs.Standing.{written_once}
 use Rattle.tw_follow.specs.Follows.{disk_of, record_of}
@@ -13,7 +13,7 @@ use Rattle.tw_diskcmd.specs.Steps.{AddsFrom}
 use Rattle.tw_diskcmd.proofs.StoreSteps.{adds_on, unopened_adds}
 use Rattle.tw_text.specs.declared.fault.CommandFault.{CommandFault}
 use Rattle.tw_diskcmd.specs.FollowerDisks.{IsFollower, IsOf, found_disk}
-use Rattle.tw_diskcmd.specs.Offering.{IsNextBy, IsNextListBy, MessageComes, next_list, next_record}
+use Rattle.tw_diskcmd.specs.Offering.{IsNextBy, IsNextListBy, OfferedMessageComes, next_follower_record, next_list}
 use Rattle.tw_diskcmd.proofs.Offered.{unserved}
 use Rattle.tw_diskcmd.proofs.offering.offer_message.Goals as goal
 
@@ -30,7 +30,7 @@ returns-in-Ok-clause-unwritten g c = λ bytes spells nothing.
 pub returns-in-Err-clause-comes : goal.returns-in-Err-clause-comes
 returns-in-Err-clause-comes g c = λ bytes spells.
     let d = g.D.Disk in
-    subst (λ (f : CommandFault). MessageComes (found_disk (d.view c.args.disk).content (d.view c.args.disk).faults (d.view c.in-Err.disk).faults) c.args.message.now (Err f)) (sym c.fault_of_store.ensures)
+    subst (λ (f : CommandFault). OfferedMessageComes (found_disk (d.view c.args.disk).content (d.view c.args.disk).faults (d.view c.in-Err.disk).faults) c.args.message.now (Err f)) (sym c.fault_of_store.ensures)
     (unserved (d.view c.args.disk).content (d.view c.args.disk).faults (d.view c.in-Err.disk).faults c.args.message.now c.in-Err.fault c.in-Err.ensures.refused c.in-Err.ensures.answers c.in-Err.ensures.fault)
 
 pub returns-in-Err-clause-unwritten : goal.returns-in-Err-clause-unwritten
@@ -62,10 +62,10 @@ returns-in-Ok-clause-writes g c = λ bytes spells.
     adds_on IsFollower d.view (IsNextBy m) (λ (thread : Thread). IsNextBy m) c.args.disk (disk_of f) c.offer_to.result.disk c.offer_to.result.outcome c.in-Ok.ensures.any_moment (λ w reads.
     let own = c.in-Ok.ensures.over reads.image reads.told in
     subst (λ (v : Written RootRecord). AddsFrom IsFollower d.view (disk_of f) c.offer_to.result.disk (IsNextBy m) (λ (thread : Thread). IsNextBy m) v c.offer_to.result.outcome)
-    (written_once (root_kind sha256) (once sha256) reads.image (written (record_of f) own.0) w own.2 reads.stands) (c.offer_to.ensures.writes bytes spells own.0 own.3))
+    (written_once (root_kind sha256) (once sha256) reads.image (written_record (record_of f) own.0) w own.2 reads.stands) (c.offer_to.ensures.writes bytes spells own.0 own.3))
 
 pub returns-in-Err-clause-writes : goal.returns-in-Err-clause-writes
 returns-in-Err-clause-writes g c = λ bytes spells.
     let m = c.args.message.now in
-    unopened_adds IsFollower g.D.Disk.view (IsNextBy m) (λ (thread : Thread). IsNextBy m) (λ w. (next_record w m, refl)) c.args.disk c.in-Err.disk
+    unopened_adds IsFollower g.D.Disk.view (IsNextBy m) (λ (thread : Thread). IsNextBy m) (λ w. (next_follower_record w m, refl)) c.args.disk c.in-Err.disk
     c.in-Err.fault c.fault_of_store.result c.fault_of_store.ensures c.in-Err.ensures.answers c.in-Err.ensures.unchanged c.in-Err.ensures.any_moment_err

@@ -7,14 +7,14 @@ use Rattle.tw_follow.specs.Follows.{disk_of, pages_of, record_of}
 use Rattle.tw_follow.specs.Offers.{AnswersOffer}
 use Rattle.tw_follow.specs.declared.refusal.FollowRefusal.TheVariants as follower
 use Rattle.tw_follow.proofs.Following.{rest_head}
-use Rattle.tw_pages.specs.Records.{written}
+use Rattle.tw_pages.specs.Records.{written_record}
 use Rattle.tw_diskcmd.specs.Steps.{AddsFrom}
 use Rattle.tw_diskcmd.proofs.StoreAtRest.{rose_since, same_left}
 use Rattle.tw_diskcmd.proofs.StoreSteps.{nothing_written}
 use Rattle.tw_text.specs.declared.fault.CommandFault.{CommandFault}
 use Rattle.tw_diskcmd.specs.FollowerDisks.{IsFollower, IsLeft, IsOf, found_disk}
 use Rattle.tw_diskcmd.specs.FollowerFaults.{fault_of_follower}
-use Rattle.tw_diskcmd.specs.Offering.{IsNextBy, IsNextListBy, MessageComes}
+use Rattle.tw_diskcmd.specs.Offering.{IsNextBy, IsNextListBy, OfferedMessageComes}
 use Rattle.tw_diskcmd.proofs.Offered.{answered, refused}
 use Rattle.tw_diskcmd.proofs.Writing.{answered_list, answered_writes, refused_list, refused_writes}
 use Rattle.tw_diskcmd.proofs.offering.offer_to.Goals as goal
@@ -32,7 +32,7 @@ returns-in-Err-clause-comes g c = λ bytes spells found before opens follows le.
     let d = g.D.Disk in
     let old = c.args.follower in
     let offers = c.in-Err.ensures bytes spells in
-    subst (λ (f : CommandFault). MessageComes (found_disk found before (d.view c.close-in-Err.result).faults) c.args.message.now (Err f)) (sym c.fault_of_follower.ensures)
+    subst (λ (f : CommandFault). OfferedMessageComes (found_disk found before (d.view c.close-in-Err.result).faults) c.args.message.now (Err f)) (sym c.fault_of_follower.ensures)
     (refused bytes c.args.message.now spells found before (d.view c.close-in-Err.result).faults old.recorded.root (pages_of d.view old) opens
     (λ k reads. rest_head d.view g.met.D.Disk.only_now sha256 old.recorded.store old.recorded.root k (follows k reads)) c.in-Err.refusal
     (subst (λ (b : Bool). AnswersOffer sha256 b old.recorded.root.head bytes (Err c.in-Err.refusal)) c.requires.whole offers.table)
@@ -72,7 +72,7 @@ returns-in-Ok-clause-writes g c = λ bytes spells ps over.
     let d = g.D.Disk in
     let old = c.args.follower in
     let m = c.args.message.now in
-    subst (λ disk. AddsFrom IsFollower d.view (disk_of old) disk (IsNextBy m) (λ thread. IsNextBy m) (written (record_of old) ps) (Ok c.in-Ok.head)) (sym c.close.ensures.disk)
+    subst (λ disk. AddsFrom IsFollower d.view (disk_of old) disk (IsNextBy m) (λ thread. IsNextBy m) (written_record (record_of old) ps) (Ok c.in-Ok.head)) (sym c.close.ensures.disk)
     (answered_writes d.view old c.take.new.self bytes m spells ps over c.in-Ok.head (c.in-Ok.ensures bytes spells))
 
 pub returns-in-Err-clause-writes : goal.returns-in-Err-clause-writes
@@ -80,5 +80,5 @@ returns-in-Err-clause-writes g c = λ bytes spells ps over.
     let d = g.D.Disk in
     let old = c.args.follower in
     let m = c.args.message.now in
-    subst (λ disk. AddsFrom IsFollower d.view (disk_of old) disk (IsNextBy m) (λ (thread : Thread). IsNextBy m) (written (record_of old) ps) (Err c.fault_of_follower.result)) (sym c.close-in-Err.ensures.disk)
+    subst (λ disk. AddsFrom IsFollower d.view (disk_of old) disk (IsNextBy m) (λ (thread : Thread). IsNextBy m) (written_record (record_of old) ps) (Err c.fault_of_follower.result)) (sym c.close-in-Err.ensures.disk)
     (refused_writes d.view old c.take.new.self bytes m spells ps over c.in-Err.refusal c.fault_of_follower.result c.fault_of_follower.ensures (c.in-Err.ensures bytes spells))

@@ -10,13 +10,13 @@ use Rattle.tw_service.specs.Adding.{Receives}
 use Rattle.tw_service.specs.Machine.Call.{Receive}
 use Rattle.tw_service.specs.Machine.Reply.{OfReceipt}
 use Rattle.tw_service.specs.Serves.{Serves, archive_of, disk_of, has_failed, head_of, pages_of, record_of, steps_of}
-use Rattle.tw_service.specs.Writing.{ArchivesTo, IsReceiptOf}
-use Rattle.tw_pages.specs.Records.{written}
+use Rattle.tw_service.specs.Writing.{ArchivesTo, IsReceiptOfRecord}
+use Rattle.tw_pages.specs.Records.{written_record}
 use Rattle.tw_diskcmd.specs.Leaves.{StaysOr}
 use Rattle.tw_diskcmd.specs.Steps.{AddsFrom}
 use Rattle.tw_diskcmd.proofs.StoreAtRest.{rose_since, same_left}
 use Rattle.tw_diskcmd.proofs.StoreSteps.{answered_commits, nothing_written, refused_commits}
-use Rattle.tw_diskcmd.specs.Disks.{IsLeft, IsOf, IsService, NextBy, StepsBy, found_disk}
+use Rattle.tw_diskcmd.specs.Disks.{IsImageOfHeads, IsLeft, IsService, NextBy, StepsBy, found_disk}
 use Rattle.tw_diskcmd.specs.Faults.{fault_of_service}
 use Rattle.tw_diskcmd.proofs.AtRest.{answered_steps, refused_steps}
 use Rattle.tw_diskcmd.proofs.Received.{received_done, received_refused}
@@ -57,7 +57,7 @@ returns-in-Ok-clause-leaves g c = λ h served.
     let new = c.take.new.self in
     let r = subst (λ (time : Option ℕ). Receives sha256 d.view c.args.message.now time old new (Ok c.in-Ok.receipt)) c.seconds_of.ensures.value c.in-Ok.ensures in
     let call = Receive c.args.message.now c.args.time in
-    subst (λ disk. AddsFrom IsOf d.view (disk_of old) disk (NextBy call) (λ receipt. StepsBy call (OfReceipt receipt)) h (Ok c.in-Ok.receipt)) (sym c.close.ensures.disk)
+    subst (λ disk. AddsFrom IsImageOfHeads d.view (disk_of old) disk (NextBy call) (λ receipt. StepsBy call (OfReceipt receipt)) h (Ok c.in-Ok.receipt)) (sym c.close.ensures.disk)
     (answered_steps d.view g.met.D.Disk.only_now call (λ (receipt : Receipt). OfReceipt receipt) old new h c.in-Ok.receipt (r.steps h served))
 
 pub returns-in-Err-clause-leaves : goal.returns-in-Err-clause-leaves
@@ -67,7 +67,7 @@ returns-in-Err-clause-leaves g c = λ h served.
     let new = c.take.new.self in
     let r = subst (λ (time : Option ℕ). Receives sha256 d.view c.args.message.now time old new (Err c.in-Err.refusal)) c.seconds_of.ensures.value c.in-Err.ensures in
     let call = Receive c.args.message.now c.args.time in
-    subst (λ disk. AddsFrom IsOf d.view (disk_of old) disk (NextBy call) (λ receipt. StepsBy call (OfReceipt receipt)) h (Err c.fault_of_service.result)) (sym c.close-in-Err.ensures.disk)
+    subst (λ disk. AddsFrom IsImageOfHeads d.view (disk_of old) disk (NextBy call) (λ receipt. StepsBy call (OfReceipt receipt)) h (Err c.fault_of_service.result)) (sym c.close-in-Err.ensures.disk)
     (refused_steps d.view g.met.D.Disk.only_now call (λ (receipt : Receipt). OfReceipt receipt) old new h c.in-Err.refusal c.fault_of_service.result c.fault_of_service.ensures (r.steps h served))
 
 pub returns-in-Err-clause-unwritten : goal.returns-in-Err-clause-unwritten
@@ -87,8 +87,8 @@ returns-in-Ok-clause-writes g c = λ ps over.
     let new = c.take.new.self in
     let m = c.args.message.now in
     let r = subst (λ (time : Option ℕ). Receives sha256 d.view c.args.message.now time old new (Ok c.in-Ok.receipt)) c.seconds_of.ensures.value c.in-Ok.ensures in
-    subst (λ disk. AddsFrom IsService d.view (disk_of old) disk (StaysOr (ArchivesTo sha256 m c.args.time)) (IsReceiptOf sha256 m c.args.time) (written (record_of old) ps) (Ok c.in-Ok.receipt)) (sym c.close.ensures.disk)
-    (answered_commits d.view root_kind service.DiskFault (ArchivesTo sha256 m c.args.time) (IsReceiptOf sha256 m c.args.time) old.recorded.kept.store new.recorded.kept.store (record_of old) (record_of new) ps
+    subst (λ disk. AddsFrom IsService d.view (disk_of old) disk (StaysOr (ArchivesTo sha256 m c.args.time)) (IsReceiptOfRecord sha256 m c.args.time) (written_record (record_of old) ps) (Ok c.in-Ok.receipt)) (sym c.close.ensures.disk)
+    (answered_commits d.view root_kind service.DiskFault (ArchivesTo sha256 m c.args.time) (IsReceiptOfRecord sha256 m c.args.time) old.recorded.kept.store new.recorded.kept.store (record_of old) (record_of new) ps
     c.in-Ok.receipt (r.written ps over))
 
 pub returns-in-Err-clause-writes : goal.returns-in-Err-clause-writes
@@ -98,6 +98,6 @@ returns-in-Err-clause-writes g c = λ ps over.
     let new = c.take.new.self in
     let m = c.args.message.now in
     let r = subst (λ (time : Option ℕ). Receives sha256 d.view c.args.message.now time old new (Err c.in-Err.refusal)) c.seconds_of.ensures.value c.in-Err.ensures in
-    subst (λ disk. AddsFrom IsService d.view (disk_of old) disk (StaysOr (ArchivesTo sha256 m c.args.time)) (IsReceiptOf sha256 m c.args.time) (written (record_of old) ps) (Err c.fault_of_service.result)) (sym c.close-in-Err.ensures.disk)
-    (refused_commits d.view root_kind service.DiskFault (ArchivesTo sha256 m c.args.time) (IsReceiptOf sha256 m c.args.time) old.recorded.kept.store new.recorded.kept.store (record_of old) (record_of new) ps
+    subst (λ disk. AddsFrom IsService d.view (disk_of old) disk (StaysOr (ArchivesTo sha256 m c.args.time)) (IsReceiptOfRecord sha256 m c.args.time) (written_record (record_of old) ps) (Err c.fault_of_service.result)) (sym c.close-in-Err.ensures.disk)
+    (refused_commits d.view root_kind service.DiskFault (ArchivesTo sha256 m c.args.time) (IsReceiptOfRecord sha256 m c.args.time) old.recorded.kept.store new.recorded.kept.store (record_of old) (record_of new) ps
     fault_of_service refl c.in-Err.refusal c.fault_of_service.result c.fault_of_service.ensures (r.written ps over))

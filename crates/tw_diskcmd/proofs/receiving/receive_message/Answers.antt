@@ -1,7 +1,7 @@
 use Rattle.std.proofs.Common.{inl, refl, subst}
 use Rattle.sha2.specs.Sha256.{sha256}
 use Rattle.tw_msg.specs.declared.receipt.Receipt.{Receipt}
-use Rattle.tw_pages.specs.Records.{Written, written}
+use Rattle.tw_pages.specs.Records.{Written, written_record}
 use Rattle.tw_pages.proofs.AtRest.{left_on}
 use Rattle.tw_pages.proofs.Standing.{written_once}
 use Rattle.tw_answers.specs.declared.root.RootRecord.{RootRecord}
@@ -9,13 +9,13 @@ use Rattle.tw_answers.specs.Roots.{root_kind}
 use Rattle.tw_service.specs.Machine.Call.{Receive}
 use Rattle.tw_service.specs.Machine.Reply.{OfReceipt}
 use Rattle.tw_service.specs.Serves.{disk_of, record_of}
-use Rattle.tw_service.specs.Writing.{ArchivesTo, IsReceiptOf}
+use Rattle.tw_service.specs.Writing.{ArchivesTo, IsReceiptOfRecord}
 use Rattle.tw_service.proofs.Standing.{once}
 use Rattle.tw_diskcmd.specs.Leaves.{StaysOr}
 use Rattle.tw_diskcmd.specs.Steps.{AddsFrom}
 use Rattle.tw_diskcmd.proofs.StoreSteps.{adds_on, unopened_adds}
 use Rattle.tw_diskcmd.specs.Receiving.{IsReceivedOver, MachineReceives, TableReceives}
-use Rattle.tw_diskcmd.specs.Disks.{IsOf, IsService, NextBy, StepsBy}
+use Rattle.tw_diskcmd.specs.Disks.{IsImageOfHeads, IsService, NextBy, StepsBy}
 use Rattle.tw_diskcmd.proofs.Results.{unopened_comes}
 use Rattle.tw_diskcmd.proofs.receiving.receive_message.Goals as goal
 
@@ -28,7 +28,7 @@ pub returns-in-Ok-clause-leaves : goal.returns-in-Ok-clause-leaves
 returns-in-Ok-clause-leaves g c =
     let d = g.D.Disk in
     let call = Receive c.args.message.now c.args.time in
-    adds_on IsOf d.view (NextBy call) (λ (receipt : Receipt). StepsBy call (OfReceipt receipt)) c.args.disk (disk_of c.in-Ok.service) c.receive_by.result.disk c.receive_by.result.outcome
+    adds_on IsImageOfHeads d.view (NextBy call) (λ (receipt : Receipt). StepsBy call (OfReceipt receipt)) c.args.disk (disk_of c.in-Ok.service) c.receive_by.result.disk c.receive_by.result.outcome
     c.in-Ok.ensures.any_moment (λ h reads. c.receive_by.ensures.leaves h (c.in-Ok.ensures.served reads.image h.name h reads.told reads.stands))
 
 pub returns-in-Err-clause-comes : goal.returns-in-Err-clause-comes
@@ -41,7 +41,7 @@ returns-in-Err-clause-comes g c =
 pub returns-in-Err-clause-leaves : goal.returns-in-Err-clause-leaves
 returns-in-Err-clause-leaves g c =
     let call = Receive c.args.message.now c.args.time in
-    unopened_adds IsOf g.D.Disk.view (NextBy call) (λ (receipt : Receipt). StepsBy call (OfReceipt receipt)) (λ h. (h, inl refl)) c.args.disk c.in-Err.disk
+    unopened_adds IsImageOfHeads g.D.Disk.view (NextBy call) (λ (receipt : Receipt). StepsBy call (OfReceipt receipt)) (λ h. (h, inl refl)) c.args.disk c.in-Err.disk
     c.in-Err.fault c.fault_of_store.result c.fault_of_store.ensures c.in-Err.ensures.answers c.in-Err.ensures.unchanged c.in-Err.ensures.any_moment_err
 
 pub returns-in-Ok-clause-unwritten : goal.returns-in-Ok-clause-unwritten
@@ -62,13 +62,13 @@ returns-in-Ok-clause-writes g c =
     let d = g.D.Disk in
     let s = c.in-Ok.service in
     let Next = StaysOr (ArchivesTo sha256 c.args.message.now c.args.time) in
-    let Answers = IsReceiptOf sha256 c.args.message.now c.args.time in
+    let Answers = IsReceiptOfRecord sha256 c.args.message.now c.args.time in
     adds_on IsService d.view Next Answers c.args.disk (disk_of s) c.receive_by.result.disk c.receive_by.result.outcome c.in-Ok.ensures.any_moment (λ w reads.
     let own = c.in-Ok.ensures.over reads.image reads.told in
     subst (λ (v : Written RootRecord). AddsFrom IsService d.view (disk_of s) c.receive_by.result.disk Next Answers v c.receive_by.result.outcome)
-    (written_once root_kind once reads.image (written (record_of s) own.0) w own.2 reads.stands) (c.receive_by.ensures.writes own.0 own.3))
+    (written_once root_kind once reads.image (written_record (record_of s) own.0) w own.2 reads.stands) (c.receive_by.ensures.writes own.0 own.3))
 
 pub returns-in-Err-clause-writes : goal.returns-in-Err-clause-writes
 returns-in-Err-clause-writes g c =
-    unopened_adds IsService g.D.Disk.view (StaysOr (ArchivesTo sha256 c.args.message.now c.args.time)) (IsReceiptOf sha256 c.args.message.now c.args.time) (λ w. (w, inl refl)) c.args.disk c.in-Err.disk
+    unopened_adds IsService g.D.Disk.view (StaysOr (ArchivesTo sha256 c.args.message.now c.args.time)) (IsReceiptOfRecord sha256 c.args.message.now c.args.time) (λ w. (w, inl refl)) c.args.disk c.in-Err.disk
     c.in-Err.fault c.fault_of_store.result c.fault_of_store.ensures c.in-Err.ensures.answers c.in-Err.ensures.unchanged c.in-Err.ensures.any_moment_err

@@ -1,6 +1,6 @@
 use Rattle.std.proofs.Common.{◌∙◌, ◌+◌, ◌≤◌, ℕ, Ok, List, length, ap, subst, sym, arith}
 use Rattle.std.specs.Prelude.{IsTrue}
-use Rattle.tw_outside.specs.Files.{Tells}
+use Rattle.tw_outside.specs.Files.{TellsBytes}
 use Rattle.tw_filecmd.proofs.FedPieces.{fed_all, fed_broken, fed_few, fed_told}
 use Rattle.tw_filecmd.proofs.feeding.feed_file.Goals as goal
 use Rattle.tw_filecmd.proofs.feeding.feed_file.Goals.{then-came-eq0-via-then-came-eq0, then-came-eq0-via-else-came-eq0+then-broken}
@@ -14,10 +14,10 @@ returns-then-came-eq0-clause-fed g c =
     (c.in-Ok.ensures.fed c.args.anchors.now c.args.strict) c.loop-came.invariant.fed in
     elim c.then-came-eq0.branch [
       | then-came-eq0-via-then-came-eq0 w ↦
-          let none : (bytes : List ℕ) → Tells told c.args.proof.now bytes → length bytes ≤ c.loop-came.at + c.in-Ok.came =
+          let none : (bytes : List ℕ) → TellsBytes told c.args.proof.now bytes → length bytes ≤ c.loop-came.at + c.in-Ok.came =
           λ bytes tells.
           let end = c.in-Ok.ensures.end (ap Ok w.if-came-eq0.true) bytes
-          (subst (λ t. Tells t c.args.proof.now bytes) (sym c.loop-came.invariant.kept) tells) in
+          (subst (λ t. TellsBytes t c.args.proof.now bytes) (sym c.loop-came.invariant.kept) tells) in
           omega (arith, end) in
           fed_all told c.args.proof.now c.args.anchors.now c.args.strict c.feed_piece.new.verifier _ front none
       | then-came-eq0-via-else-came-eq0+then-broken w ↦

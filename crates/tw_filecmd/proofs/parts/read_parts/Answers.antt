@@ -2,7 +2,7 @@ use Rattle.std.proofs.Common.{◌≡◌, ◌∙◌, ◌+◌, ◌∷◌, [], ◌+
 use Rattle.std.proofs.lemmas.Grind.{common_steps}
 use Rattle.std.proofs.lemmas.List.{take_more}
 use Rattle.tw_outside.specs.Files.{IsReadTo, IsThere}
-use Rattle.tw_filecmd.specs.Parts.{AreRead}
+use Rattle.tw_filecmd.specs.Parts.{ArePartsRead}
 use Rattle.tw_filecmd.specs.declared.limits.TheConstants.{FILE_READ}
 use Rattle.tw_filecmd.proofs.parts.read_parts.Goals as goal
 
@@ -16,9 +16,9 @@ loop-file-preserved g c =
     subst (λ f. IsReadTo now f FILE_READ c.as_slice.result.now) same (λ bytes tells. c.as_slice.ensures.value ∙ c.in_ok-bytes.ensures.read bytes tells) in
     let more : take (c.loop-file.file-index + 1) c.args.files.now ≡ take c.loop-file.file-index c.args.files.now ++ file ∷ [] =
     grind (arith, common_steps, take_more) in
-    let next : AreRead now (take c.loop-file.file-index c.args.files.now) c.loop-file.parts.proofs c.loop-file.parts.bad
-    → AreRead now (take (c.loop-file.file-index + 1) c.args.files.now) c.add.new.self.proofs c.add.new.self.bad =
-    λ are. subst (λ fs. AreRead now fs c.add.new.self.proofs c.add.new.self.bad) (sym more)
+    let next : ArePartsRead now (take c.loop-file.file-index c.args.files.now) c.loop-file.parts.proofs c.loop-file.parts.bad
+    → ArePartsRead now (take (c.loop-file.file-index + 1) c.args.files.now) c.add.new.self.proofs c.add.new.self.bad =
+    λ are. subst (λ fs. ArePartsRead now fs c.add.new.self.proofs c.add.new.self.bad) (sym more)
     (c.in_ok-add.ensures now (take c.loop-file.file-index c.args.files.now) there read are) in
     record {
       kept = c.in_ok-bytes.ensures.kept ∙ c.loop-file.invariant.kept;
@@ -28,7 +28,7 @@ loop-file-preserved g c =
       );
       later = omega (arith, c.in_ok-bytes.ensures.later, c.loop-file.invariant.later);
       read =
-          subst (λ t. AreRead t (take c.loop-file.file-index c.args.files.now) c.loop-file.parts.proofs c.loop-file.parts.bad
-          → AreRead t (take (c.loop-file.file-index + 1) c.args.files.now) c.add.new.self.proofs c.add.new.self.bad)
+          subst (λ t. ArePartsRead t (take c.loop-file.file-index c.args.files.now) c.loop-file.parts.proofs c.loop-file.parts.bad
+          → ArePartsRead t (take (c.loop-file.file-index + 1) c.args.files.now) c.add.new.self.proofs c.add.new.self.bad)
           c.loop-file.invariant.kept next c.loop-file.invariant.read;
     }

@@ -4,7 +4,7 @@ use Rattle.tw_base.specs.declared.history.question.Question.{Question}
 use Rattle.tw_base.specs.declared.history.question.Question.TheVariants as ask
 use Rattle.tw_base.specs.history.Entries.{key_of}
 use Rattle.tw_chain.specs.declared.proof.Proof.{Proof}
-use Rattle.tw_generate.specs.Summing.{IsPart}
+use Rattle.tw_generate.specs.Summing.{IsPartAsked}
 use Rattle.tw_generate.proofs.claiming.parts.Goals as goal
 
 -- a list with one more element
@@ -27,18 +27,18 @@ returns g c = λ t plays.
       (first.0, at_beta.0, at_gamma.0),
       record {
         second = second.1.0;
-        is_second = subst (λ (q : Question). IsPart dig t.gamma q second.1.0) (c.event.ensures ∙ (λ j. ask.Event (gamma j) 0 (Some (gamma j)))) second.1.1;
+        is_second = subst (λ (q : Question). IsPartAsked dig t.gamma q second.1.0) (c.event.ensures ∙ (λ j. ask.Event (gamma j) 0 (Some (gamma j)))) second.1.1;
         at_gamma = at_gamma.1.0;
-        is_at_gamma = subst (λ (q : Question). IsPart dig t.gamma q at_gamma.1.0) (c.thread.ensures ∙ (λ j. ask.Thread (before j) (key_of c.args.of_beta.now) (Some (gamma j)))) at_gamma.1.1;
+        is_at_gamma = subst (λ (q : Question). IsPartAsked dig t.gamma q at_gamma.1.0) (c.thread.ensures ∙ (λ j. ask.Thread (before j) (key_of c.args.of_beta.now) (Some (gamma j)))) at_gamma.1.1;
         in_beta = in_beta.1.0;
-        is_in_beta = subst (λ (q : Question). IsPart dig t.beta q in_beta.1.0) (c.link.ensures ∙ (λ j. ask.Link c.args.of_beta.now.thread.step (Some (beta j)))) in_beta.1.1;
+        is_in_beta = subst (λ (q : Question). IsPartAsked dig t.beta q in_beta.1.0) (c.link.ensures ∙ (λ j. ask.Link c.args.of_beta.now.thread.step (Some (beta j)))) in_beta.1.1;
         at_beta = at_beta.1.0;
-        is_at_beta = subst (λ (q : Question). IsPart dig t.beta q at_beta.1.0)
+        is_at_beta = subst (λ (q : Question). IsPartAsked dig t.beta q at_beta.1.0)
             (c.thread-2.ensures ∙ (λ j. ask.Thread c.args.of_beta.now.thread.step (key_of c.args.of_alpha.now) (Some (beta j)))) at_beta.1.1;
         in_alpha = in_alpha.1.0;
-        is_in_alpha = subst (λ (q : Question). IsPart dig t.alpha q in_alpha.1.0) (c.link-2.ensures ∙ (λ j. ask.Link c.args.of_alpha.now.thread.step (Some (alpha j)))) in_alpha.1.1;
+        is_in_alpha = subst (λ (q : Question). IsPartAsked dig t.alpha q in_alpha.1.0) (c.link-2.ensures ∙ (λ j. ask.Link c.args.of_alpha.now.thread.step (Some (alpha j)))) in_alpha.1.1;
         first = first.1.0;
-        is_first = subst (λ (q : Question). IsPart dig t.alpha q first.1.0) c.event-2.ensures first.1.1;
+        is_first = subst (λ (q : Question). IsPartAsked dig t.alpha q first.1.0) c.event-2.ensures first.1.1;
         parts_are =
             more _ _ _ _ first.1.2 (more _ _ _ _ in_alpha.1.2 (more _ _ _ _ at_beta.1.2 (more _ _ _ _ in_beta.1.2 (more _ _ _ _ at_gamma.1.2 (more _ _ _ _ second.1.2 c.new-parts.ensures)))));
       },

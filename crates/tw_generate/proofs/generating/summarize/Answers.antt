@@ -5,7 +5,7 @@ use Rattle.tw_base.specs.declared.history.thread.Thread.{Thread}
 use Rattle.tw_base.specs.history.History.{History}
 use Rattle.tw_chain.specs.Reasons.{IsVerdict}
 use Rattle.tw_chain.specs.declared.verdict.Verdict.TheVariants.{Yes}
-use Rattle.tw_generate.specs.Summing.{family, heads, received_by}
+use Rattle.tw_generate.specs.Summing.{received_by, trio_family, trio_heads}
 use Rattle.tw_generate.proofs.Results.{list-same}
 use Rattle.tw_generate.proofs.generating.summarize.Goals as goal
 
@@ -13,7 +13,7 @@ pub returns : goal.returns
 returns g c = λ t plays.
     let dig : List ℕ → List ℕ = g.H.Hasher.dig in
     let proof : List ℕ = c.in_ok-proof.proof in
-    let heads_are : c.in_ok-heads.heads ≡ heads dig t = c.in_ok-heads.ensures t plays in
+    let heads_are : c.in_ok-heads.heads ≡ trio_heads dig t = c.in_ok-heads.ensures t plays in
     let alpha = c.in_ok-alpha.ensures t.alpha plays.0 in
     let beta = c.in_ok-beta.ensures t.beta plays.1 in
     let gamma = c.in_ok-gamma.ensures t.gamma plays.2 in
@@ -21,7 +21,7 @@ returns g c = λ t plays.
     let mapped = c.in_ok-bounds.ensures t claimed.0 heads_are in
     let judged = c.in_ok-hops.ensures in
     let stands = c.in_ok-stands.ensures in
-    let histories : c.in_ok-histories.histories ≡ family t = c.in_ok-histories.ensures ∙ list-same _ _ _ _ _ _ alpha.1 beta.1 gamma.1 in (
+    let histories : c.in_ok-histories.histories ≡ trio_family t = c.in_ok-histories.ensures ∙ list-same _ _ _ _ _ _ alpha.1 beta.1 gamma.1 in (
       mapped.0,
       record {
         proof = proof;
@@ -31,7 +31,7 @@ returns g c = λ t plays.
         hops = judged.2;
         map = mapped.1;
         finding = stands.0;
-        audited = subst (λ (hs : List Thread). IsAudit dig (family t) hs proof (Ok stands.0)) heads_are
+        audited = subst (λ (hs : List Thread). IsAudit dig (trio_family t) hs proof (Ok stands.0)) heads_are
             (subst (λ (fam : List History). IsAudit dig fam c.in_ok-heads.heads proof (Ok stands.0)) histories stands.1);
         stands = stands.2;
         alpha = c.steps.ensures.served t.alpha mapped.0.0.0;

@@ -3,7 +3,7 @@ use Rattle.std.specs.Prelude.{Some}
 use Rattle.tw_base.specs.declared.history.question.Question.{Question}
 use Rattle.tw_base.specs.declared.history.question.Question.TheVariants as ask
 use Rattle.tw_base.specs.declared.history.thread.Thread.{Thread}
-use Rattle.tw_generate.specs.Summing.{IsAnswered, IsFileMap}
+use Rattle.tw_generate.specs.Summing.{IsFileMap, IsQuestionAnswered}
 use Rattle.tw_generate.proofs.Results.{if-ok}
 use Rattle.tw_generate.proofs.judging.map.Goals as goal
 
@@ -20,9 +20,9 @@ returns g c = λ t plays heads.
       (low.0, plays.1, high.0),
       record {
         low_bytes = c.in_ok-low.low;
-        low_made = subst (λ (q : Question). IsAnswered dig t.alpha q c.in_ok-low.low) (λ j. ask.Low (step j) (gamma j) (Some (step j))) low.1;
+        low_made = subst (λ (q : Question). IsQuestionAnswered dig t.alpha q c.in_ok-low.low) (λ j. ask.Low (step j) (gamma j) (Some (step j))) low.1;
         high_bytes = c.in_ok-high.high;
-        high_made = subst (λ (q : Question). IsAnswered dig t.gamma q c.in_ok-high.high) (λ j. ask.High (step j) (alpha j) (Some (top j))) high.1;
+        high_made = subst (λ (q : Question). IsQuestionAnswered dig t.gamma q c.in_ok-high.high) (λ j. ask.High (step j) (alpha j) (Some (top j))) high.1;
         files = subst (λ (anchors : List Thread). IsFileMap dig anchors c.in_ok-low.low c.in_ok-high.high bounds.low bounds.high) heads files;
       },
     )) c.checked.ensures

@@ -3,12 +3,12 @@ use Rattle.std.proofs.Common.{◌≢◌, ◌∙◌, ap, refl, subst, sym, arith}
 use Rattle.tw_base.specs.declared.history.thread.Thread.{Thread}
 use Rattle.tw_base.specs.history.Tree.{entries, tree}
 use Rattle.tw_base.proofs.lemmas.history.Trees.{tree-rises}
-use Rattle.tw_join.specs.Joining.{joined}
+use Rattle.tw_join.specs.Joining.{joined_proof}
 use Rattle.tw_join.specs.Joining.Taken.{Nothing}
 use Rattle.tw_service.specs.Machine.{Makes, last_thread}
 use Rattle.tw_service.proofs.ReceivingLaws.{accept-archives, archive-ranges, known-known}
 use Rattle.tw_generate.specs.Schedules.Who.{Alpha, Gamma}
-use Rattle.tw_generate.specs.Summing.{family, heads, high_side, last, low_side}
+use Rattle.tw_generate.specs.Summing.{high_side, last, low_side, trio_family, trio_heads}
 use Rattle.tw_generate.proofs.Accepted.{head-found}
 use Rattle.tw_generate.proofs.Acts.{played-stands}
 use Rattle.tw_generate.proofs.AskedParts.{asked, asked-parts}
@@ -35,7 +35,7 @@ returns-clause-sound g c = λ number rounds t led. (played-stands g.H.Hasher.dig
 
 pub returns-clause-present : goal.returns-clause-present
 returns-clause-present g c = λ number rounds t who step e led is.
-    each-who g.H.Hasher.dig (AllHad g.H.Hasher.dig (family t)) who t (played-stands g.H.Hasher.dig number rounds t led.0 led.1).had step e is
+    each-who g.H.Hasher.dig (AllHad g.H.Hasher.dig (trio_family t)) who t (played-stands g.H.Hasher.dig number rounds t led.0 led.1).had step e is
 
 pub returns-clause-found : goal.returns-clause-found
 returns-clause-found g c = λ number rounds t led enough.
@@ -52,7 +52,7 @@ pub returns-clause-joined : goal.returns-clause-joined
 returns-clause-joined g c = λ number rounds t of_alpha of_beta parts led first_alpha first_beta are.
     let dig = g.H.Hasher.dig in
     let six = parts-are dig c.proof_laws.ensures.once t _ (played-stands dig number rounds t led.0 led.1) (some-steps dig number rounds t led) of_alpha of_beta parts first_alpha first_beta are in
-    (whole six.six, ap (joined Nothing 1) six.are ∙ parts-join six.six six.fit)
+    (whole six.six, ap (joined_proof Nothing 1) six.are ∙ parts-join six.six six.fit)
 
 pub returns-clause-accepted : goal.returns-clause-accepted
 returns-clause-accepted g c = λ number rounds t bytes led is.
@@ -76,7 +76,7 @@ returns-clause-mapped g c = λ number rounds t low_bytes high_bytes led is_low i
       high_file = high.0;
       high_spelled = high.1;
       upto = last t.gamma;
-      is_accepted = c.map_laws.ensures.own t.alpha t.gamma (last t.alpha) (last t.alpha) (last t.gamma) low.0 high.0 (heads dig t) stand.sound.0 stand.sound.1.1.0 (some Alpha) (omega arith)
+      is_accepted = c.map_laws.ensures.own t.alpha t.gamma (last t.alpha) (last t.alpha) (last t.gamma) low.0 high.0 (trio_heads dig t) stand.sound.0 stand.sound.1.1.0 (some Alpha) (omega arith)
           (omega arith) (some Gamma) (omega arith) low.2 high.2 (last_thread dig t.alpha, head-found dig Alpha t stand.names, refl) (last_thread dig t.gamma, head-found dig Gamma t stand.names, refl);
     }
 
@@ -86,4 +86,4 @@ returns-clause-audited g c = λ number rounds t bytes result led is audit.
     let stand = played-stands dig number rounds t led.0 led.1 in
     let some = some-steps dig number rounds t led in
     let a = claim-accepted dig c.proof_laws.ensures.once t _ stand some c.joining_laws.ensures.joined c.joining_laws.ensures.joined_spelled c.completeness_laws.ensures.own rounds bytes is in
-    accepted-told dig c.proof_laws.ensures.once t _ stand some bytes a result (c.audit_laws.ensures.means (family t) (heads dig t) bytes a.proof result stand.sound a.spells audit)
+    accepted-told dig c.proof_laws.ensures.once t _ stand some bytes a result (c.audit_laws.ensures.means (trio_family t) (trio_heads dig t) bytes a.proof result stand.sound a.spells audit)

@@ -4,21 +4,21 @@ use Rattle.tw_base.specs.history.History.{Node as NodeMeant}
 use Rattle.tw_base.specs.history.HistoryCodec.{node_codec}
 use Rattle.tw_base.proofs.lemmas.history.HistoryCodecLaws.{node-lawful}
 use Rattle.tw_base.proofs.lemmas.format.TakeLaws.{ManyTaken, many-begins, many-ends, many-fails, many-more}
-use Rattle.tw_history.specs.Tables.{added, node_of}
+use Rattle.tw_history.specs.Tables.{added_behind, node_of}
 use Rattle.tw_history.proofs.TableReading.{added-none, added-push, each_further, nodes-push, one_left}
 use Rattle.tw_history.proofs.reading_steps.take_nodes.Goals as goal
 
 pub returns-in_err-take_node-clause-takes : goal.returns-in_err-take_node-clause-takes
 returns-in_err-take_node-clause-takes c =
     let p = err_from_is_err_and c.from_residual.result c.from_residual.ensures.1 in
-    let xs = map node_of (added c.args.nodes.now c.loop-i.nodes) in
+    let xs = map node_of (added_behind c.args.nodes.now c.loop-i.nodes) in
     let t = one_left node_codec c.args.bytes.now c.args.at.now c.args.count c.loop-i._i c.loop-i.at xs (omega (arith, c.loop-i-test.true)) c.loop-i.invariant.taken in
     rw (p.1, p.2)
     (many-fails {Z = Unit {0}} node_codec node-lawful _ node_of (λ _. []) c.args.bytes.now c.args.at.now c.loop-i.at c.take_node.new.at c.take_node.new.at c.args.count _ xs t c.in_err-take_node.ensures.takes)
 
 pub loop-i-preserved : goal.loop-i-preserved
 loop-i-preserved c =
-    let xs = map node_of (added c.args.nodes.now c.loop-i.nodes) in
+    let xs = map node_of (added_behind c.args.nodes.now c.loop-i.nodes) in
     let t = one_left node_codec c.args.bytes.now c.args.at.now c.args.count c.loop-i._i c.loop-i.at xs (omega (arith, c.loop-i-test.true)) c.loop-i.invariant.taken in
     let n = c.in_ok-take_node.field-0 in
     let pushed = c.in_ok-push.ensures.ok in
@@ -34,7 +34,7 @@ loop-i-preserved c =
 
 pub returns-clause-takes : goal.returns-clause-takes
 returns-clause-takes c =
-    let xs = map node_of (added c.args.nodes.now c.loop-i.nodes) in
+    let xs = map node_of (added_behind c.args.nodes.now c.loop-i.nodes) in
     let P : ℕ → Type 0 = λ left. ManyTaken node_codec c.args.bytes.now c.args.at.now c.args.count left xs c.loop-i.at in
     let none : c.args.count - c.loop-i._i ≡ 0 = omega (arith, c.loop-i-test.false) in
     let all = many-ends node_codec c.args.bytes.now c.args.at.now c.loop-i.at c.args.count xs (subst P none c.loop-i.invariant.taken) in

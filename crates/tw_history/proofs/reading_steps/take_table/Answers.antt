@@ -7,7 +7,7 @@ use Rattle.tw_base.proofs.lemmas.history.HistoryCodecLaws.{step-lawful}
 use Rattle.tw_base.proofs.lemmas.format.TakeLaws.{ManyTaken, many-begins, many-ends, many-fails, many-more}
 use Rattle.tw_history.specs.declared.reading_steps.Table.{Table}
 use Rattle.tw_history.specs.declared.step.Step.{Step}
-use Rattle.tw_history.specs.Tables.{IsInRange, added, step_of, steps_of_table}
+use Rattle.tw_history.specs.Tables.{IsInRange, added_behind, step_of, steps_of_table}
 use Rattle.tw_history.proofs.TableLaws.{length-steps_of_table}
 use Rattle.tw_history.proofs.TableReading.{each_further, one_left, steps_further}
 use Rattle.tw_history.proofs.reading_steps.take_table.Goals as goal
@@ -18,7 +18,7 @@ returns-in_err-take_step-clause-takes c =
     let xs = steps_of_table c.loop-i.steps c.loop-i.nodes in
     let t = one_left step_codec c.args.bytes.now c.args.at.now c.args.count c.loop-i._i c.loop-i.at xs (omega (arith, c.loop-i-test.true)) c.loop-i.invariant.taken in
     rw (p.1, p.2)
-    (many-fails step_codec step-lawful _ (λ (s : Step). step_of s (added c.loop-i.nodes c.take_step.new.nodes)) (λ (t : Table). steps_of_table t.steps t.nodes) c.args.bytes.now c.args.at.now c.loop-i.at c.take_step.new.at c.take_step.new.at c.args.count _ xs
+    (many-fails step_codec step-lawful _ (λ (s : Step). step_of s (added_behind c.loop-i.nodes c.take_step.new.nodes)) (λ (t : Table). steps_of_table t.steps t.nodes) c.args.bytes.now c.args.at.now c.loop-i.at c.take_step.new.at c.take_step.new.at c.args.count _ xs
     t c.in_err-take_step.ensures.takes)
 
 pub loop-i-preserved : goal.loop-i-preserved
@@ -33,7 +33,7 @@ loop-i-preserved c =
     record {
       within = omega (arith, read.takes.2);
       taken = subst P (sym further.taken)
-          (many-more step_codec step-lawful c.args.bytes.now c.args.at.now c.loop-i.at c.args.count _ xs c.take_step.new.at (step_of s (added c.loop-i.nodes c.take_step.new.nodes)) t read.takes.0 read.takes.1);
+          (many-more step_codec step-lawful c.args.bytes.now c.args.at.now c.loop-i.at c.args.count _ xs c.take_step.new.at (step_of s (added_behind c.loop-i.nodes c.take_step.new.nodes)) t read.takes.0 read.takes.1);
       counted = further.counted;
       contents = each_further (λ s. IsInRange s.content) c.loop-i.steps c.push.new.self s pushed c.loop-i.invariant.contents read.content;
       times = each_further (λ s. IsTimeWithinLimits s.time) c.loop-i.steps c.push.new.self s pushed c.loop-i.invariant.times read.time;

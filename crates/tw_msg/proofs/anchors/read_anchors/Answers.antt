@@ -1,6 +1,6 @@
 use Rattle.std.proofs.Common.{◌≡◌, ◌≢◌, ◌+◌, ◌∷◌, [], ◌++◌, length, ◌∙◌, sym, ap, subst, refl, true, false, eqb-true}
 use Rattle.std.specs.List.{after_first, AllPairs}
-use Rattle.tw_msg.specs.AnchorsFile.{lines, is_line_feed, line_may_follow, anchor, IsFirstBadLine}
+use Rattle.tw_msg.specs.AnchorsFile.{lines, is_line_feed, line_may_follow, anchor_on, IsFirstBadLine}
 use Rattle.tw_msg.proofs.LineLaws.{lines-first, lines-empty, length-some}
 use Rattle.tw_msg.proofs.Reading.{IsRead, read_on, all_read, different-good, first_bad_line, not_true}
 use Rattle.tw_msg.proofs.anchors.read_anchors.Goals as goal
@@ -36,7 +36,7 @@ loop-rest-preserved c =
     let before : IsRead all (line ∷ lines after) anchors = subst (λ rest. IsRead all rest anchors) first c.loop-rest.invariant in
     let follows : line_may_follow anchors line ≡ true =
     subst (λ found. line_may_follow found line ≡ true) c.as_slice.ensures (c.in-Some.ensures.some.0 refl) in
-    let more : c.push.new.self ≡ anchors ++ anchor line ∷ [] =
+    let more : c.push.new.self ≡ anchors ++ anchor_on line ∷ [] =
     c.in_ok-push.ensures.ok ∙ ap (λ a. anchors ++ a ∷ []) c.in-Some.ensures.value in
     subst (λ found. IsRead all (lines after) found) (sym more) (read_on all (lines after) line anchors before follows)
 

@@ -1,7 +1,7 @@
 use Rattle.std.proofs.Common.{◌≡◌, ◌+◌, ℕ, length, sym, ◌∙◌, ap, subst, arith, length-append}
 use Rattle.tw_disk.proofs.Moments.{goes_on, leaves_weaker, at_rest_now}
 use Rattle.tw_pages.specs.Store.{OpensAs, OpensAlone}
-use Rattle.tw_pages.specs.CommitSteps.{Holds}
+use Rattle.tw_pages.specs.CommitSteps.{HoldsPages}
 use Rattle.tw_pages.proofs.Steps.{alone_opens}
 use Rattle.tw_pages.proofs.commit.prepare.Goals as goal
 
@@ -33,7 +33,7 @@ returns-clause-ready g c = λ old new commit rest.
     let staged = c.in_ok-write_staged.ensures.images old (sym commit.used_is) (at_rest_now (g.D.Disk.view c.ensure_spare_gate_closed.new.disk) (OpensAlone old) closed) in
     let reads = c.in_ok-write_staged.ensures.staged closed.image closed.told (omega (arith, commit.used_is, closed.has.stands.room)) in
     let count : length new.pages ≡ length old.pages + length c.args.staged.now = ap length commit.step.pages ∙ length-append old.pages c.args.staged.now in
-    c.in_ok-write_spare_body.ensures.ready old new c.args.staged.now commit.spare_is commit.step (omega (arith, commit.step.next, commit.generation_is)) (omega (arith, count, commit.used_is)) commit.root_is staged.now (record { image = reads.image; told = reads.told; has = subst (λ (k : ℕ). Holds k c.args.staged.now reads.image) commit.used_is reads.has })
+    c.in_ok-write_spare_body.ensures.ready old new c.args.staged.now commit.spare_is commit.step (omega (arith, commit.step.next, commit.generation_is)) (omega (arith, count, commit.used_is)) commit.root_is staged.now (record { image = reads.image; told = reads.told; has = subst (λ (k : ℕ). HoldsPages k c.args.staged.now reads.image) commit.used_is reads.has })
 
 pub returns-in_err-write_staged-clause-images : goal.returns-in_err-write_staged-clause-images
 returns-in_err-write_staged-clause-images g c = λ old new commit rest.

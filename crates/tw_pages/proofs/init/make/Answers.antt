@@ -2,12 +2,12 @@ use Rattle.std.proofs.Common.{inl, inr}
 use Rattle.tw_disk.proofs.Moments.{goes_on, leaves_weaker}
 use Rattle.tw_pages.specs.Slots.{IsBlank}
 use Rattle.tw_pages.specs.InitSteps.{BothClosed}
-use Rattle.tw_pages.specs.Init.{IsBlankOrNew}
+use Rattle.tw_pages.specs.Init.{IsBlankOrRoot}
 use Rattle.tw_pages.proofs.init.make.Goals as goal
 
 pub returns-in_err-write_open_gates-clause-images : goal.returns-in_err-write_open_gates-clause-images
 returns-in_err-write_open_gates-clause-images g c = λ rest.
-    let P = IsBlankOrNew c.args.root.now in
+    let P = IsBlankOrRoot c.args.root.now in
     let closed = c.in_ok-ensure_gates_closed.ensures.closed rest in
     let ready = c.in_ok-write_bodies.ensures.ready closed in
     goes_on (g.D.Disk.view c.args.disk.now) (g.D.Disk.view c.write_bodies.new.disk) (g.D.Disk.view c.write_open_gates.new.disk) P
@@ -18,7 +18,7 @@ returns-in_err-write_open_gates-clause-images g c = λ rest.
 
 pub returns-clause-images : goal.returns-clause-images
 returns-clause-images g c = λ rest.
-    let P = IsBlankOrNew c.args.root.now in
+    let P = IsBlankOrRoot c.args.root.now in
     let closed = c.in_ok-ensure_gates_closed.ensures.closed rest in
     let ready = c.in_ok-write_bodies.ensures.ready closed in
     goes_on (g.D.Disk.view c.args.disk.now) (g.D.Disk.view c.write_bodies.new.disk) (g.D.Disk.view c.write_open_gates.new.disk) P

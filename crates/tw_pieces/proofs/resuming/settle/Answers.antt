@@ -2,7 +2,7 @@ use Rattle.std.proofs.Common.{◌≡◌, ℕ, ◌+◌, ◌-◌, List, [], ◌++�
 use Rattle.std.specs.Prelude.{Err}
 use Rattle.tw_base.specs.declared.kinds.failure.ReadFault.TheVariants.{Malformed}
 use Rattle.std.proofs.lemmas.List.{length-drop, take_rest}
-use Rattle.tw_pieces.specs.Resuming.{Goes}
+use Rattle.tw_pieces.specs.Resuming.{GoesInPieces}
 use Rattle.tw_pieces.proofs.PieceLaws.{behind-nothing, settles-broken, settles-front, settles-on}
 use Rattle.tw_pieces.proofs.resuming.settle.Goals as goal
 
@@ -38,7 +38,7 @@ pub returns-in-Broken : goal.returns-in-Broken
 returns-in-Broken g c = λ whole before counts b.
     let i = c.loop-held.invariant in
     let found = rw c.in-Broken.is at c.in_ok-next.ensures in
-    let P : List ℕ → Type 0 = λ held. Goes g.S.Segments.rest whole (before ++ held) (Err (Malformed (c.args.taken + (c.loop-held.at + c.in-Broken.place)))) in
+    let P : List ℕ → Type 0 = λ held. GoesInPieces g.S.Segments.rest whole (before ++ held) (Err (Malformed (c.args.taken + (c.loop-held.at + c.in-Broken.place)))) in
     subst P i.same
     (settles-broken g.S.Segments.rest whole (g.S.Segments.rest c.args.state) before c.loop-held.held c.loop-held.at c.args.taken c.loop-held.state counts b i.within i.taken
     _ c.in-Broken.place (c.args.taken + (c.loop-held.at + c.in-Broken.place)) refl (slice_is _ c.loop-held.held c.loop-held.at c.as_slice.ensures) found)

@@ -1,5 +1,5 @@
 use Rattle.std.proofs.Common.{◌≡◌, ◌<◌, ◌+◌, ◌-◌, slice_get, arith}
-use Rattle.tw_rbnode.specs.Shape.{size, grown}
+use Rattle.tw_rbnode.specs.Shape.{size, grown_shape}
 use Rattle.tw_rbnode.proofs.Growing.{gap_node, on_left, on_right, left_joined, right_joined, grows_left, grows_right}
 use Rattle.tw_rbnode.proofs.links.+grow.Goals as goal
 
@@ -17,7 +17,7 @@ settle_left-requires t c =
     let node = gap_node _ c.args.low c.args.high c.requires.0 c.args.at c.args.place c.requires.1 c.if-at-eq0.false in (
       c.args.low,
       node.0,
-      (grown (c.args.place - c.args.low) node.1),
+      (grown_shape (c.args.place - c.args.low) node.1),
       node.2,
       left_joined _ (slice_get c.grow-left.new.links) _ c.args.low c.args.high node.0 node.1 node.2 c.args.at c.args.place c.grow-left.result c.link_at-node.result node.3 c.link_at-node.ensures c.if-place-at.true
           c.grow-left.ensures c.put-then-place-at.ensures.there c.put-then-place-at.ensures.others,
@@ -43,7 +43,7 @@ settle_right-requires t c =
       c.args.low,
       node.0,
       node.1,
-      (grown (c.args.place - c.args.at) node.2),
+      (grown_shape (c.args.place - c.args.at) node.2),
       right_joined _ (slice_get c.grow-right.new.links) _ c.args.low c.args.high node.0 node.1 node.2 c.args.at c.args.place c.grow-right.result c.link_at-node.result node.3 c.link_at-node.ensures c.if-place-at.false
           c.grow-right.ensures c.put-else-place-at.ensures.there c.put-else-place-at.ensures.others,
     )

@@ -4,7 +4,7 @@ use Rattle.tw_base.specs.kinds.Lists.{Each}
 use Rattle.tw_base.specs.history.Tree.{IsRising}
 use Rattle.tw_base.specs.history.Limits.{IsEntryInRange}
 use Rattle.tw_rbnode.specs.declared.slot.Slot.{Slot}
-use Rattle.tw_rbnode.specs.Page.{tree_of}
+use Rattle.tw_rbnode.specs.Page.{shape_of}
 use Rattle.tw_rbnode.specs.Shape.{is_red, size}
 use Rattle.tw_rbnode.proofs.HeldPages.{ReadsAs, held, holds, map-each, map-size}
 use Rattle.tw_rbnode.proofs.Pages.{whole_node}
@@ -58,5 +58,5 @@ returns c =
     let reads : ReadsAs c.links_of-links.result c.args.held.slots.items = subst (ReadsAs c.links_of-links.result) c.as_slice.ensures.value c.links_of-links.ensures.links in
     let entries : c.entries_of-entries.result.items ≡ map (λ (s : Slot). s.entry) c.args.held.slots.items = c.entries_of-entries.ensures ∙ ap (map (λ (s : Slot). s.entry)) c.as_slice-2.ensures.value in
     let count : length c.entries_of-entries.result.items ≡ length c.args.held.slots.items = ap length entries ∙ map-size (λ (s : Slot). s.entry) c.args.held.slots.items in
-    let have = holds c.links_of-links.result c.args.held.slots.items c.entries_of-entries.result.items (tree_of 25 (slice_get c.links_of-links.result) c.args.held.top) c.args.held.top inv.0 (inv.1.sized ∙ count) reads entries in
+    let have = holds c.links_of-links.result c.args.held.slots.items c.entries_of-entries.result.items (shape_of 25 (slice_get c.links_of-links.result) c.args.held.top) c.args.held.top inv.0 (inv.1.sized ∙ count) reads entries in
     (inv.1, refl, λ i. (have.0 i, (have.1 i, c.args.held.children.items)))

@@ -3,7 +3,7 @@ use Rattle.std.specs.Prelude.{map}
 use Rattle.tw_base.specs.history.Tree.{IsRising, entries}
 use Rattle.tw_rbnode.specs.declared.child.Child.{Child}
 use Rattle.tw_rbnode.specs.Trees.{page_label, woven}
-use Rattle.tw_rbtree.specs.Growing.{IsOver}
+use Rattle.tw_rbtree.specs.Growing.{IsOverLevel}
 use Rattle.tw_rbtree.specs.Standing.{AreTrees, IsTreeBelow, HasNamed}
 use Rattle.tw_rbtree.proofs.PutLaws.{root-is_of}
 use Rattle.tw_rbtree.proofs.RootGrowing.{root-stands}
@@ -17,7 +17,7 @@ returns-clause-lists g c = λ ps told named under ts are rising.
     let node = c.single-node in
     let ok = c.in_ok-stage_node in
     let put = ok.ensures.put in
-    let over : IsOver dig (HasNamed named) ps c.args.own 1 node.result (woven (map entries ts) (c.args.middle ∷ [])) = record {
+    let over : IsOverLevel dig (HasNamed named) ps c.args.own 1 node.result (woven (map entries ts) (c.args.middle ∷ [])) = record {
       level_is = node.ensures.level;
       least_keys = omega (arith, ap length node.ensures.entries);
       trees = ts;

@@ -1,5 +1,5 @@
 use Rattle.tw_base.specs.history.Tree.{entries}
-use Rattle.tw_rbtree.specs.Ways.{end_of, nowhere}
+use Rattle.tw_rbtree.specs.Ways.{end_of_way, nowhere}
 use Rattle.tw_rbtree.proofs.RootWays.{after-found, before-found, root-way, so-found, with-found}
 use Rattle.tw_rbtree.proofs.PageLaws.{is-root, root-is}
 use Rattle.tw_rbtree.proofs.Fullness.{insert-finds}
@@ -22,7 +22,7 @@ returns-clause-after g c = λ ps root t key stands. after-found g.H.Hasher.dig p
 pub returns-clause-path : goal.returns-clause-path
 returns-clause-path g c = λ ps root t ask stands.
     let w = root-way g.H.Hasher.dig ps ask root t stands in
-    (w.stops, w.found, so-found g.H.Hasher.dig ps root t ask (end_of nowhere w.stops) w.tells, w.proof)
+    (w.stops, w.found, so-found g.H.Hasher.dig ps root t ask (end_of_way nowhere w.stops) w.tells, w.proof)
 
 pub returns-clause-present : goal.returns-clause-present
 returns-clause-present g c = λ ps root e. root-key e g.H.Hasher.dig ps root

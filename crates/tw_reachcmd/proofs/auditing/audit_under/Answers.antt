@@ -4,7 +4,7 @@ use Rattle.tw_base.proofs.lemmas.kinds.ListLemmas.{Each-map}
 use Rattle.tw_outside.specs.Asked.{asked}
 use Rattle.tw_outside.specs.Files.{IsThere}
 use Rattle.tw_outside.proofs.Counting.{Rose-earlier}
-use Rattle.tw_reachcmd.specs.Reading.{AreRead}
+use Rattle.tw_reachcmd.specs.Reading.{AreHistoriesRead}
 use Rattle.tw_reachcmd.proofs.AuditFiles.{under_failed, under_of}
 use Rattle.tw_reachcmd.proofs.auditing.audit_under.Goals as goal
 
@@ -14,7 +14,7 @@ returns-in-Ok g c =
     under_of (asked (g.I.Inputs.told c.args.inputs.now) (g.I.Inputs.faults c.args.inputs.now) (g.I.Inputs.faults c.read_family.new.inputs))
     c.args.proof.now c.args.anchors.now c.args.histories.now judged.judged.bytes.items c.in-Ok.family c.audit_read.result judged.ensures.there
     judged.ensures.front (subst (λ t. Each (IsThere t) c.args.histories.now) judged.ensures.kept c.in-Ok.ensures.there)
-    (subst (λ t. AreRead t c.args.histories.now c.in-Ok.family) judged.ensures.kept c.in-Ok.ensures.read) c.audit_read.ensures
+    (subst (λ t. AreHistoriesRead t c.args.histories.now c.in-Ok.family) judged.ensures.kept c.in-Ok.ensures.read) c.audit_read.ensures
 
 pub returns-in-Err : goal.returns-in-Err
 returns-in-Err g c =

@@ -1,6 +1,6 @@
 use Rattle.std.proofs.Common.{◌∙◌, ◌+◌, ◌≤◌, ◌≡◌, ℕ, Ok, List, false, length, ap, refl, subst, sym, arith}
 use Rattle.std.specs.Prelude.{IsTrue}
-use Rattle.tw_outside.specs.Files.{Tells}
+use Rattle.tw_outside.specs.Files.{TellsBytes}
 use Rattle.tw_reachcmd.specs.Fronts.{IsFedOf}
 use Rattle.tw_reachcmd.proofs.KeptFronts.{far_all, far_broken, fed_of_few, fed_of_nothing, fed_of_told}
 use Rattle.tw_reachcmd.proofs.fronts.feed_front.Goals as goal
@@ -32,10 +32,10 @@ returns-then-came-eq0-clause-front g c =
     before.bytes.items after.bytes.items c.loop-came.invariant.kept (c.in-Ok.ensures.fed c.args.anchors.now) c.loop-came.invariant.fed in
     elim c.then-came-eq0.branch [
       | then-came-eq0-via-then-came-eq0 w ↦
-          let none : (bytes : List ℕ) → Tells told c.args.proof.now bytes → length bytes ≤ count =
+          let none : (bytes : List ℕ) → TellsBytes told c.args.proof.now bytes → length bytes ≤ count =
           λ bytes tells.
           let end = c.in-Ok.ensures.end (ap Ok w.if-came-eq0.true) bytes
-          (subst (λ t. Tells t c.args.proof.now bytes) (sym c.loop-came.invariant.kept) tells) in
+          (subst (λ t. TellsBytes t c.args.proof.now bytes) (sym c.loop-came.invariant.kept) tells) in
           omega (arith, end, before.bytes.ok.0) in
           let longer : length after.bytes.items ≡ count + c.in-Ok.came = omega (arith, c.in-Ok.ensures.count, before.bytes.ok.0, after.bytes.ok.0) in
           let size : length after.bytes.items ≡ count = omega (arith, longer, w.if-came-eq0.true) in

@@ -5,7 +5,7 @@ use Rattle.tw_base.specs.history.Asking.{with_entry}
 use Rattle.tw_base.specs.history.Tree.{entries}
 use Rattle.tw_base.specs.declared.history.thread.Key.{Key}
 use Rattle.tw_base.specs.history.Entries.{key_of}
-use Rattle.tw_archive.specs.Judging.{thread_key}
+use Rattle.tw_archive.specs.Judging.{archive_key}
 use Rattle.tw_disk.specs.Answers.{SaysOf, is_of_disk}
 use Rattle.tw_disk.specs.Found.{Found, ◌>>=◌}
 use Rattle.tw_disk.specs.Pages.{OnlyAdds}
@@ -14,7 +14,7 @@ use Rattle.tw_rbtree.specs.declared.fault.TreeFault.{TreeFault}
 use Rattle.tw_rbtree.specs.Putting.{PutsIn}
 use Rattle.tw_answers.specs.declared.refusal.Refusal.{Refusal}
 use Rattle.tw_service.specs.Finds.{found_room, room_in}
-use Rattle.tw_answers.specs.Refusals.{IsFault, refusal_of_tree, refusals}
+use Rattle.tw_answers.specs.Refusals.{IsFault, refusal_of_tree, service_refusals}
 use Rattle.tw_answers.proofs.TreeAnswers.{tree-failed, tree-fault}
 use Rattle.tw_service.proofs.RoomAnswers.{room-says}
 use Rattle.tw_service.proofs.archiving.stage_tree.Goals as goal
@@ -36,10 +36,10 @@ unfolding found_room
 returns-in-Err-clause-adds g c =
     let archive = c.args.root.now.archive in
     let is = c.refusal_of_tree.ensures in
-    let failed = ap (λ (why : Refusal). is_of_disk (refusals why)) is ∙ tree-failed archive c.in-Err.fault in
+    let failed = ap (λ (why : Refusal). is_of_disk (service_refusals why)) is ∙ tree-failed archive c.in-Err.fault in
     record {
-      answer = λ ps list. subst (λ (why : Refusal). SaysOf refusals (refusals why) (found_insert g.H.Hasher.dig ps archive (thread_key c.args.thread.now) >>= room_in archive)) (sym is)
-          (subst (λ (key : Key). SaysOf refusals (refusals (refusal_of_tree archive c.in-Err.fault)) (found_insert g.H.Hasher.dig ps archive key >>= room_in archive)) (ap key_of c.next_entry-entry.ensures)
+      answer = λ ps list. subst (λ (why : Refusal). SaysOf service_refusals (service_refusals why) (found_insert g.H.Hasher.dig ps archive (archive_key c.args.thread.now) >>= room_in archive)) (sym is)
+          (subst (λ (key : Key). SaysOf service_refusals (service_refusals (refusal_of_tree archive c.in-Err.fault)) (found_insert g.H.Hasher.dig ps archive key >>= room_in archive)) (ap key_of c.next_entry-entry.ensures)
           (room-says archive c.in-Err.fault (found_insert g.H.Hasher.dig ps archive (key_of c.next_entry-entry.result)) (c.in-Err.ensures.adds.answer ps list)));
       own = subst IsFault (sym is) (tree-fault archive c.in-Err.fault);
       kept = subst (λ (b : Bool). OnlyAdds g.P.Pages.view g.P.Pages.same c.args.pages.now c.insert_near.new.pages (b ≡ false)) (sym failed) c.in-Err.ensures.adds.kept;

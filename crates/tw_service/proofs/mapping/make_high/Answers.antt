@@ -6,7 +6,7 @@ use Rattle.tw_disk.proofs.FoundLaws.{is_on}
 use Rattle.tw_disk.proofs.ReadingLaws.{only_reads_on}
 use Rattle.tw_tmap.specs.MapFiles.{high_bytes}
 use Rattle.tw_answers.specs.Finds.{tree_shown}
-use Rattle.tw_answers.specs.Refusals.{refusals}
+use Rattle.tw_answers.specs.Refusals.{service_refusals}
 use Rattle.tw_service.specs.Mapping.{high_with}
 use Rattle.tw_service.proofs.MapAnswers.{handed-fault, handed-refuses, handed-tells, high-told}
 use Rattle.tw_service.proofs.mapping.make_high.Goals as goal
@@ -27,7 +27,7 @@ returns-in_err-tree g c =
     record {
       reads = record {
         answer = λ ps told.
-            subst (AnswersOr refusals (λ (b : List ℕ). b) result) (sym (high-told dig ps c.args.head.now step peer top name info c.ask_first.result (before.answer ps told) c.ask_first.ensures))
+            subst (AnswersOr service_refusals (λ (b : List ℕ). b) result) (sym (high-told dig ps c.args.head.now step peer top name info c.ask_first.result (before.answer ps told) c.ask_first.ensures))
             (handed-refuses (λ tree. Is (Ok (high_bytes (high_with name step peer top info tree)))) (λ (b : List ℕ). b) result fault (tree_shown dig ps info.archive c.ask_first.result) handed reads.own
             (reads.answer ps (before.kept.list_kept ∙ told)));
         own = handed-fault result fault handed reads.own;

@@ -7,12 +7,12 @@ use Rattle.tw_chain.specs.Checks.Check.{InOrder, PathOf}
 use Rattle.tw_chain.specs.Checks.Upper.{AtAnchor}
 use Rattle.tw_chain.proofs.FoundSteps.{found-held, found-not_held}
 use Rattle.tw_chain.proofs.PassesLaws.{passes-is}
-use Rattle.tw_tmap.specs.Checking.{low_part}
+use Rattle.tw_tmap.specs.Checking.{low_file_part}
 use Rattle.tw_tmap.proofs.finding.low_under.Goals as goal
 
 pub returns-in-None : goal.returns-in-None
 returns-in-None g c =
-    let at : Part = low_part c.args.low.now c.args.part.now in
+    let at : Part = low_file_part c.args.low.now c.args.part.now in
     let path : Check = PathOf 0 at (AtAnchor (top_of at)) in
     c.lower.ensures
     ∙ found-not_held g.H.Hasher.dig c.args.anchors.now None c.with_order-found.result (InOrder at.step at.top) (top_of at) path
@@ -21,7 +21,7 @@ returns-in-None g c =
 
 pub returns-in-Some : goal.returns-in-Some
 returns-in-Some g c =
-    let at : Part = low_part c.args.low.now c.args.part.now in
+    let at : Part = low_file_part c.args.low.now c.args.part.now in
     let path : Check = PathOf 0 at (AtAnchor (top_of at)) in
     c.unless.ensures
     ∙ found-held g.H.Hasher.dig c.args.anchors.now None c.with_order-found.result (InOrder at.step at.top) (top_of at) path

@@ -2,11 +2,11 @@ use Rattle.std.proofs.Common.{◌≡◌}
 use Rattle.std.specs.Option.{option_or}
 use Rattle.tw_base.specs.history.Asking.{last_below}
 use Rattle.tw_base.specs.history.Tree.{IsRising, entries}
-use Rattle.tw_tree.specs.TreeMeaning.{tree_of}
+use Rattle.tw_tree.specs.TreeMeaning.{meant_tree}
 use Rattle.tw_tree.proofs.searching.before.Given as goal
 
 abbrev pub invariant-loop-here : goal.invariant-loop-here
 invariant-loop-here l = record {
-  rising : IsRising (entries (tree_of l.here));
-  same : option_or (last_below (entries (tree_of l.here)) l.key) l.nearest ≡ last_below (entries (tree_of l.tree)) l.key;
+  rising : IsRising (entries (meant_tree l.here));
+  same : option_or (last_below (entries (meant_tree l.here)) l.key) l.nearest ≡ last_below (entries (meant_tree l.tree)) l.key;
 }

@@ -1,6 +1,6 @@
 use Rattle.std.proofs.Common.{true, false, ap, sym, ◌∙◌, subst}
 use Rattle.std.proofs.lemmas.List.{append-nil}
-use Rattle.tw_audit.specs.KeyLists.{doubtful, is_among}
+use Rattle.tw_audit.specs.KeyLists.{doubtful, is_among_keys}
 use Rattle.tw_audit.specs.Tables.{Took}
 use Rattle.tw_audit.proofs.Doubtful.{kept-push}
 use Rattle.tw_audit.proofs.finder.FinderTranscript.digest.Goals as goal
@@ -10,8 +10,8 @@ returns-then-has-clause-took g c =
     record {
       behind = λ before took.
           subst (Took g.H.Hasher.dig c.take.new.self)
-          (sym (kept-push g.H.Hasher.dig (is_among c.args.self.now.repeated) before c.args.text.now true
-          (ap (is_among c.args.self.now.repeated) (sym c.digest-digest.ensures) ∙ sym c.has.ensures ∙ c.if-has.true)))
+          (sym (kept-push g.H.Hasher.dig (is_among_keys c.args.self.now.repeated) before c.args.text.now true
+          (ap (is_among_keys c.args.self.now.repeated) (sym c.digest-digest.ensures) ∙ sym c.has.ensures ∙ c.if-has.true)))
           (c.take.ensures g.H.Hasher.dig (doubtful g.H.Hasher.dig c.args.self.now.repeated before) (λ text. (g.met.H.Hasher.size text, g.met.H.Hasher.bytes text)) c.digest-digest.ensures took);
     }
 
@@ -20,8 +20,8 @@ returns-else-has-clause-took g c =
     record {
       behind = λ before took.
           subst (Took g.H.Hasher.dig c.args.self.now.table)
-          (sym (kept-push g.H.Hasher.dig (is_among c.args.self.now.repeated) before c.args.text.now false
-          (ap (is_among c.args.self.now.repeated) (sym c.digest-digest.ensures) ∙ sym c.has.ensures ∙ c.if-has.false)
+          (sym (kept-push g.H.Hasher.dig (is_among_keys c.args.self.now.repeated) before c.args.text.now false
+          (ap (is_among_keys c.args.self.now.repeated) (sym c.digest-digest.ensures) ∙ sym c.has.ensures ∙ c.if-has.false)
           ∙ append-nil (doubtful g.H.Hasher.dig c.args.self.now.repeated before)))
           took;
     }

@@ -3,14 +3,14 @@ use Rattle.std.specs.Global.{Box}
 use Rattle.lru.specs.LruCache.{LruCache}
 use Rattle.std.proofs.Common.{ℕ}
 use Rattle.tw_disk.specs.Image.{Image, Page}
-use Rattle.tw_disk.specs.Keeping.{AreOf}
-use Rattle.tw_disk.specs.Shelves.{entries_of}
+use Rattle.tw_disk.specs.Keeping.{ArePagesOf}
+use Rattle.tw_disk.specs.Shelves.{shelf_entries}
 use Rattle.tw_disk.proofs.KeepingLaws.{AreOf-lookup, AreOf-used}
 use Rattle.tw_disk.proofs.shelf.Shelf.find.Goals as goal
 
 -- those of the room that is there
-there : (list : Option Image) (one other : Option (LruCache ℕ (Box Page))) → one ≡ other → AreOf list (entries_of one) → AreOf list (entries_of other)
-there list one other is are = subst (λ (o : Option (LruCache ℕ (Box Page))). AreOf list (entries_of o)) is are
+there : (list : Option Image) (one other : Option (LruCache ℕ (Box Page))) → one ≡ other → ArePagesOf list (shelf_entries one) → ArePagesOf list (shelf_entries other)
+there list one other is are = subst (λ (o : Option (LruCache ℕ (Box Page))). ArePagesOf list (shelf_entries o)) is are
 
 pub returns-in-Some-get-clause-page : goal.returns-in-Some-get-clause-page
 returns-in-Some-get-clause-page c = λ found list pages are told.

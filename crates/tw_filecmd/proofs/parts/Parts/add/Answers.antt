@@ -1,5 +1,5 @@
 use Rattle.std.proofs.Common.{◌∙◌, ◌++◌, ◌∷◌, ◌<◌, ◌≤◌, [], length, subst, sym, arith}
-use Rattle.tw_filecmd.specs.Parts.{AreRead}
+use Rattle.tw_filecmd.specs.Parts.{ArePartsRead}
 use Rattle.tw_filecmd.specs.declared.parts.TheConstants.{MOST_KEPT}
 use Rattle.tw_filecmd.proofs.PartFiles.{is_no_proof, is_proof, read-full, read-kept, read-none, read-told}
 use Rattle.tw_filecmd.proofs.parts.Parts.add.Goals as goal
@@ -11,7 +11,7 @@ returns-then-is_some c told files there read are =
 pub returns-in_ok-push-in-Ok : goal.returns-in_ok-push-in-Ok
 returns-in_ok-push-in-Ok c told files there read are =
     let few : length c.args.self.now.proofs < MOST_KEPT = omega (arith, c.len.ensures, c.if-len-lt-MOST_KEPT.true) in
-    subst (λ parts. AreRead told (files ++ c.args.file.now ∷ []) parts c.args.self.now.bad) (sym c.in_ok-push-in-Ok.ensures.ok) (
+    subst (λ parts. ArePartsRead told (files ++ c.args.file.now ∷ []) parts c.args.self.now.bad) (sym c.in_ok-push-in-Ok.ensures.ok) (
     read-kept told files c.args.self.now.proofs c.args.self.now.bad c.args.file.now c.in-Ok.proof (sym c.is_some.ensures ∙ c.if-is_some.false) few
     (is_proof told c.args.file.now c.args.bytes.now there read c.in-Ok.proof c.in-Ok.ensures) are
     )

@@ -2,10 +2,10 @@ use Rattle.std.proofs.Common.{◌≡◌, ◌∙◌, ◌++◌, ◌∷◌, ℕ, Li
 use Rattle.tw_disk.specs.Disk.{LeavesOnly, Reads}
 use Rattle.tw_disk.specs.Image.{Image}
 use Rattle.tw_pages.specs.SameSteps.{told_pages}
-use Rattle.tw_pages.specs.StoreValue.{disk_of}
-use Rattle.tw_pages.specs.Records.{IsOneOf, Written, written}
+use Rattle.tw_pages.specs.StoreValue.{store_disk}
+use Rattle.tw_pages.specs.Records.{IsOneOf, Written, written_record}
 use Rattle.tw_pages.specs.Rests.{RestsWith}
-use Rattle.tw_pages.specs.States.{Serves}
+use Rattle.tw_pages.specs.States.{ServesState}
 use Rattle.tw_pages.proofs.Staged.{leaves_before, leaves_since, of_these, reads_before}
 use Rattle.tw_follow.specs.declared.root.RootRecord.{RootRecord}
 use Rattle.tw_follow.specs.HeadLists.{with_head}
@@ -21,7 +21,7 @@ pub returns-in-Err-clause-written : goal.returns-in-Err-clause-written
 returns-in-Err-clause-written g c = λ ps rest.
     let d = g.D.Disk in
     let s = c.args.self.now in
-    let w : Written RootRecord = written s.recorded.root ps in (
+    let w : Written RootRecord = written_record s.recorded.root ps in (
       leaves_before d.view g.met.D.Disk.only_now (root_kind g.H.Hasher.dig) s.recorded.store c.stage.new.self w (moved_to w c.args.head.now) c.in-Err.ensures.same rest,
       reads_before d.view g.met.D.Disk.only_now (root_kind g.H.Hasher.dig) s.recorded.store c.stage.new.self w (moved_to w c.args.head.now) c.in-Err.ensures.same rest,
       tt,
@@ -51,16 +51,16 @@ returns-in-Ok-commit-clause-written g c = λ ps rest.
     c.in-Ok.ensures.same s.clean c.in-Ok.ensures.number c.in-Ok.ensures.used c.head_page-page.ensures c.in-Ok.ensures.list s.few_pages s.few_commits c.requires.from c.requires.above c.requires.thread in
     let put = w.staged ps rest in
     let is = w.is ps rest in (
-      subst (λ (x : Written RootRecord). LeavesOnly (d.view (disk_of s.recorded.store)) (d.view (disk_of c.commit.new.self.store)) (IsOneOf (root_kind g.H.Hasher.dig) (written s.recorded.root ps) x)) is
+      subst (λ (x : Written RootRecord). LeavesOnly (d.view (store_disk s.recorded.store)) (d.view (store_disk c.commit.new.self.store)) (IsOneOf (root_kind g.H.Hasher.dig) (written_record s.recorded.root ps) x)) is
           (leaves_since d.view g.met.D.Disk.only_now (root_kind g.H.Hasher.dig) s.recorded.store c.stage.new.self s.recorded.root next ps (ps ++ c.head_page-page.result ∷ []) put c.commit.new.self.store c.in-Ok-commit.ensures.any_moment),
-      subst (λ (x : Written RootRecord). Reads (d.view (disk_of c.commit.new.self.store)) (IsOneOf (root_kind g.H.Hasher.dig) (written s.recorded.root ps) x)) is
+      subst (λ (x : Written RootRecord). Reads (d.view (store_disk c.commit.new.self.store)) (IsOneOf (root_kind g.H.Hasher.dig) (written_record s.recorded.root ps) x)) is
           (of_these d.view g.met.D.Disk.only_now (root_kind g.H.Hasher.dig) s.recorded.store c.stage.new.self s.recorded.root next ps (ps ++ c.head_page-page.result ∷ []) put
-          (λ qs some. Reads (d.view (disk_of c.commit.new.self.store)) (IsOneOf (root_kind g.H.Hasher.dig) (written s.recorded.root qs) (written next some))) c.in-Ok-commit.ensures.told),
+          (λ qs some. Reads (d.view (store_disk c.commit.new.self.store)) (IsOneOf (root_kind g.H.Hasher.dig) (written_record s.recorded.root qs) (written_record next some))) c.in-Ok-commit.ensures.told),
       (
         c.in-Ok-commit.ensures.root.0 ∙ ap (λ (x : Written RootRecord). x.root) is,
         subst (λ (x : Written RootRecord). RestsWith d.view (root_kind g.H.Hasher.dig) c.commit.new.self.store x) is
             (of_these d.view g.met.D.Disk.only_now (root_kind g.H.Hasher.dig) s.recorded.store c.stage.new.self s.recorded.root next ps (ps ++ c.head_page-page.result ∷ []) put
-            (λ qs some. RestsWith d.view (root_kind g.H.Hasher.dig) c.commit.new.self.store (written next some)) c.in-Ok-commit.ensures.done),
+            (λ qs some. RestsWith d.view (root_kind g.H.Hasher.dig) c.commit.new.self.store (written_record next some)) c.in-Ok-commit.ensures.done),
       ),
     )
 
@@ -89,7 +89,7 @@ returns-in-Ok-commit-clause-done g c = λ k serves.
     let w = was_put d.view g.H.Hasher.dig s.recorded.store c.stage.new.self s.recorded.root c.args.head.now c.in-Ok.number c.head_page-page.result
     (λ ps list. told_pages d.view s.recorded.store ((d.view s.recorded.store.disk).count) ((d.view s.recorded.store.disk).content) ps (λ i is. g.met.D.Disk.count_is_told s.recorded.store.disk i is) s.recorded.store.room s.recorded.store.used_from list)
     c.in-Ok.ensures.same s.clean c.in-Ok.ensures.number c.in-Ok.ensures.used c.head_page-page.ensures c.in-Ok.ensures.list s.few_pages s.few_commits c.requires.from c.requires.above c.requires.thread in
-    subst (λ (r : RootRecord). Serves (root_kind g.H.Hasher.dig) KeepsList d.view c.commit.new.self.store r (with_head k c.args.head.now)) (sym c.in-Ok-commit.ensures.root.0)
+    subst (λ (r : RootRecord). ServesState (root_kind g.H.Hasher.dig) KeepsList d.view c.commit.new.self.store r (with_head k c.args.head.now)) (sym c.in-Ok-commit.ensures.root.0)
     (moved_serves d.view g.met.D.Disk.only_now g.H.Hasher.dig s.recorded.store c.stage.new.self c.commit.new.self.store s.recorded.root c.args.head.now c.in-Ok.number c.head_page-page.result w k serves c.in-Ok-commit.ensures.done)
 
 -- ---- a disk fault
@@ -104,11 +104,11 @@ returns-in-Err-commit-clause-written g c = λ ps rest.
     c.in-Ok.ensures.same s.clean c.in-Ok.ensures.number c.in-Ok.ensures.used c.head_page-page.ensures c.in-Ok.ensures.list s.few_pages s.few_commits c.requires.from c.requires.above c.requires.thread in
     let put = w.staged ps rest in
     let is = w.is ps rest in (
-      subst (λ (x : Written RootRecord). LeavesOnly (d.view (disk_of s.recorded.store)) (d.view (disk_of c.commit.new.self.store)) (IsOneOf (root_kind g.H.Hasher.dig) (written s.recorded.root ps) x)) is
+      subst (λ (x : Written RootRecord). LeavesOnly (d.view (store_disk s.recorded.store)) (d.view (store_disk c.commit.new.self.store)) (IsOneOf (root_kind g.H.Hasher.dig) (written_record s.recorded.root ps) x)) is
           (leaves_since d.view g.met.D.Disk.only_now (root_kind g.H.Hasher.dig) s.recorded.store c.stage.new.self s.recorded.root next ps (ps ++ c.head_page-page.result ∷ []) put c.commit.new.self.store c.in-Err-commit.ensures.any_moment),
-      subst (λ (x : Written RootRecord). Reads (d.view (disk_of c.commit.new.self.store)) (IsOneOf (root_kind g.H.Hasher.dig) (written s.recorded.root ps) x)) is
+      subst (λ (x : Written RootRecord). Reads (d.view (store_disk c.commit.new.self.store)) (IsOneOf (root_kind g.H.Hasher.dig) (written_record s.recorded.root ps) x)) is
           (of_these d.view g.met.D.Disk.only_now (root_kind g.H.Hasher.dig) s.recorded.store c.stage.new.self s.recorded.root next ps (ps ++ c.head_page-page.result ∷ []) put
-          (λ qs some. Reads (d.view (disk_of c.commit.new.self.store)) (IsOneOf (root_kind g.H.Hasher.dig) (written s.recorded.root qs) (written next some))) c.in-Err-commit.ensures.told),
+          (λ qs some. Reads (d.view (store_disk c.commit.new.self.store)) (IsOneOf (root_kind g.H.Hasher.dig) (written_record s.recorded.root qs) (written_record next some))) c.in-Err-commit.ensures.told),
       tt,
     )
 

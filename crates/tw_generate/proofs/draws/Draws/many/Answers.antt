@@ -1,5 +1,5 @@
 use Rattle.std.proofs.Common.{◌≡◌, List, ℕ, [], ◌∷◌, ◌++◌, ap, sym, ◌∙◌}
-use Rattle.tw_generate.specs.Draws.{after_draws, drawn, drawn_events, event_of, next_state}
+use Rattle.tw_generate.specs.Draws.{after_draws, drawn, drawn_event, drawn_events, next_state}
 use Rattle.tw_generate.proofs.DrawSteps.{after-more, after-none, drawn-more, drawn-none}
 use Rattle.tw_generate.proofs.draws.Draws.many.Goals as goal
 
@@ -13,7 +13,7 @@ loop-done-preserved c =
     let state : c.event.new.self.state ≡ next_state (after_draws x n) = c.event.ensures.state ∙ ap next_state c.loop-done.invariant.1 in (
       c.in_ok-push.ensures.ok
           ∙ ap (λ (es : List (List ℕ)). es ++ c.in_ok-event.field-0 ∷ []) c.loop-done.invariant.0
-          ∙ ap (λ (e : List ℕ). drawn_events x n ++ e ∷ []) (c.in_ok-event.ensures.event ∙ ap (λ s. event_of (drawn s)) state)
+          ∙ ap (λ (e : List ℕ). drawn_events x n ++ e ∷ []) (c.in_ok-event.ensures.event ∙ ap (λ s. drawn_event (drawn s)) state)
           ∙ sym (drawn-more x n),
       state ∙ sym (after-more x n),
     )

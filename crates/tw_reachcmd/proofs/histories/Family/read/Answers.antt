@@ -4,7 +4,7 @@ use Rattle.std.proofs.lemmas.List.{take_more}
 use Rattle.tw_base.specs.kinds.Lists.{Each}
 use Rattle.tw_base.proofs.lemmas.kinds.ListLemmas.{Each-append}
 use Rattle.tw_outside.specs.Files.{IsReadTo, IsThere}
-use Rattle.tw_reachcmd.specs.Reading.{AreRead}
+use Rattle.tw_reachcmd.specs.Reading.{AreHistoriesRead}
 use Rattle.tw_reachcmd.proofs.histories.Family.read.Goals as goal
 
 pub loop-file-preserved : goal.loop-file-preserved
@@ -32,6 +32,6 @@ loop-file-preserved g c =
           subst (λ fs. Each (IsThere told) fs) (sym more)
           (Each-append (IsThere told) (take c.loop-file.file-index c.args.files.now) (file ∷ []) c.loop-file.invariant.there (there, tt));
       read = λ begun.
-          subst (λ fs. AreRead told fs c.add.new.self) (sym more)
+          subst (λ fs. AreHistoriesRead told fs c.add.new.self) (sym more)
           (c.in_ok-add.ensures.read told (take c.loop-file.file-index c.args.files.now) read (c.loop-file.invariant.read begun));
     }

@@ -2,7 +2,7 @@ use Rattle.std.proofs.Common.{◌≡◌, ℕ, ◌≤◌, ◌↔◌, List, [], ta
 use Rattle.tw_base.specs.declared.kinds.limits.TheConstants.{MOST_HISTORY_BYTES}
 use Rattle.tw_base.specs.kinds.Lists.{Each}
 use Rattle.tw_outside.specs.Files.{IsThere}
-use Rattle.tw_reachcmd.specs.Reading.{AreRead}
+use Rattle.tw_reachcmd.specs.Reading.{AreHistoriesRead}
 use Rattle.tw_reachcmd.proofs.histories.Family.read.Given as goal
 
 abbrev pub invariant-loop-file : goal.invariant-loop-file
@@ -12,5 +12,5 @@ invariant-loop-file g l = record {
   later : g.I.Inputs.faults l.fn.inputs ≤ g.I.Inputs.faults l.inputs;
   few : l.self.left ≤ MOST_HISTORY_BYTES;
   there : Each (IsThere (g.I.Inputs.told l.fn.inputs)) (take l.file-index l.files);
-  read : AreRead (g.I.Inputs.told l.fn.inputs) [] l.fn.self → AreRead (g.I.Inputs.told l.fn.inputs) (take l.file-index l.files) l.self;
+  read : AreHistoriesRead (g.I.Inputs.told l.fn.inputs) [] l.fn.self → AreHistoriesRead (g.I.Inputs.told l.fn.inputs) (take l.file-index l.files) l.self;
 }

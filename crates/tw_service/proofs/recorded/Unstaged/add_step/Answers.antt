@@ -3,9 +3,9 @@ use Rattle.std.specs.Prelude.{Err}
 use Rattle.tw_base.specs.declared.history.content.Content.TheVariants.{Events}
 use Rattle.tw_disk.specs.Found.Found.{Is}
 use Rattle.tw_disk.specs.Image.{Image}
-use Rattle.tw_pages.specs.Records.{written}
+use Rattle.tw_pages.specs.Records.{written_record}
 use Rattle.tw_pages.proofs.Written.{told_list}
-use Rattle.tw_pages.specs.Same.{count_of}
+use Rattle.tw_pages.specs.Same.{store_count}
 use Rattle.tw_pages.specs.SameSteps.{is_same_on, told_pages}
 use Rattle.tw_skiplist.specs.Appended.{appended}
 use Rattle.tw_skiplist.specs.declared.head.Head.{Head}
@@ -33,9 +33,9 @@ returns-in-Err-clause-good g c = λ bad h serves.
     let d = g.D.Disk in
     let s = c.args.self.now.kept in
     let ps : Image = serves.pages in
-    let list = told_list d.view root_kind s.store (written s.root ps) serves.rests c.args.self.now.clean in
+    let list = told_list d.view root_kind s.store (written_record s.root ps) serves.rests c.args.self.now.clean in
     let own = added_whole g.H.Hasher.dig (λ text. (g.met.H.Hasher.size text, g.met.H.Hasher.bytes text)) ps h s.root serves.keeps.whole c.args.events.now c.args.time c.requires.step c.requires.limits c.requires.time
-    (room_written d.view s.store (written s.root ps) serves.rests c.requires.step) in
+    (room_written d.view s.store (written_record s.root ps) serves.rests c.requires.step) in
     no_bad_page c.from.result (appended g.H.Hasher.dig ps s.root.head (Events c.args.events.now) s.root.archive c.args.time) _ own.is
     (page_found c.in-Err.fault c.from.result (appended g.H.Hasher.dig ps s.root.head (Events c.args.events.now) s.root.archive c.args.time) c.from.ensures (c.in-Err.ensures.adds.answer ps list)) bad
 
@@ -61,11 +61,11 @@ returns-in-Ok-commit-clause-written g c = λ ps rest.
     let dig = g.H.Hasher.dig in
     let next = c.next_root-next in
     let step = c.in-Ok.ensures in
-    let list = told_list d.view root_kind s.store (written s.root ps) rest c.args.self.now.clean in
+    let list = told_list d.view root_kind s.store (written_record s.root ps) rest c.args.self.now.clean in
     let grown = step.adds.kept.list_grows ps list in
     let found = step.adds.answer ps list in
     let count = told_pages d.view s.store ((d.view s.store.disk).count) ((d.view s.store.disk).content) ps (λ i is. g.met.D.Disk.count_is_told s.store.disk i is) s.store.room s.store.used_from list in
-    let page : c.in-Ok.head.page < count_of mid = omega (arith, step.page) in
+    let page : c.in-Ok.head.page < store_count mid = omega (arith, step.page) in
     let put = staged_events d.view dig s.store mid s.root next.result c.in-Ok.head c.args.time ps grown.0 step.adds.kept.same_kept rest count grown.1 next.ensures.auth step.step c.requires.step c.args.self.now.few_commits c.requires.time page
     c.args.events.now next.ensures.next next.ensures.label step.few step.adds.kept.used_grows found.0 found.1 found.2 in
     let appends = appends_events d.view dig s.store mid s.root next.result c.in-Ok.head c.args.time ps grown.0 step.adds.kept.same_kept rest count grown.1 next.ensures.auth step.step c.requires.step c.args.self.now.few_commits c.requires.time page
@@ -81,11 +81,11 @@ returns-in-Err-commit-clause-written g c = λ ps rest.
     let dig = g.H.Hasher.dig in
     let next = c.next_root-next in
     let step = c.in-Ok.ensures in
-    let list = told_list d.view root_kind s.store (written s.root ps) rest c.args.self.now.clean in
+    let list = told_list d.view root_kind s.store (written_record s.root ps) rest c.args.self.now.clean in
     let grown = step.adds.kept.list_grows ps list in
     let found = step.adds.answer ps list in
     let count = told_pages d.view s.store ((d.view s.store.disk).count) ((d.view s.store.disk).content) ps (λ i is. g.met.D.Disk.count_is_told s.store.disk i is) s.store.room s.store.used_from list in
-    let page : c.in-Ok.head.page < count_of mid = omega (arith, step.page) in
+    let page : c.in-Ok.head.page < store_count mid = omega (arith, step.page) in
     let put = staged_events d.view dig s.store mid s.root next.result c.in-Ok.head c.args.time ps grown.0 step.adds.kept.same_kept rest count grown.1 next.ensures.auth step.step c.requires.step c.args.self.now.few_commits c.requires.time page
     c.args.events.now next.ensures.next next.ensures.label step.few step.adds.kept.used_grows found.0 found.1 found.2 in
     let appends = appends_events d.view dig s.store mid s.root next.result c.in-Ok.head c.args.time ps grown.0 step.adds.kept.same_kept rest count grown.1 next.ensures.auth step.step c.requires.step c.args.self.now.few_commits c.requires.time page

@@ -1,9 +1,9 @@
 use Rattle.std.proofs.Common.{◌≡◌, ◌++◌, ℕ, List, ◌∙◌, ap, refl, subst, sym}
 use Rattle.std.specs.Prelude.{Err, Ok}
-use Rattle.tw_pages.specs.Records.{written}
+use Rattle.tw_pages.specs.Records.{written_record}
 use Rattle.tw_pages.proofs.Written.{told_list}
 use Rattle.tw_msg.specs.declared.receipt.Receipt.{Receipt}
-use Rattle.tw_pages.specs.Same.{list_of}
+use Rattle.tw_pages.specs.Same.{store_list}
 use Rattle.tw_pages.specs.SameSteps.{is_same_on, told_pages}
 use Rattle.tw_answers.specs.declared.root.RootRecord.{RootRecord}
 use Rattle.tw_answers.specs.Roots.{root_kind}
@@ -34,7 +34,7 @@ pub returns-in-Err-clause-good : goal.returns-in-Err-clause-good
 returns-in-Err-clause-good g c = λ bad h serves may.
     let d = g.D.Disk in
     let s = c.args.self.now.kept in
-    let list = told_list d.view root_kind s.store (written s.root serves.pages) serves.rests c.args.self.now.clean in
+    let list = told_list d.view root_kind s.store (written_record s.root serves.pages) serves.rests c.args.self.now.clean in
     none-bad g.H.Hasher.dig (λ text. (g.met.H.Hasher.size text, g.met.H.Hasher.bytes text)) serves.pages h s.root serves.keeps.whole serves.keeps.sound c.args.thread.now c.args.time may
     c.in-Err.refusal bad (c.in-Err.ensures.page serves.pages list)
 
@@ -48,7 +48,7 @@ returns-in-Ok-commit-clause-answer g c = λ ps list.
     let is = c.receipt_by-receipt.ensures ∙ ap (λ (r : RootRecord). receipt_of r.name r.head.step r.head.auth t) c.next_root-next.ensures.next in
     subst (λ (r : RootRecord). AnswersArchived g.H.Hasher.dig ps s.root t c.args.time r.head r.archive (Ok c.receipt_by-receipt.result)) (sym (c.in-Ok-commit.ensures.root.0 ∙ c.next_root-next.ensures.next))
     (subst (λ (receipt : Receipt). AnswersArchived g.H.Hasher.dig ps s.root t c.args.time head c.in-Ok.staged.archive (Ok receipt)) (sym is)
-    (archived-staged g.H.Hasher.dig ps s.root t c.args.time head c.in-Ok.staged.archive (list_of g.D.Disk.view c.stage_thread-added.new.pages) (c.in-Ok.ensures.staged ps list)))
+    (archived-staged g.H.Hasher.dig ps s.root t c.args.time head c.in-Ok.staged.archive (store_list g.D.Disk.view c.stage_thread-added.new.pages) (c.in-Ok.ensures.staged ps list)))
 
 pub returns-in-Err-commit-clause-answer : goal.returns-in-Err-commit-clause-answer
 returns-in-Err-commit-clause-answer g c = λ ps list.
@@ -66,7 +66,7 @@ returns-in-Ok-commit-clause-written g c = λ ps rest.
     let step = c.in-Ok.ensures in
     let head = c.in-Ok.staged.head in
     let archive = c.in-Ok.staged.archive in
-    let list = told_list d.view root_kind s.store (written s.root ps) rest c.args.self.now.clean in
+    let list = told_list d.view root_kind s.store (written_record s.root ps) rest c.args.self.now.clean in
     let grown = step.kept.list_grows ps list in
     let count = told_pages d.view s.store ((d.view s.store.disk).count) ((d.view s.store.disk).content) ps (λ i is. g.met.D.Disk.count_is_told s.store.disk i is) s.store.room s.store.used_from list in
     let put = staged_thread d.view dig s.store mid s.root next.result head c.args.time ps grown.0 step.kept.same_kept rest count grown.1 next.ensures.auth step.step c.requires.step c.args.self.now.few_commits c.requires.time step.last
@@ -88,7 +88,7 @@ returns-in-Err-commit-clause-written g c = λ ps rest.
     let step = c.in-Ok.ensures in
     let head = c.in-Ok.staged.head in
     let archive = c.in-Ok.staged.archive in
-    let list = told_list d.view root_kind s.store (written s.root ps) rest c.args.self.now.clean in
+    let list = told_list d.view root_kind s.store (written_record s.root ps) rest c.args.self.now.clean in
     let grown = step.kept.list_grows ps list in
     let count = told_pages d.view s.store ((d.view s.store.disk).count) ((d.view s.store.disk).content) ps (λ i is. g.met.D.Disk.count_is_told s.store.disk i is) s.store.room s.store.used_from list in
     let put = staged_thread d.view dig s.store mid s.root next.result head c.args.time ps grown.0 step.kept.same_kept rest count grown.1 next.ensures.auth step.step c.requires.step c.args.self.now.few_commits c.requires.time step.last

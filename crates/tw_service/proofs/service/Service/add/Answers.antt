@@ -9,15 +9,15 @@ use Rattle.tw_disk.specs.Found.{Found, ◌>>=◌}
 use Rattle.tw_disk.specs.Found.Found.{Is}
 use Rattle.tw_disk.specs.Image.{Image}
 use Rattle.tw_disk.proofs.FoundLaws.{is_on}
-use Rattle.tw_pages.specs.Records.{written}
+use Rattle.tw_pages.specs.Records.{written_record}
 use Rattle.tw_pages.specs.Same.{IsSameStore}
 use Rattle.tw_pages.specs.SameSteps.{is_same_itself}
 use Rattle.tw_skiplist.specs.Appended.{appended}
 use Rattle.tw_skiplist.specs.declared.head.Head.{Head}
 use Rattle.tw_answers.specs.declared.refusal.Refusal.{Refusal}
 use Rattle.tw_answers.specs.declared.root.RootRecord.{RootRecord}
-use Rattle.tw_service.specs.EventSteps.{with_events}
-use Rattle.tw_answers.specs.Finds.{IsRefusalOf, unless}
+use Rattle.tw_service.specs.EventSteps.{with_events_at}
+use Rattle.tw_answers.specs.Finds.{IsRefusalFound, unless}
 use Rattle.tw_service.specs.Finds.{found_thread, thread_at}
 use Rattle.tw_service.specs.Keeps.{StoreServes}
 use Rattle.tw_answers.specs.Limits.{append_refusal}
@@ -49,10 +49,10 @@ returns-in-Some-clause-steps g c = λ h served.
     let time = c.args.time in
     let is = sym c.in-Some.is ∙ c.append_refusal.ensures.answer in
     record {
-      next = with_events h events time;
+      next = with_events_at h events time;
       is_next = refl;
-      any_moment = same_leaves d.view g.met.D.Disk.only_now g.H.Hasher.dig r.store r.store r.root h (with_events h events time) (is_same_itself d.view r.store) served;
-      told = same_tells d.view g.met.D.Disk.only_now g.H.Hasher.dig r.store r.store r.root h (with_events h events time) (is_same_itself d.view r.store) served;
+      any_moment = same_leaves d.view g.met.D.Disk.only_now g.H.Hasher.dig r.store r.store r.root h (with_events_at h events time) (is_same_itself d.view r.store) served;
+      told = same_tells d.view g.met.D.Disk.only_now g.H.Hasher.dig r.store r.store r.root h (with_events_at h events time) (is_same_itself d.view r.store) served;
       done = tt;
       refused = inr (served, read_leaves d.view g.met.D.Disk.only_now g.H.Hasher.dig r.store r.store r.root h (is_same_itself d.view r.store) served);
       machine = λ whole.
@@ -121,15 +121,15 @@ returns-in-Ok-clause-steps g c = λ h served.
     let passed = ap is_some c.in_default.is in
     let none = to_table h events time s.is_broken r.root.head.step r.root.time None (sym c.in_default.is ∙ let_through.answer) (let_through.whole passed) served.keeps.whole.steps.step served.keeps.whole.time in
     let it = c.in-Ok.ensures.written served.pages served.rests in
-    let keeps = keeps_events dig (λ text. (g.met.H.Hasher.size text, g.met.H.Hasher.bytes text)) (written r.root served.pages) it.next h served.keeps events time it.done.0
-    (let_through.room passed) (let_through.within passed) c.requires (let_through.clock passed) (room_written d.view r.store (written r.root served.pages) served.rests (let_through.room passed)) in
-    let next_served = written_serves d.view g.met.D.Disk.only_now (AppendsTo dig events time) (λ _ w next. AppendsTo dig events time w next) dig r.store t.store r.root t.root (Ok tt) h (with_events h events time) served it (inr keeps) served.keeps.named keeps (it.done.1, it.done.2) in
-    let own = append_done dig h events time c.head.result none (c.head.ensures.served (with_events h events time) next_served) in
+    let keeps = keeps_events dig (λ text. (g.met.H.Hasher.size text, g.met.H.Hasher.bytes text)) (written_record r.root served.pages) it.next h served.keeps events time it.done.0
+    (let_through.room passed) (let_through.within passed) c.requires (let_through.clock passed) (room_written d.view r.store (written_record r.root served.pages) served.rests (let_through.room passed)) in
+    let next_served = written_serves d.view g.met.D.Disk.only_now (AppendsTo dig events time) (λ _ w next. AppendsTo dig events time w next) dig r.store t.store r.root t.root (Ok tt) h (with_events_at h events time) served it (inr keeps) served.keeps.named keeps (it.done.1, it.done.2) in
+    let own = append_done dig h events time c.head.result none (c.head.ensures.served (with_events_at h events time) next_served) in
     record {
-      next = with_events h events time;
+      next = with_events_at h events time;
       is_next = refl;
-      any_moment = written_leaves d.view g.met.D.Disk.only_now (AppendsTo dig events time) (λ _ w next. AppendsTo dig events time w next) dig r.store t.store r.root t.root (Ok tt) h (with_events h events time) served it (inr keeps) served.keeps.named;
-      told = written_tells d.view g.met.D.Disk.only_now (AppendsTo dig events time) (λ _ w next. AppendsTo dig events time w next) dig r.store t.store r.root t.root (Ok tt) h (with_events h events time) served it (inr keeps) served.keeps.named;
+      any_moment = written_leaves d.view g.met.D.Disk.only_now (AppendsTo dig events time) (λ _ w next. AppendsTo dig events time w next) dig r.store t.store r.root t.root (Ok tt) h (with_events_at h events time) served it (inr keeps) served.keeps.named;
+      told = written_tells d.view g.met.D.Disk.only_now (AppendsTo dig events time) (λ _ w next. AppendsTo dig events time w next) dig r.store t.store r.root t.root (Ok tt) h (with_events_at h events time) served it (inr keeps) served.keeps.named;
       done = (own, next_served);
       refused = tt;
       machine = λ whole. tt;
@@ -155,7 +155,7 @@ returns-in-Err-clause-answer g c = λ ps list.
     let dig = g.H.Hasher.dig in
     let next : Next Head → Found (Result Thread Refusal) = λ next. Is (Ok (thread_at r.name next.value)) in
     let whole : Found (Result Thread Refusal) = appended dig ps r.head (Events events) r.archive c.args.time >>= next in
-    subst (λ (f : Found (Result Thread Refusal)). IsRefusalOf c.in-Err.refusal f) (sym (thread_found dig ps r.name r.head s.is_broken r.time events c.args.time r.archive (sym (sym c.in_default.is ∙ c.append_refusal.ensures.answer))))
+    subst (λ (f : Found (Result Thread Refusal)). IsRefusalFound c.in-Err.refusal f) (sym (thread_found dig ps r.name r.head s.is_broken r.time events c.args.time r.archive (sym (sym c.in_default.is ∙ c.append_refusal.ensures.answer))))
     (fault_page c.in-Err.refusal whole c.in-Err.ensures.answers (page_on c.in-Err.refusal (appended dig ps r.head (Events events) r.archive c.args.time) next (c.in-Err.ensures.answer ps list)))
 
 pub returns-in-Err-clause-steps : goal.returns-in-Err-clause-steps
@@ -169,14 +169,14 @@ returns-in-Err-clause-steps g c = λ h served.
     let let_through = c.append_refusal.ensures in
     let passed = ap is_some c.in_default.is in
     let it = c.in-Err.ensures.written served.pages served.rests in
-    let either = ⊎_elim (λ same. inl same) (λ to. inr (keeps_events dig (λ text. (g.met.H.Hasher.size text, g.met.H.Hasher.bytes text)) (written r.root served.pages) it.next h served.keeps events time to
-    (let_through.room passed) (let_through.within passed) c.requires (let_through.clock passed) (room_written d.view r.store (written r.root served.pages) served.rests (let_through.room passed)))) it.is_next in
+    let either = ⊎_elim (λ same. inl same) (λ to. inr (keeps_events dig (λ text. (g.met.H.Hasher.size text, g.met.H.Hasher.bytes text)) (written_record r.root served.pages) it.next h served.keeps events time to
+    (let_through.room passed) (let_through.within passed) c.requires (let_through.clock passed) (room_written d.view r.store (written_record r.root served.pages) served.rests (let_through.room passed)))) it.is_next in
     let still : IsSameStore d.view r.store t.store → StoreServes dig d.view t.store t.root h = λ same. subst (λ q. StoreServes dig d.view t.store q h) (sym c.in-Err.ensures.kept) (read_serves d.view g.met.D.Disk.only_now dig r.store t.store r.root h same served) in
     record {
-      next = with_events h events time;
+      next = with_events_at h events time;
       is_next = refl;
-      any_moment = written_leaves d.view g.met.D.Disk.only_now (AppendsTo dig events time) (λ _ w next. AppendsTo dig events time w next) dig r.store t.store r.root t.root (Err c.in-Err.refusal) h (with_events h events time) served it either served.keeps.named;
-      told = written_tells d.view g.met.D.Disk.only_now (AppendsTo dig events time) (λ _ w next. AppendsTo dig events time w next) dig r.store t.store r.root t.root (Err c.in-Err.refusal) h (with_events h events time) served it either served.keeps.named;
+      any_moment = written_leaves d.view g.met.D.Disk.only_now (AppendsTo dig events time) (λ _ w next. AppendsTo dig events time w next) dig r.store t.store r.root t.root (Err c.in-Err.refusal) h (with_events_at h events time) served it either served.keeps.named;
+      told = written_tells d.view g.met.D.Disk.only_now (AppendsTo dig events time) (λ _ w next. AppendsTo dig events time w next) dig r.store t.store r.root t.root (Err c.in-Err.refusal) h (with_events_at h events time) served it either served.keeps.named;
       done = tt;
       refused = ⊎_elim (λ fault. inl fault) (λ same. inr (still same, read_leaves d.view g.met.D.Disk.only_now dig r.store t.store r.root h same served)) c.in-Err.ensures.same;
       machine = λ whole.

@@ -3,7 +3,7 @@ use Rattle.std.specs.Prelude.{is_some, Option, None, Some, Result}
 use Rattle.tw_base.specs.history.History.{History}
 use Rattle.tw_disk.specs.Found.{Found}
 use Rattle.tw_answers.specs.declared.refusal.Refusal.{Refusal}
-use Rattle.tw_answers.specs.Finds.{IsRefusalOf, unless}
+use Rattle.tw_answers.specs.Finds.{IsRefusalFound, unless}
 use Rattle.tw_answers.specs.Limits.{or_else}
 use Rattle.tw_answers.proofs.FoundAnswers.{of_disk_fault}
 use Rattle.tw_answers.proofs.TableAnswers.{IsTold, NoFault, of_some}
@@ -14,7 +14,7 @@ use Rattle.tw_service.specs.Machine.Reply.{OfBytes}
 use Rattle.tw_service.specs.Questions.{Besides, found_answer, found_bytes, history_refusal, pages_refusal, question_refusal}
 use Rattle.tw_service.proofs.Asked.{asked_err, asked_ok, asked_own, asked_refused}
 use Rattle.tw_service.proofs.Questions.{accepted_for, ask_made, ask_refused, besides_told, few_for, held, held_good, held_ok, held_own, question_no_fault, question_told}
-use Rattle.tw_pages.specs.Records.{written}
+use Rattle.tw_pages.specs.Records.{written_record}
 use Rattle.tw_pages.proofs.Written.{told_list}
 use Rattle.tw_answers.specs.Roots.{root_kind}
 use Rattle.tw_service.proofs.service.Service.ask.Goals as goal
@@ -61,18 +61,18 @@ returns-in-Ok g c =
           reads.kept.same_kept reads.faults.later c.in-Ok.bytes refl
           (λ ps list. ap (λ (o : Option Refusal). unless o (found_bytes g.H.Hasher.dig ps r.root.name r.root.head q)) (sym none) ∙ reads.answer ps list)
           (λ whole h served.
-          let list = told_list d.view root_kind r.store (written r.root served.pages) served.rests c.args.self.now.recorded.clean in
+          let list = told_list d.view root_kind r.store (written_record r.root served.pages) served.rests c.args.self.now.recorded.clean in
           let x = held g.H.Hasher.dig (λ text. (g.met.H.Hasher.size text, g.met.H.Hasher.bytes text)) served.pages h r.root served.keeps.whole served.keeps.sound r.root.name served.keeps.named
           q c.requires c.see_names.ensures (c.question_refusal.ensures.order (ap is_some c.in_default.is)) in
           let made = held_ok _ (Makes g.H.Hasher.dig h q) (pages_refusal h q) x c.in-Ok.bytes (reads.answer _ list) in
           ask_made g.H.Hasher.dig h q c.in-Ok.bytes (whole_table h q None None (to_table q s.is_broken r.root.head.step _ None none whole served.keeps.whole.steps.step) made.0) made.1);
       made = λ h served.
-          let list = told_list d.view root_kind r.store (written r.root served.pages) served.rests c.args.self.now.recorded.clean in
+          let list = told_list d.view root_kind r.store (written_record r.root served.pages) served.rests c.args.self.now.recorded.clean in
           let x = held g.H.Hasher.dig (λ text. (g.met.H.Hasher.size text, g.met.H.Hasher.bytes text)) served.pages h r.root served.keeps.whole served.keeps.sound r.root.name served.keeps.named
           q c.requires c.see_names.ensures (c.question_refusal.ensures.order (ap is_some c.in_default.is)) in
           (held_ok _ (Makes g.H.Hasher.dig h q) (pages_refusal h q) x c.in-Ok.bytes (reads.answer _ list)).1;
       accepted = λ h served.
-          let list = told_list d.view root_kind r.store (written r.root served.pages) served.rests c.args.self.now.recorded.clean in
+          let list = told_list d.view root_kind r.store (written_record r.root served.pages) served.rests c.args.self.now.recorded.clean in
           let order = c.question_refusal.ensures.order (ap is_some c.in_default.is) in
           let x = held g.H.Hasher.dig (λ text. (g.met.H.Hasher.size text, g.met.H.Hasher.bytes text)) served.pages h r.root served.keeps.whole served.keeps.sound r.root.name served.keeps.named
           q c.requires c.see_names.ensures order in
@@ -80,7 +80,7 @@ returns-in-Ok g c =
           accepted_for g.H.Hasher.dig (λ text. (g.met.H.Hasher.size text, g.met.H.Hasher.bytes text)) served.pages h r.root served.keeps.whole served.keeps.sound r.root.name served.keeps.named
           q order made.0 c.in-Ok.bytes made.1;
       few = λ h served.
-          let list = told_list d.view root_kind r.store (written r.root served.pages) served.rests c.args.self.now.recorded.clean in
+          let list = told_list d.view root_kind r.store (written_record r.root served.pages) served.rests c.args.self.now.recorded.clean in
           let order = c.question_refusal.ensures.order (ap is_some c.in_default.is) in
           let x = held g.H.Hasher.dig (λ text. (g.met.H.Hasher.size text, g.met.H.Hasher.bytes text)) served.pages h r.root served.keeps.whole served.keeps.sound r.root.name served.keeps.named
           q c.requires c.see_names.ensures order in
@@ -102,9 +102,9 @@ returns-in-Err g c =
           (λ fault. asked_err d.view g.met.D.Disk.only_now g.H.Hasher.dig (Besides q) (Ask q) (λ (b : List ℕ). OfBytes b) (question_refusal s.is_broken r.root.head.step q)
           (λ ps. found_answer g.H.Hasher.dig ps r.root.name r.root.head s.is_broken q) s _ none refl
           reads.kept.same_kept reads.faults.later c.in-Err.refusal fault whole c.is_disk_fault-self.ensures
-          (λ ps list. subst (λ (f : Found (Result (List ℕ) Refusal)). IsRefusalOf c.in-Err.refusal f) (ap (λ (o : Option Refusal). unless o (found_bytes g.H.Hasher.dig ps r.root.name r.root.head q)) none) (reads.answer ps list))
+          (λ ps list. subst (λ (f : Found (Result (List ℕ) Refusal)). IsRefusalFound c.in-Err.refusal f) (ap (λ (o : Option Refusal). unless o (found_bytes g.H.Hasher.dig ps r.root.name r.root.head q)) none) (reads.answer ps list))
           (λ h served.
-          let list = told_list d.view root_kind r.store (written r.root served.pages) served.rests c.args.self.now.recorded.clean in
+          let list = told_list d.view root_kind r.store (written_record r.root served.pages) served.rests c.args.self.now.recorded.clean in
           let x = held g.H.Hasher.dig (λ text. (g.met.H.Hasher.size text, g.met.H.Hasher.bytes text)) served.pages h r.root served.keeps.whole served.keeps.sound r.root.name served.keeps.named
           q c.requires c.see_names.ensures (c.question_refusal.ensures.order (ap is_some c.in_default.is)) in
           held_good _ (Makes g.H.Hasher.dig h q) (pages_refusal h q) x c.in-Err.refusal (reads.answer _ list))
@@ -112,9 +112,9 @@ returns-in-Err g c =
           (λ own. asked_own d.view g.met.D.Disk.only_now g.H.Hasher.dig (Besides q) (Ask q) (λ (b : List ℕ). OfBytes b) (question_refusal s.is_broken r.root.head.step q)
           (λ ps. found_answer g.H.Hasher.dig ps r.root.name r.root.head s.is_broken q) s _ none refl
           reads.kept.same_kept reads.faults.later c.in-Err.refusal own (besides_told q c.in-Err.refusal own) whole c.is_disk_fault-self.ensures
-          (λ ps list. subst (λ (f : Found (Result (List ℕ) Refusal)). IsRefusalOf c.in-Err.refusal f) (ap (λ (o : Option Refusal). unless o (found_bytes g.H.Hasher.dig ps r.root.name r.root.head q)) none) (reads.answer ps list))
+          (λ ps list. subst (λ (f : Found (Result (List ℕ) Refusal)). IsRefusalFound c.in-Err.refusal f) (ap (λ (o : Option Refusal). unless o (found_bytes g.H.Hasher.dig ps r.root.name r.root.head q)) none) (reads.answer ps list))
           (λ good h served.
-          let list = told_list d.view root_kind r.store (written r.root served.pages) served.rests c.args.self.now.recorded.clean in
+          let list = told_list d.view root_kind r.store (written_record r.root served.pages) served.rests c.args.self.now.recorded.clean in
           let x = held g.H.Hasher.dig (λ text. (g.met.H.Hasher.size text, g.met.H.Hasher.bytes text)) served.pages h r.root served.keeps.whole served.keeps.sound r.root.name served.keeps.named
           q c.requires c.see_names.ensures (c.question_refusal.ensures.order (ap is_some c.in_default.is)) in
           let row = held_own _ (Makes g.H.Hasher.dig h q) (pages_refusal h q) x c.in-Err.refusal (besides_told q c.in-Err.refusal own).0 (reads.answer _ list) in

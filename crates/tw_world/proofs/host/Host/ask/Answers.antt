@@ -5,31 +5,31 @@ use Rattle.tw_answers.specs.declared.refusal.Refusal.{Refusal}
 use Rattle.tw_answers.specs.declared.refusal.Refusal.TheVariants.{BadPage, DiskFault, NoMemory, Reopen}
 use Rattle.tw_base.specs.declared.history.question.Question.{Question}
 use Rattle.tw_base.specs.history.History.{History}
-use Rattle.tw_disk.specs.MemDisk.{view_of}
-use Rattle.tw_service.specs.Machine.{Answers}
+use Rattle.tw_disk.specs.MemDisk.{mem_disk_view}
+use Rattle.tw_service.specs.Machine.{AnswersByMachine}
 use Rattle.tw_service.specs.Machine.Call.{Ask}
 use Rattle.tw_service.specs.Machine.Reply.{OfBytes}
 use Rattle.tw_service.specs.Serves.{Serves, name_of}
-use Rattle.tw_world.specs.Hosts.{Gives, IsGiven, StandsForGood}
+use Rattle.tw_world.specs.Hosts.{GivesReply, IsGiven, StandsForGood}
 use Rattle.tw_world.proofs.Resting.{stands-closed}
 use Rattle.tw_world.proofs.host.Host.ask.Goals as goal
 
 -- what is given is the machine's reply
 gives-reply : (h : History) (q : Question) (Served : History → Type 0) (reply given : Result (List ℕ) Refusal)
-    → Answers sha256 h (Ask q) (λ bytes. OfBytes bytes) reply Served → IsGiven reply given → Gives h q given
-gives-reply h q Served (Ok bytes) given answers is = let step = answers.1 in subst (Gives h q) (sym is) (refl, step.1)
+    → AnswersByMachine sha256 h (Ask q) (λ bytes. OfBytes bytes) reply Served → IsGiven reply given → GivesReply h q given
+gives-reply h q Served (Ok bytes) given answers is = let step = answers.1 in subst (GivesReply h q) (sym is) (refl, step.1)
 gives-reply h q Served (Err (BadPage page)) given answers is = absurd answers
 gives-reply h q Served (Err Reopen) given answers is = absurd answers
 gives-reply h q Served (Err DiskFault) given answers is = absurd is
 gives-reply h q Served (Err NoMemory) given answers is = absurd is
-gives-reply h q Served (Err _) given answers is = subst (Gives h q) (sym is) answers.0
+gives-reply h q Served (Err _) given answers is = subst (GivesReply h q) (sym is) answers.0
 
 pub returns-clause-gives : goal.returns-clause-gives
 returns-clause-gives c h holds =
     let asks = c.ask-reply.ensures.asks in
     let served = c.in_ok-service.ensures.serves h (subst (λ d. StandsForGood d h) (sym c.take_disk.ensures.disk) holds.stands) in
     let name = name_of c.ask-reply.new.self in (
-      gives-reply h c.args.question.now (Serves sha256 view_of c.ask-reply.new.self) c.ask-reply.result c.in_ok-given.given
+      gives-reply h c.args.question.now (Serves sha256 mem_disk_view c.ask-reply.new.self) c.ask-reply.result c.in_ok-given.given
           (asks.machine c.in_ok-service.ensures.whole h served) c.in_ok-given.ensures,
       record {
         named = c.take_disk.ensures.same.0 ∙ holds.named;

@@ -1,7 +1,7 @@
 use Rattle.std.proofs.Common.{sym, ◌∙◌, subst}
 use Rattle.std.specs.Prelude.{is_some}
 use Rattle.tw_base.specs.history.History.{History}
-use Rattle.tw_world.specs.Hosts.{Given, GoesOn, StandsForGood}
+use Rattle.tw_world.specs.Hosts.{Given, GoesOnByReply, StandsForGood}
 use Rattle.tw_world.specs.Hosts.Given.{OfBytes}
 use Rattle.tw_world.specs.declared.told.Told.{Told}
 use Rattle.tw_world.proofs.host.Host.deliver.Goals as goal
@@ -14,10 +14,10 @@ returns-clause-goes c h holds =
     let ended = c.in_ok-ended.ensures given h answered in
     let next : History = ended.next in
     let told = c.in_ok-ended.ended.told in
-    let goes : GoesOn given (is_some c.args.self.now.crash) h next told =
-    subst (λ crash. GoesOn given (is_some crash) h next told) c.take_disk.ensures.same.2 ended.goes in (
+    let goes : GoesOnByReply given (is_some c.args.self.now.crash) h next told =
+    subst (λ crash. GoesOnByReply given (is_some crash) h next told) c.take_disk.ensures.same.2 ended.goes in (
       next,
-      subst (λ (t : Told). GoesOn given (is_some c.args.self.now.crash) h next t) (sym c.end.ensures.told) goes,
+      subst (λ (t : Told). GoesOnByReply given (is_some c.args.self.now.crash) h next t) (sym c.end.ensures.told) goes,
       record {
         named = c.end.ensures.same.0 ∙ c.take_disk.ensures.same.0 ∙ holds.named ∙ sym ended.named;
         counted = c.end.ensures.rests.1 ∙ ended.rests.0;

@@ -8,9 +8,9 @@ use Rattle.tw_chain.specs.declared.proof.LinkProof.{LinkProof}
 use Rattle.tw_chain.specs.declared.proof.Proof.TheVariants.{Linked}
 use Rattle.tw_script.specs.declared.line.Line.TheVariants.{Anchor}
 use Rattle.sha2.specs.Sha256.{sha256}
-use Rattle.tw_world.specs.Hosts.{Gives, claims_none}
-use Rattle.tw_world.specs.Players.{Follows, Plays, thread_of}
-use Rattle.tw_world.specs.Runs.{IsTold}
+use Rattle.tw_world.specs.Hosts.{GivesReply, claims_none}
+use Rattle.tw_world.specs.Players.{PlayerFollows, PlaysLine, thread_of_link}
+use Rattle.tw_world.specs.Runs.{IsLineTold}
 use Rattle.tw_world.specs.Worlds.{World, after_line, with_anchor}
 use Rattle.tw_world.specs.declared.told.Answer.TheVariants.{Done}
 use Rattle.tw_world.specs.declared.told.Told.{Told}
@@ -23,7 +23,7 @@ use Rattle.tw_world.proofs.player.Player.anchor.Goals as goal
 pub returns-in-Err : goal.returns-in-Err
 returns-in-Err c w f one =
     let given = c.in_ok-refusal.ensures w f in
-    let gives = subst (λ (r : Result (List ℕ) Refusal). Gives given.0.history (Link c.args.step None) r) c.in-Err.is given.2 in
+    let gives = subst (λ (r : Result (List ℕ) Refusal). GivesReply given.0.history (Link c.args.step None) r) c.in-Err.is given.2 in
     (after_line w, told-unanchored w c.args.service.now c.args.step given.0 given.1 one c.in-Err.refusal gives, later c.ask.new.self w given.3)
 
 pub returns-in-Ok : goal.returns-in-Ok
@@ -34,14 +34,14 @@ returns-in-Ok c =
     let name = c.args.service.now in
     let step = c.args.step in
     if-ok c.hold_linked.result
-    (λ (told : Told). (told ≡ Plain Done) × ((w : World) → Follows mid w → (link : LinkProof)
-    × Spells proof_layout c.as_slice.result.now (Linked link) × Follows new (after_line (with_anchor w (thread_of link)))))
-    (Plays c.args.self.now new (Anchor name step))
+    (λ (told : Told). (told ≡ Plain Done) × ((w : World) → PlayerFollows mid w → (link : LinkProof)
+    × Spells proof_layout c.as_slice.result.now (Linked link) × PlayerFollows new (after_line (with_anchor w (thread_of_link link)))))
+    (PlaysLine c.args.self.now new (Anchor name step))
     (λ told held w f one.
     let given = c.in_ok-refusal.ensures w f in
-    let gives = subst (λ (r : Result (List ℕ) Refusal). Gives given.0.history (Link step None) r) c.in-Ok.is given.2 in
+    let gives = subst (λ (r : Result (List ℕ) Refusal). GivesReply given.0.history (Link step None) r) c.in-Ok.is given.2 in
     let done = held.1 w given.3 in
     let spells = subst (λ b. Spells proof_layout b (Linked done.0)) c.as_slice.ensures done.1 in
-    let next : World = after_line (with_anchor w (thread_of done.0)) in
-    (next, subst (λ (t : Told). IsTold sha256 claims_none w (Anchor name step) t next) (sym held.0) (told-anchored w name step given.0 given.1 one bytes done.0 gives spells), done.2))
+    let next : World = after_line (with_anchor w (thread_of_link done.0)) in
+    (next, subst (λ (t : Told). IsLineTold sha256 claims_none w (Anchor name step) t next) (sym held.0) (told-anchored w name step given.0 given.1 one bytes done.0 gives spells), done.2))
     c.hold_linked.ensures

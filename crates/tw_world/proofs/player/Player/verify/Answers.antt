@@ -5,7 +5,7 @@ use Rattle.tw_base.specs.declared.history.thread.Thread.{Thread}
 use Rattle.tw_chain.specs.Reasons.{IsVerdict}
 use Rattle.tw_script.specs.declared.line.Line.TheVariants.{Verify}
 use Rattle.tw_world.specs.Hosts.{claims_none}
-use Rattle.tw_world.specs.Runs.{IsTold}
+use Rattle.tw_world.specs.Runs.{IsLineTold}
 use Rattle.tw_world.specs.Worlds.{after_line}
 use Rattle.tw_world.specs.declared.told.Answer.{Answer}
 use Rattle.tw_world.specs.declared.told.Told.TheVariants.{Plain}
@@ -26,6 +26,6 @@ returns c w f may =
     let is : IsVerdict sha256 w.anchors false bytes judged.0 =
     subst (λ b. IsVerdict sha256 w.anchors false b judged.0) c.as_slice.ensures
     (subst (λ (held : List Thread). IsVerdict sha256 held false c.as_slice.result.now judged.0) (c.deref.ensures.value ∙ f.anchors) judged.1) in
-    let told : IsTold sha256 claims_none w (Verify number) (Plain c.in_ok-answer.answer) (after_line w) =
-    subst (λ (a : Answer). IsTold sha256 claims_none w (Verify number) (Plain a) (after_line w)) (sym judged.2) (told-verified w number index bytes judged.0 at.1 there is) in
+    let told : IsLineTold sha256 claims_none w (Verify number) (Plain c.in_ok-answer.answer) (after_line w) =
+    subst (λ (a : Answer). IsLineTold sha256 claims_none w (Verify number) (Plain a) (after_line w)) (sym judged.2) (told-verified w number index bytes judged.0 at.1 there is) in
     (after_line w, told, later old w f)
