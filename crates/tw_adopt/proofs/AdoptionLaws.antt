@@ -1,5 +1,6 @@
 -- What the answer on proofs says of histories, and that no proof is good and has a fault.
-use Rattle.std.proofs.Common.{◌≡◌, ℕ, ◌+◌, ◌≤◌, List, [], ◌∷◌, ◌++◌, length, Bool, true, false, refl, ap, sym, ◌∙◌, subst, arith, inl, inr}
+use Rattle.std.proofs.Common.{◌≡◌, ℕ, ◌+◌, ◌≤◌, List, [], ◌∷◌, ◌++◌, length, Bool, true, false, refl, ap, sym, ◌∙◌}
+use Rattle.std.proofs.Common.{subst, arith, inl, inr}
 use Rattle.std.specs.Prelude.{Some, nat_lt, if◌then◌else◌, Result, Ok, Err, IfErr}
 use Rattle.std.specs.Str.{bytes_eq}
 use Rattle.std.proofs.lemmas.Bool.{false≢true}
@@ -32,7 +33,8 @@ use Rattle.tw_adopt.specs.declared.adopted.AdoptFault.{AdoptFault}
 use Rattle.tw_adopt.specs.declared.adopted.AdoptFault.TheVariants.{Part, Stranger, Differs, NoMemory}
 use Rattle.tw_adopt.specs.declared.adopted.Adopted.{Adopted}
 use Rattle.tw_adopt.specs.declared.receiving.Receiving.{Receiving}
-use Rattle.tw_adopt.specs.Adopting.{AreGood, IsAdoptFault, IsAdoption, IsFirstFault, IsGood, ShowsReceiving, adopted_by, further, furthest, receiving_of}
+use Rattle.tw_adopt.specs.Adopting.{AreGood, IsAdoptFault, IsAdoption, IsFirstFault, IsGood, ShowsReceiving, adopted_by}
+use Rattle.tw_adopt.specs.Adopting.{further, furthest, receiving_of}
 use Rattle.tw_adopt.specs.Binding.{AreSo, BindsAdoption, IsAdoptedKept, IsAdoptionShown, IsOnly, last_receiving}
 use Rattle.tw_adopt.specs.Hearing.{IsWeighed}
 use Rattle.tw_adopt.specs.Stops.{IsHistoryTaken}
@@ -41,14 +43,16 @@ use Rattle.tw_adopt.proofs.WeighingLaws.{within-some}
 -- ---- what a claim that shows something says of histories
 
 -- the parts of what is shown
-shown-parts : (service by : List ℕ) (entry : Entry) (r : Receiving) → receiving_of service (Archived by 0 entry) ≡ Some r
+shown-parts : (service by : List ℕ) (entry : Entry) (r : Receiving) → receiving_of service (Archived by 0 entry)
+    ≡ Some r
     → (entry.thread.from ≡ service) × (record { by = by; entry = entry } ≡ r)
 shown-parts service by entry r shown =
     let parts = cond_some (bytes_eq entry.thread.from service) (record { by = by; entry = entry }) r shown in
     ((bytes_eq-Decides entry.thread.from service).0 parts.0, parts.1)
 
 -- the thread that is shown is of the service
-shown-service : (service : List ℕ) (claim : Claim) (r : Receiving) → receiving_of service claim ≡ Some r → r.entry.thread.from ≡ service
+shown-service : (service : List ℕ) (claim : Claim) (r : Receiving) → receiving_of service claim ≡ Some r
+    → r.entry.thread.from ≡ service
 shown-service service (Archived by step entry) r shown =
     let parts = shown-parts service by entry r shown in
     ap (λ (q : Receiving). q.entry.thread.from) (sym parts.1) ∙ parts.0
@@ -58,7 +62,8 @@ shown-service service (Absent by step key) r shown = absurd (none-some r shown)
 shown-service service (Linked by step top auth_at) r shown = absurd (none-some r shown)
 
 -- and it was received, as is shown
-shown-received : (dig : List ℕ → List ℕ) (family : List History) (hops : List Hop) (service : List ℕ) (claim : Claim) (r : Receiving) → receiving_of service claim ≡ Some r
+shown-received : (dig : List ℕ → List ℕ) (family : List History) (hops : List Hop) (service : List ℕ) (claim : Claim)
+    (r : Receiving) → receiving_of service claim ≡ Some r
     → Facts dig family hops claim → WasReceived family r.by r.entry.archived r.entry
 shown-received dig family hops service (Archived by step entry) r shown fact =
     subst (λ (q : Receiving). WasReceived family q.by q.entry.archived q.entry) (shown-parts service by entry r shown).1
@@ -73,11 +78,13 @@ module _ (dig : List ℕ → List ℕ) (anchors : List Thread) (h : History) whe
   abbrev IsGoodOne : (proofs : List (List ℕ)) → Receiving → Type 0
   IsGoodOne proofs r = (bytes : List ℕ) × In bytes proofs × IsGood dig anchors h bytes r
 
-  one-behind : (bytes : List ℕ) (proofs : List (List ℕ)) (r : Receiving) → IsGoodOne proofs r → IsGoodOne (bytes ∷ proofs) r
+  one-behind : (bytes : List ℕ) (proofs : List (List ℕ)) (r : Receiving) → IsGoodOne proofs r
+      → IsGoodOne (bytes ∷ proofs) r
   one-behind bytes proofs r one = (one.0, inr one.1, one.2)
 
   -- the first so far, or one of those behind
-  furthest-one : (all proofs : List (List ℕ)) (first : Receiving) (rest : List Receiving) → IsGoodOne all first → ((r : Receiving) → IsGoodOne proofs r → IsGoodOne all r)
+  furthest-one : (all proofs : List (List ℕ)) (first : Receiving) (rest : List Receiving) → IsGoodOne all first
+      → ((r : Receiving) → IsGoodOne proofs r → IsGoodOne all r)
       → AreGood dig anchors h proofs rest → IsGoodOne all (furthest first rest)
   furthest-one all proofs first [] one behind good = one
   furthest-one all [] first (r ∷ rest) one behind good = absurd good
@@ -89,24 +96,35 @@ module _ (dig : List ℕ → List ℕ) (anchors : List Thread) (h : History) whe
       by true = behind r (bytes, inl refl, good.0)
       by false = one
 
-  good-one : (proofs : List (List ℕ)) (first : Receiving) (rest : List Receiving) → AreGood dig anchors h proofs (first ∷ rest) → IsGoodOne proofs (furthest first rest)
+  good-one : (proofs : List (List ℕ)) (first : Receiving) (rest : List Receiving) → AreGood dig anchors h proofs
+      (first ∷ rest) → IsGoodOne proofs (furthest first rest)
   good-one [] first rest good = absurd good
   good-one (bytes ∷ proofs) first rest good =
-      furthest-one (bytes ∷ proofs) proofs first rest (bytes, inl refl, good.0) (λ r found. one-behind bytes proofs r found) good.1
+      furthest-one (bytes ∷ proofs) proofs first rest (bytes, inl refl, good.0)
+      (λ r found. one-behind bytes proofs r found) good.1
 
   -- the receiving that is shown is that of the last step that is taken over
-  last-is : (r : Receiving) → r.entry.thread.from ≡ h.name → auth dig h r.entry.thread.step ≡ r.entry.thread.auth → r ≡ last_receiving dig h (adopted_by h r)
+  last-is : (r : Receiving) → r.entry.thread.from ≡ h.name → auth dig h r.entry.thread.step ≡ r.entry.thread.auth
+      → r ≡ last_receiving dig h (adopted_by h r)
   last-is r name held = λ i. record {
     by = r.by;
-    entry = record { thread = record { from = name i; step = r.entry.thread.step; auth = sym held i }; archived = r.entry.archived };
+    entry = record {
+      thread = record { from = name i; step = r.entry.thread.step; auth = sym held i };
+      archived = r.entry.archived;
+    };
   }
 
-  shown-of : (proofs : List (List ℕ)) (r : Receiving) → IsGoodOne proofs r → IsAdoptionShown dig h anchors proofs (adopted_by h r)
+  shown-of : (proofs : List (List ℕ)) (r : Receiving) → IsGoodOne proofs r → IsAdoptionShown dig h anchors proofs
+      (adopted_by h r)
   shown-of proofs r one =
       let shows : ShowsReceiving dig anchors h one.0 r = one.2.0 in
       let known = within-some dig h r.entry.thread.step r.entry.thread.auth one.2.1 in
       let last = last-is r (shown-service h.name (claim_of shows.0.0) r shows.1) known.1 in
-      record { bytes = one.0; among = one.1; shows = subst (λ (q : Receiving). ShowsReceiving dig anchors h one.0 q) last shows }
+      record {
+        bytes = one.0;
+        among = one.1;
+        shows = subst (λ (q : Receiving). ShowsReceiving dig anchors h one.0 q) last shows;
+      }
 
   module _ (size : (text : List ℕ) → length (dig text) ≡ 32) (are : (text : List ℕ) → AreBytes (dig text)) where
     so-of : (proofs : List (List ℕ)) → AreSo dig h anchors proofs
@@ -121,31 +139,41 @@ module _ (dig : List ℕ → List ℕ) (anchors : List Thread) (h : History) whe
       kept-of r within =
           let step : ℕ = r.entry.thread.step in
           let both = same-first_steps dig h step step (omega arith) within in
-          record { sound = sound-first_steps h step sound; last = length-take-le step h.steps within; same = both.0; auth_same = both.1 }
+          record {
+            sound = sound-first_steps h step sound;
+            last = length-take-le step h.steps within;
+            same = both.0;
+            auth_same = both.1;
+          }
 
       only-of : (r : Receiving) → r.entry.thread.step ≤ length h.steps → IsOnly dig h (adopted_by h r)
-      only-of r within = λ other sound_other its e. histories-same dig size are h other r.entry.thread.step sound sound_other within its (sym e)
+      only-of r within = λ other sound_other its e. histories-same dig size are h other r.entry.thread.step sound
+          sound_other within its (sym e)
 
       -- where the history is taken over, all of that is so
-      pub adoption-binds : (proofs : List (List ℕ)) (result : Result Adopted AdoptFault) → IsAdoption dig anchors h proofs result → BindsAdoption dig h anchors proofs result
+      pub adoption-binds : (proofs : List (List ℕ)) (result : Result Adopted AdoptFault) → IsAdoption dig anchors h
+          proofs result → BindsAdoption dig h anchors proofs result
       adoption-binds proofs (Err fault) is = tt
       adoption-binds proofs (Ok a) is =
           let r : Receiving = furthest is.0 is.1 in
           let one : IsGoodOne proofs r = good-one proofs is.0 is.1 is.2 in
           let within = (within-some dig h r.entry.thread.step r.entry.thread.auth one.2.1).0 in
-          subst (λ (b : Adopted). IsAdoptedKept dig h b × IsOnly dig h b × IsAdoptionShown dig h anchors proofs b × AreSo dig h anchors proofs) (sym is.3)
+          subst (λ (b : Adopted). IsAdoptedKept dig h b × IsOnly dig h b × IsAdoptionShown dig h anchors proofs b
+          × AreSo dig h anchors proofs) (sym is.3)
           (kept-of r within, only-of r within, shown-of proofs r one, so-of proofs)
 
   -- ---- the answer, by what was found
 
-  pub taken-answer : (proofs : List (List ℕ)) (t : Receiving) (result : Result Adopted AdoptFault) → IsWeighed dig anchors h proofs (Ok t) → IsHistoryTaken h t result → IsAdoption dig anchors h proofs result
+  pub taken-answer : (proofs : List (List ℕ)) (t : Receiving) (result : Result Adopted AdoptFault)
+      → IsWeighed dig anchors h proofs (Ok t) → IsHistoryTaken h t result → IsAdoption dig anchors h proofs result
   taken-answer proofs t (Ok a) weighed taken = (weighed.0, weighed.1, weighed.2, taken ∙ ap (adopted_by h) weighed.3)
   taken-answer proofs t (Err NoMemory) weighed taken = tt
   taken-answer proofs t (Err (Part number reason)) weighed taken = absurd taken
   taken-answer proofs t (Err (Stranger number)) weighed taken = absurd taken
   taken-answer proofs t (Err (Differs number step held found)) weighed taken = absurd taken
 
-  pub fault-answer : (proofs : List (List ℕ)) (fault : AdoptFault) → IsWeighed dig anchors h proofs (Err fault) → IsAdoption dig anchors h proofs (Err fault)
+  pub fault-answer : (proofs : List (List ℕ)) (fault : AdoptFault) → IsWeighed dig anchors h proofs (Err fault)
+      → IsAdoption dig anchors h proofs (Err fault)
   fault-answer proofs NoMemory weighed = tt
   fault-answer proofs (Part number reason) weighed = weighed
   fault-answer proofs (Stranger number) weighed = weighed
@@ -154,29 +182,38 @@ module _ (dig : List ℕ → List ℕ) (anchors : List Thread) (h : History) whe
   -- ---- no proof is good and has a fault
 
   -- bytes spell one proof, which tells one thing
-  one_told : (bytes : List ℕ) (one other : Accepts dig anchors bytes) → receiving_of h.name (claim_of one.0) ≡ receiving_of h.name (claim_of other.0)
+  one_told : (bytes : List ℕ) (one other : Accepts dig anchors bytes) → receiving_of h.name (claim_of one.0)
+      ≡ receiving_of h.name (claim_of other.0)
   one_told bytes one other =
-      ap (λ (p : Proof). receiving_of h.name (claim_of p)) ((unambiguous proof_codec proof-lawful).one_value bytes one.0 other.0 one.1 other.1)
+      ap (λ (p : Proof). receiving_of h.name (claim_of p)) ((unambiguous proof_codec proof-lawful).one_value bytes one.0
+      other.0 one.1 other.1)
 
-  one-apart : (number : ℕ) (bytes : List ℕ) (t : Receiving) (fault : AdoptFault) → IsGood dig anchors h bytes t → IsAdoptFault dig anchors h number bytes fault → ⊥
+  one-apart : (number : ℕ) (bytes : List ℕ) (t : Receiving) (fault : AdoptFault) → IsGood dig anchors h bytes t
+      → IsAdoptFault dig anchors h number bytes fault → ⊥
   one-apart number bytes t (Part n reason) good bad = let never = bad.1.0 good.0.0 in false≢true never.0
-  one-apart number bytes t (Stranger n) good bad = none-some t (sym bad.1.1 ∙ one_told bytes bad.1.0 good.0.0 ∙ good.0.1)
+  one-apart number bytes t (Stranger n) good bad = none-some t (sym bad.1.1 ∙ one_told bytes bad.1.0 good.0.0
+      ∙ good.0.1)
   one-apart number bytes t (Differs n step held found) good bad =
       let other = bad.1 in
-      let same : t ≡ other.shown = same_Some t other.shown (sym good.0.1 ∙ one_told bytes good.0.0 other.shows.0 ∙ other.shows.1) in
+      let same : t ≡ other.shown = same_Some t other.shown (sym good.0.1 ∙ one_told bytes good.0.0 other.shows.0
+      ∙ other.shows.1) in
       let there : auth_up_to dig h other.shown.entry.thread.step ≡ Some other.shown.entry.thread.auth =
       subst (λ (u : Receiving). auth_up_to dig h u.entry.thread.step ≡ Some u.entry.thread.auth) same good.1 in
-      other.differs (other.found_is ∙ ap (auth_up_to dig h) other.step_is ∙ there ∙ ap (λ (auth : List ℕ). Some auth) (sym other.held_is))
+      other.differs (other.found_is ∙ ap (auth_up_to dig h) other.step_is ∙ there ∙ ap (λ (auth : List ℕ). Some auth)
+      (sym other.held_is))
   one-apart number bytes t NoMemory good bad = bad
 
-  pub good-faultless : (number : ℕ) (proofs : List (List ℕ)) (told : List Receiving) (fault : AdoptFault) → AreGood dig anchors h proofs told → IsFirstFault dig anchors h number proofs fault → ⊥
+  pub good-faultless : (number : ℕ) (proofs : List (List ℕ)) (told : List Receiving) (fault : AdoptFault)
+      → AreGood dig anchors h proofs told → IsFirstFault dig anchors h number proofs fault → ⊥
   good-faultless number [] told fault good bad = bad
   good-faultless number (bytes ∷ proofs) [] fault good bad = good
   good-faultless number (bytes ∷ proofs) (t ∷ told) fault good (inl bad) = one-apart number bytes t fault good.0 bad
-  good-faultless number (bytes ∷ proofs) (t ∷ told) fault good (inr behind) = good-faultless (number + 1) proofs told fault good.1 behind.2
+  good-faultless number (bytes ∷ proofs) (t ∷ told) fault good (inr behind) = good-faultless (number + 1) proofs told
+      fault good.1 behind.2
 
   -- a fault that is answered, other than want of memory, is the first
-  pub complete : (proofs : List (List ℕ)) (result : Result Adopted AdoptFault) → ((fault : AdoptFault) → IsFirstFault dig anchors h 1 proofs fault → ⊥)
+  pub complete : (proofs : List (List ℕ)) (result : Result Adopted AdoptFault)
+      → ((fault : AdoptFault) → IsFirstFault dig anchors h 1 proofs fault → ⊥)
       → IsAdoption dig anchors h proofs result → IfErr result (λ fault. fault ≡ NoMemory)
   complete proofs (Ok a) none is = tt
   complete proofs (Err NoMemory) none is = refl
@@ -184,5 +221,6 @@ module _ (dig : List ℕ → List ℕ) (anchors : List Thread) (h : History) whe
   complete proofs (Err (Stranger number)) none is = absurd (none (Stranger number) is)
   complete proofs (Err (Differs number step held found)) none is = absurd (none (Differs number step held found) is)
 
-  pub refused : (proofs : List (List ℕ)) (fault : AdoptFault) (a : Adopted) → IsFirstFault dig anchors h 1 proofs fault → IsAdoption dig anchors h proofs (Ok a) → ⊥
+  pub refused : (proofs : List (List ℕ)) (fault : AdoptFault) (a : Adopted) → IsFirstFault dig anchors h 1 proofs fault
+      → IsAdoption dig anchors h proofs (Ok a) → ⊥
   refused proofs fault a bad is = good-faultless 1 proofs (is.0 ∷ is.1) fault is.2 bad

@@ -2,7 +2,8 @@
 use Rattle.std.proofs.Common.{◌≡◌, ◌∙◌, ℕ, List, refl, ap, sym, subst, arith, inl, inr}
 use Rattle.std.specs.Prelude.{Bool, Some}
 use Rattle.tw_base.specs.declared.history.report.Reason.{Reason}
-use Rattle.tw_base.specs.declared.history.report.Reason.TheVariants.{Malformed, BadOrder, NotHeld, BadPath, BadOpening, BadEvent, BadTree, Carried}
+use Rattle.tw_base.specs.declared.history.report.Reason.TheVariants.{Malformed, BadOrder, NotHeld, BadPath, BadOpening}
+use Rattle.tw_base.specs.declared.history.report.Reason.TheVariants.{BadEvent, BadTree, Carried}
 use Rattle.tw_base.specs.declared.history.thread.Key.{Key}
 use Rattle.tw_base.specs.declared.history.thread.Thread.{Thread}
 use Rattle.tw_base.specs.format.Formats.{Spells}
@@ -13,7 +14,8 @@ use Rattle.tw_chain.specs.Accepting.{named}
 use Rattle.tw_chain.specs.Proofs.{proof_layout}
 use Rattle.tw_chain.specs.Reasons.{IsLowest, Stands, first_not_held}
 
-numbers : (r s : Reason) → IsNoHigher r s → IsNoHigher s r → (reason_number r ≡ reason_number s) × (reason_place r ≡ reason_place s)
+numbers : (r s : Reason) → IsNoHigher r s → IsNoHigher s r → (reason_number r ≡ reason_number s)
+    × (reason_place r ≡ reason_place s)
 numbers r s (inl less) (inl more) = absurd (omega (arith, less, more))
 numbers r s (inl less) (inr same) = absurd (let equal = same.0 in omega (arith, less, equal))
 numbers r s (inr same) (inl more) = absurd (let equal = same.0 in omega (arith, more, equal))
@@ -31,7 +33,8 @@ module _ (dig : List ℕ → List ℕ) (anchors : List Thread) (strict : Bool) (
   not_held a i (inl none) = let is : NotHeld a i ≡ Malformed none.1.0 = none.1.2 in cc
   not_held a i (inr stands) = stands
 
-  key_once : (a b : List ℕ) (i j : ℕ) → Stands dig anchors strict bytes (NotHeld a i) → Stands dig anchors strict bytes (NotHeld b j) → NotHeld a i ≡ NotHeld b j
+  key_once : (a b : List ℕ) (i j : ℕ) → Stands dig anchors strict bytes (NotHeld a i) → Stands dig anchors strict bytes
+      (NotHeld b j) → NotHeld a i ≡ NotHeld b j
   key_once a b i j one other =
       let first = not_held a i one in
       let second = not_held b j other in
@@ -40,7 +43,8 @@ module _ (dig : List ℕ → List ℕ) (anchors : List Thread) (strict : Bool) (
       subst (λ (p : Proof). first_not_held anchors (named p) ≡ Some (key b j)) same second.2 in
       ap (λ (k : Key). NotHeld k.from k.step) (some_key (key a i) (key b j) (sym first.2 ∙ moved))
 
-  by_code : (r s : Reason) → Stands dig anchors strict bytes r → Stands dig anchors strict bytes s → reason_number r ≡ reason_number s
+  by_code : (r s : Reason) → Stands dig anchors strict bytes r → Stands dig anchors strict bytes s
+      → reason_number r ≡ reason_number s
       → reason_place r ≡ reason_place s → r ≡ s
   by_code (Malformed p) (Malformed q) one other number place = ap (λ (n : ℕ). Malformed n) place
   by_code BadOrder BadOrder one other number place = refl

@@ -1,5 +1,6 @@
 -- Two sound histories with one authenticator at a step are the same up to there, or two of their texts clash.
-use Rattle.std.proofs.Common.{◌≡◌, ℕ, suc, zero, ◌-◌, ◌<◌, ◌≤◌, ◌^◌, List, [], ◌++◌, length, get_or, drop, refl, ap, sym, ◌∙◌, subst, arith, inl, inr}
+use Rattle.std.proofs.Common.{◌≡◌, ℕ, suc, zero, ◌-◌, ◌<◌, ◌≤◌, ◌^◌, List, [], ◌++◌, length, get_or, drop, refl, ap}
+use Rattle.std.proofs.Common.{sym, ◌∙◌, subst, arith, inl, inr}
 use Rattle.std.specs.Prelude.{Option, Some, None, IfSome, map, option_and_then}
 use Rattle.std.specs.Option.{option_map}
 use Rattle.std.proofs.lemmas.Bool.{cases_lt}
@@ -23,7 +24,8 @@ use Rattle.tw_base.specs.kinds.Texts.{genesis_text}
 use Rattle.tw_base.proofs.lemmas.events.EventTrees.{length-event_root}
 use Rattle.tw_base.proofs.lemmas.history.Archives.{tree-has}
 use Rattle.tw_base.proofs.lemmas.history.ArchiveTexts.{tree_texts-within}
-use Rattle.tw_base.proofs.lemmas.history.Auths.{auth-suc, auths-at, has-auth_text, has-datum_text, has-event_text, has-link_text, label-at, link_texts-has, text_at}
+use Rattle.tw_base.proofs.lemmas.history.Auths.{auth-suc, auths-at, has-auth_text, has-datum_text, has-event_text}
+use Rattle.tw_base.proofs.lemmas.history.Auths.{has-link_text, label-at, link_texts-has, text_at}
 use Rattle.tw_base.proofs.lemmas.history.Plus.{tree-first}
 use Rattle.tw_base.proofs.lemmas.history.SoundEvents.{sound-may_record, sound-time}
 use Rattle.tw_base.proofs.lemmas.history.TextBytes.{history_texts-bytes}
@@ -42,7 +44,8 @@ abbrev with_content : Step → Content → Step
 with_content s c = record { content = c; time = s.time; fresh = s.fresh; root = s.root }
 
 -- two steps with one list of events and one thread, or none, record the same
-same_content : (s t : Step) → events_of (Some s) ≡ events_of (Some t) → thread_of (Some s) ≡ thread_of (Some t) → s.content ≡ t.content
+same_content : (s t : Step) → events_of (Some s) ≡ events_of (Some t) → thread_of (Some s) ≡ thread_of (Some t)
+    → s.content ≡ t.content
 same_content s t = by s.content t.content
   where
     by : (c d : Content) → events_of (Some (with_content s c)) ≡ events_of (Some (with_content t d))
@@ -53,16 +56,19 @@ same_content s t = by s.content t.content
     by (Received u) (Received v) events threads = ap (λ (w : Thread). Received w) (same_Some u v threads)
 
 -- the thread of an entry that a step archived
-thread-back : (k : ℕ) (o : Option Thread) → option_map (λ (e : Entry). e.thread) (option_and_then (λ (t : Thread). Some (record { thread = t; archived = k })) o) ≡ o
+thread-back : (k : ℕ) (o : Option Thread) → option_map (λ (e : Entry). e.thread)
+    (option_and_then (λ (t : Thread). Some (record { thread = t; archived = k })) o) ≡ o
 thread-back k None = refl
 thread-back k (Some t) = refl
 
 threads-same : (g h : History) (k : ℕ) → entry_at g k ≡ entry_at h k → thread_of (step_at g k) ≡ thread_of (step_at h k)
 threads-same g h k same =
-    sym (thread-back k (thread_of (step_at g k))) ∙ ap (option_map (λ (e : Entry). e.thread)) same ∙ thread-back k (thread_of (step_at h k))
+    sym (thread-back k (thread_of (step_at g k))) ∙ ap (option_map (λ (e : Entry). e.thread)) same ∙ thread-back k
+    (thread_of (step_at h k))
 
 -- the step behind i others, which both have
-contents-same : (g h : History) (i : ℕ) → i < length g.steps → i < length h.steps → events_at g (suc i) ≡ events_at h (suc i)
+contents-same : (g h : History) (i : ℕ) → i < length g.steps → i < length h.steps → events_at g (suc i) ≡ events_at h
+    (suc i)
     → thread_of (step_at g (suc i)) ≡ thread_of (step_at h (suc i)) → content_at g (suc i) ≡ content_at h (suc i)
 contents-same g h i in_g in_h events threads =
     elim ((slice_get_cases g.steps i).1) [
@@ -72,21 +78,26 @@ contents-same g h i in_g in_h events threads =
         | inl t ↦ (
             let here : step_at g (suc i) ≡ Some s.0 = s.2 in
             let there : step_at h (suc i) ≡ Some t.0 = t.2 in
-            let recorded = same_content s.0 t.0 (sym (ap events_of here) ∙ events ∙ ap events_of there) (sym (ap thread_of here) ∙ threads ∙ ap thread_of there) in
-            ap (option_map (λ (r : Step). r.content)) here ∙ ap (λ (c : Content). Some c) recorded ∙ sym (ap (option_map (λ (r : Step). r.content)) there))
+            let recorded = same_content s.0 t.0 (sym (ap events_of here) ∙ events ∙ ap events_of there)
+            (sym (ap thread_of here) ∙ threads ∙ ap thread_of there) in
+            ap (option_map (λ (r : Step). r.content)) here ∙ ap (λ (c : Content). Some c) recorded
+            ∙ sym (ap (option_map (λ (r : Step). r.content)) there))
       ]
     ]
 
 -- what one history's step received is in its archive, so in the other's, and was received there by the same step
-received-there : (g h : History) (k : ℕ) → IsSound g → k ≤ length g.steps → tree g k ≡ tree h k → (e : Entry) → entry_at g k ≡ Some e → entry_at h k ≡ Some e
+received-there : (g h : History) (k : ℕ) → IsSound g → k ≤ length g.steps → tree g k ≡ tree h k → (e : Entry)
+    → entry_at g k ≡ Some e → entry_at h k ≡ Some e
 received-there g h k sound within same e at =
     let mine : In e (entries (tree g k)) = tree-has g sound k k e within (omega arith) at in
-    let theirs : IsArchived h k e = Each-in (IsArchived h k) (entries (tree h k)) e (tree-archived h k) (subst (λ t. In e (entries t)) same mine) in
+    let theirs : IsArchived h k e = Each-in (IsArchived h k) (entries (tree h k)) e (tree-archived h k)
+    (subst (λ t. In e (entries t)) same mine) in
     let own = entry_at-parts g k e at in
     let its = entry_at-parts h theirs.0 e theirs.2 in
     subst (λ n. entry_at h n ≡ Some e) (its.0 ∙ sym own.0) theirs.2
 
-entries-same : (g h : History) (k : ℕ) → IsSound g → IsSound h → k ≤ length g.steps → k ≤ length h.steps → tree g k ≡ tree h k → entry_at g k ≡ entry_at h k
+entries-same : (g h : History) (k : ℕ) → IsSound g → IsSound h → k ≤ length g.steps → k ≤ length h.steps
+    → tree g k ≡ tree h k → entry_at g k ≡ entry_at h k
 entries-same g h k sound_g sound_h in_g in_h same = by (entry_at g k) (entry_at h k) refl refl
   where
     by : (o p : Option Entry) → entry_at g k ≡ o → entry_at h k ≡ p → o ≡ p
@@ -127,7 +138,8 @@ same_first g h name = record {
     bare (suc j) within = absurd (omega (arith, within))
 
 same_more : (g h : History) (i : ℕ) → i < length g.steps → i < length h.steps → Same g h i
-    → content_at g (suc i) ≡ content_at h (suc i) → time_at g (suc i) ≡ time_at h (suc i) → tree g (suc i) ≡ tree h (suc i) → Same g h (suc i)
+    → content_at g (suc i) ≡ content_at h (suc i) → time_at g (suc i) ≡ time_at h (suc i) → tree g (suc i) ≡ tree h
+    (suc i) → Same g h (suc i)
 same_more g h i in_g in_h before content time archive = record {
   name = before.name;
   has = omega (arith, in_g);
@@ -169,7 +181,8 @@ module _ (dig : List ℕ → List ℕ) where
   abbrev first_text : History → ℕ → List ℕ
   first_text f i = text_at dig (dig (datum_text_at dig f (suc i))) (auths dig f i) (suc i) 0
 
-  first-label : (f : History) (i : ℕ) → get_or (map dig (link_texts_at dig f (auths dig f i) (suc i))) 0 [] ≡ dig (first_text f i)
+  first-label : (f : History) (i : ℕ) → get_or (map dig (link_texts_at dig f (auths dig f i) (suc i))) 0 [] ≡ dig
+      (first_text f i)
   first-label f i = label-at dig _ _ (suc i) 0 (suc (top_level (suc i))) (omega arith)
 
   first-among : (f : History) (i : ℕ) → Among (first_text f i) (link_texts_at dig f (auths dig f i) (suc i))
@@ -180,12 +193,14 @@ module _ (dig : List ℕ → List ℕ) where
       let back : suc i - 1 ≡ i = omega arith in
       ap (λ n. get_or (auths dig f i) n []) back ∙ auths-at dig f i i (omega arith)
 
-  module _ (size : (text : List ℕ) → length (dig text) ≡ 32) (are : (text : List ℕ) → AreBytes (dig text)) (g h : History) (sound_g : IsSound g) (sound_h : IsSound h) where
+  module _ (size : (text : List ℕ) → length (dig text) ≡ 32) (are : (text : List ℕ) → AreBytes (dig text))
+      (g h : History) (sound_g : IsSound g) (sound_h : IsSound h) where
     abbrev texts : List (List ℕ)
     texts = history_texts dig g ++ history_texts dig h
 
     texts-are : Each AreBytes texts
-    texts-are = Each-append AreBytes (history_texts dig g) (history_texts dig h) (history_texts-bytes dig size are g sound_g) (history_texts-bytes dig size are h sound_h)
+    texts-are = Each-append AreBytes (history_texts dig g) (history_texts dig h)
+        (history_texts-bytes dig size are g sound_g) (history_texts-bytes dig size are h sound_h)
 
     of_g : Within (history_texts dig g) texts
     of_g text a = Among-left text (history_texts dig g) (history_texts dig h) a
@@ -196,31 +211,41 @@ module _ (dig : List ℕ → List ℕ) where
     -- the datum of both at step i + 1, and their authenticators at step i
     record StepBinds (i : ℕ) : Type 0 where
       datum :
-          SameDatum (event_root dig (events_at g (suc i))) (tree_label dig (tree g (suc i))) (length (events_at g (suc i))) (time_at g (suc i))
-          (event_root dig (events_at h (suc i))) (tree_label dig (tree h (suc i))) (length (events_at h (suc i))) (time_at h (suc i))
+          SameDatum (event_root dig (events_at g (suc i))) (tree_label dig (tree g (suc i)))
+          (length (events_at g (suc i))) (time_at g (suc i))
+          (event_root dig (events_at h (suc i))) (tree_label dig (tree h (suc i))) (length (events_at h (suc i)))
+          (time_at h (suc i))
       before : auth dig g i ≡ auth dig h i
 
     same_datum : (i : ℕ) → datum_text_at dig g (suc i) ≡ datum_text_at dig h (suc i)
-        → SameDatum (event_root dig (events_at g (suc i))) (tree_label dig (tree g (suc i))) (length (events_at g (suc i))) (time_at g (suc i))
-        (event_root dig (events_at h (suc i))) (tree_label dig (tree h (suc i))) (length (events_at h (suc i))) (time_at h (suc i))
+        → SameDatum (event_root dig (events_at g (suc i))) (tree_label dig (tree g (suc i)))
+        (length (events_at g (suc i))) (time_at g (suc i))
+        (event_root dig (events_at h (suc i))) (tree_label dig (tree h (suc i))) (length (events_at h (suc i)))
+        (time_at h (suc i))
     unfolding datum_text_at
     same_datum i e =
-        datum-fields _ _ _ _ _ _ (length-event_root dig size _ ∙ sym (length-event_root dig size _)) (tree_label-size dig size _ ∙ sym (tree_label-size dig size _))
-        (few_events g i sound_g) (few_events h i sound_h) (time_at g (suc i)) (time_at h (suc i)) (small_time g i sound_g) (small_time h i sound_h) e
+        datum-fields _ _ _ _ _ _ (length-event_root dig size _ ∙ sym (length-event_root dig size _))
+        (tree_label-size dig size _ ∙ sym (tree_label-size dig size _))
+        (few_events g i sound_g) (few_events h i sound_h) (time_at g (suc i)) (time_at h (suc i))
+        (small_time g i sound_g) (small_time h i sound_h) e
 
-    step-binds : (i : ℕ) → i < length g.steps → i < length h.steps → auth dig g (suc i) ≡ auth dig h (suc i) → OrClash dig texts (StepBinds i)
+    step-binds : (i : ℕ) → i < length g.steps → i < length h.steps → auth dig g (suc i) ≡ auth dig h (suc i)
+        → OrClash dig texts (StepBinds i)
     step-binds i in_g in_h e =
         let own : List (List ℕ) = map dig (link_texts_at dig g (auths dig g i) (suc i)) in
         let its : List (List ℕ) = map dig (link_texts_at dig h (auths dig h i) (suc i)) in
         and_then dig texts _ _
-        (same_text dig texts texts-are (auth_text dig g (auths dig g i) (suc i)) (auth_text dig h (auths dig h i) (suc i))
+        (same_text dig texts texts-are (auth_text dig g (auths dig g i) (suc i))
+        (auth_text dig h (auths dig h i) (suc i))
         (of_g _ (has-auth_text dig g i in_g)) (of_h _ (has-auth_text dig h i in_h))
         (sym (auth-suc dig g i) ∙ e ∙ auth-suc dig h i))
         (λ same_auth.
-        let labels : own ≡ its = authenticator-fields (suc i) own its (map-digests dig size are _) (map-digests dig size are _) same_auth in
+        let labels : own ≡ its = authenticator-fields (suc i) own its (map-digests dig size are _)
+        (map-digests dig size are _) same_auth in
         and_then dig texts _ _
         (same_text dig texts texts-are (first_text g i) (first_text h i)
-        (of_g _ (has-link_text dig g _ i in_g (first-among g i))) (of_h _ (has-link_text dig h _ i in_h (first-among h i)))
+        (of_g _ (has-link_text dig g _ i in_g (first-among g i)))
+        (of_h _ (has-link_text dig h _ i in_h (first-among h i)))
         (sym (first-label g i) ∙ ap (λ ls. get_or ls 0 []) labels ∙ first-label h i))
         (λ same_link.
         let link = link-fields (suc i) 0 _ _ _ _ (size _ ∙ sym (size _)) same_link in
@@ -230,23 +255,31 @@ module _ (dig : List ℕ → List ℕ) where
         (λ same. inl (record { datum = same_datum i same; before = sym (before-is g i) ∙ link.1 ∙ before-is h i }))))
 
     -- step i + 1, where both are the same up to step i
-    step-same : (i : ℕ) → i < length g.steps → i < length h.steps → StepBinds i → Same g h i → OrClash dig texts (Same g h (suc i))
+    step-same : (i : ℕ) → i < length g.steps → i < length h.steps → StepBinds i → Same g h i
+        → OrClash dig texts (Same g h (suc i))
     step-same i in_g in_h binds before =
         and_then dig texts _ _
-        (events-same dig size texts texts-are (events_at g (suc i)) (events_at h (suc i)) binds.datum.count binds.datum.event_root
-        (λ text a. of_g text (has-event_text dig g text i in_g a)) (λ text a. of_h text (has-event_text dig h text i in_h a)))
+        (events-same dig size texts texts-are (events_at g (suc i)) (events_at h (suc i)) binds.datum.count
+        binds.datum.event_root
+        (λ text a. of_g text (has-event_text dig g text i in_g a))
+        (λ text a. of_h text (has-event_text dig h text i in_h a)))
         (λ events. and_then dig texts _ _
-        (trees-same dig size texts texts-are (tree g (suc i)) (tree h (suc i)) (tree-rising g sound_g (suc i)).fits (tree-rising h sound_h (suc i)).fits
-        (λ text a. of_g text (tree_texts-within dig g (suc i) (omega (arith, in_g)) text a)) (λ text a. of_h text (tree_texts-within dig h (suc i) (omega (arith, in_h)) text a))
+        (trees-same dig size texts texts-are (tree g (suc i)) (tree h (suc i)) (tree-rising g sound_g (suc i)).fits
+        (tree-rising h sound_h (suc i)).fits
+        (λ text a. of_g text (tree_texts-within dig g (suc i) (omega (arith, in_g)) text a))
+        (λ text a. of_h text (tree_texts-within dig h (suc i) (omega (arith, in_h)) text a))
         binds.datum.archive_root)
         (λ archive.
         let entry = entries-same g h (suc i) sound_g sound_h (omega (arith, in_g)) (omega (arith, in_h)) archive in
-        inl (same_more g h i in_g in_h before (contents-same g h i in_g in_h events (threads-same g h (suc i) entry)) binds.datum.time archive)))
+        inl (same_more g h i in_g in_h before (contents-same g h i in_g in_h events (threads-same g h (suc i) entry))
+        binds.datum.time archive)))
 
-    same-to : (i : ℕ) → i ≤ length g.steps → i ≤ length h.steps → auth dig g i ≡ auth dig h i → OrClash dig texts (Same g h i)
+    same-to : (i : ℕ) → i ≤ length g.steps → i ≤ length h.steps → auth dig g i ≡ auth dig h i
+        → OrClash dig texts (Same g h i)
     same-to zero in_g in_h e =
         and_then dig texts _ _
-        (same_text dig texts texts-are (genesis_text g.name) (genesis_text h.name) (of_g _ (has-name_text g)) (of_h _ (has-name_text h))
+        (same_text dig texts texts-are (genesis_text g.name) (genesis_text h.name) (of_g _ (has-name_text g))
+        (of_h _ (has-name_text h))
         (sym (auth-first g) ∙ e ∙ auth-first h))
         (λ same. inl (same_first g h (genesis-name g.name h.name same)))
     same-to (suc i) in_g in_h e =
@@ -255,6 +288,8 @@ module _ (dig : List ℕ → List ℕ) where
         (λ before. step-same i (omega (arith, in_g)) (omega (arith, in_h)) binds before))
 
   -- one authenticator stands for one history up to its step
-  pub histories-same : (size : (text : List ℕ) → length (dig text) ≡ 32) (are : (text : List ℕ) → AreBytes (dig text)) (g h : History) (step : ℕ) → IsSound g → IsSound h
-      → step ≤ length g.steps → step ≤ length h.steps → auth dig g step ≡ auth dig h step → OrClash dig (history_texts dig g ++ history_texts dig h) (Same g h step)
+  pub histories-same : (size : (text : List ℕ) → length (dig text) ≡ 32) (are : (text : List ℕ) → AreBytes (dig text))
+      (g h : History) (step : ℕ) → IsSound g → IsSound h
+      → step ≤ length g.steps → step ≤ length h.steps → auth dig g step ≡ auth dig h step
+      → OrClash dig (history_texts dig g ++ history_texts dig h) (Same g h step)
   histories-same size are g h step sound_g sound_h in_g in_h e = same-to size are g h sound_g sound_h step in_g in_h e

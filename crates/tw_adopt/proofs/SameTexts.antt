@@ -1,5 +1,6 @@
 -- Lists of events with one root, and trees with one label, are the same, or two texts clash.
-use Rattle.std.proofs.Common.{◌≡◌, ℕ, ◌-◌, ◌<◌, ◌≤◌, List, [], ◌∷◌, ◌++◌, length, get_or, drop, refl, ap, sym, ◌∙◌, arith, inl}
+use Rattle.std.proofs.Common.{◌≡◌, ℕ, ◌-◌, ◌<◌, ◌≤◌, List, [], ◌∷◌, ◌++◌, length, get_or, drop, refl, ap, sym, ◌∙◌}
+use Rattle.std.proofs.Common.{arith, inl}
 use Rattle.std.specs.Int.{w64, to_be_bytes, from_be_bytes}
 use Rattle.std.proofs.lemmas.List.{take-append-drop}
 use Rattle.std.proofs.lemmas.Nat.{from_be_bytes-to_be_bytes_8}
@@ -14,7 +15,9 @@ use Rattle.tw_base.specs.kinds.Bytes.{AreBytes}
 use Rattle.tw_base.specs.kinds.Clash.{OrClash, Within}
 use Rattle.tw_base.specs.kinds.Lists.{Each}
 use Rattle.tw_base.specs.kinds.Texts.{empty_tree_text, event_leaf_text, event_node_text, tree_node_text}
-use Rattle.tw_base.proofs.lemmas.events.EventTrees.{by_halves, event_root-more, event_root-one, event_texts-leaf, event_texts-left, event_texts-right, event_texts-top, length-event_root, length-left_half, length-right_half}
+use Rattle.tw_base.proofs.lemmas.events.EventTrees.{by_halves, event_root-more, event_root-one, event_texts-leaf}
+use Rattle.tw_base.proofs.lemmas.events.EventTrees.{event_texts-left, event_texts-right, event_texts-top}
+use Rattle.tw_base.proofs.lemmas.events.EventTrees.{length-event_root, length-left_half, length-right_half}
 use Rattle.tw_base.proofs.lemmas.kinds.Clashes.{Among-left, Among-right, and_then, same_text}
 use Rattle.tw_base.proofs.lemmas.kinds.ListLemmas.{Each-parts}
 use Rattle.tw_base.proofs.lemmas.kinds.Sizes.{tree_label-size}
@@ -24,11 +27,13 @@ use Rattle.tw_base.proofs.lemmas.kinds.TextFields.{halves, leaf-fields, node-fie
 whole : (xs ys : List (List ℕ)) → left_half xs ≡ left_half ys → right_half xs ≡ right_half ys → xs ≡ ys
 whole xs ys one other =
     let halves_same : left_half xs ++ right_half xs ≡ left_half ys ++ right_half ys = λ i. one i ++ other i in
-    sym (take-append-drop (largest_power_below (length xs)) xs) ∙ halves_same ∙ take-append-drop (largest_power_below (length ys)) ys
+    sym (take-append-drop (largest_power_below (length xs)) xs) ∙ halves_same ∙ take-append-drop
+    (largest_power_below (length ys)) ys
 
 -- ---- the fields of equal texts of nodes
 
-same_entry : (e f : Entry) → e.thread.from ≡ f.thread.from → e.thread.step ≡ f.thread.step → e.thread.auth ≡ f.thread.auth → e.archived ≡ f.archived → e ≡ f
+same_entry : (e f : Entry) → e.thread.from ≡ f.thread.from → e.thread.step ≡ f.thread.step
+    → e.thread.auth ≡ f.thread.auth → e.archived ≡ f.archived → e ≡ f
 same_entry e f n s a r = λ i. record { thread = record { from = n i; step = s i; auth = a i }; archived = r i }
 
 record SameNode (l : List ℕ) (e : Entry) (r : List ℕ) (l' : List ℕ) (e' : Entry) (r' : List ℕ) : Type 0 where
@@ -36,7 +41,8 @@ record SameNode (l : List ℕ) (e : Entry) (r : List ℕ) (l' : List ℕ) (e' : 
   entry : e ≡ e'
   right : r ≡ r'
 
-tree_node-fields : (l r l' r' : List ℕ) (e e' : Entry) → length l ≡ length l' → IsFit e → IsFit e' → entry_text l e r ≡ entry_text l' e' r' → SameNode l e r l' e' r'
+tree_node-fields : (l r l' r' : List ℕ) (e e' : Entry) → length l ≡ length l' → IsFit e → IsFit e'
+    → entry_text l e r ≡ entry_text l' e' r' → SameNode l e r l' e' r'
 unfolding tree_node_text
 tree_node-fields l r l' r' e e' n f g same =
     let one = halves l l' _ _ n (ap (drop 1) same) in
@@ -44,8 +50,10 @@ tree_node-fields l r l' r' e e' n f g same =
     let three = halves (to_be_bytes w64 e.thread.step) (to_be_bytes w64 e'.thread.step) _ _ refl two.1 in
     let four = halves e.thread.auth e'.thread.auth _ _ (f.auth.0 ∙ sym g.auth.0) three.1 in
     let five = halves (to_be_bytes w64 e.archived) (to_be_bytes w64 e'.archived) _ _ refl four.1 in
-    let step : e.thread.step ≡ e'.thread.step = sym (from_be_bytes-to_be_bytes_8 e.thread.step f.step) ∙ ap (from_be_bytes w64) three.0 ∙ from_be_bytes-to_be_bytes_8 e'.thread.step g.step in
-    let archived : e.archived ≡ e'.archived = sym (from_be_bytes-to_be_bytes_8 e.archived f.archived) ∙ ap (from_be_bytes w64) five.0 ∙ from_be_bytes-to_be_bytes_8 e'.archived g.archived in
+    let step : e.thread.step ≡ e'.thread.step = sym (from_be_bytes-to_be_bytes_8 e.thread.step f.step)
+    ∙ ap (from_be_bytes w64) three.0 ∙ from_be_bytes-to_be_bytes_8 e'.thread.step g.step in
+    let archived : e.archived ≡ e'.archived = sym (from_be_bytes-to_be_bytes_8 e.archived f.archived)
+    ∙ ap (from_be_bytes w64) five.0 ∙ from_be_bytes-to_be_bytes_8 e'.archived g.archived in
     record { left = one.0; entry = same_entry e e' two.0 step four.0 archived; right = five.1 }
 
 -- a node's text is none of the empty tree
@@ -53,7 +61,8 @@ not_empty : (l r : List ℕ) (e : Entry) → empty_tree_text ≡ entry_text l e 
 unfolding empty_tree_text tree_node_text
 not_empty l r e same = let never : 0x14 ≡ 0x15 = ap (λ t. get_or t 0 0) same in absurd (omega (arith, never))
 
-module _ (dig : List ℕ → List ℕ) (size : (text : List ℕ) → length (dig text) ≡ 32) (texts : List (List ℕ)) (are : Each AreBytes texts) where
+module _ (dig : List ℕ → List ℕ) (size : (text : List ℕ) → length (dig text) ≡ 32) (texts : List (List ℕ))
+    (are : Each AreBytes texts) where
   -- ---- events
 
   Alike : ℕ → Type 0
@@ -67,7 +76,8 @@ module _ (dig : List ℕ → List ℕ) (size : (text : List ℕ) → length (dig
   few n one (x ∷ []) [] m k e p q = absurd (omega (arith, m, k))
   few n one (x ∷ []) (y ∷ []) m k e p q =
       and_then dig texts (event_leaf_text x ≡ event_leaf_text y) (x ∷ [] ≡ y ∷ [])
-      (same_text dig texts are (event_leaf_text x) (event_leaf_text y) (p _ (event_texts-leaf dig x)) (q _ (event_texts-leaf dig y))
+      (same_text dig texts are (event_leaf_text x) (event_leaf_text y) (p _ (event_texts-leaf dig x))
+      (q _ (event_texts-leaf dig y))
       (sym (event_root-one dig x) ∙ e ∙ event_root-one dig y))
       (λ same. inl (ap (λ (z : List ℕ). z ∷ []) (leaf-fields x y same)))
   few n one (x ∷ []) (y ∷ z ∷ ys) m k e p q = absurd (omega (arith, one, k))
@@ -90,13 +100,17 @@ module _ (dig : List ℕ → List ℕ) (size : (text : List ℕ) → length (dig
       (same_text dig texts are top_x top_y (p _ (event_texts-top dig xs more_x)) (q _ (event_texts-top dig ys more_y))
       (sym (event_root-more dig xs more_x) ∙ e ∙ event_root-more dig ys more_y))
       (λ one_text.
-      let roots = node-fields _ _ _ _ (length-event_root dig size (left_half xs) ∙ sym (length-event_root dig size (left_half ys))) one_text in
+      let roots = node-fields _ _ _ _ (length-event_root dig size (left_half xs)
+      ∙ sym (length-event_root dig size (left_half ys))) one_text in
       and_then dig texts (left_half xs ≡ left_half ys) (xs ≡ ys)
-      (left (left_half xs) (left_half ys) (length-left_half xs more_x ∙ same_x) (length-left_half ys more_y ∙ same_y) roots.0
-      (λ text a. p text (event_texts-left dig xs more_x text a)) (λ text a. q text (event_texts-left dig ys more_y text a)))
+      (left (left_half xs) (left_half ys) (length-left_half xs more_x ∙ same_x) (length-left_half ys more_y ∙ same_y)
+      roots.0
+      (λ text a. p text (event_texts-left dig xs more_x text a))
+      (λ text a. q text (event_texts-left dig ys more_y text a)))
       (λ one. and_then dig texts (right_half xs ≡ right_half ys) (xs ≡ ys)
       (right (right_half xs) (right_half ys) rest_x rest_y roots.1
-      (λ text a. p text (event_texts-right dig xs more_x text a)) (λ text a. q text (event_texts-right dig ys more_y text a)))
+      (λ text a. p text (event_texts-right dig xs more_x text a))
+      (λ text a. q text (event_texts-right dig ys more_y text a)))
       (λ other. inl (whole xs ys one other))))
 
   -- as many events with one root are the same
@@ -108,7 +122,8 @@ module _ (dig : List ℕ → List ℕ) (size : (text : List ℕ) → length (dig
   -- ---- trees
 
   -- trees with one label are the same
-  pub trees-same : (t u : Tree) → Each IsFit (entries t) → Each IsFit (entries u) → Within (tree_texts dig t) texts → Within (tree_texts dig u) texts
+  pub trees-same : (t u : Tree) → Each IsFit (entries t) → Each IsFit (entries u) → Within (tree_texts dig t) texts
+      → Within (tree_texts dig u) texts
       → tree_label dig t ≡ tree_label dig u → OrClash dig texts (t ≡ u)
   unfolding tree_label tree_texts
   trees-same Empty Empty f g p q e = inl refl
@@ -132,9 +147,11 @@ module _ (dig : List ℕ → List ℕ) (size : (text : List ℕ) → length (dig
       (p _ (Among-right _ (tree_texts dig l) _ (Among-right _ (tree_texts dig r) _ (inl refl))))
       (q _ (Among-right _ (tree_texts dig m) _ (Among-right _ (tree_texts dig s) _ (inl refl)))) e)
       (λ same.
-      let fields = tree_node-fields _ _ _ _ x y (tree_label-size dig size l ∙ sym (tree_label-size dig size m)) fit.1.0 fit'.1.0 same in
+      let fields = tree_node-fields _ _ _ _ x y (tree_label-size dig size l ∙ sym (tree_label-size dig size m)) fit.1.0
+      fit'.1.0 same in
       and_then dig texts (l ≡ m) (Branch l x r ≡ Branch m y s)
-      (trees-same l m fit.0 fit'.0 (λ text a. p text (Among-left text (tree_texts dig l) _ a)) (λ text a. q text (Among-left text (tree_texts dig m) _ a)) fields.left)
+      (trees-same l m fit.0 fit'.0 (λ text a. p text (Among-left text (tree_texts dig l) _ a))
+      (λ text a. q text (Among-left text (tree_texts dig m) _ a)) fields.left)
       (λ left. and_then dig texts (r ≡ s) (Branch l x r ≡ Branch m y s)
       (trees-same r s fit.1.1 fit'.1.1
       (λ text a. p text (Among-right text (tree_texts dig l) _ (Among-left text (tree_texts dig r) _ a)))

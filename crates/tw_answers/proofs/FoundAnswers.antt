@@ -22,7 +22,8 @@ same_sort list.DiskFault = refl
 same_sort list.NoMemory = refl
 
 -- one that isn't of the arguments is a fault of the service
-pub fault_own : {T : Type 0} (result : Result T Refusal) (fault : ListFault) → IsErrAnd result (λ r. r ≡ list_refusal fault) → IsShared (list_faults fault) → IfErr result (λ r. IsFault r ⊎ IsNoEvent r)
+pub fault_own : {T : Type 0} (result : Result T Refusal) (fault : ListFault) → IsErrAnd result
+    (λ r. r ≡ list_refusal fault) → IsShared (list_faults fault) → IfErr result (λ r. IsFault r ⊎ IsNoEvent r)
 fault_own (Ok x) fault is shared = absurd is
 fault_own (Err r) fault is shared = inl (subst IsFault (sym is) (of fault shared))
   where
@@ -39,55 +40,69 @@ of_disk _ is = absurd cc
 
 module _ {X Y : Type 0} where
   -- a bad page ends the reading
-  pub page_on : (refusal : Refusal) (one : Found X) (next : X → Found Y) → OfBadPage refusal (λ page. one ≡ Bad page) → OfBadPage refusal (λ page. (one >>= next) ≡ Bad page)
+  pub page_on : (refusal : Refusal) (one : Found X) (next : X → Found Y) → OfBadPage refusal (λ page. one ≡ Bad page)
+      → OfBadPage refusal (λ page. (one >>= next) ≡ Bad page)
   page_on (BadPage page) one next bad = ap (λ (f : Found X). f >>= next) bad
   page_on _ one next bad = tt
 
 module _ {X : Type 0} where
   -- the page of a fault
-  pub page_found : (fault : ListFault) (refusal : Refusal) (found : Found X) → refusal ≡ list_refusal fault → SaysOf list_faults (list_faults fault) found → OfBadPage refusal (λ page. found ≡ Bad page)
-  page_found fault refusal found is there = subst (λ (r : Refusal). OfBadPage r (λ page. found ≡ Bad page)) (sym is) (of fault there)
+  pub page_found : (fault : ListFault) (refusal : Refusal) (found : Found X) → refusal ≡ list_refusal fault
+      → SaysOf list_faults (list_faults fault) found → OfBadPage refusal (λ page. found ≡ Bad page)
+  page_found fault refusal found is there = subst (λ (r : Refusal). OfBadPage r (λ page. found ≡ Bad page)) (sym is)
+      (of fault there)
     where
-      of : (f : ListFault) → SaysOf list_faults (list_faults f) found → OfBadPage (list_refusal f) (λ page. found ≡ Bad page)
+      of : (f : ListFault) → SaysOf list_faults (list_faults f) found → OfBadPage (list_refusal f)
+          (λ page. found ≡ Bad page)
       of (list.BadPage page) there = there
       of _ there = tt
 
   -- a bad page where a value is found
-  pub no_bad_page : (refusal : Refusal) (found : Found X) (x : X) → found ≡ Is x → OfBadPage refusal (λ page. found ≡ Bad page) → IsBadPageRefusal refusal → ⊥
+  pub no_bad_page : (refusal : Refusal) (found : Found X) (x : X) → found ≡ Is x
+      → OfBadPage refusal (λ page. found ≡ Bad page) → IsBadPageRefusal refusal → ⊥
   no_bad_page (BadPage page) found x is bad fault = let both : Is x ≡ Bad page = sym is ∙ bad in cc
   no_bad_page _ found x is bad fault = fault
 
   -- ---- refusals
 
   -- a refusal of a table
-  pub table_found : (refusal : Refusal) (found : Found (Result X Refusal)) → (IsFault refusal → ⊥) → found ≡ Is (Err refusal) → IsRefusalFound refusal found
+  pub table_found : (refusal : Refusal) (found : Found (Result X Refusal)) → (IsFault refusal → ⊥)
+      → found ≡ Is (Err refusal) → IsRefusalFound refusal found
   table_found (BadPage page) found told is = absurd (told tt)
   table_found DiskFault found told is = tt
   table_found NoMemory found told is = tt
   table_found _ found told is = is
 
   -- a fault's page, after more was found
-  pub fault_page : (refusal : Refusal) (found : Found (Result X Refusal)) → IsFault refusal → OfBadPage refusal (λ page. found ≡ Bad page) → IsRefusalFound refusal found
+  pub fault_page : (refusal : Refusal) (found : Found (Result X Refusal)) → IsFault refusal
+      → OfBadPage refusal (λ page. found ≡ Bad page) → IsRefusalFound refusal found
   fault_page (BadPage page) found fault bad = bad
   fault_page DiskFault found fault bad = tt
   fault_page NoMemory found fault bad = tt
   fault_page _ found fault bad = absurd fault
 
   -- where a value is found, no refusal is, but for what is excepted
-  pub value_found : (refusal : Refusal) (found : Found (Result X Refusal)) (x : X) → found ≡ Is (Ok x) → IsRefusalFound refusal found → (IsFault refusal ⊎ IsNoEvent refusal) → (IsBadPageRefusal refusal → ⊥) × (IsNoEvent refusal → ⊥)
-  value_found (BadPage page) found x is there of = (let both : ◌≡◌ {A = Found (Result X Refusal)} (Is (Ok x)) (Bad page) = sym is ∙ there in absurd cc)
-  value_found (NoEvent count) found x is there of = (let both : ◌≡◌ {A = Found (Result X Refusal)} (Is (Ok x)) (Is (Err (NoEvent count))) = sym is ∙ there in absurd cc)
+  pub value_found : (refusal : Refusal) (found : Found (Result X Refusal)) (x : X) → found ≡ Is (Ok x) → IsRefusalFound
+      refusal found → (IsFault refusal ⊎ IsNoEvent refusal) → (IsBadPageRefusal refusal → ⊥) × (IsNoEvent refusal → ⊥)
+  value_found (BadPage page) found x is there of =
+      (let both : ◌≡◌ {A = Found (Result X Refusal)} (Is (Ok x)) (Bad page) = sym is ∙ there in absurd cc)
+  value_found (NoEvent count) found x is there of =
+      (let both : ◌≡◌ {A = Found (Result X Refusal)} (Is (Ok x)) (Is (Err (NoEvent count))) = sym is ∙ there in
+      absurd cc)
   value_found DiskFault found x is there of = ((λ bad. bad), (λ none. none))
   value_found NoMemory found x is there of = ((λ bad. bad), (λ none. none))
   value_found _ found x is there (inl fault) = absurd fault
   value_found _ found x is there (inr none) = absurd none
 
   -- where a refusal of no event is found, no page is bad, and no other such refusal is told
-  pub no_event_found : (refusal : Refusal) (found : Found (Result X Refusal)) (n : ℕ) → found ≡ Is (Err (NoEvent n)) → IsRefusalFound refusal found → (IsFault refusal ⊎ IsNoEvent refusal)
+  pub no_event_found : (refusal : Refusal) (found : Found (Result X Refusal)) (n : ℕ) → found ≡ Is (Err (NoEvent n))
+      → IsRefusalFound refusal found → (IsFault refusal ⊎ IsNoEvent refusal)
       → (IsBadPageRefusal refusal → ⊥) × (IsNoEvent refusal → refusal ≡ NoEvent n)
-  no_event_found (BadPage page) found n is there of = (let both : ◌≡◌ {A = Found (Result X Refusal)} (Is (Err (NoEvent n))) (Bad page) = sym is ∙ there in absurd cc)
+  no_event_found (BadPage page) found n is there of =
+      (let both : ◌≡◌ {A = Found (Result X Refusal)} (Is (Err (NoEvent n))) (Bad page) = sym is ∙ there in absurd cc)
   no_event_found (NoEvent count) found n is there of =
-      let both : ◌≡◌ {A = Found (Result X Refusal)} (Is (Err (NoEvent n))) (Is (Err (NoEvent count))) = sym is ∙ there in
+      let both : ◌≡◌ {A = Found (Result X Refusal)} (Is (Err (NoEvent n))) (Is (Err (NoEvent count))) =
+      sym is ∙ there in
       ((λ bad. bad), (λ none. let same : NoEvent n ≡ NoEvent count = cc in sym same))
   no_event_found DiskFault found n is there of = ((λ bad. bad), (λ none. absurd none))
   no_event_found NoMemory found n is there of = ((λ bad. bad), (λ none. absurd none))
@@ -99,6 +114,8 @@ pub of_disk_fault : (r : Refusal) → r ≡ DiskFault → is_of_disk (service_re
 of_disk_fault r is = ap (λ (q : Refusal). is_of_disk (service_refusals q)) is
 
 -- no page is bad where a value is found
-pub no_bad_found : {X : Type 0} (refusal : Refusal) (found : Found (Result X Refusal)) (x : X) → found ≡ Is (Ok x) → IsRefusalFound refusal found → IsBadPageRefusal refusal → ⊥
-no_bad_found {X} (BadPage page) found x is there bad = (let both : ◌≡◌ {A = Found (Result X Refusal)} (Is (Ok x)) (Bad page) = sym is ∙ there in absurd cc)
+pub no_bad_found : {X : Type 0} (refusal : Refusal) (found : Found (Result X Refusal)) (x : X) → found ≡ Is (Ok x)
+    → IsRefusalFound refusal found → IsBadPageRefusal refusal → ⊥
+no_bad_found {X} (BadPage page) found x is there bad =
+    (let both : ◌≡◌ {A = Found (Result X Refusal)} (Is (Ok x)) (Bad page) = sym is ∙ there in absurd cc)
 no_bad_found _ found x is there bad = bad

@@ -9,23 +9,28 @@ use Rattle.tw_answers.specs.Finds.{written_found}
 use Rattle.tw_answers.specs.Refusals.{service_refusals}
 
 module _ {X : Type 0} (bytes_of : X → List ℕ) where
-  stays : (sort : FaultSort) (fault : Refusal) (found : Found (Result X Refusal)) → RefusesAs service_refusals sort fault found → RefusesAs service_refusals sort fault (found >>= written_found bytes_of)
+  stays : (sort : FaultSort) (fault : Refusal) (found : Found (Result X Refusal)) → RefusesAs service_refusals sort
+      fault found → RefusesAs service_refusals sort fault (found >>= written_found bytes_of)
   stays (OfPage page) fault found is = ap (λ (f : Found (Result X Refusal)). f >>= written_found bytes_of) is
   stays OfCall fault found is = ap (λ (f : Found (Result X Refusal)). f >>= written_found bytes_of) is
   stays _ fault found is = tt
 
   -- what is shown and written is refused as what is shown is
-  pub handed-answer : (result : Result (List ℕ) Refusal) (fault : Refusal) (found : Found (Result X Refusal)) → IsErrAnd result (λ e. e ≡ fault) → RefusesAs service_refusals (service_refusals fault) fault found
+  pub handed-answer : (result : Result (List ℕ) Refusal) (fault : Refusal) (found : Found (Result X Refusal))
+      → IsErrAnd result (λ e. e ≡ fault) → RefusesAs service_refusals (service_refusals fault) fault found
       → AnswersOr service_refusals (λ (b : List ℕ). b) result (found >>= written_found bytes_of)
   handed-answer (Ok b) fault found is there = absurd is
   handed-answer (Err e) fault found is there =
-      subst (λ (f : Refusal). RefusesAs service_refusals (service_refusals f) f (found >>= written_found bytes_of)) (sym is) (stays (service_refusals fault) fault found there)
+      subst (λ (f : Refusal). RefusesAs service_refusals (service_refusals f) f (found >>= written_found bytes_of))
+      (sym is) (stays (service_refusals fault) fault found there)
 
-pub handed-own : (result : Result (List ℕ) Refusal) (fault : Refusal) (Own : Refusal → Type 0) → IsErrAnd result (λ e. e ≡ fault) → Own fault → IfErr result Own
+pub handed-own : (result : Result (List ℕ) Refusal) (fault : Refusal) (Own : Refusal → Type 0)
+    → IsErrAnd result (λ e. e ≡ fault) → Own fault → IfErr result Own
 handed-own (Ok b) fault Own is own = absurd is
 handed-own (Err e) fault Own is own = subst Own (sym is) own
 
 -- it tells of the disk where it did
-pub handed-failed : (result : Result (List ℕ) Refusal) (fault : Refusal) → IsErrAnd result (λ e. e ≡ fault) → is_failed service_refusals result ≡ is_of_disk (service_refusals fault)
+pub handed-failed : (result : Result (List ℕ) Refusal) (fault : Refusal) → IsErrAnd result (λ e. e ≡ fault)
+    → is_failed service_refusals result ≡ is_of_disk (service_refusals fault)
 handed-failed (Ok b) fault is = absurd is
 handed-failed (Err e) fault is = ap (λ (f : Refusal). is_of_disk (service_refusals f)) is

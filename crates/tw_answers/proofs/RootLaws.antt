@@ -1,8 +1,10 @@
 -- The codecs of root records are lawful, and what fits them.
-use Rattle.std.proofs.Common.{◌≡◌, ℕ, ◌+◌, ◌<◌, ◌≤◌, ◌^◌, ◌++◌, List, length, refl, ap, sym, ◌∙◌, subst, arith, Bool, true, false, length-append}
+use Rattle.std.proofs.Common.{◌≡◌, ℕ, ◌+◌, ◌<◌, ◌≤◌, ◌^◌, ◌++◌, List, length, refl, ap, sym, ◌∙◌, subst, arith, Bool}
+use Rattle.std.proofs.Common.{true, false, length-append}
 use Rattle.std.specs.Prelude.{Option, Some, None, is_some, ◌==◌, if◌then◌else◌}
 use Rattle.tw_base.specs.declared.kinds.limits.TheConstants.{LAST_STEP}
-use Rattle.tw_base.specs.format.Codecs.{HasBytes, bytes_codec, name_codec, nothing, number_codec, optional, pair, present, seen}
+use Rattle.tw_base.specs.format.Codecs.{HasBytes, bytes_codec, name_codec, nothing, number_codec, optional, pair}
+use Rattle.tw_base.specs.format.Codecs.{present, seen}
 use Rattle.tw_base.specs.format.Fields.{number_bytes}
 use Rattle.tw_base.specs.history.HistoryCodec.{time_codec}
 use Rattle.tw_base.specs.history.Limits.{IsTimeWithinLimits}
@@ -47,7 +49,8 @@ sizes : (is_timed : Bool) → 112 + time_size is_timed ≡ (if is_timed then 120
 sizes true = refl
 sizes false = refl
 
-time-size : (is_timed : Bool) (time : Option ℕ) → (optional is_timed time_codec).Fits time → length ((optional is_timed time_codec).write time) ≡ time_size is_timed
+time-size : (is_timed : Bool) (time : Option ℕ) → (optional is_timed time_codec).Fits time
+    → length ((optional is_timed time_codec).write time) ≡ time_size is_timed
 unfolding nothing present number_codec
 time-size true None fits = absurd fits
 time-size true (Some time) fits = length-number_bytes 8 time
@@ -55,11 +58,23 @@ time-size false time fits = refl
 
 -- ---- the record
 
-pub root-fits : (r : RootRecord) → IsName r.name → r.head.step ≤ LAST_STEP → HasBytes 32 r.head.auth → r.head.page < 2 ^ 64 → r.archive.page < 2 ^ 64 → HasBytes 32 r.archive.label → r.threads ≤ LAST_STEP
+pub root-fits : (r : RootRecord) → IsName r.name → r.head.step ≤ LAST_STEP → HasBytes 32 r.head.auth
+    → r.head.page < 2 ^ 64 → r.archive.page < 2 ^ 64 → HasBytes 32 r.archive.label → r.threads ≤ LAST_STEP
     → IsTimeWithinLimits r.time → (root_codec (is_some r.time)).Fits r
 unfolding root_codec seen pair name_codec number_codec bytes_codec
-root-fits r name short auth page archive label threads within =
-    (name, ((omega arith, short), (auth, ((omega arith, omega (arith, page)), ((omega arith, omega (arith, archive)), (label, ((omega arith, threads), time-fits r.time within)))))))
+root-fits r name short auth page archive label threads within = (
+  name,
+  (
+    (omega arith, short),
+    (
+      auth,
+      (
+        (omega arith, omega (arith, page)),
+        ((omega arith, omega (arith, archive)), (label, ((omega arith, threads), time-fits r.time within))),
+      ),
+    ),
+  ),
+)
 
 module _ (is_timed : Bool) (r : RootRecord) (fits : (root_codec is_timed).Fits r) where
   pub root-name : IsName r.name
@@ -108,7 +123,8 @@ module _ (is_timed : Bool) (r : RootRecord) (fits : (root_codec is_timed).Fits r
         time-size is_timed r.time fits.1.1.1.1.1.1.1,
       )
 
-pub root-sizes : (is_timed : Bool) (r : RootRecord) → (root_codec is_timed).Fits r → length ((root_codec is_timed).write r) ≡ (if is_timed then 120 else 112)
+pub root-sizes : (is_timed : Bool) (r : RootRecord) → (root_codec is_timed).Fits r
+    → length ((root_codec is_timed).write r) ≡ (if is_timed then 120 else 112)
 root-sizes is_timed r fits = root-size is_timed r fits ∙ sizes is_timed
 
 -- the length of bytes tells whether they are a record with a time
@@ -116,16 +132,23 @@ of_size : (is_timed : Bool) (n : ℕ) → n ≡ 112 + time_size is_timed → (n 
 of_size true n is = ap (λ (k : ℕ). k == 120) is
 of_size false n is = ap (λ (k : ℕ). k == 120) is
 
-pub timed-length : (bytes : List ℕ) (r : RootRecord) → bytes ≡ root_bytes r → (root_codec (is_some r.time)).Fits r → (length bytes == 120) ≡ is_some r.time
-timed-length bytes r is fits = of_size (is_some r.time) (length bytes) (ap length is ∙ root-size (is_some r.time) r fits)
+pub timed-length : (bytes : List ℕ) (r : RootRecord) → bytes ≡ root_bytes r → (root_codec (is_some r.time)).Fits r
+    → (length bytes == 120) ≡ is_some r.time
+timed-length bytes r is fits = of_size (is_some r.time) (length bytes) (ap length is ∙ root-size (is_some r.time) r
+    fits)
 
 -- a record by the codec of its own time
-pub by_timed : (is_timed : Bool) (r : RootRecord) → is_some r.time ≡ is_timed → (root_codec is_timed).Fits r → (root_codec (is_some r.time)).Fits r
+pub by_timed : (is_timed : Bool) (r : RootRecord) → is_some r.time ≡ is_timed → (root_codec is_timed).Fits r
+    → (root_codec (is_some r.time)).Fits r
 by_timed is_timed r is fits = subst (λ (b : Bool). (root_codec b).Fits r) (sym is) fits
 
 -- bytes are one root record at most
-pub root_once : (used generation : ℕ) (bytes : List ℕ) (r other : RootRecord) → bytes ≡ root_bytes r → IsAllowed used generation r → bytes ≡ root_bytes other → IsAllowed used generation other → r ≡ other
+pub root_once : (used generation : ℕ) (bytes : List ℕ) (r other : RootRecord) → bytes ≡ root_bytes r
+    → IsAllowed used generation r → bytes ≡ root_bytes other → IsAllowed used generation other → r ≡ other
 root_once used generation bytes r other is allowed also others =
     let timed : Bool = is_some r.time in
-    let same : is_some other.time ≡ timed = sym (timed-length bytes other also others.spelled) ∙ timed-length bytes r is allowed.spelled in
-    word-once (root_codec timed) (root-lawful timed) bytes r other is allowed.spelled (also ∙ ap (λ (b : Bool). (root_codec b).write other) same) (subst (λ (b : Bool). (root_codec b).Fits other) same others.spelled)
+    let same : is_some other.time ≡ timed = sym (timed-length bytes other also others.spelled) ∙ timed-length bytes r is
+    allowed.spelled in
+    word-once (root_codec timed) (root-lawful timed) bytes r other is allowed.spelled
+    (also ∙ ap (λ (b : Bool). (root_codec b).write other) same) (subst (λ (b : Bool). (root_codec b).Fits other) same
+    others.spelled)

@@ -4,9 +4,12 @@ use Rattle.std.specs.Prelude.{Option, Some, None, if◌then◌else◌, nat_le, n
 use Rattle.std.proofs.lemmas.Bool.{lt-ltb}
 use Rattle.tw_base.specs.declared.kinds.limits.TheConstants.{LAST_STEP, MOST_EVENTS, MOST_STEP_BYTES}
 use Rattle.tw_answers.specs.Refusals.{IsBadPageRefusal, IsFault, IsNoEvent}
-use Rattle.tw_answers.specs.Limits.{append_refusal, clock_refusal, event_refusal, events_size, first_long, full_refusal, is_in_order, length_refusal, limits_refusal, link_refusal, or_else, order_refusal, thread_refusal, top_refusal}
+use Rattle.tw_answers.specs.Limits.{append_refusal, clock_refusal, event_refusal, events_size, first_long, full_refusal}
+use Rattle.tw_answers.specs.Limits.{is_in_order, length_refusal, limits_refusal, link_refusal, or_else, order_refusal}
+use Rattle.tw_answers.specs.Limits.{thread_refusal, top_refusal}
 use Rattle.tw_answers.specs.declared.refusal.Refusal.{Refusal}
-use Rattle.tw_answers.specs.declared.refusal.Refusal.TheVariants.{NoStep, NoEvent, TooMany, TooLong, Full, ClockBack, BadPage, Reopen}
+use Rattle.tw_answers.specs.declared.refusal.Refusal.TheVariants.{NoStep, NoEvent, TooMany, TooLong, Full, ClockBack}
+use Rattle.tw_answers.specs.declared.refusal.Refusal.TheVariants.{BadPage, Reopen}
 
 -- ---- refusals of the tables are no faults
 
@@ -38,23 +41,29 @@ is_told_length n = (λ is. is, λ is. cc)
 
 lengths_told : (o : Option (List ℕ)) (bytes : ℕ) → Of IsTold (length_refusal o bytes)
 lengths_told (Some event) bytes = is_told_length (length event)
-lengths_told None bytes = of_if IsTold (nat_lt MOST_STEP_BYTES bytes) (Some (TooLong bytes)) None (is_told_length bytes) tt
+lengths_told None bytes = of_if IsTold (nat_lt MOST_STEP_BYTES bytes) (Some (TooLong bytes)) None (is_told_length bytes)
+    tt
 
 pub of_or : (P : Refusal → Type 0) (o q : Option Refusal) → Of P o → Of P q → Of P (or_else o q)
 of_or P None q one other = other
 of_or P (Some r) q one other = one
 
 clock_told : (clock time : Option ℕ) → Of IsTold (clock_refusal clock time)
-clock_told (Some last) (Some given) = of_if IsTold (nat_lt given last) (Some (ClockBack last given)) None ((λ is. is), (λ is. cc)) tt
+clock_told (Some last) (Some given) = of_if IsTold (nat_lt given last) (Some (ClockBack last given)) None
+    ((λ is. is), (λ is. cc)) tt
 clock_told (Some last) None = tt
 clock_told None time = tt
 
-pub append_told : (steps : ℕ) (clock : Option ℕ) (events : List (List ℕ)) (time : Option ℕ) → Of IsTold (append_refusal false steps clock events time)
+pub append_told : (steps : ℕ) (clock : Option ℕ) (events : List (List ℕ)) (time : Option ℕ)
+    → Of IsTold (append_refusal false steps clock events time)
 unfolding append_refusal limits_refusal
 append_told steps clock events time =
-    of_or IsTold (full_refusal steps) _ (of_if IsTold (nat_le LAST_STEP steps) (Some Full) None ((λ is. is), (λ is. cc)) tt)
+    of_or IsTold (full_refusal steps) _ (of_if IsTold (nat_le LAST_STEP steps) (Some Full) None ((λ is. is), (λ is. cc))
+    tt)
     (of_or IsTold (limits_refusal events) _
-    (of_if IsTold (nat_lt MOST_EVENTS (length events)) (Some (TooMany (length events))) (length_refusal (first_long events) (events_size events)) (is_told_count (length events)) (lengths_told (first_long events) (events_size events)))
+    (of_if IsTold (nat_lt MOST_EVENTS (length events)) (Some (TooMany (length events)))
+    (length_refusal (first_long events) (events_size events)) (is_told_count (length events))
+    (lengths_told (first_long events) (events_size events)))
     (clock_told clock time))
 
 of_weaker : (P Q : Refusal → Type 0) → ((r : Refusal) → P r → Q r) → (o : Option Refusal) → Of P o → Of Q o
@@ -63,14 +72,17 @@ of_weaker P Q step (Some r) all = step r all
 
 -- ---- the tables after a disk fault
 
-pub append_no_fault : (broken : Bool) (steps : ℕ) (clock : Option ℕ) (events : List (List ℕ)) (time : Option ℕ) → Of NoFault (append_refusal broken steps clock events time)
+pub append_no_fault : (broken : Bool) (steps : ℕ) (clock : Option ℕ) (events : List (List ℕ)) (time : Option ℕ)
+    → Of NoFault (append_refusal broken steps clock events time)
 unfolding append_refusal
 append_no_fault true steps clock events time = λ is. is
-append_no_fault false steps clock events time = of_weaker IsTold NoFault (λ r is. is.0) _ (append_told steps clock events time)
+append_no_fault false steps clock events time = of_weaker IsTold NoFault (λ r is. is.0) _
+    (append_told steps clock events time)
 
 pub order_told : (last step top : ℕ) → Of IsTold (order_refusal false last step top)
 unfolding order_refusal
-order_told last step top = of_if IsTold (is_in_order last step top) None (Some (NoStep last)) tt ((λ is. is), (λ is. cc))
+order_told last step top = of_if IsTold (is_in_order last step top) None (Some (NoStep last)) tt
+    ((λ is. is), (λ is. cc))
 
 pub order_no_fault : (broken : Bool) (last step top : ℕ) → Of NoFault (order_refusal broken last step top)
 unfolding order_refusal
@@ -79,7 +91,8 @@ order_no_fault false last step top = of_weaker IsTold NoFault (λ r is. is.0) _ 
 
 pub thread_told : (last since : ℕ) → Of IsTold (thread_refusal false last since)
 unfolding thread_refusal
-thread_told last since = of_if IsTold (nat_lt 0 last && nat_le since last) None (Some (NoStep last)) tt ((λ is. is), (λ is. cc))
+thread_told last since = of_if IsTold (nat_lt 0 last && nat_le since last) None (Some (NoStep last)) tt
+    ((λ is. is), (λ is. cc))
 
 pub thread_no_fault : (broken : Bool) (last since : ℕ) → Of NoFault (thread_refusal broken last since)
 unfolding thread_refusal
@@ -88,7 +101,8 @@ thread_no_fault false last since = of_weaker IsTold NoFault (λ r is. is.0) _ (t
 
 pub link_told : (last step top : ℕ) → Of IsTold (link_refusal false last step top)
 unfolding link_refusal
-link_told last step top = of_if IsTold (nat_le step top && (nat_le 1 top && nat_le top last)) None (Some (NoStep last)) tt ((λ is. is), (λ is. cc))
+link_told last step top = of_if IsTold (nat_le step top && (nat_le 1 top && nat_le top last)) None (Some (NoStep last))
+    tt ((λ is. is), (λ is. cc))
 
 pub link_no_fault : (broken : Bool) (last step top : ℕ) → Of NoFault (link_refusal broken last step top)
 unfolding link_refusal

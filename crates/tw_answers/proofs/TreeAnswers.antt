@@ -31,12 +31,14 @@ use Rattle.tw_answers.specs.Refusals.{IsFault, refusal_of_tree, service_refusals
 
 same_entry-itself : (e : Entry) → same_entry e e ≡ true
 same_entry-itself e =
-    and_from _ _ (and_from _ _ ((bytes_eq-Decides e.thread.from e.thread.from).1 refl) (eq-eqb e.thread.step e.thread.step refl))
+    and_from _ _ (and_from _ _ ((bytes_eq-Decides e.thread.from e.thread.from).1 refl)
+    (eq-eqb e.thread.step e.thread.step refl))
     (and_from _ _ ((bytes_eq-Decides e.thread.auth e.thread.auth).1 refl) (eq-eqb e.archived e.archived refl))
 
 same_entry-is : (e f : Entry) → same_entry e f ≡ true → e ≡ f
 same_entry-is e f is =
-    let parts = and_parts (bytes_eq e.thread.from f.thread.from && (e.thread.step == f.thread.step)) (bytes_eq e.thread.auth f.thread.auth && (e.archived == f.archived)) is in
+    let parts = and_parts (bytes_eq e.thread.from f.thread.from && (e.thread.step == f.thread.step))
+    (bytes_eq e.thread.auth f.thread.auth && (e.archived == f.archived)) is in
     let keys = and_parts (bytes_eq e.thread.from f.thread.from) (e.thread.step == f.thread.step) parts.0 in
     let rest = and_parts (bytes_eq e.thread.auth f.thread.auth) (e.archived == f.archived) parts.1 in
     let from : e.thread.from ≡ f.thread.from = (bytes_eq-Decides e.thread.from f.thread.from).0 keys.0 in
@@ -46,13 +48,15 @@ same_entry-is e f is =
     (λ j. record { thread = record { from = from j; step = step j; auth = auth j }; archived = archived j })
 
 so-at : (asked : Ask) (met : Option Entry) → IsSoAt asked met → is_so_at asked met ≡ true
-so-at (ask.Present e) met is = subst (λ (o : Option Entry). is_so_at (ask.Present e) o ≡ true) (sym is) (same_entry-itself e)
+so-at (ask.Present e) met is = subst (λ (o : Option Entry). is_so_at (ask.Present e) o ≡ true) (sym is)
+    (same_entry-itself e)
 so-at (ask.Absent key) met is = ap (λ (o : Option Entry). is_so_at (ask.Absent key) o) is
 so-at (ask.Below key) met is = refl
 so-at (ask.Above key) met is = refl
 
 not_so-at : (asked : Ask) (met : Option Entry) → (IsSoAt asked met → ⊥) → is_so_at asked met ≡ false
-not_so-at (ask.Present e) (Some f) differs = false_from_ne_true (same_entry f e) (λ is. differs (ap (λ (x : Entry). Some x) (same_entry-is f e is)))
+not_so-at (ask.Present e) (Some f) differs = false_from_ne_true (same_entry f e)
+    (λ is. differs (ap (λ (x : Entry). Some x) (same_entry-is f e is)))
 not_so-at (ask.Present e) None differs = refl
 not_so-at (ask.Absent key) (Some f) differs = refl
 not_so-at (ask.Absent key) None differs = absurd (differs refl)
@@ -62,31 +66,39 @@ not_so-at (ask.Above key) met differs = absurd (differs tt)
 -- ---- what is shown
 
 module _ (dig : List ℕ → List ℕ) (ps : Image) (root : Root) (asked : Ask) where
-  pub shown-told : (tree : TreeProof) → AnswersPath asked (Ok tree) (found_tree_path dig ps asked root) → tree_shown dig ps root asked ≡ Is tree
+  pub shown-told : (tree : TreeProof) → AnswersPath asked (Ok tree) (found_tree_path dig ps asked root)
+      → tree_shown dig ps root asked ≡ Is tree
   unfolding tree_shown
   shown-told tree is =
-      is_on (found_tree_path dig ps asked root) (λ shown. when (is_so_at asked shown.met) root.page shown.proof) (record { met = is.0; proof = tree }) is.1
+      is_on (found_tree_path dig ps asked root) (λ shown. when (is_so_at asked shown.met) root.page shown.proof)
+      (record { met = is.0; proof = tree }) is.1
       ∙ ap (λ (b : Bool). when b root.page tree) (so-at asked is.0 is.2)
 
   -- a refused call says of the pages what it found in them
-  pub shown-says : (fault : TreeFault) → NeverPresent {T = TreeProof} (Err fault) → AnswersPath asked (Err fault) (found_tree_path dig ps asked root)
+  pub shown-says : (fault : TreeFault) → NeverPresent {T = TreeProof} (Err fault) → AnswersPath asked (Err fault)
+      (found_tree_path dig ps asked root)
       → SaysOf service_refusals (service_refusals (refusal_of_tree root fault)) (tree_shown dig ps root asked)
   unfolding tree_shown
   shown-says Present never is = absurd never
   shown-says Untrue never is =
-      is_on (found_tree_path dig ps asked root) (λ shown. when (is_so_at asked shown.met) root.page shown.proof) is.0 is.1 ∙ ap (λ (b : Bool). when b root.page is.0.proof) (not_so-at asked is.0.met is.2)
-  shown-says (BadPage page) never is = bad_ends (found_tree_path dig ps asked root) (λ shown. when (is_so_at asked shown.met) root.page shown.proof) page is
+      is_on (found_tree_path dig ps asked root) (λ shown. when (is_so_at asked shown.met) root.page shown.proof) is.0
+      is.1 ∙ ap (λ (b : Bool). when b root.page is.0.proof) (not_so-at asked is.0.met is.2)
+  shown-says (BadPage page) never is = bad_ends (found_tree_path dig ps asked root)
+      (λ shown. when (is_so_at asked shown.met) root.page shown.proof) page is
   shown-says DiskFault never is = tt
   shown-says NoMemory never is = tt
 
   -- pages that stand for a tree show the tree's own proof of what is so
-  pub shown-stands : (t : Tree) → StandsForTree dig ps root t → IsSo (entries t) asked → tree_shown dig ps root asked ≡ Is (proof_of dig t asked)
+  pub shown-stands : (t : Tree) → StandsForTree dig ps root t → IsSo (entries t) asked → tree_shown dig ps root asked
+      ≡ Is (proof_of dig t asked)
   unfolding tree_shown found_tree_path
   shown-stands t stands so =
       let w = root-way dig ps asked root t stands in
       let end = end_of_way nowhere w.stops in
-      is_on (found_tree_path dig ps asked root) (λ shown. when (is_so_at asked shown.met) root.page shown.proof) (shown_of dig w.stops) (is_on (way dig ps asked root) (λ stops. Is (shown_of dig stops)) w.stops w.found)
-      ∙ ap (λ (b : Bool). when b root.page (proof_of_way dig w.stops)) (so-at asked end.met ((so-found dig ps root t asked end w.tells).0 so))
+      is_on (found_tree_path dig ps asked root) (λ shown. when (is_so_at asked shown.met) root.page shown.proof)
+      (shown_of dig w.stops) (is_on (way dig ps asked root) (λ stops. Is (shown_of dig stops)) w.stops w.found)
+      ∙ ap (λ (b : Bool). when b root.page (proof_of_way dig w.stops))
+      (so-at asked end.met ((so-found dig ps root t asked end w.tells).0 so))
       ∙ ap (λ (p : TreeProof). Is p) w.proof
 
 -- ---- faults of the tree
@@ -101,7 +113,8 @@ module _ (root : Root) where
   tree-fault NoMemory = tt
 
   -- it tells of a failed device call where the insert does
-  pub tree-failed : (fault : TreeFault) → is_of_disk (service_refusals (refusal_of_tree root fault)) ≡ is_of_disk (tree_faults fault)
+  pub tree-failed : (fault : TreeFault) → is_of_disk (service_refusals (refusal_of_tree root fault)) ≡ is_of_disk
+      (tree_faults fault)
   tree-failed Present = refl
   tree-failed Untrue = refl
   tree-failed (BadPage page) = refl

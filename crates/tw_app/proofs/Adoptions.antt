@@ -1,4 +1,5 @@
--- What a run of `adopt` says by itself, and what it tells where the inputs tell the bytes of all its files and nothing hinders it.
+-- What a run of `adopt` says by itself, and what it tells where the inputs tell the bytes of all its files and nothing
+-- hinders it.
 use Rattle.std.proofs.Common.{◌≡◌, ◌∙◌, ℕ, List, ◌∷◌, refl, ap, sym, subst, arith, inl, inr}
 use Rattle.std.specs.Prelude.{Option, Some, None, MatchOption, Result, Ok, Err}
 use Rattle.sha2.specs.Sha256.{sha256}
@@ -44,7 +45,8 @@ record Adopts {D : Type 0} (o : Outside D) (c : Command) (outcome : Outcome) : T
   comes : AdoptComes o.inputs history anchors (proof ∷ more) result
   is_outcome : outcome ≡ outcome_by of_taken result
 
-adopts_by : {D : Type 0} (view : D → DiskView) (o : Outside D) (c : Command) (outcome : Outcome) → AsksAdoption c → (work view o c).does outcome → Adopts o c outcome
+adopts_by : {D : Type 0} (view : D → DiskView) (o : Outside D) (c : Command) (outcome : Outcome) → AsksAdoption c
+    → (work view o c).does outcome → Adopts o c outcome
 adopts_by view o (Adopt history anchors proof more) outcome is came = record {
   history = history;
   anchors = anchors;
@@ -57,7 +59,8 @@ adopts_by view o (Adopt history anchors proof more) outcome is came = record {
 }
 adopts_by view o _ outcome is came = absurd is
 
-module _ {D : Type 0} (view : D → DiskView) (a : Around D) (status : ℕ) (run : EndsAllowed view a status) (zeroth : status ≡ 0) where
+module _ {D : Type 0} (view : D → DiskView) (a : Around D) (status : ℕ) (run : EndsAllowed view a status)
+    (zeroth : status ≡ 0) where
   abbrev ended_as : Outcome
   ended_as = run.0
 
@@ -65,11 +68,13 @@ module _ {D : Type 0} (view : D → DiskView) (a : Around D) (status : ℕ) (run
   whole : (status_of ended_as ≡ 0) × Appends a.taken.before a.taken.after (text_of ended_as)
   whole = by run.1.ends
     where
-      by : EndsWith a.taken a.sink_faults status ended_as → (status_of ended_as ≡ 0) × Appends a.taken.before a.taken.after (text_of ended_as)
+      by : EndsWith a.taken a.sink_faults status ended_as → (status_of ended_as ≡ 0) × Appends a.taken.before
+          a.taken.after (text_of ended_as)
       by (inl ends) = (sym ends.0 ∙ zeroth, ends.1)
       by (inr cut) = absurd (omega (arith, zeroth, cut.0))
 
-  of_result : (c : Command) → command_of a.words ≡ Some c → (ad : Adopts a.outside c ended_as) (r : Result Taken CommandFault)
+  of_result : (c : Command) → command_of a.words ≡ Some c → (ad : Adopts a.outside c ended_as)
+      (r : Result Taken CommandFault)
       → AdoptComes a.outside.inputs ad.history ad.anchors (ad.proof ∷ ad.more) r → ended_as ≡ outcome_by of_taken r
       → IsAdoptedRun a.outside.inputs.told a.words a.taken.before a.taken.after
   of_result c is ad (Ok (File bytes)) comes came = record {
@@ -88,13 +93,16 @@ module _ {D : Type 0} (view : D → DiskView) (a : Around D) (status : ℕ) (run
   of_result c is ad (Ok (Fault fault)) comes came = absurd (omega (arith, sym (ap status_of came) ∙ whole.0))
   of_result c is ad (Err f) comes came = absurd (fault_not_zero f (sym (ap status_of came) ∙ whole.0))
 
-  pub adopted : AreWordsOf AsksAdoption a.words → IsAdoptedRun a.outside.inputs.told a.words a.taken.before a.taken.after
+  pub adopted : AreWordsOf AsksAdoption a.words → IsAdoptedRun a.outside.inputs.told a.words a.taken.before
+      a.taken.after
   adopted asks = by (command_of a.words) refl run.1.has asks
     where
-      by : (option : Option Command) → command_of a.words ≡ option → MatchOption option (HaveNoForm a.words ended_as × IsDiskUntouched view a.outside) (λ c. (work view a.outside c).does ended_as)
+      by : (option : Option Command) → command_of a.words ≡ option → MatchOption option (HaveNoForm a.words ended_as
+          × IsDiskUntouched view a.outside) (λ c. (work view a.outside c).does ended_as)
           → MatchOption option ⊥ AsksAdoption → IsAdoptedRun a.outside.inputs.told a.words a.taken.before a.taken.after
       by None is has asks = absurd asks
-      by (Some c) is has asks = let ad = adopts_by view a.outside c ended_as asks has in of_result c is ad ad.result ad.comes ad.is_outcome
+      by (Some c) is has asks = let ad = adopts_by view a.outside c ended_as asks has in of_result c is ad ad.result
+          ad.comes ad.is_outcome
 
 -- ---- which answer comes
 
@@ -102,12 +110,18 @@ module _ {D : Type 0} (a : Around D) (status : ℕ) (h : History) (anchors : Lis
   abbrev Told : Taken → Type 0
   Told taken = (status ≡ taken_status taken) × Writes a (taken_text taken)
 
-  by_file : (bytes : List ℕ) (adopted : Adopted) → bytes ≡ history_bytes adopted.history → IsAdoption sha256 anchors h proofs (Ok adopted) → Told (File bytes)
+  by_file : (bytes : List ℕ) (adopted : Adopted) → bytes ≡ history_bytes adopted.history → IsAdoption sha256 anchors h
+      proofs (Ok adopted) → Told (File bytes)
       → TakesOver a status h anchors proofs
-  by_file bytes adopted file is told =
-      (is.0, is.1, is.2, (told.0, subst (λ (b : List ℕ). Writes a b) (file ∙ ap (λ (b : Adopted). history_bytes b.history) is.3) told.1))
+  by_file bytes adopted file is told = (
+    is.0,
+    is.1,
+    is.2,
+    (told.0, subst (λ (b : List ℕ). Writes a b) (file ∙ ap (λ (b : Adopted). history_bytes b.history) is.3) told.1),
+  )
 
-module _ {D : Type 0} (view : D → DiskView) (a : Around D) (status : ℕ) (h : History) (anchors : List Thread) (proofs : List (List ℕ))
+module _ {D : Type 0} (view : D → DiskView) (a : Around D) (status : ℕ) (h : History) (anchors : List Thread)
+    (proofs : List (List ℕ))
     (is : IsAdoptionOf a.outside.inputs.told a.words h anchors proofs) where
   abbrev told : Option Files
   told = a.outside.inputs.told
@@ -118,11 +132,15 @@ module _ {D : Type 0} (view : D → DiskView) (a : Around D) (status : ℕ) (h :
   abbrev Ending : Type 0
   Ending = IsAdoptingRun a status h anchors proofs
 
-  by_taken : (taken : Taken) → IsAdoptionTaken told anchors files taken h → Told a status h anchors proofs taken → Ending
-  by_taken (File bytes) over ended = inr (inl (by_file a status h anchors proofs bytes over.adopted over.file (over.answers proofs is.proofs_told) ended))
+  by_taken : (taken : Taken) → IsAdoptionTaken told anchors files taken h → Told a status h anchors proofs taken
+      → Ending
+  by_taken (File bytes) over ended =
+      inr (inl (by_file a status h anchors proofs bytes over.adopted over.file (over.answers proofs is.proofs_told)
+      ended))
   by_taken (Fault fault) first ended = inr (inr (fault, first proofs is.proofs_told, ended))
 
-  by_result : (r : Result Taken CommandFault) → AdoptComes a.outside.inputs is.history_file is.anchors_file files r → (outcome : Outcome)
+  by_result : (r : Result Taken CommandFault) → AdoptComes a.outside.inputs is.history_file is.anchors_file files r
+      → (outcome : Outcome)
       → outcome ≡ outcome_by of_taken r → EndsWith a.taken a.sink_faults status outcome → Ending
   by_result r comes outcome came (inr cut) = inl (inr (inl (cut.0, cut.2)))
   by_result (Ok taken) comes outcome came (inl ends) =
@@ -130,7 +148,8 @@ module _ {D : Type 0} (view : D → DiskView) (a : Around D) (status : ℕ) (h :
       let of = comes.3.holds is.file_bytes is.history_told in
       let one : of.0 ≡ h = one_value history_layout is.file_bytes of.0 h of.1.spelled is.is_file.spelled in
       let over : IsAdoptionTaken told anchors files taken h =
-      subst (λ (g : History). IsAdoptionTaken told anchors files taken g) one (subst (λ (t : List Thread). IsAdoptionTaken told t files taken of.0) held of.2) in
+      subst (λ (g : History). IsAdoptionTaken told anchors files taken g) one
+      (subst (λ (t : List Thread). IsAdoptionTaken told t files taken of.0) held of.2) in
       by_taken taken over (ends.0 ∙ ap status_of came, subst (λ (o : Outcome). Writes a (text_of o)) came ends.1)
   by_result (Err command.InputFault) comes outcome came (inl ends) = inl (inl (ends.0 ∙ ap status_of came, comes))
   by_result (Err command.NoMemory) comes outcome came (inl ends) = inl (inr (inr (ends.0 ∙ ap status_of came)))
@@ -146,11 +165,13 @@ module _ {D : Type 0} (view : D → DiskView) (a : Around D) (status : ℕ) (h :
       absurd (file_not_broken is.file_bytes h step rule is.is_file (comes.2 is.file_bytes is.history_told))
 
   abbrev HasAt : Outcome → Option Command → Type 0
-  HasAt outcome option = MatchOption option (HaveNoForm a.words outcome × IsDiskUntouched view a.outside) (λ c. (work view a.outside c).does outcome)
+  HasAt outcome option = MatchOption option (HaveNoForm a.words outcome × IsDiskUntouched view a.outside)
+      (λ c. (work view a.outside c).does outcome)
 
   abbrev Came : Outcome → Type 0
   Came outcome =
-      IsOutcomeOf of_taken (λ (r : Result Taken CommandFault). AdoptComes a.outside.inputs is.history_file is.anchors_file files r × IsDiskUntouched view a.outside) outcome
+      IsOutcomeOf of_taken (λ (r : Result Taken CommandFault). AdoptComes a.outside.inputs is.history_file
+      is.anchors_file files r × IsDiskUntouched view a.outside) outcome
 
   by_outcome : (outcome : Outcome) → Came outcome → EndsWith a.taken a.sink_faults status outcome → Ending
   by_outcome outcome came ends = by_result came.0 came.1.0 outcome came.2 ends

@@ -5,7 +5,8 @@ use Rattle.tw_disk.specs.Disk.{DiskView}
 use Rattle.tw_outside.specs.TakenBytes.{Appends}
 use Rattle.tw_words.specs.CommandLine.{command_of}
 use Rattle.tw_words.specs.declared.command.Command.{Command}
-use Rattle.tw_words.specs.declared.command.Command.TheVariants.{Accuse, Adopt, Audit, CheckFork, CheckMap, Join, Strict, VerifyFile, VerifyOne}
+use Rattle.tw_words.specs.declared.command.Command.TheVariants.{Accuse, Adopt, Audit, CheckFork, CheckMap, Join, Strict}
+use Rattle.tw_words.specs.declared.command.Command.TheVariants.{VerifyFile, VerifyOne}
 use Rattle.tw_text.specs.declared.fault.CommandFault.{CommandFault}
 use Rattle.tw_text.specs.Faults.{fault_status}
 use Rattle.tw_audit.specs.declared.finding.Finding.TheVariants.{Clash, NotAccepted, Stands}
@@ -41,9 +42,18 @@ record Audits {D : Type 0} (o : Outside D) (c : Command) (outcome : Outcome) : T
   comes : AuditComes o.inputs proof anchors histories result
   is_outcome : outcome ≡ outcome_by of_audited result
 
-audits : {D : Type 0} (view : D → DiskView) (o : Outside D) (c : Command) (outcome : Outcome) → AsksAudit c → (work view o c).does outcome → Audits o c outcome
+audits : {D : Type 0} (view : D → DiskView) (o : Outside D) (c : Command) (outcome : Outcome) → AsksAudit c
+    → (work view o c).does outcome → Audits o c outcome
 audits view o (Audit proof anchors histories) outcome is came =
-    record { proof = proof; anchors = anchors; histories = histories; is_command = refl; result = came.0; comes = came.1.0; is_outcome = came.2 }
+    record {
+      proof = proof;
+      anchors = anchors;
+      histories = histories;
+      is_command = refl;
+      result = came.0;
+      comes = came.1.0;
+      is_outcome = came.2;
+    }
 audits view o _ outcome is came = absurd is
 
 low_accused : (accused : AccusedService) → status_of (of_accused accused) ≡ 10 → ⊥
@@ -64,12 +74,16 @@ low_taken (File bytes) is = omega (arith, is)
 low_taken (Fault fault) is = omega (arith, is)
 
 -- no other command comes to an answer of this status
-asks_audit : {D : Type 0} (view : D → DiskView) (o : Outside D) (c : Command) (text : List ℕ) → (work view o c).answers 10 text → AsksAudit c
+asks_audit : {D : Type 0} (view : D → DiskView) (o : Outside D) (c : Command) (text : List ℕ) → (work view o c).answers
+    10 text → AsksAudit c
 asks_audit view o (Audit proof anchors histories) text has = tt
 asks_audit view o (Join files) text has = absurd (not_joined has.0 10 (λ k. omega arith) (λ k. omega arith) (sym has.2))
-asks_audit view o (VerifyFile proof anchors) text has = absurd (not_verdict has.0 10 (λ k. omega arith) (λ k. omega arith) (sym has.2))
-asks_audit view o (VerifyOne proof anchor) text has = absurd (not_verdict has.0 10 (λ k. omega arith) (λ k. omega arith) (sym has.2))
-asks_audit view o (Strict proof anchors) text has = absurd (not_verdict has.0 10 (λ k. omega arith) (λ k. omega arith) (sym has.2))
+asks_audit view o (VerifyFile proof anchors) text has =
+    absurd (not_verdict has.0 10 (λ k. omega arith) (λ k. omega arith) (sym has.2))
+asks_audit view o (VerifyOne proof anchor) text has = absurd (not_verdict has.0 10 (λ k. omega arith) (λ k. omega arith)
+    (sym has.2))
+asks_audit view o (Strict proof anchors) text has = absurd (not_verdict has.0 10 (λ k. omega arith) (λ k. omega arith)
+    (sym has.2))
 asks_audit view o (Accuse first second link) text has = absurd (low_accused has.0 has.2)
 asks_audit view o (Adopt history anchors proof more) text has = absurd (low_taken has.0 has.2)
 asks_audit view o (CheckFork file anchors) text has = absurd (low_fork has.0 has.2)
@@ -80,20 +94,27 @@ module _ {D : Type 0} (view : D → DiskView) (a : Around D) (status : ℕ) (run
   abbrev outcome : Outcome
   outcome = run.0
 
-  by_audit : {Q : Type 0} → AreWordsOf AsksAudit a.words → ((c : Command) → command_of a.words ≡ Some c → Audits a.outside c outcome → Q) → Q
+  by_audit : {Q : Type 0} → AreWordsOf AsksAudit a.words → ((c : Command) → command_of a.words ≡ Some c
+      → Audits a.outside c outcome → Q) → Q
   by_audit {Q} asks then = by (command_of a.words) refl run.1.has asks
     where
-      by : (option : Option Command) → command_of a.words ≡ option → MatchOption option (HaveNoForm a.words outcome × IsDiskUntouched view a.outside) (λ c. (work view a.outside c).does outcome)
+      by : (option : Option Command) → command_of a.words ≡ option → MatchOption option
+          (HaveNoForm a.words outcome × IsDiskUntouched view a.outside) (λ c. (work view a.outside c).does outcome)
           → MatchOption option ⊥ AsksAudit → Q
       by None is has asks = absurd asks
       by (Some c) is has asks = then c is (audits view a.outside c outcome asks has)
 
   -- the status and the text are those of the audit's answer
-  told : (status ≡ 4 → ⊥) → (audited : AuditedProof) → outcome ≡ of_audited audited → (status ≡ audited_status audited) × Appends a.taken.before a.taken.after (audited_text audited)
+  told : (status ≡ 4 → ⊥) → (audited : AuditedProof) → outcome ≡ of_audited audited → (status ≡ audited_status audited)
+      × Appends a.taken.before a.taken.after (audited_text audited)
   told other audited is = by run.1.ends
     where
-      by : EndsWith a.taken a.sink_faults status outcome → (status ≡ audited_status audited) × Appends a.taken.before a.taken.after (audited_text audited)
-      by (inl ends) = (ends.0 ∙ ap status_of is, subst (λ (o : Outcome). Appends a.taken.before a.taken.after (text_of o)) is ends.1)
+      by : EndsWith a.taken a.sink_faults status outcome → (status ≡ audited_status audited) × Appends a.taken.before
+          a.taken.after (audited_text audited)
+      by (inl ends) = (
+        ends.0 ∙ ap status_of is,
+        subst (λ (o : Outcome). Appends a.taken.before a.taken.after (text_of o)) is ends.1,
+      )
       by (inr cut) = absurd (other cut.0)
 
   not_fault : (f : CommandFault) → outcome ≡ Undone f → (status ≡ 4 → ⊥) → (fault_status f ≡ status → ⊥) → ⊥
@@ -103,13 +124,15 @@ module _ {D : Type 0} (view : D → DiskView) (a : Around D) (status : ℕ) (run
       by (inl ends) = none (sym (ends.0 ∙ ap status_of is))
       by (inr cut) = other cut.0
 
-  pub stands : status ≡ 0 → AreWordsOf AsksAudit a.words → IsStandingRun a.outside.inputs.told a.words a.taken.before a.taken.after
+  pub stands : status ≡ 0 → AreWordsOf AsksAudit a.words → IsStandingRun a.outside.inputs.told a.words a.taken.before
+      a.taken.after
   stands zeroth asks = by_audit asks (λ c is au. of c is au au.result au.comes au.is_outcome)
     where
       other : status ≡ 4 → ⊥
       other fourth = omega (arith, zeroth, fourth)
 
-      of : (c : Command) → command_of a.words ≡ Some c → (au : Audits a.outside c outcome) (r : Result AuditedProof CommandFault)
+      of : (c : Command) → command_of a.words ≡ Some c → (au : Audits a.outside c outcome)
+          (r : Result AuditedProof CommandFault)
           → AuditComes a.outside.inputs au.proof au.anchors au.histories r → outcome ≡ outcome_by of_audited r
           → IsStandingRun a.outside.inputs.told a.words a.taken.before a.taken.after
       of c is au (Ok (Found (Stands report))) comes came = (
@@ -130,23 +153,30 @@ module _ {D : Type 0} (view : D → DiskView) (a : Around D) (status : ℕ) (run
           says = λ bytes tells p spelled. comes.2.1.2.means bytes tells p spelled;
         },
       )
-      of c is au (Ok (Found (NotAccepted reason))) comes came = absurd (omega (arith, zeroth, (told other (Found (NotAccepted reason)) came).0))
-      of c is au (Ok (Found (Clash one another digest))) comes came = absurd (omega (arith, zeroth, (told other (Found (Clash one another digest)) came).0))
-      of c is au (Ok (Unheld held found)) comes came = absurd (omega (arith, zeroth, (told other (Unheld held found) came).0))
+      of c is au (Ok (Found (NotAccepted reason))) comes came =
+          absurd (omega (arith, zeroth, (told other (Found (NotAccepted reason)) came).0))
+      of c is au (Ok (Found (Clash one another digest))) comes came =
+          absurd (omega (arith, zeroth, (told other (Found (Clash one another digest)) came).0))
+      of c is au (Ok (Unheld held found)) comes came =
+          absurd (omega (arith, zeroth, (told other (Unheld held found) came).0))
       of c is au (Err f) comes came = absurd (not_fault f came other (λ same. fault_not_zero f (same ∙ zeroth)))
 
-  asks_of : (text : List ℕ) (option : Option Command) → MatchOption option ⊥ (λ c. (work view a.outside c).answers 10 text) → MatchOption option ⊥ AsksAudit
+  asks_of : (text : List ℕ) (option : Option Command) → MatchOption option ⊥ (λ c. (work view a.outside c).answers 10
+      text) → MatchOption option ⊥ AsksAudit
   asks_of text None has = has
   asks_of text (Some c) has = asks_audit view a.outside c text has
 
-  pub clashes : status ≡ 10 → IsAnsweredRun view a 10 → IsClashRun a.outside.inputs.told a.words a.taken.before a.taken.after
+  pub clashes : status ≡ 10 → IsAnsweredRun view a 10 → IsClashRun a.outside.inputs.told a.words a.taken.before
+      a.taken.after
   clashes tenth answered =
-      by_audit (asks_of answered.0 (command_of a.words) answered.1) (λ c is au. of c is au au.result au.comes au.is_outcome)
+      by_audit (asks_of answered.0 (command_of a.words) answered.1) (λ c is au. of c is au au.result au.comes
+      au.is_outcome)
     where
       other : status ≡ 4 → ⊥
       other fourth = omega (arith, tenth, fourth)
 
-      of : (c : Command) → command_of a.words ≡ Some c → (au : Audits a.outside c outcome) (r : Result AuditedProof CommandFault)
+      of : (c : Command) → command_of a.words ≡ Some c → (au : Audits a.outside c outcome)
+          (r : Result AuditedProof CommandFault)
           → AuditComes a.outside.inputs au.proof au.anchors au.histories r → outcome ≡ outcome_by of_audited r
           → IsClashRun a.outside.inputs.told a.words a.taken.before a.taken.after
       of c is au (Ok (Found (Clash one another digest))) comes came = (
@@ -169,7 +199,11 @@ module _ {D : Type 0} (view : D → DiskView) (a : Around D) (status : ℕ) (run
           says = λ bytes tells p spelled. comes.2.1.2.means bytes tells p spelled;
         },
       )
-      of c is au (Ok (Found (Stands report))) comes came = absurd (omega (arith, tenth, (told other (Found (Stands report)) came).0))
-      of c is au (Ok (Found (NotAccepted reason))) comes came = absurd (omega (arith, tenth, (told other (Found (NotAccepted reason)) came).0))
-      of c is au (Ok (Unheld held found)) comes came = absurd (omega (arith, tenth, (told other (Unheld held found) came).0))
-      of c is au (Err f) comes came = absurd (not_fault f came other (λ same. low_fault f 10 (sym (same ∙ tenth)) (omega arith)))
+      of c is au (Ok (Found (Stands report))) comes came =
+          absurd (omega (arith, tenth, (told other (Found (Stands report)) came).0))
+      of c is au (Ok (Found (NotAccepted reason))) comes came =
+          absurd (omega (arith, tenth, (told other (Found (NotAccepted reason)) came).0))
+      of c is au (Ok (Unheld held found)) comes came =
+          absurd (omega (arith, tenth, (told other (Unheld held found) came).0))
+      of c is au (Err f) comes came =
+          absurd (not_fault f came other (λ same. low_fault f 10 (sym (same ∙ tenth)) (omega arith)))

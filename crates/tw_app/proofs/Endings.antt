@@ -17,7 +17,8 @@ use Rattle.tw_words.specs.CommandLine.{IsFirstBadWord, command_of}
 use Rattle.tw_text.specs.Faults.{fault_status, fault_text}
 use Rattle.tw_text.specs.Lines.{no_memory_text}
 use Rattle.tw_text.specs.declared.fault.CommandFault.{CommandFault}
-use Rattle.tw_text.specs.declared.fault.CommandFault.TheVariants.{InputFault, DiskFault, NoMemory, Refused, Unserved, Unreadable}
+use Rattle.tw_text.specs.declared.fault.CommandFault.TheVariants.{InputFault, DiskFault, NoMemory, Refused, Unserved}
+use Rattle.tw_text.specs.declared.fault.CommandFault.TheVariants.{Unreadable}
 use Rattle.tw_text.specs.declared.refusal.BadInput.{BadInput}
 use Rattle.tw_text.specs.declared.refusal.Refusal.{Refusal}
 use Rattle.tw_text.specs.declared.refusal.StoreCause.{StoreCause}
@@ -34,7 +35,8 @@ use Rattle.tw_diskcmd.specs.Disks.{IsLeft, ReadsAsHeads}
 use Rattle.tw_follow.specs.HeadLists.{Kept}
 use Rattle.tw_diskcmd.specs.FollowerDisks.{ReadsAs as ReadsAsList}
 use Rattle.tw_app.specs.declared.outcome.Outcome.{Outcome}
-use Rattle.tw_app.specs.declared.outcome.Outcome.TheVariants.{Judged, Written, Joined, Made, Received, Answered, BadWords, Undone}
+use Rattle.tw_app.specs.declared.outcome.Outcome.TheVariants.{Judged, Written, Joined, Made, Received, Answered}
+use Rattle.tw_app.specs.declared.outcome.Outcome.TheVariants.{BadWords, Undone}
 use Rattle.tw_evidence.specs.declared.fork.ForkVerdict.TheVariants as fork
 use Rattle.tw_reachcmd.specs.declared.accusing.Accused.TheVariants as accused
 use Rattle.tw_audit.specs.declared.finding.Finding.TheVariants as finding
@@ -47,9 +49,12 @@ use Rattle.tw_app.specs.Around.{Around, Writes}
 use Rattle.tw_app.specs.Commands.{IsOfFollower, NamesFile}
 use Rattle.tw_app.specs.Outcomes.{TakesMemory, status_of, text_of}
 use Rattle.tw_app.specs.Running.{EndsAllowed, EndsWith, HasOutcome, HaveNoForm, IsDiskUntouched, Work, work}
-use Rattle.tw_app.specs.Statuses.{AreWordsOf, DiskFailed, IsAcceptedRun, IsAnsweredRun, IsDiskFaultRun, IsDoneRun, IsGapRun, IsIdle, IsInputFaultRun, IsRejectedRun, IsStatus, IsUndoneRun, IsUsageRun, IsVerify, IsWork}
+use Rattle.tw_app.specs.Statuses.{AreWordsOf, DiskFailed, IsAcceptedRun, IsAnsweredRun, IsDiskFaultRun, IsDoneRun}
+use Rattle.tw_app.specs.Statuses.{IsGapRun, IsIdle, IsInputFaultRun, IsRejectedRun, IsStatus, IsUndoneRun, IsUsageRun}
+use Rattle.tw_app.specs.Statuses.{IsVerify, IsWork}
 use Rattle.tw_app.proofs.Words.{no_text_outcome}
-use Rattle.tw_app.proofs.Commands.{Judges, LeavesGap, Row, fault_not_zero, of_option, of_words, rows, same_left, serves_list, verdict_or_fault}
+use Rattle.tw_app.proofs.Commands.{Judges, LeavesGap, Row, fault_not_zero, of_option, of_words, rows, same_left}
+use Rattle.tw_app.proofs.Commands.{serves_list, verdict_or_fault}
 
 pub zero_not_four : (n : ℕ) → n ≡ 0 → n ≡ 4 → ⊥
 zero_not_four n zeroth fourth = omega (arith, zeroth, fourth)
@@ -94,7 +99,8 @@ no_form_status words _ is zeroth = is
 is_disk_fault : (o : Outcome) → status_of o ≡ 5 → o ≡ Undone DiskFault
 is_disk_fault (Judged verdict) fifth = absurd (not_verdict verdict 5 (λ k. omega arith) (λ k. omega arith) (sym fifth))
 is_disk_fault (Joined joined) fifth = absurd (not_joined joined 5 (λ k. omega arith) (λ k. omega arith) (sym fifth))
-is_disk_fault (Answered answer) fifth = absurd (not_answer answer 5 (λ k. omega arith) (λ k. omega arith) (λ k. omega arith) (sym fifth))
+is_disk_fault (Answered answer) fifth = absurd (not_answer answer 5 (λ k. omega arith) (λ k. omega arith)
+    (λ k. omega arith) (sym fifth))
 is_disk_fault (Undone f) fifth = ap (λ (g : CommandFault). Undone g) (by f fifth)
   where
     by : (f : CommandFault) → fault_status f ≡ 5 → f ≡ DiskFault
@@ -104,12 +110,17 @@ is_disk_fault _ fifth = absurd (omega (arith, fifth))
 
 module _ {D : Type 0} (view : D → DiskView)
     (only_now : (d : D) (image : Image) → (view d).left_since (view d).moment image → (view d).may_leave image)
-    (as_it_reads : (d : D) (image : Image) → (view d).content ≡ Some image → (view d).may_leave image) (a : Around D) (status : ℕ) where
+    (as_it_reads : (d : D) (image : Image) → (view d).content ≡ Some image → (view d).may_leave image) (a : Around D)
+    (status : ℕ) where
   -- the outcome that was come to, or want of memory for its text
   pub ends_by : (outcome : Outcome) → HasOutcome view a.outside a.words outcome
-      → EndsWith a.taken a.sink_faults status outcome ⊎ (TakesMemory outcome × EndsWith a.taken a.sink_faults status (Undone NoMemory)) → EndsAllowed view a status
+      → EndsWith a.taken a.sink_faults status outcome ⊎ (TakesMemory outcome × EndsWith a.taken a.sink_faults status
+      (Undone NoMemory)) → EndsAllowed view a status
   ends_by outcome has (inl ends) = (outcome, record { has = has; ends = ends })
-  ends_by outcome has (inr ends) = (Undone NoMemory, record { has = no_text_outcome view only_now as_it_reads a.outside a.words outcome ends.0 has; ends = ends.1 })
+  ends_by outcome has (inr ends) = (
+    Undone NoMemory,
+    record { has = no_text_outcome view only_now as_it_reads a.outside a.words outcome ends.0 has; ends = ends.1 },
+  )
 
   module _ (run : EndsAllowed view a status) where
     abbrev outcome : Outcome
@@ -132,14 +143,17 @@ module _ {D : Type 0} (view : D → DiskView)
     untouched_left is = same_left view only_now as_it_reads a.outside is
 
     -- words of no form, or a command
-    by_words : {Q : Type 0} → (o : Outcome) → Has o → (HaveNoForm a.words o × IsDiskUntouched view a.outside → Q) → ((c : Command) → command_of a.words ≡ Some c → Does c o → Q) → Q
+    by_words : {Q : Type 0} → (o : Outcome) → Has o → (HaveNoForm a.words o × IsDiskUntouched view a.outside → Q)
+        → ((c : Command) → command_of a.words ≡ Some c → Does c o → Q) → Q
     by_words {Q} o has none some = by (command_of a.words) refl has
       where
-        by : (option : Option Command) → command_of a.words ≡ option → MatchOption option (HaveNoForm a.words o × IsDiskUntouched view a.outside) (λ c. Does c o) → Q
+        by : (option : Option Command) → command_of a.words ≡ option
+            → MatchOption option (HaveNoForm a.words o × IsDiskUntouched view a.outside) (λ c. Does c o) → Q
         by None is has = none has
         by (Some c) is has = some c is has
 
-    of_work : (P : Work → Type 0) (c : Command) → command_of a.words ≡ Some c → P (work view a.outside c) → IsWork view a P
+    of_work : (P : Work → Type 0) (c : Command) → command_of a.words ≡ Some c → P (work view a.outside c)
+        → IsWork view a P
     of_work P c is holds = of_option (λ d. P (work view a.outside d)) a.words c is holds
 
     -- the status and the text are the outcome's
@@ -157,7 +171,8 @@ module _ {D : Type 0} (view : D → DiskView)
     pub crash : MatchOption (command_of a.words) (IsDiskUntouched view a.outside) (λ c. (work view a.outside c).safe)
     crash = by (command_of a.words) run.1.has
       where
-        by : (option : Option Command) → MatchOption option (HaveNoForm a.words outcome × IsDiskUntouched view a.outside) (λ c. Does c outcome)
+        by : (option : Option Command) → MatchOption option (HaveNoForm a.words outcome × IsDiskUntouched view
+            a.outside) (λ c. Does c outcome)
             → MatchOption option (IsDiskUntouched view a.outside) (λ c. (work view a.outside c).safe)
         by None has = has.1
         by (Some c) has = (known c).safe outcome has
@@ -165,24 +180,28 @@ module _ {D : Type 0} (view : D → DiskView)
     pub unwritten : IsIdle status → Left
     unwritten is =
         let same = (told is.1).0 in
-        by_words outcome run.1.has (λ has. untouched_left has.1) (λ c of has. (known c).idle outcome (λ zeroth. is.0 (same ∙ zeroth)) (λ fifth. is.2 (same ∙ fifth)) has)
+        by_words outcome run.1.has (λ has. untouched_left has.1)
+        (λ c of has. (known c).idle outcome (λ zeroth. is.0 (same ∙ zeroth)) (λ fifth. is.2 (same ∙ fifth)) has)
 
     -- ---- status 0
 
     done_status : status ≡ 0 → status_of outcome ≡ 0
     done_status zeroth = sym (told (zero_not_four status zeroth)).0 ∙ zeroth
 
-    done_work : (c : Command) → command_of a.words ≡ Some c → Does c outcome → status_of outcome ≡ 0 → IsWork view a (λ w. w.done (text_of outcome))
+    done_work : (c : Command) → command_of a.words ≡ Some c → Does c outcome → status_of outcome ≡ 0
+        → IsWork view a (λ w. w.done (text_of outcome))
     done_work c is has zeroth = of_work (λ w. w.done (text_of outcome)) c is ((known c).done outcome has zeroth)
 
     pub done : status ≡ 0 → IsDoneRun view a
     done zeroth = (
       text_of outcome,
-      by_words outcome run.1.has (λ has. absurd (no_form_status a.words outcome has.0 (done_status zeroth))) (λ c is has. done_work c is has (done_status zeroth)),
+      by_words outcome run.1.has (λ has. absurd (no_form_status a.words outcome has.0 (done_status zeroth)))
+          (λ c is has. done_work c is has (done_status zeroth)),
       (told (zero_not_four status zeroth)).1,
     )
 
-    accepted_by : status ≡ 0 → (c : Command) (verdict : Verdict) → command_of a.words ≡ Some c → Judges a.outside.inputs.told c verdict → Told (Judged verdict)
+    accepted_by : status ≡ 0 → (c : Command) (verdict : Verdict) → command_of a.words ≡ Some c
+        → Judges a.outside.inputs.told c verdict → Told (Judged verdict)
         → IsAcceptedRun a.outside.inputs.told a.words a.taken.before a.taken.after
     accepted_by zeroth c (Yes report) is judges ended = record {
       command = c;
@@ -193,10 +212,12 @@ module _ {D : Type 0} (view : D → DiskView)
       given = judges.given;
       there = judges.judged.there;
       accepted = λ bytes tells.
-          let is = judges.judged.is_verdict bytes tells in (is.0, subst (λ r. Appends a.taken.before a.taken.after (report_text r)) is.2 ended.1);
+          let is = judges.judged.is_verdict bytes tells in
+          (is.0, subst (λ r. Appends a.taken.before a.taken.after (report_text r)) is.2 ended.1);
       bare = λ bytes tells p spelled strict.
           let is = judges.judged.is_verdict bytes tells in
-          subst (λ (q : ProofValue). carried q ≡ []) (one_value proof_layout bytes is.0.0 p is.0.1 spelled) (is.1 strict);
+          subst (λ (q : ProofValue). carried q ≡ []) (one_value proof_layout bytes is.0.0 p is.0.1 spelled)
+          (is.1 strict);
       binds = λ bytes tells p spelled family sound has.
           let is = judges.judged.is_verdict bytes tells in
           let same : is.0.0 ≡ p = one_value proof_layout bytes is.0.0 p is.0.1 spelled in
@@ -207,24 +228,31 @@ module _ {D : Type 0} (view : D → DiskView)
     }
     accepted_by zeroth c (No reason) is judges ended = absurd (omega (arith, zeroth, ended.0))
 
-    pub accepted : status ≡ 0 → AreWordsOf IsVerify a.words → IsAcceptedRun a.outside.inputs.told a.words a.taken.before a.taken.after
+    pub accepted : status ≡ 0 → AreWordsOf IsVerify a.words → IsAcceptedRun a.outside.inputs.told a.words a.taken.before
+        a.taken.after
     accepted zeroth asks = by (command_of a.words) refl run.1.has asks
       where
-        of : (c : Command) → command_of a.words ≡ Some c → Does c outcome → ((v : Verdict) × (outcome ≡ Judged v)) ⊎ ((f : CommandFault) × (outcome ≡ Undone f))
+        of : (c : Command) → command_of a.words ≡ Some c → Does c outcome → ((v : Verdict) × (outcome ≡ Judged v))
+            ⊎ ((f : CommandFault) × (outcome ≡ Undone f))
             → IsAcceptedRun a.outside.inputs.told a.words a.taken.before a.taken.after
         of c is does (inl judged) =
-            accepted_by zeroth c judged.0 is ((known c).judging judged.0 (subst (λ (o : Outcome). Does c o) judged.1 does))
+            accepted_by zeroth c judged.0 is
+            ((known c).judging judged.0 (subst (λ (o : Outcome). Does c o) judged.1 does))
             (told_of (Judged judged.0) judged.1 (zero_not_four status zeroth))
-        of c is does (inr fault) = absurd (fault_not_zero fault.0 (sym (told_of (Undone fault.0) fault.1 (zero_not_four status zeroth)).0 ∙ zeroth))
+        of c is does (inr fault) =
+            absurd (fault_not_zero fault.0 (sym (told_of (Undone fault.0) fault.1 (zero_not_four status zeroth)).0
+            ∙ zeroth))
 
-        by : (option : Option Command) → command_of a.words ≡ option → MatchOption option (HaveNoForm a.words outcome × IsDiskUntouched view a.outside) (λ c. Does c outcome) → MatchOption option ⊥ IsVerify
+        by : (option : Option Command) → command_of a.words ≡ option → MatchOption option (HaveNoForm a.words outcome
+            × IsDiskUntouched view a.outside) (λ c. Does c outcome) → MatchOption option ⊥ IsVerify
             → IsAcceptedRun a.outside.inputs.told a.words a.taken.before a.taken.after
         by None is has asks = absurd asks
         by (Some c) is has asks = of c is has (verdict_or_fault view a.outside c outcome asks has)
 
     -- ---- the other statuses
 
-    rejected_by : status ≡ 1 → (c : Command) (verdict : Verdict) → command_of a.words ≡ Some c → Judges a.outside.inputs.told c verdict → Told (Judged verdict) → IsRejectedRun a
+    rejected_by : status ≡ 1 → (c : Command) (verdict : Verdict) → command_of a.words ≡ Some c
+        → Judges a.outside.inputs.told c verdict → Told (Judged verdict) → IsRejectedRun a
     rejected_by first c (Yes report) is judges ended = absurd (omega (arith, first, ended.0))
     rejected_by first c (No reason) is judges ended = record {
       command = c;
@@ -240,10 +268,13 @@ module _ {D : Type 0} (view : D → DiskView)
     }
 
     -- the outcome of a run with this status
-    by_status : {Q : Type 0} (n : ℕ) → status ≡ n → (n ≡ 4 → ⊥) → ((o : Outcome) → Has o → n ≡ status_of o → Writes a (text_of o) → Q) → Q
-    by_status n is other then = let ended = told (λ four. other (sym is ∙ four)) in then outcome run.1.has (sym is ∙ ended.0) ended.1
+    by_status : {Q : Type 0} (n : ℕ) → status ≡ n → (n ≡ 4 → ⊥) → ((o : Outcome) → Has o → n ≡ status_of o
+        → Writes a (text_of o) → Q) → Q
+    by_status n is other then = let ended = told (λ four. other (sym is ∙ four)) in then outcome run.1.has
+        (sym is ∙ ended.0) ended.1
 
-    gap_by : (c : Command) (place : ℕ) → command_of a.words ≡ Some c → LeavesGap a.outside.inputs c place → Writes a (text_of (Joined (Unfit place))) → IsGapRun a
+    gap_by : (c : Command) (place : ℕ) → command_of a.words ≡ Some c → LeavesGap a.outside.inputs c place
+        → Writes a (text_of (Joined (Unfit place))) → IsGapRun a
     gap_by c place is leaves written = record {
       files = leaves.files;
       parts = leaves.comes.0;
@@ -255,23 +286,28 @@ module _ {D : Type 0} (view : D → DiskView)
     }
 
     -- a run that came to an answer
-    answered_by : (n : ℕ) (answer : Answer) → n ≡ status_of (Answered answer) → Has (Answered answer) → Writes a (text_of (Answered answer)) → IsAnsweredRun view a n
+    answered_by : (n : ℕ) (answer : Answer) → n ≡ status_of (Answered answer) → Has (Answered answer)
+        → Writes a (text_of (Answered answer)) → IsAnsweredRun view a n
     answered_by n answer is has written = (
       text_of (Answered answer),
       by_words (Answered answer) has (λ none. absurd none.0) (λ c of does.
           of_work (λ w. w.answers n (text_of (Answered answer))) c of
-          (subst (λ (k : ℕ). (work view a.outside c).answers k (text_of (Answered answer))) (sym is) ((known c).answers (Answered answer) tt does))),
+          (subst (λ (k : ℕ). (work view a.outside c).answers k (text_of (Answered answer))) (sym is)
+          ((known c).answers (Answered answer) tt does))),
       written,
     )
 
     pub rejected : status ≡ 1 → IsRejectedRun a ⊎ IsGapRun a ⊎ IsAnsweredRun view a 1
     rejected is = by_status 1 is (λ k. omega arith) by
       where
-        by : (o : Outcome) → Has o → 1 ≡ status_of o → Writes a (text_of o) → IsRejectedRun a ⊎ IsGapRun a ⊎ IsAnsweredRun view a 1
+        by : (o : Outcome) → Has o → 1 ≡ status_of o → Writes a (text_of o) → IsRejectedRun a ⊎ IsGapRun a
+            ⊎ IsAnsweredRun view a 1
         by (Judged verdict) has first written =
-            inl (by_words (Judged verdict) has (λ none. absurd none.0) (λ c of does. rejected_by is c verdict of ((known c).judging verdict does) (is ∙ first, written)))
+            inl (by_words (Judged verdict) has (λ none. absurd none.0) (λ c of does. rejected_by is c verdict of
+            ((known c).judging verdict does) (is ∙ first, written)))
         by (Joined (Unfit place)) has first written =
-            inr (inl (by_words (Joined (Unfit place)) has (λ none. absurd none.0) (λ c of does. gap_by c place of ((known c).joining place does) written)))
+            inr (inl (by_words (Joined (Unfit place)) has (λ none. absurd none.0)
+            (λ c of does. gap_by c place of ((known c).joining place does) written)))
         by (Answered answer) has first written = inr (inr (answered_by 1 answer first has written))
         by (Joined (Whole proof)) has first written = absurd (omega (arith, first))
         by (Undone f) has first written = absurd (not_fault f 1 first (omega arith))
@@ -285,7 +321,8 @@ module _ {D : Type 0} (view : D → DiskView)
       where
         by : (o : Outcome) → Has o → 10 ≡ status_of o → Writes a (text_of o) → IsAnsweredRun view a 10
         by (Answered answer) has tenth written = answered_by 10 answer tenth has written
-        by (Judged verdict) has tenth written = absurd (not_verdict verdict 10 (λ k. omega arith) (λ k. omega arith) tenth)
+        by (Judged verdict) has tenth written = absurd (not_verdict verdict 10 (λ k. omega arith) (λ k. omega arith)
+            tenth)
         by (Joined joined) has tenth written = absurd (not_joined joined 10 (λ k. omega arith) (λ k. omega arith) tenth)
         by (Undone f) has tenth written = absurd (low_fault f 10 tenth (omega arith))
         by _ has tenth written = absurd (omega (arith, tenth))
@@ -293,36 +330,47 @@ module _ {D : Type 0} (view : D → DiskView)
     pub usage : status ≡ 2 → IsUsageRun view a
     usage is = by_status 2 is (λ k. omega arith) by
       where
-        number_is : (n : ℕ) (option : Option Command) → MatchOption option (IsFirstBadWord a.words n × IsDiskUntouched view a.outside) (λ c. Does c (BadWords n))
+        number_is : (n : ℕ) (option : Option Command) → MatchOption option (IsFirstBadWord a.words n × IsDiskUntouched
+            view a.outside) (λ c. Does c (BadWords n))
             → MatchOption option (IsFirstBadWord a.words n) (λ c. ⊥)
         number_is n None has = has.0
         number_is n (Some c) has = (known c).usage n has
 
         by : (o : Outcome) → Has o → 2 ≡ status_of o → Writes a (text_of o) → IsUsageRun view a
         by (BadWords n) has second written = (n, number_is n (command_of a.words) has, written)
-        by (Judged verdict) has second written = absurd (not_verdict verdict 2 (λ k. omega arith) (λ k. omega arith) second)
-        by (Joined joined) has second written = absurd (not_joined joined 2 (λ k. omega arith) (λ k. omega arith) second)
-        by (Answered answer) has second written = absurd (not_answer answer 2 (λ k. omega arith) (λ k. omega arith) (λ k. omega arith) second)
+        by (Judged verdict) has second written = absurd (not_verdict verdict 2 (λ k. omega arith) (λ k. omega arith)
+            second)
+        by (Joined joined) has second written = absurd (not_joined joined 2 (λ k. omega arith) (λ k. omega arith)
+            second)
+        by (Answered answer) has second written = absurd (not_answer answer 2 (λ k. omega arith) (λ k. omega arith)
+            (λ k. omega arith) second)
         by (Undone f) has second written = absurd (not_fault f 2 second (omega arith))
         by _ has second written = absurd (omega (arith, second))
 
     -- a run with the status of a fault says it
-    says : {Q : Type 0} (n : ℕ) → status ≡ n → (n ≡ 4 → ⊥) → (3 ≤ n) × (n < 10) → ((f : CommandFault) → n ≡ fault_status f → Has (Undone f) → Writes a (fault_text f) → Q) → Q
+    says : {Q : Type 0} (n : ℕ) → status ≡ n → (n ≡ 4 → ⊥) → (3 ≤ n) × (n < 10)
+        → ((f : CommandFault) → n ≡ fault_status f → Has (Undone f) → Writes a (fault_text f) → Q) → Q
     says {Q} n is other high then = by_status n is other by
       where
         by : (o : Outcome) → Has o → n ≡ status_of o → Writes a (text_of o) → Q
         by (Undone f) has same written = then f same has written
-        by (Judged verdict) has same written = absurd (not_verdict verdict n (λ k. omega (arith, k, high.0)) (λ k. omega (arith, k, high.0)) same)
-        by (Joined joined) has same written = absurd (not_joined joined n (λ k. omega (arith, k, high.0)) (λ k. omega (arith, k, high.0)) same)
+        by (Judged verdict) has same written =
+            absurd (not_verdict verdict n (λ k. omega (arith, k, high.0)) (λ k. omega (arith, k, high.0)) same)
+        by (Joined joined) has same written =
+            absurd (not_joined joined n (λ k. omega (arith, k, high.0)) (λ k. omega (arith, k, high.0)) same)
         by (Answered answer) has same written =
-            absurd (not_answer answer n (λ k. omega (arith, k, high.0)) (λ k. omega (arith, k, high.0)) (λ k. omega (arith, k, high.1)) same)
+            absurd (not_answer answer n (λ k. omega (arith, k, high.0)) (λ k. omega (arith, k, high.0))
+            (λ k. omega (arith, k, high.1)) same)
         by _ has same written = absurd (omega (arith, same, high.0))
 
     -- the command that isn't done for it
-    undone_by : {Q : Type 0} → (f : CommandFault) → (HaveNoForm a.words (Undone f) → ⊥) → Has (Undone f) → ((c : Command) → command_of a.words ≡ Some c → (work view a.outside c).undone f → Q) → Q
-    undone_by f none has then = by_words (Undone f) has (λ no. absurd (none no.0)) (λ c is does. then c is ((known c).undone f does))
+    undone_by : {Q : Type 0} → (f : CommandFault) → (HaveNoForm a.words (Undone f) → ⊥) → Has (Undone f)
+        → ((c : Command) → command_of a.words ≡ Some c → (work view a.outside c).undone f → Q) → Q
+    undone_by f none has then = by_words (Undone f) has (λ no. absurd (none no.0))
+        (λ c is does. then c is ((known c).undone f does))
 
-    said : (f : CommandFault) → (HaveNoForm a.words (Undone f) → ⊥) → Has (Undone f) → Writes a (fault_text f) → IsUndoneRun view a f
+    said : (f : CommandFault) → (HaveNoForm a.words (Undone f) → ⊥) → Has (Undone f) → Writes a (fault_text f)
+        → IsUndoneRun view a f
     said f none has written = (undone_by f none has (λ c is undone. of_work (λ w. w.undone f) c is undone), written)
 
     pub input_fault : status ≡ 3 → IsInputFaultRun view a
@@ -348,15 +396,19 @@ module _ {D : Type 0} (view : D → DiskView)
         never : (o : Outcome) → status_of o ≡ 4 → ⊥
         never (Judged v) fourth = never_verdict v fourth
         never (Joined joined) fourth = not_joined joined 4 (λ k. omega arith) (λ k. omega arith) (sym fourth)
-        never (Answered answer) fourth = not_answer answer 4 (λ k. omega arith) (λ k. omega arith) (λ k. omega arith) (sym fourth)
+        never (Answered answer) fourth = not_answer answer 4 (λ k. omega arith) (λ k. omega arith) (λ k. omega arith)
+            (sym fourth)
         never (Undone f) fourth = never_fault f fourth
         never _ fourth = omega (arith, fourth)
 
     pub cut_short : (DiskFailed view a → ⊥) → ((text : List ℕ) × IsWork view a (λ w. w.done text)) ⊎ Left
-    cut_short unfailed = by_words outcome run.1.has (λ has. inr (untouched_left has.1)) (λ c is has. elim (cases_eq (status_of outcome) 0) [
-      | inl zeroth ↦ inl (text_of outcome, done_work c is has zeroth)
-      | inr other ↦ inr ((known c).idle outcome other (λ fifth. unfailed (failed c (subst (λ (o : Outcome). Does c o) (is_disk_fault outcome fifth) has))) has)
-    ])
+    cut_short unfailed = by_words outcome run.1.has (λ has. inr (untouched_left has.1))
+        (λ c is has. elim (cases_eq (status_of outcome) 0) [
+          | inl zeroth ↦ inl (text_of outcome, done_work c is has zeroth)
+          | inr other ↦
+              inr ((known c).idle outcome other
+              (λ fifth. unfailed (failed c (subst (λ (o : Outcome). Does c o) (is_disk_fault outcome fifth) has))) has)
+        ])
       where
         failed : (c : Command) → Does c (Undone DiskFault) → DiskFailed view a
         failed c does = ((known c).disk ((known c).undone DiskFault does)).1
@@ -373,19 +425,22 @@ module _ {D : Type 0} (view : D → DiskView)
     pub no_memory : status ≡ 6 → Writes a no_memory_text
     no_memory is = says 6 is (λ k. omega arith) (omega arith, omega arith) by
       where
-        by : (f : CommandFault) → 6 ≡ fault_status f → Has (Undone f) → Writes a (fault_text f) → Writes a no_memory_text
+        by : (f : CommandFault) → 6 ≡ fault_status f → Has (Undone f) → Writes a (fault_text f)
+            → Writes a no_memory_text
         by NoMemory same has written = written
         by _ same has written = absurd (omega (arith, same))
 
     pub refused : status ≡ 7 → (refusal : Refusal) × IsUndoneRun view a (Refused refusal)
     refused is = says 7 is (λ k. omega arith) (omega arith, omega arith) by
       where
-        by : (f : CommandFault) → 7 ≡ fault_status f → Has (Undone f) → Writes a (fault_text f) → (refusal : Refusal) × IsUndoneRun view a (Refused refusal)
+        by : (f : CommandFault) → 7 ≡ fault_status f → Has (Undone f) → Writes a (fault_text f) → (refusal : Refusal)
+            × IsUndoneRun view a (Refused refusal)
         by (Refused refusal) same has written = (refusal, said (Refused refusal) (λ none. none) has written)
         by _ same has written = absurd (omega (arith, same))
 
     -- a run of status 8 tells why its command isn't served
-    unserved_by : {Q : Type 0} → status ≡ 8 → ((cause : StoreCause) → Has (Undone (Unserved cause)) → Writes a (fault_text (Unserved cause)) → Q) → Q
+    unserved_by : {Q : Type 0} → status ≡ 8 → ((cause : StoreCause) → Has (Undone (Unserved cause))
+        → Writes a (fault_text (Unserved cause)) → Q) → Q
     unserved_by {Q} is then = says 8 is (λ k. omega arith) (omega arith, omega arith) by
       where
         by : (f : CommandFault) → 8 ≡ fault_status f → Has (Undone f) → Writes a (fault_text f) → Q
@@ -395,18 +450,24 @@ module _ {D : Type 0} (view : D → DiskView)
     pub unserved : status ≡ 8 → (cause : StoreCause) × IsUndoneRun view a (Unserved cause)
     unserved is = unserved_by is (λ cause has written. (cause, said (Unserved cause) (λ none. none) has written))
 
-    pub complete : status ≡ 8 → (AreWordsOf IsOfFollower a.words → ⊥) → (h : History) → ReadsAsHeads (view a.outside.disk.before).content h → ⊥
+    pub complete : status ≡ 8 → (AreWordsOf IsOfFollower a.words → ⊥) → (h : History)
+        → ReadsAsHeads (view a.outside.disk.before).content h → ⊥
     complete is other h reads = unserved_by is (λ cause has written. undone_by (Unserved cause) (λ none. none) has
-        (λ c of undone. (known c).serves (λ follows. other (of_option IsOfFollower a.words c of follows)) h reads cause undone))
+        (λ c of undone. (known c).serves (λ follows. other (of_option IsOfFollower a.words c of follows)) h reads cause
+        undone))
 
-    pub list_complete : status ≡ 8 → AreWordsOf IsOfFollower a.words → (k : Kept) → ReadsAsList (view a.outside.disk.before).content k → ⊥
-    list_complete is follows k reads = unserved_by is (λ cause has written. undone_by (Unserved cause) (λ none. none) has
-        (λ c of undone. serves_list view only_now as_it_reads a.outside c (of_words IsOfFollower a.words c of follows) k reads cause undone))
+    pub list_complete : status ≡ 8 → AreWordsOf IsOfFollower a.words → (k : Kept)
+        → ReadsAsList (view a.outside.disk.before).content k → ⊥
+    list_complete is follows k reads = unserved_by is (λ cause has written. undone_by (Unserved cause) (λ none. none)
+        has
+        (λ c of undone. serves_list view only_now as_it_reads a.outside c (of_words IsOfFollower a.words c of follows) k
+        reads cause undone))
 
     pub unreadable : status ≡ 9 → (bad : BadInput) × IsUndoneRun view a (Unreadable bad)
     unreadable is = says 9 is (λ k. omega arith) (omega arith, omega arith) by
       where
-        by : (f : CommandFault) → 9 ≡ fault_status f → Has (Undone f) → Writes a (fault_text f) → (bad : BadInput) × IsUndoneRun view a (Unreadable bad)
+        by : (f : CommandFault) → 9 ≡ fault_status f → Has (Undone f) → Writes a (fault_text f) → (bad : BadInput)
+            × IsUndoneRun view a (Unreadable bad)
         by (Unreadable bad) same has written = (bad, said (Unreadable bad) (λ none. none) has written)
         by _ same has written = absurd (omega (arith, same))
 
@@ -450,4 +511,5 @@ module _ {D : Type 0} (view : D → DiskView)
     is_status (Undone f) = fault_is_status f
 
     pub statuses : IsStatus status
-    statuses = ⊎_elim (λ ends. subst IsStatus (sym ends.0) (is_status outcome)) (λ ends. inr (inr (inr (inr (inl ends.0))))) run.1.ends
+    statuses = ⊎_elim (λ ends. subst IsStatus (sym ends.0) (is_status outcome))
+        (λ ends. inr (inr (inr (inr (inl ends.0))))) run.1.ends

@@ -12,7 +12,8 @@ use Rattle.tw_words.specs.declared.command.Command.{Command}
 use Rattle.tw_words.specs.declared.command.Command.TheVariants.{CheckMap, CheckFork}
 use Rattle.tw_words.specs.CommandLine.{command_of}
 use Rattle.tw_text.specs.declared.fault.CommandFault.{CommandFault}
-use Rattle.tw_text.specs.declared.fault.CommandFault.TheVariants.{InputFault, DiskFault, NoMemory, Refused, Unserved, Unreadable}
+use Rattle.tw_text.specs.declared.fault.CommandFault.TheVariants.{InputFault, DiskFault, NoMemory, Refused, Unserved}
+use Rattle.tw_text.specs.declared.fault.CommandFault.TheVariants.{Unreadable}
 use Rattle.tw_text.specs.declared.refusal.BadInput.TheVariants.{BadByte, BadLine, Unsound}
 use Rattle.tw_evidence.specs.declared.fork.ForkVerdict.{ForkVerdict}
 use Rattle.tw_evidence.specs.declared.fork.ForkVerdict.TheVariants as fork
@@ -42,17 +43,26 @@ use Rattle.tw_app.proofs.ToldFiles.{same, there}
 
 -- ---- the bytes of a told file
 
-module _ {X : Type 0} (layout : Format X) (told : Option Files) (file bytes : List ℕ) (tells : TellsBytes told file bytes) where
+module _ {X : Type 0} (layout : Format X) (told : Option Files) (file bytes : List ℕ)
+    (tells : TellsBytes told file bytes) where
   spelled-of : (x : X) → FileHolds layout told file x → Spells layout bytes x
   spelled-of x holds = subst (λ (b : List ℕ). Spells layout b x) (sym (holds.same bytes tells)) holds.spelled
 
   holds-of : (x : X) → Spells layout bytes x → FileHolds layout told file x
-  holds-of x spells = record { there = there told file bytes tells; bytes = bytes; spelled = spells; same = λ others other. same told file others bytes other tells }
+  holds-of x spells =
+      record {
+        there = there told file bytes tells;
+        bytes = bytes;
+        spelled = spells;
+        same = λ others other. same told file others bytes other tells;
+      }
 
-  holds_none-of : (place : ℕ) → SpellsNothing layout bytes × IsPlace layout bytes place → HoldsNone layout told file place
+  holds_none-of : (place : ℕ) → SpellsNothing layout bytes × IsPlace layout bytes place → HoldsNone layout told file
+      place
   holds_none-of place is = record {
     there = there told file bytes tells;
-    nothing = λ others other. subst (λ (b : List ℕ). SpellsNothing layout b × IsPlace layout b place) (same told file bytes others tells other) is;
+    nothing = λ others other. subst (λ (b : List ℕ). SpellsNothing layout b × IsPlace layout b place)
+        (same told file bytes others tells other) is;
   }
 
 module _ (told : Option Files) (file bytes : List ℕ) (tells : TellsBytes told file bytes) where
@@ -66,7 +76,8 @@ module _ (told : Option Files) (file bytes : List ℕ) (tells : TellsBytes told 
 -- ---- what comes of a result that is told
 
 -- a result of which May holds, with this status and text
-record ComesTo {X : Type 0} (of : X → Outcome) (May : Result X CommandFault → Type 0) (status : ℕ) (text : List ℕ) : Type 0 where
+record ComesTo {X : Type 0} (of : X → Outcome) (May : Result X CommandFault → Type 0) (status : ℕ)
+    (text : List ℕ) : Type 0 where
   pub result : Result X CommandFault
   pub comes : May result
   pub status_is : status ≡ status_of (outcome_by of result)
@@ -79,7 +90,8 @@ map_status_is (Yes low high upto) = refl
 map_status_is (No reason) = refl
 map_status_is Gap = refl
 
-module _ (a : Asked) (bytes names : ThreeFiles) (low_told : TellsBytes a.told names.low bytes.low) (high_told : TellsBytes a.told names.high bytes.high)
+module _ (a : Asked) (bytes names : ThreeFiles) (low_told : TellsBytes a.told names.low bytes.low)
+    (high_told : TellsBytes a.told names.high bytes.high)
     (anchors_told : TellsBytes a.told names.anchors bytes.anchors) where
   abbrev MapComes : Result MapVerdict CommandFault → Type 0
   MapComes = CheckMapComes a names.low names.high names.anchors
@@ -99,7 +111,10 @@ module _ (a : Asked) (bytes names : ThreeFiles) (low_told : TellsBytes a.told na
   map-unjudged : (Rose a.before a.after → ⊥) → (f : CommandFault) → MapComes (Err f) → AreMapsUnjudged bytes names f
   map-unjudged none (Unreadable (BadByte named place)) (inl is) = inl (is.0, is.1.nothing bytes.low low_told)
   map-unjudged none (Unreadable (BadByte named place)) (inr is) =
-      inr (inl ((is.0.0, spelled-of low_layout a.told names.low bytes.low low_told is.0.0 is.0.1), (is.1.0, is.1.1.nothing bytes.high high_told)))
+      inr (inl (
+        (is.0.0, spelled-of low_layout a.told names.low bytes.low low_told is.0.0 is.0.1),
+        (is.1.0, is.1.1.nothing bytes.high high_told),
+      ))
   map-unjudged none (Unreadable (BadLine named number)) is =
       inr (inr ((is.0.0, is.0.1, maps-of is.0.0 is.0.1 is.0.2), (is.1.0, is.1.1.bad bytes.anchors anchors_told)))
   map-unjudged none (Unreadable (Unsound named step rule)) is = absurd is
@@ -111,7 +126,8 @@ module _ (a : Asked) (bytes names : ThreeFiles) (low_told : TellsBytes a.told na
 
   map-told : (Rose a.before a.after → ⊥) → (r : Result MapVerdict CommandFault) → MapComes r
       → AreMapsTold bytes names (status_of (outcome_by of_mapped r)) (text_of (outcome_by of_mapped r))
-  map-told none (Err f) comes = inr (record { fault = f; unjudged = map-unjudged none f comes; status_is = refl; text_is = refl })
+  map-told none (Err f) comes =
+      inr (record { fault = f; unjudged = map-unjudged none f comes; status_is = refl; text_is = refl })
   map-told none (Ok v) (l, h, held, (hold, has, judged)) =
       let under : held ≡ map anchor_on (lines bytes.anchors) = has.same bytes.anchors anchors_told in
       inl (record {
@@ -130,11 +146,20 @@ module _ (a : Asked) (bytes names : ThreeFiles) (low_told : TellsBytes a.told na
 
   map-fault : (f : CommandFault) → AreMapsUnjudged bytes names f → MapComes (Err f)
   map-fault (Unreadable (BadByte named place)) (inl is) =
-      inl (is.0, holds_none-of low_layout a.told names.low bytes.low low_told place is.1, there a.told names.high bytes.high high_told, there a.told names.anchors bytes.anchors anchors_told)
+      inl (
+        is.0,
+        holds_none-of low_layout a.told names.low bytes.low low_told place is.1,
+        there a.told names.high bytes.high high_told,
+        there a.told names.anchors bytes.anchors anchors_told,
+      )
   map-fault (Unreadable (BadByte named place)) (inr (inl is)) =
       inr (
         (is.0.0, holds-of low_layout a.told names.low bytes.low low_told is.0.0 is.0.1),
-        (is.1.0, holds_none-of high_layout a.told names.high bytes.high high_told place is.1.1, there a.told names.anchors bytes.anchors anchors_told),
+        (
+          is.1.0,
+          holds_none-of high_layout a.told names.high bytes.high high_told place is.1.1,
+          there a.told names.anchors bytes.anchors anchors_told,
+        ),
       )
   map-fault (Unreadable (BadByte named place)) (inr (inr is)) = absurd is.1
   map-fault (Unreadable (BadLine named number)) (inl is) = absurd is
@@ -145,7 +170,8 @@ module _ (a : Asked) (bytes names : ThreeFiles) (low_told : TellsBytes a.told na
       is.1.0,
       record {
         there = there a.told names.anchors bytes.anchors anchors_told;
-        bad = λ others tells. subst (λ b. IsFirstBadLine (lines b) number) (same a.told names.anchors bytes.anchors others anchors_told tells) is.1.1;
+        bad = λ others tells. subst (λ b. IsFirstBadLine (lines b) number) (same a.told names.anchors bytes.anchors
+            others anchors_told tells) is.1.1;
       },
     ),
   )
@@ -166,7 +192,8 @@ module _ (a : Asked) (bytes names : ThreeFiles) (low_told : TellsBytes a.told na
   map-fault (Unserved cause) (inr (inl is)) = absurd is.1
   map-fault (Unserved cause) (inr (inr is)) = absurd is.1
 
-  map-comes : (status : ℕ) (text : List ℕ) → AreMapsTold bytes names status text → ComesTo of_mapped MapComes status text
+  map-comes : (status : ℕ) (text : List ℕ) → AreMapsTold bytes names status text → ComesTo of_mapped MapComes status
+      text
   map-comes status text (inl t) =
       let j = t.judged in
       record {
@@ -184,7 +211,13 @@ module _ (a : Asked) (bytes names : ThreeFiles) (low_told : TellsBytes a.told na
         status_is = t.status_is ∙ sym (map_status_is t.verdict);
         text_is = t.text_is;
       }
-  map-comes status text (inr t) = record { result = Err t.fault; comes = map-fault t.fault t.unjudged; status_is = t.status_is; text_is = t.text_is }
+  map-comes status text (inr t) =
+      record {
+        result = Err t.fault;
+        comes = map-fault t.fault t.unjudged;
+        status_is = t.status_is;
+        text_is = t.text_is;
+      }
 
 -- ---- evidence
 
@@ -192,7 +225,8 @@ fork_status_is : (v : ForkVerdict) → status_of (of_fork v) ≡ fork_status v
 fork_status_is (fork.Yes f) = refl
 fork_status_is (fork.No reason) = refl
 
-module _ (a : Asked) (evidence_file file evidence anchors : List ℕ) (evidence_told : TellsBytes a.told evidence_file evidence) (anchors_told : TellsBytes a.told file anchors) where
+module _ (a : Asked) (evidence_file file evidence anchors : List ℕ) (evidence_told : TellsBytes a.told evidence_file
+    evidence) (anchors_told : TellsBytes a.told file anchors) where
   abbrev ForkComes : Result ForkVerdict CommandFault → Type 0
   ForkComes = CheckForkComes a evidence_file file
 
@@ -208,7 +242,8 @@ module _ (a : Asked) (evidence_file file evidence anchors : List ℕ) (evidence_
 
   fork-told : (Rose a.before a.after → ⊥) → (r : Result ForkVerdict CommandFault) → ForkComes r
       → IsForkTold file evidence anchors (status_of (outcome_by of_fork r)) (text_of (outcome_by of_fork r))
-  fork-told none (Err f) comes = inr (record { fault = f; unjudged = fork-unjudged none f comes; status_is = refl; text_is = refl })
+  fork-told none (Err f) comes =
+      inr (record { fault = f; unjudged = fork-unjudged none f comes; status_is = refl; text_is = refl })
   fork-told none (Ok v) (held, has, judged) =
       let under : held ≡ map anchor_on (lines anchors) = has.same anchors anchors_told in
       inl (
@@ -216,8 +251,10 @@ module _ (a : Asked) (evidence_file file evidence anchors : List ℕ) (evidence_
         record {
           verdict = v;
           judged = record {
-            is_verdict = subst (λ (ts : List Thread). IsForkVerdict sha256 ts evidence v) under (judged.is_verdict evidence evidence_told);
-            binds = subst (λ (ts : List Thread). BindsFork sha256 ts evidence v) under (judged.binds evidence evidence_told);
+            is_verdict = subst (λ (ts : List Thread). IsForkVerdict sha256 ts evidence v) under
+                (judged.is_verdict evidence evidence_told);
+            binds = subst (λ (ts : List Thread). BindsFork sha256 ts evidence v) under
+                (judged.binds evidence evidence_told);
           };
           status_is = fork_status_is v;
           text_is = refl;
@@ -230,7 +267,8 @@ module _ (a : Asked) (evidence_file file evidence anchors : List ℕ) (evidence_
     record {
       proof_there = there a.told evidence_file evidence evidence_told;
       there = there a.told file anchors anchors_told;
-      bad = λ bytes tells. subst (λ b. IsFirstBadLine (lines b) number) (same a.told file anchors bytes anchors_told tells) is.1;
+      bad = λ bytes tells. subst (λ b. IsFirstBadLine (lines b) number) (same a.told file anchors bytes anchors_told
+          tells) is.1;
     },
   )
   fork-fault NoMemory is = tt
@@ -241,7 +279,8 @@ module _ (a : Asked) (evidence_file file evidence anchors : List ℕ) (evidence_
   fork-fault (Unreadable (BadByte named place)) is = absurd is
   fork-fault (Unreadable (Unsound named step rule)) is = absurd is
 
-  fork-comes : (status : ℕ) (text : List ℕ) → IsForkTold file evidence anchors status text → ComesTo of_fork ForkComes status text
+  fork-comes : (status : ℕ) (text : List ℕ) → IsForkTold file evidence anchors status text → ComesTo of_fork ForkComes
+      status text
   fork-comes status text (inl (good, t)) = record {
     result = Ok t.verdict;
     comes = (
@@ -249,75 +288,104 @@ module _ (a : Asked) (evidence_file file evidence anchors : List ℕ) (evidence_
       anchors-of a.told file anchors anchors_told good,
       record {
         there = there a.told evidence_file evidence evidence_told;
-        is_verdict = λ bytes tells. subst (λ b. IsForkVerdict sha256 (map anchor_on (lines anchors)) b t.verdict) (same a.told evidence_file evidence bytes evidence_told tells) t.judged.is_verdict;
-        binds = λ bytes tells. subst (λ b. BindsFork sha256 (map anchor_on (lines anchors)) b t.verdict) (same a.told evidence_file evidence bytes evidence_told tells) t.judged.binds;
+        is_verdict = λ bytes tells. subst (λ b. IsForkVerdict sha256 (map anchor_on (lines anchors)) b t.verdict)
+            (same a.told evidence_file evidence bytes evidence_told tells) t.judged.is_verdict;
+        binds = λ bytes tells. subst (λ b. BindsFork sha256 (map anchor_on (lines anchors)) b t.verdict)
+            (same a.told evidence_file evidence bytes evidence_told tells) t.judged.binds;
       },
     );
     status_is = t.status_is ∙ sym (fork_status_is t.verdict);
     text_is = t.text_is;
   }
-  fork-comes status text (inr t) = record { result = Err t.fault; comes = fork-fault t.fault t.unjudged; status_is = t.status_is; text_is = t.text_is }
+  fork-comes status text (inr t) =
+      record {
+        result = Err t.fault;
+        comes = fork-fault t.fault t.unjudged;
+        status_is = t.status_is;
+        text_is = t.text_is;
+      }
 
 -- ---- runs
 
-module _ {D : Type 0} (view : D → DiskView) (a : Around D) {X : Type 0} (of : X → Outcome) (Comes : Result X CommandFault → Type 0) (Told : ℕ → List ℕ → Type 0) where
+module _ {D : Type 0} (view : D → DiskView) (a : Around D) {X : Type 0} (of : X → Outcome)
+    (Comes : Result X CommandFault → Type 0) (Told : ℕ → List ℕ → Type 0) where
   abbrev Works : Outcome → Type 0
   Works = IsOutcomeOf of (λ (r : Result X CommandFault). Comes r × IsDiskUntouched view a.outside)
 
   abbrev HasAt : Outcome → Option Command → Type 0
-  HasAt outcome option = MatchOption option (HaveNoForm a.words outcome × IsDiskUntouched view a.outside) (λ c. (work view a.outside c).does outcome)
+  HasAt outcome option = MatchOption option (HaveNoForm a.words outcome × IsDiskUntouched view a.outside)
+      (λ c. (work view a.outside c).does outcome)
 
   module _ (command : Command) (is_command : command_of a.words ≡ Some command) where
-    run-told : ((o : Outcome) → (work view a.outside command).does o → Works o) → ((r : Result X CommandFault) → Comes r → Told (status_of (outcome_by of r)) (text_of (outcome_by of r)))
+    run-told : ((o : Outcome) → (work view a.outside command).does o → Works o) → ((r : Result X CommandFault) → Comes r
+        → Told (status_of (outcome_by of r)) (text_of (outcome_by of r)))
         → NoneFailed a → (status : ℕ) → EndsAllowed view a status → (text : List ℕ) × Told status text × Writes a text
     run-told works told none status run = by run.0 run.1.has run.1.ends
       where
-        ended : (outcome : Outcome) → EndsWith a.taken a.sink_faults status outcome → (status ≡ status_of outcome) × Writes a (text_of outcome)
+        ended : (outcome : Outcome) → EndsWith a.taken a.sink_faults status outcome → (status ≡ status_of outcome)
+            × Writes a (text_of outcome)
         ended outcome (inl ends) = ends
         ended outcome (inr cut) = absurd (none.sink cut.2)
 
-        of_comes : (outcome : Outcome) → Works outcome → (status ≡ status_of outcome) → Writes a (text_of outcome) → (text : List ℕ) × Told status text × Writes a text
+        of_comes : (outcome : Outcome) → Works outcome → (status ≡ status_of outcome) → Writes a (text_of outcome)
+            → (text : List ℕ) × Told status text × Writes a text
         of_comes outcome comes is writes =
-            let here : Told (status_of outcome) (text_of outcome) = subst (λ (o : Outcome). Told (status_of o) (text_of o)) (sym comes.2) (told comes.0 comes.1.0) in
+            let here : Told (status_of outcome) (text_of outcome) =
+            subst (λ (o : Outcome). Told (status_of o) (text_of o)) (sym comes.2) (told comes.0 comes.1.0) in
             (text_of outcome, subst (λ (s : ℕ). Told s (text_of outcome)) (sym is) here, writes)
 
-        by : (outcome : Outcome) → HasOutcome view a.outside a.words outcome → EndsWith a.taken a.sink_faults status outcome
+        by : (outcome : Outcome) → HasOutcome view a.outside a.words outcome → EndsWith a.taken a.sink_faults status
+            outcome
             → (text : List ℕ) × Told status text × Writes a text
         by outcome has ends =
             let ending = ended outcome ends in
             of_comes outcome (works outcome (subst (HasAt outcome) is_command has)) ending.0 ending.1
 
-    run-ends : ((o : Outcome) → Works o → (work view a.outside command).does o) → (status : ℕ) (text : List ℕ) → ComesTo of Comes status text → IsDiskUntouched view a.outside
+    run-ends : ((o : Outcome) → Works o → (work view a.outside command).does o) → (status : ℕ) (text : List ℕ)
+        → ComesTo of Comes status text → IsDiskUntouched view a.outside
         → Writes a text → EndsAllowed view a status
     run-ends does status text to untouched writes = (
       outcome_by of to.result,
       record {
-        has = subst (HasAt (outcome_by of to.result)) (sym is_command) (does (outcome_by of to.result) (to.result, (to.comes, untouched), refl));
+        has = subst (HasAt (outcome_by of to.result)) (sym is_command)
+            (does (outcome_by of to.result) (to.result, (to.comes, untouched), refl));
         ends = inl (to.status_is, subst (Writes a) to.text_is writes);
       },
     )
 
 module _ {D : Type 0} (view : D → DiskView) (a : Around D) where
-  pub map_run-told : (bytes names : ThreeFiles) (status : ℕ) → JudgesMapFiles a bytes names → NoneFailed a → EndsAllowed view a status
+  pub map_run-told : (bytes names : ThreeFiles) (status : ℕ) → JudgesMapFiles a bytes names → NoneFailed a
+      → EndsAllowed view a status
       → (text : List ℕ) × AreMapsTold bytes names status text × Writes a text
   map_run-told bytes names status j none run =
-      run-told view a of_mapped (CheckMapComes a.outside.inputs names.low names.high names.anchors) (AreMapsTold bytes names) (CheckMap names.low names.high names.anchors)
-      j.is_command (λ o does. does) (map-told a.outside.inputs bytes names j.low_told j.high_told j.anchors_told none.inputs) none status run
+      run-told view a of_mapped (CheckMapComes a.outside.inputs names.low names.high names.anchors)
+      (AreMapsTold bytes names) (CheckMap names.low names.high names.anchors)
+      j.is_command (λ o does. does) (map-told a.outside.inputs bytes names j.low_told j.high_told j.anchors_told
+      none.inputs) none status run
 
-  pub map_run-ends : (bytes names : ThreeFiles) (status : ℕ) (text : List ℕ) → JudgesMapFiles a bytes names → IsDiskUntouched view a.outside
+  pub map_run-ends : (bytes names : ThreeFiles) (status : ℕ) (text : List ℕ) → JudgesMapFiles a bytes names
+      → IsDiskUntouched view a.outside
       → AreMapsTold bytes names status text → Writes a text → EndsAllowed view a status
   map_run-ends bytes names status text j untouched told writes =
-      run-ends view a of_mapped (CheckMapComes a.outside.inputs names.low names.high names.anchors) (AreMapsTold bytes names) (CheckMap names.low names.high names.anchors)
-      j.is_command (λ o does. does) status text (map-comes a.outside.inputs bytes names j.low_told j.high_told j.anchors_told status text told) untouched writes
+      run-ends view a of_mapped (CheckMapComes a.outside.inputs names.low names.high names.anchors)
+      (AreMapsTold bytes names) (CheckMap names.low names.high names.anchors)
+      j.is_command (λ o does. does) status text (map-comes a.outside.inputs bytes names j.low_told j.high_told
+      j.anchors_told status text told) untouched writes
 
-  pub fork_run-told : (file evidence anchors : List ℕ) (status : ℕ) → JudgesEvidence a file evidence anchors → NoneFailed a → EndsAllowed view a status
+  pub fork_run-told : (file evidence anchors : List ℕ) (status : ℕ) → JudgesEvidence a file evidence anchors
+      → NoneFailed a → EndsAllowed view a status
       → (text : List ℕ) × IsForkTold file evidence anchors status text × Writes a text
   fork_run-told file evidence anchors status j none run =
-      run-told view a of_fork (CheckForkComes a.outside.inputs j.evidence_file file) (IsForkTold file evidence anchors) (CheckFork j.evidence_file file)
-      j.is_command (λ o does. does) (fork-told a.outside.inputs j.evidence_file file evidence anchors j.evidence_told j.anchors_told none.inputs) none status run
+      run-told view a of_fork (CheckForkComes a.outside.inputs j.evidence_file file) (IsForkTold file evidence anchors)
+      (CheckFork j.evidence_file file)
+      j.is_command (λ o does. does) (fork-told a.outside.inputs j.evidence_file file evidence anchors j.evidence_told
+      j.anchors_told none.inputs) none status run
 
-  pub fork_run-ends : (file evidence anchors : List ℕ) (status : ℕ) (text : List ℕ) → JudgesEvidence a file evidence anchors → IsDiskUntouched view a.outside
+  pub fork_run-ends : (file evidence anchors : List ℕ) (status : ℕ) (text : List ℕ) → JudgesEvidence a file evidence
+      anchors → IsDiskUntouched view a.outside
       → IsForkTold file evidence anchors status text → Writes a text → EndsAllowed view a status
   fork_run-ends file evidence anchors status text j untouched told writes =
-      run-ends view a of_fork (CheckForkComes a.outside.inputs j.evidence_file file) (IsForkTold file evidence anchors) (CheckFork j.evidence_file file)
-      j.is_command (λ o does. does) status text (fork-comes a.outside.inputs j.evidence_file file evidence anchors j.evidence_told j.anchors_told status text told) untouched writes
+      run-ends view a of_fork (CheckForkComes a.outside.inputs j.evidence_file file) (IsForkTold file evidence anchors)
+      (CheckFork j.evidence_file file)
+      j.is_command (λ o does. does) status text (fork-comes a.outside.inputs j.evidence_file file evidence anchors
+      j.evidence_told j.anchors_told status text told) untouched writes

@@ -1,4 +1,5 @@
--- One history at most is that of a file, or one reason why it is none; and one thing comes of the proofs of files for a history.
+-- One history at most is that of a file, or one reason why it is none; and one thing comes of the proofs of files for a
+-- history.
 use Rattle.std.proofs.Common.{◌≡◌, ◌∙◌, ℕ, List, [], ◌∷◌, ap, sym, subst, arith, inl, inr}
 use Rattle.std.specs.Prelude.{Option}
 use Rattle.sha2.specs.Sha256.{sha256}
@@ -33,7 +34,8 @@ module _ (bytes : List ℕ) where
 
   pub file_not_broken : (h : History) (step rule : ℕ) → IsHistoryFileOf bytes h → BreaksRule bytes step rule → ⊥
   file_not_broken h step rule is breaks =
-      sound_not_broken breaks.1.0 step rule (subst IsSound (one_value history_layout bytes h breaks.1.0 is.spelled breaks.1.1) is.sound) breaks.1.2
+      sound_not_broken breaks.1.0 step rule
+      (subst IsSound (one_value history_layout bytes h breaks.1.0 is.spelled breaks.1.1) is.sound) breaks.1.2
 
   -- one that isn't is bad at one byte, or breaks one rule first
   pub byte_once : (p q : ℕ) → IsBadByte bytes p → IsBadByte bytes q → p ≡ q
@@ -43,23 +45,28 @@ module _ (bytes : List ℕ) where
   byte_once p q (inr one) (inr other) = place_once history_layout bytes p q one.2 other.2
 
   pub byte_not_broken : (place step rule : ℕ) → IsBadByte bytes place → BreaksRule bytes step rule → ⊥
-  byte_not_broken place step rule (inl long) breaks = let more = long.0 in let short = breaks.0 in omega (arith, more, short)
+  byte_not_broken place step rule (inl long) breaks = let more = long.0 in let short = breaks.0 in
+      omega (arith, more, short)
   byte_not_broken place step rule (inr none) breaks = none.1 breaks.1.0 breaks.1.1
 
-  pub rule_once : (step rule again other : ℕ) → BreaksRule bytes step rule → BreaksRule bytes again other → (step ≡ again) × (rule ≡ other)
+  pub rule_once : (step rule again other : ℕ) → BreaksRule bytes step rule → BreaksRule bytes again other
+      → (step ≡ again) × (rule ≡ other)
   rule_once step rule again other one also =
       let same : also.1.0 ≡ one.1.0 = one_value history_layout bytes also.1.0 one.1.0 also.1.1 one.1.1 in
-      broken_once one.1.0 step rule again other one.1.2 (subst (λ (h : History). IsFirstBroken h again other) same also.1.2)
+      broken_once one.1.0 step rule again other one.1.2 (subst (λ (h : History). IsFirstBroken h again other) same
+      also.1.2)
 
 -- ---- what comes of proofs
 
-module _ (anchors : List Thread) (h : History) (told : Option Files) (files proofs : List (List ℕ)) (tells : TellAll told files proofs) where
+module _ (anchors : List Thread) (h : History) (told : Option Files) (files proofs : List (List ℕ))
+    (tells : TellAll told files proofs) where
   -- the steps that are taken over by what was shown
   abbrev front : List Receiving → List ℕ
   front [] = history_bytes h
   front (first ∷ rest) = history_bytes (adopted_by h (furthest first rest)).history
 
-  pub taken_once : (x y : Taken) → IsAdoptionTaken told anchors files x h → IsAdoptionTaken told anchors files y h → x ≡ y
+  pub taken_once : (x y : Taken) → IsAdoptionTaken told anchors files x h → IsAdoptionTaken told anchors files y h
+      → x ≡ y
   taken_once (taken.File bytes) (taken.File other) one also =
       let is = one.answers proofs tells in
       let its = also.answers proofs tells in
@@ -67,7 +74,10 @@ module _ (anchors : List Thread) (h : History) (told : Option Files) (files proo
       let others : other ≡ front (its.0 ∷ its.1) = also.file ∙ ap (λ (b : Adopted). history_bytes b.history) its.3 in
       let same = good_once sha256 anchors h proofs (is.0 ∷ is.1) (its.0 ∷ its.1) is.2 its.2 in
       ap (λ (b : List ℕ). taken.File b) (own ∙ ap front same ∙ sym others)
-  taken_once (taken.File bytes) (taken.Fault fault) one also = absurd (refused sha256 anchors h proofs fault one.adopted (also proofs tells) (one.answers proofs tells))
-  taken_once (taken.Fault fault) (taken.File bytes) one also = absurd (refused sha256 anchors h proofs fault also.adopted (one proofs tells) (also.answers proofs tells))
+  taken_once (taken.File bytes) (taken.Fault fault) one also =
+      absurd (refused sha256 anchors h proofs fault one.adopted (also proofs tells) (one.answers proofs tells))
+  taken_once (taken.Fault fault) (taken.File bytes) one also =
+      absurd (refused sha256 anchors h proofs fault also.adopted (one proofs tells) (also.answers proofs tells))
   taken_once (taken.Fault fault) (taken.Fault other) one also =
-      ap (λ (f : AdoptFault). taken.Fault f) (first_fault_once sha256 anchors h 1 proofs fault other (one proofs tells) (also proofs tells))
+      ap (λ (f : AdoptFault). taken.Fault f) (first_fault_once sha256 anchors h 1 proofs fault other (one proofs tells)
+      (also proofs tells))

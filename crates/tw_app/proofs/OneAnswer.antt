@@ -1,4 +1,5 @@
--- Over files whose bytes are told, each command over files that reach beyond one proof comes to one answer; so two runs alike end alike.
+-- Over files whose bytes are told, each command over files that reach beyond one proof comes to one answer; so two runs
+-- alike end alike.
 use Rattle.std.proofs.Common.{◌≡◌, ◌∙◌, ℕ, List, [], ◌∷◌, ap, sym, subst, inl, inr, refl, ◌⊎◌}
 use Rattle.std.specs.Prelude.{Option, MatchOption, Result, Ok, Err}
 use Rattle.tw_base.specs.declared.history.thread.Key.{Key}
@@ -16,7 +17,8 @@ use Rattle.tw_words.specs.CommandLine.{command_of}
 use Rattle.tw_words.specs.declared.command.Command.{Command}
 use Rattle.tw_words.specs.declared.command.Command.TheVariants.{Accuse, Adopt, Atlas, Audit, CheckFork, CheckMap}
 use Rattle.tw_text.specs.declared.fault.CommandFault.{CommandFault}
-use Rattle.tw_text.specs.declared.fault.CommandFault.TheVariants.{DiskFault, InputFault, NoMemory, Refused, Unreadable, Unserved}
+use Rattle.tw_text.specs.declared.fault.CommandFault.TheVariants.{DiskFault, InputFault, NoMemory, Refused, Unreadable}
+use Rattle.tw_text.specs.declared.fault.CommandFault.TheVariants.{Unserved}
 use Rattle.tw_text.specs.declared.refusal.BadInput.{BadInput}
 use Rattle.tw_text.specs.declared.refusal.BadInput.TheVariants.{BadByte, BadLine, Unsound}
 use Rattle.tw_text.specs.declared.refusal.Refusal.{Refusal}
@@ -40,7 +42,8 @@ use Rattle.tw_app.specs.declared.outcome.Outcome.{Outcome}
 use Rattle.tw_app.specs.Alike.{AreRunsAlike, ReachesBeyond, TellsEach}
 use Rattle.tw_app.specs.Around.{Around, Writes}
 use Rattle.tw_app.specs.Commands.{command_files}
-use Rattle.tw_app.specs.Outcomes.{of_accused, of_audited, of_fork, of_mapped, of_planned, of_taken, outcome_by, status_of, text_of}
+use Rattle.tw_app.specs.Outcomes.{of_accused, of_audited, of_fork, of_mapped, of_planned, of_taken, outcome_by}
+use Rattle.tw_app.specs.Outcomes.{status_of, text_of}
 use Rattle.tw_app.specs.Running.{EndsAllowed, EndsWith, HaveNoForm, IsDiskUntouched, IsHindered, IsOutcomeOf, work}
 use Rattle.tw_app.proofs.OneAdoption.{byte_not_broken, byte_once, file_not_bad, file_not_broken, rule_once, taken_once}
 use Rattle.tw_app.proofs.OneAtlas.{bad_receipts_once, hops_not_bad, hops_once, planned_once}
@@ -73,9 +76,11 @@ module _ {X : Type 0} where
     unserved : (cause : StoreCause) → May (Err (Unserved cause)) → ⊥
 
   abbrev Seen : (May : Result X CommandFault → Type 0) → Result X CommandFault → Type 0
-  Seen May r = ((x : X) × (r ≡ done x) × May (Ok x)) ⊎ ((bad : BadInput) × (r ≡ unreadable bad) × May (Err (Unreadable bad)))
+  Seen May r = ((x : X) × (r ≡ done x) × May (Ok x)) ⊎ ((bad : BadInput) × (r ≡ unreadable bad)
+      × May (Err (Unreadable bad)))
 
-  seen : (before after : ℕ) (May : Result X CommandFault → Type 0) → IsOfFiles before after May → (r : Result X CommandFault) → IsSettled r → May r → Seen May r
+  seen : (before after : ℕ) (May : Result X CommandFault → Type 0) → IsOfFiles before after May
+      → (r : Result X CommandFault) → IsSettled r → May r → Seen May r
   seen before after May files (Ok x) settled may = inl (x, refl, may)
   seen before after May files (Err (Unreadable bad)) settled may = inr (bad, refl, may)
   seen before after May files (Err InputFault) settled may = absurd settled
@@ -91,20 +96,25 @@ module _ {X : Type 0} where
     not_bad : (x : X) (bad : BadInput) → One (Ok x) → Other (Err (Unreadable bad)) → ⊥
     not_done : (x : X) (bad : BadInput) → One (Err (Unreadable bad)) → Other (Ok x) → ⊥
 
-  once : (One Other : Result X CommandFault → Type 0) → Agree One Other → (r s : Result X CommandFault) → Seen One r → Seen Other s → r ≡ s
-  once One Other agree r s (inl one) (inl other) = one.1 ∙ ap done (agree.done_once one.0 other.0 one.2 other.2) ∙ sym other.1
+  once : (One Other : Result X CommandFault → Type 0) → Agree One Other → (r s : Result X CommandFault) → Seen One r
+      → Seen Other s → r ≡ s
+  once One Other agree r s (inl one) (inl other) = one.1 ∙ ap done (agree.done_once one.0 other.0 one.2 other.2)
+      ∙ sym other.1
   once One Other agree r s (inl one) (inr other) = absurd (agree.not_bad one.0 other.0 one.2 other.2)
   once One Other agree r s (inr one) (inl other) = absurd (agree.not_done other.0 one.0 one.2 other.2)
-  once One Other agree r s (inr one) (inr other) = one.1 ∙ ap unreadable (agree.bad_once one.0 other.0 one.2 other.2) ∙ sym other.1
+  once One Other agree r s (inr one) (inr other) = one.1 ∙ ap unreadable (agree.bad_once one.0 other.0 one.2 other.2)
+      ∙ sym other.1
 
 -- ---- each command, over files whose bytes are told
 
 module _ (told : Option Files) where
-  module _ (first second : List ℕ) (link : Option (List ℕ)) (tells : TellsEach told (command_files (Accuse first second link))) (m n k l : ℕ) where
+  module _ (first second : List ℕ) (link : Option (List ℕ))
+      (tells : TellsEach told (command_files (Accuse first second link))) (m n k l : ℕ) where
     accuse_bad : (bad other : BadInput) → AccuseComes (asked told m n) first second link (Err (Unreadable bad))
         → AccuseComes (asked told k l) first second link (Err (Unreadable other)) → bad ≡ other
     accuse_bad (BadByte named p) (BadByte again q) a b = (
-        let both = bad_parts_once told first second link (tells_parts told first second link tells) named again p q a b in
+        let both = bad_parts_once told first second link (tells_parts told first second link tells) named again p q a
+        b in
         let names = both.0 in
         let places = both.1 in
         λ i. BadByte (names i) (places i))
@@ -120,21 +130,26 @@ module _ (told : Option Files) where
     accuse_apart x (BadLine named number) a b = b
     accuse_apart x (Unsound named step rule) a b = b
 
-  module _ (first second : List ℕ) (link : Option (List ℕ)) (tells : TellsEach told (command_files (Accuse first second link))) (m n k l : ℕ) where
-    accuse_agree : Agree (AccuseComes (asked told m n) first second link) (AccuseComes (asked told k l) first second link)
+  module _ (first second : List ℕ) (link : Option (List ℕ))
+      (tells : TellsEach told (command_files (Accuse first second link))) (m n k l : ℕ) where
+    accuse_agree : Agree (AccuseComes (asked told m n) first second link) (AccuseComes (asked told k l) first second
+        link)
     accuse_agree = record {
-      done_once = λ x y a b. made_once told first second link (tells_parts told first second link tells) a.0 a.1 b.0 b.1 a.2 b.2 x y a.3 b.3;
+      done_once = λ x y a b. made_once told first second link (tells_parts told first second link tells) a.0 a.1 b.0 b.1
+          a.2 b.2 x y a.3 b.3;
       bad_once = accuse_bad first second link tells m n k l;
       not_bad = accuse_apart first second link tells m n k l;
       not_done = λ x bad a b. accuse_apart first second link tells k l m n x bad b a;
     }
 
   module _ (file anchors : List ℕ) (tells : TellsEach told (command_files (CheckFork file anchors))) (m n k l : ℕ) where
-    fork_done : (v w : ForkVerdict) → CheckForkComes (asked told m n) file anchors (Ok v) → CheckForkComes (asked told k l) file anchors (Ok w) → v ≡ w
+    fork_done : (v w : ForkVerdict) → CheckForkComes (asked told m n) file anchors (Ok v)
+        → CheckForkComes (asked told k l) file anchors (Ok w) → v ≡ w
     fork_done v w a b =
         let held : b.0 ≡ a.0 = anchors_once told anchors tells.1.0.0 tells.1.0.1 b.0 a.0 b.1 a.1 in
         fork_once a.0 tells.0.0 v w (a.2.is_verdict tells.0.0 tells.0.1)
-        (subst (λ (held : List Thread). IsForkVerdict sha256 held tells.0.0 w) held (b.2.is_verdict tells.0.0 tells.0.1))
+        (subst (λ (held : List Thread). IsForkVerdict sha256 held tells.0.0 w) held
+        (b.2.is_verdict tells.0.0 tells.0.1))
 
     fork_bad : (bad other : BadInput) → CheckForkComes (asked told m n) file anchors (Err (Unreadable bad))
         → CheckForkComes (asked told k l) file anchors (Err (Unreadable other)) → bad ≡ other
@@ -162,8 +177,10 @@ module _ (told : Option Files) where
       not_done = λ v bad a b. fork_apart file anchors tells k l m n v bad b a;
     }
 
-  module _ (low high anchors : List ℕ) (tells : TellsEach told (command_files (CheckMap low high anchors))) (m n k l : ℕ) where
-    map_agree : Agree (CheckMapComes (asked told m n) low high anchors) (CheckMapComes (asked told k l) low high anchors)
+  module _ (low high anchors : List ℕ) (tells : TellsEach told (command_files (CheckMap low high anchors)))
+      (m n k l : ℕ) where
+    map_agree : Agree (CheckMapComes (asked told m n) low high anchors) (CheckMapComes (asked told k l) low high
+        anchors)
     map_agree = record {
       done_once = map_done told low high anchors tells m n k l;
       bad_once = bad_map_once told low high anchors tells;
@@ -172,11 +189,13 @@ module _ (told : Option Files) where
     }
 
   module _ (start : Key) (files : List (List ℕ)) (tells : TellsEach told files) (m n k l : ℕ) where
-    atlas_done : (x y : Planned) → AtlasComes (asked told m n) start files (Ok x) → AtlasComes (asked told k l) start files (Ok y) → x ≡ y
+    atlas_done : (x y : Planned) → AtlasComes (asked told m n) start files (Ok x) → AtlasComes (asked told k l) start
+        files (Ok y) → x ≡ y
     atlas_done x y a b =
         let all = tell_all told files tells in
         let hops : b.1.0 ≡ a.1.0 = hops_once [] all.0 b.1.0 a.1.0 (b.1.1.are all.0 all.1) (a.1.1.are all.0 all.1) in
-        planned_once start a.1.0 x y a.0 b.0 a.1.2 (subst (λ (hs : List Hop). IsAtlasPlanned hs start y.atlas) hops b.1.2)
+        planned_once start a.1.0 x y a.0 b.0 a.1.2 (subst (λ (hs : List Hop). IsAtlasPlanned hs start y.atlas) hops
+        b.1.2)
 
     atlas_bad : (bad other : BadInput) → AtlasComes (asked told m n) start files (Err (Unreadable bad))
         → AtlasComes (asked told k l) start files (Err (Unreadable other)) → bad ≡ other
@@ -208,7 +227,8 @@ module _ (told : Option Files) where
       not_done = λ x bad a b. atlas_apart start files tells k l m n x bad b a;
     }
 
-  module _ (proof anchors : List ℕ) (histories : List (List ℕ)) (tells : TellsEach told (command_files (Audit proof anchors histories))) (m n k l : ℕ) where
+  module _ (proof anchors : List ℕ) (histories : List (List ℕ))
+      (tells : TellsEach told (command_files (Audit proof anchors histories))) (m n k l : ℕ) where
     abbrev First : Result Audited CommandFault → Type 0
     First = AuditComes (asked told m n) proof anchors histories
 
@@ -223,41 +243,55 @@ module _ (told : Option Files) where
         histories_once MOST_HISTORY_BYTES [] all.0 b.2.0 a.2.0 (b.2.1.0.are all.0 all.1) (a.2.1.0.are all.0 all.1) in
         audited_once a.2.0 a.0 tells.0.0 x y (a.2.1.2.answers tells.0.0 tells.0.1)
         (subst (λ (family : List History). IsAudit sha256 family a.0 tells.0.0 (finding_answer y)) families
-        (subst (λ (held : List Thread). IsAudit sha256 b.2.0 held tells.0.0 (finding_answer y)) held (b.2.1.2.answers tells.0.0 tells.0.1)))
+        (subst (λ (held : List Thread). IsAudit sha256 b.2.0 held tells.0.0 (finding_answer y)) held
+        (b.2.1.2.answers tells.0.0 tells.0.1)))
 
     audit_bad : (bad other : BadInput) → First (Err (Unreadable bad)) → Second (Err (Unreadable other)) → bad ≡ other
     audit_bad (BadLine named p) (BadLine again q) a b = (
         let names = a.0 ∙ sym b.0 in
         let numbers = bad_line_once told anchors tells.1.0.0 tells.1.0.1 proof p q a.1 b.1 in
         λ i. BadLine (names i) (numbers i))
-    audit_bad (BadLine named p) (BadByte again q) a b = absurd (good_not_bad told anchors tells.1.0.0 tells.1.0.1 b.0 proof p b.1 a.1)
-    audit_bad (BadLine named p) (Unsound again step rule) a b = absurd (good_not_bad told anchors tells.1.0.0 tells.1.0.1 b.0 proof p b.1 a.1)
-    audit_bad (BadByte named p) (BadLine again q) a b = absurd (good_not_bad told anchors tells.1.0.0 tells.1.0.1 a.0 proof q a.1 b.1)
-    audit_bad (Unsound named step rule) (BadLine again q) a b = absurd (good_not_bad told anchors tells.1.0.0 tells.1.0.1 a.0 proof q a.1 b.1)
+    audit_bad (BadLine named p) (BadByte again q) a b =
+        absurd (good_not_bad told anchors tells.1.0.0 tells.1.0.1 b.0 proof p b.1 a.1)
+    audit_bad (BadLine named p) (Unsound again step rule) a b =
+        absurd (good_not_bad told anchors tells.1.0.0 tells.1.0.1 b.0 proof p b.1 a.1)
+    audit_bad (BadByte named p) (BadLine again q) a b =
+        absurd (good_not_bad told anchors tells.1.0.0 tells.1.0.1 a.0 proof q a.1 b.1)
+    audit_bad (Unsound named step rule) (BadLine again q) a b =
+        absurd (good_not_bad told anchors tells.1.0.0 tells.1.0.1 a.0 proof q a.1 b.1)
     audit_bad (BadByte named p) (BadByte again q) a b =
         let all = tell_all told histories tells.1.1 in
-        bad_history_once MOST_HISTORY_BYTES [] histories all.0 (BadByte named p) (BadByte again q) (a.2.1.is_bad all.0 all.1) (b.2.1.is_bad all.0 all.1)
+        bad_history_once MOST_HISTORY_BYTES [] histories all.0 (BadByte named p) (BadByte again q)
+        (a.2.1.is_bad all.0 all.1) (b.2.1.is_bad all.0 all.1)
     audit_bad (BadByte named p) (Unsound again step rule) a b =
         let all = tell_all told histories tells.1.1 in
-        bad_history_once MOST_HISTORY_BYTES [] histories all.0 (BadByte named p) (Unsound again step rule) (a.2.1.is_bad all.0 all.1) (b.2.1.is_bad all.0 all.1)
+        bad_history_once MOST_HISTORY_BYTES [] histories all.0 (BadByte named p) (Unsound again step rule)
+        (a.2.1.is_bad all.0 all.1) (b.2.1.is_bad all.0 all.1)
     audit_bad (Unsound named step rule) (BadByte again q) a b =
         let all = tell_all told histories tells.1.1 in
-        bad_history_once MOST_HISTORY_BYTES [] histories all.0 (Unsound named step rule) (BadByte again q) (a.2.1.is_bad all.0 all.1) (b.2.1.is_bad all.0 all.1)
+        bad_history_once MOST_HISTORY_BYTES [] histories all.0 (Unsound named step rule) (BadByte again q)
+        (a.2.1.is_bad all.0 all.1) (b.2.1.is_bad all.0 all.1)
     audit_bad (Unsound named step rule) (Unsound again later other) a b =
         let all = tell_all told histories tells.1.1 in
-        bad_history_once MOST_HISTORY_BYTES [] histories all.0 (Unsound named step rule) (Unsound again later other) (a.2.1.is_bad all.0 all.1) (b.2.1.is_bad all.0 all.1)
+        bad_history_once MOST_HISTORY_BYTES [] histories all.0 (Unsound named step rule) (Unsound again later other)
+        (a.2.1.is_bad all.0 all.1) (b.2.1.is_bad all.0 all.1)
 
     audit_apart : (x : Audited) (bad : BadInput) → First (Ok x) → Second (Err (Unreadable bad)) → ⊥
-    audit_apart x (BadLine named number) a b = good_not_bad told anchors tells.1.0.0 tells.1.0.1 a.0 proof number a.1 b.1
+    audit_apart x (BadLine named number) a b = good_not_bad told anchors tells.1.0.0 tells.1.0.1 a.0 proof number a.1
+        b.1
     audit_apart x (BadByte named place) a b =
         let all = tell_all told histories tells.1.1 in
-        histories_not_bad MOST_HISTORY_BYTES [] histories all.0 a.2.0 (BadByte named place) (a.2.1.0.are all.0 all.1) (b.2.1.is_bad all.0 all.1)
+        histories_not_bad MOST_HISTORY_BYTES [] histories all.0 a.2.0 (BadByte named place) (a.2.1.0.are all.0 all.1)
+        (b.2.1.is_bad all.0 all.1)
     audit_apart x (Unsound named step rule) a b =
         let all = tell_all told histories tells.1.1 in
-        histories_not_bad MOST_HISTORY_BYTES [] histories all.0 a.2.0 (Unsound named step rule) (a.2.1.0.are all.0 all.1) (b.2.1.is_bad all.0 all.1)
+        histories_not_bad MOST_HISTORY_BYTES [] histories all.0 a.2.0 (Unsound named step rule)
+        (a.2.1.0.are all.0 all.1) (b.2.1.is_bad all.0 all.1)
 
-  module _ (proof anchors : List ℕ) (histories : List (List ℕ)) (tells : TellsEach told (command_files (Audit proof anchors histories))) (m n k l : ℕ) where
-    audit_agree : Agree (AuditComes (asked told m n) proof anchors histories) (AuditComes (asked told k l) proof anchors histories)
+  module _ (proof anchors : List ℕ) (histories : List (List ℕ))
+      (tells : TellsEach told (command_files (Audit proof anchors histories))) (m n k l : ℕ) where
+    audit_agree : Agree (AuditComes (asked told m n) proof anchors histories) (AuditComes (asked told k l) proof anchors
+        histories)
     audit_agree = record {
       done_once = audit_done proof anchors histories tells m n k l;
       bad_once = audit_bad proof anchors histories tells m n k l;
@@ -265,7 +299,8 @@ module _ (told : Option Files) where
       not_done = λ x bad a b. audit_apart proof anchors histories tells k l m n x bad b a;
     }
 
-  module _ (history anchors proof : List ℕ) (more : List (List ℕ)) (tells : TellsEach told (command_files (Adopt history anchors proof more))) (m n k l : ℕ) where
+  module _ (history anchors proof : List ℕ) (more : List (List ℕ))
+      (tells : TellsEach told (command_files (Adopt history anchors proof more))) (m n k l : ℕ) where
     abbrev One : Result Taken CommandFault → Type 0
     One = AdoptComes (asked told m n) history anchors (proof ∷ more)
 
@@ -280,7 +315,8 @@ module _ (told : Option Files) where
         let other = b.3.holds tells.0.0 tells.0.1 in
         let same : other.0 ≡ one.0 = one_value history_layout tells.0.0 other.0 one.0 other.1.spelled one.1.spelled in
         taken_once a.0 one.0 told (proof ∷ more) all.0 all.1 x y one.2
-        (subst (λ (h : History). IsAdoptionTaken told a.0 (proof ∷ more) y h) same (subst (λ (t : List Thread). IsAdoptionTaken told t (proof ∷ more) y other.0) held other.2))
+        (subst (λ (h : History). IsAdoptionTaken told a.0 (proof ∷ more) y h) same
+        (subst (λ (t : List Thread). IsAdoptionTaken told t (proof ∷ more) y other.0) held other.2))
 
     adopt_bad : (bad other : BadInput) → One (Err (Unreadable bad)) → Other (Err (Unreadable other)) → bad ≡ other
     adopt_bad (BadLine named p) (BadLine again q) a b = (
@@ -297,26 +333,34 @@ module _ (told : Option Files) where
         let steps = both.0 in
         let rules = both.1 in
         λ i. Unsound (names i) (steps i) (rules i))
-    adopt_bad (BadByte named p) (Unsound again step rule) a b = absurd (byte_not_broken tells.0.0 p step rule (a.2 tells.0.0 tells.0.1) (b.2 tells.0.0 tells.0.1))
-    adopt_bad (Unsound named step rule) (BadByte again q) a b = absurd (byte_not_broken tells.0.0 q step rule (b.2 tells.0.0 tells.0.1) (a.2 tells.0.0 tells.0.1))
+    adopt_bad (BadByte named p) (Unsound again step rule) a b =
+        absurd (byte_not_broken tells.0.0 p step rule (a.2 tells.0.0 tells.0.1) (b.2 tells.0.0 tells.0.1))
+    adopt_bad (Unsound named step rule) (BadByte again q) a b =
+        absurd (byte_not_broken tells.0.0 q step rule (b.2 tells.0.0 tells.0.1) (a.2 tells.0.0 tells.0.1))
     adopt_bad (BadLine named p) (BadByte again q) a b =
         absurd (let of = a.3.holds tells.0.0 tells.0.1 in file_not_bad tells.0.0 of.0 q of.1 (b.2 tells.0.0 tells.0.1))
     adopt_bad (BadLine named p) (Unsound again step rule) a b =
-        absurd (let of = a.3.holds tells.0.0 tells.0.1 in file_not_broken tells.0.0 of.0 step rule of.1 (b.2 tells.0.0 tells.0.1))
+        absurd (let of = a.3.holds tells.0.0 tells.0.1 in file_not_broken tells.0.0 of.0 step rule of.1
+        (b.2 tells.0.0 tells.0.1))
     adopt_bad (BadByte named p) (BadLine again q) a b =
         absurd (let of = b.3.holds tells.0.0 tells.0.1 in file_not_bad tells.0.0 of.0 p of.1 (a.2 tells.0.0 tells.0.1))
     adopt_bad (Unsound named step rule) (BadLine again q) a b =
-        absurd (let of = b.3.holds tells.0.0 tells.0.1 in file_not_broken tells.0.0 of.0 step rule of.1 (a.2 tells.0.0 tells.0.1))
+        absurd (let of = b.3.holds tells.0.0 tells.0.1 in file_not_broken tells.0.0 of.0 step rule of.1
+        (a.2 tells.0.0 tells.0.1))
 
     adopt_apart : (x : Taken) (bad : BadInput) → One (Ok x) → Other (Err (Unreadable bad)) → ⊥
-    adopt_apart x (BadLine named number) a b = good_not_bad told anchors tells.1.0.0 tells.1.0.1 a.0 history number a.1 b.1
+    adopt_apart x (BadLine named number) a b = good_not_bad told anchors tells.1.0.0 tells.1.0.1 a.0 history number a.1
+        b.1
     adopt_apart x (BadByte named place) a b =
         let of = a.3.holds tells.0.0 tells.0.1 in file_not_bad tells.0.0 of.0 place of.1 (b.2 tells.0.0 tells.0.1)
     adopt_apart x (Unsound named step rule) a b =
-        let of = a.3.holds tells.0.0 tells.0.1 in file_not_broken tells.0.0 of.0 step rule of.1 (b.2 tells.0.0 tells.0.1)
+        let of = a.3.holds tells.0.0 tells.0.1 in file_not_broken tells.0.0 of.0 step rule of.1
+        (b.2 tells.0.0 tells.0.1)
 
-  module _ (history anchors proof : List ℕ) (more : List (List ℕ)) (tells : TellsEach told (command_files (Adopt history anchors proof more))) (m n k l : ℕ) where
-    adopt_agree : Agree (AdoptComes (asked told m n) history anchors (proof ∷ more)) (AdoptComes (asked told k l) history anchors (proof ∷ more))
+  module _ (history anchors proof : List ℕ) (more : List (List ℕ))
+      (tells : TellsEach told (command_files (Adopt history anchors proof more))) (m n k l : ℕ) where
+    adopt_agree : Agree (AdoptComes (asked told m n) history anchors (proof ∷ more))
+        (AdoptComes (asked told k l) history anchors (proof ∷ more))
     adopt_agree = record {
       done_once = adopt_done history anchors proof more tells m n k l;
       bad_once = adopt_bad history anchors proof more tells m n k l;
@@ -327,34 +371,74 @@ module _ (told : Option Files) where
 -- ---- each command comes of files alone
 
 module _ (a : Asked) where
-  accuse_files : (first second : List ℕ) (link : Option (List ℕ)) → IsOfFiles a.before a.after (AccuseComes a first second link)
-  accuse_files first second link = record { input = λ rose. rose; disk = λ came. came; refused = λ refusal came. came; unserved = λ cause came. came }
+  accuse_files : (first second : List ℕ) (link : Option (List ℕ)) → IsOfFiles a.before a.after
+      (AccuseComes a first second link)
+  accuse_files first second link =
+      record {
+        input = λ rose. rose;
+        disk = λ came. came;
+        refused = λ refusal came. came;
+        unserved = λ cause came. came;
+      }
 
   fork_files : (file anchors : List ℕ) → IsOfFiles a.before a.after (CheckForkComes a file anchors)
-  fork_files file anchors = record { input = λ rose. rose; disk = λ came. came; refused = λ refusal came. came; unserved = λ cause came. came }
+  fork_files file anchors =
+      record {
+        input = λ rose. rose;
+        disk = λ came. came;
+        refused = λ refusal came. came;
+        unserved = λ cause came. came;
+      }
 
   map_files : (low high anchors : List ℕ) → IsOfFiles a.before a.after (CheckMapComes a low high anchors)
-  map_files low high anchors = record { input = λ rose. rose; disk = λ came. came; refused = λ refusal came. came; unserved = λ cause came. came }
+  map_files low high anchors =
+      record {
+        input = λ rose. rose;
+        disk = λ came. came;
+        refused = λ refusal came. came;
+        unserved = λ cause came. came;
+      }
 
   atlas_files : (start : Key) (files : List (List ℕ)) → IsOfFiles a.before a.after (AtlasComes a start files)
-  atlas_files start files = record { input = λ failed. failed.1; disk = λ came. came; refused = λ refusal came. came; unserved = λ cause came. came }
+  atlas_files start files =
+      record {
+        input = λ failed. failed.1;
+        disk = λ came. came;
+        refused = λ refusal came. came;
+        unserved = λ cause came. came;
+      }
 
-  adopt_files : (history anchors : List ℕ) (proofs : List (List ℕ)) → IsOfFiles a.before a.after (AdoptComes a history anchors proofs)
-  adopt_files history anchors proofs = record { input = λ rose. rose; disk = λ came. came; refused = λ refusal came. came; unserved = λ cause came. came }
+  adopt_files : (history anchors : List ℕ) (proofs : List (List ℕ)) → IsOfFiles a.before a.after
+      (AdoptComes a history anchors proofs)
+  adopt_files history anchors proofs =
+      record {
+        input = λ rose. rose;
+        disk = λ came. came;
+        refused = λ refusal came. came;
+        unserved = λ cause came. came;
+      }
 
-  audit_files : (proof anchors : List ℕ) (histories : List (List ℕ)) → IsOfFiles a.before a.after (AuditComes a proof anchors histories)
+  audit_files : (proof anchors : List ℕ) (histories : List (List ℕ)) → IsOfFiles a.before a.after
+      (AuditComes a proof anchors histories)
   audit_files proof anchors histories =
-      record { input = λ rose. rose; disk = λ came. came.2; refused = λ refusal came. came.2; unserved = λ cause came. came.2 }
+      record {
+        input = λ rose. rose;
+        disk = λ came. came.2;
+        refused = λ refusal came. came.2;
+        unserved = λ cause came. came.2;
+      }
 
 -- ---- runs
 
 module _ {D : Type 0} (a : Around D) (status : ℕ) (free : IsHindered a status → ⊥) where
   -- the status and the text are the outcome's
-  pub told_of : (outcome : Outcome) → EndsWith a.taken a.sink_faults status outcome → (status ≡ status_of outcome) × Writes a (text_of outcome)
+  pub told_of : (outcome : Outcome) → EndsWith a.taken a.sink_faults status outcome → (status ≡ status_of outcome)
+      × Writes a (text_of outcome)
   told_of outcome (inl ends) = ends
   told_of outcome (inr cut) = absurd (free (inr (inl (cut.0, cut.2))))
 
-  module _ {X : Type 0} (of : X → Outcome) (May : Result X CommandFault → Type 0) (files : IsOfFiles a.outside.inputs.before a.outside.inputs.after May) where
+  module _ {X : Type 0} (of : X → Outcome) (May : Result X CommandFault → Type 0)
+      (files : IsOfFiles a.outside.inputs.before a.outside.inputs.after May) where
     settled : (r : Result X CommandFault) → May r → status ≡ status_of (outcome_by of r) → IsSettled r
     settled (Ok x) may is = tt
     settled (Err InputFault) may is = free (inl (is, files.input may))
@@ -365,7 +449,8 @@ module _ {D : Type 0} (a : Around D) (status : ℕ) (free : IsHindered a status 
     settled (Err (Unreadable bad)) may is = tt
 
     -- what came is seen of the files
-    seen_of : (U : Type 0) (outcome : Outcome) → (came : IsOutcomeOf of (λ (r : Result X CommandFault). May r × U) outcome)
+    seen_of : (U : Type 0) (outcome : Outcome) → (came : IsOutcomeOf of (λ (r : Result X CommandFault). May r × U)
+        outcome)
         → EndsWith a.taken a.sink_faults status outcome → Seen May came.0
     seen_of U outcome came ends =
         seen a.outside.inputs.before a.outside.inputs.after May files came.0
@@ -378,13 +463,15 @@ module _ {D : Type 0} (view : D → DiskView) (one other : Around D) (alike : Ar
 
   -- what came of both is one result
   module _ {X : Type 0} (of : X → Outcome) (One Other : Result X CommandFault → Type 0) where
-    alike_ends : IsOfFiles one.outside.inputs.before one.outside.inputs.after One → IsOfFiles other.outside.inputs.before other.outside.inputs.after Other
+    alike_ends : IsOfFiles one.outside.inputs.before one.outside.inputs.after One
+        → IsOfFiles other.outside.inputs.before other.outside.inputs.after Other
         → Agree One Other → (U V : Type 0) (x y : Outcome) → IsOutcomeOf of (λ (r : Result X CommandFault). One r × U) x
         → IsOutcomeOf of (λ (r : Result X CommandFault). Other r × V) y → EndsWith one.taken one.sink_faults status x
         → EndsWith other.taken other.sink_faults again y → Ending
     alike_ends files also agree U V x y came comes ends ended =
         let results : came.0 ≡ comes.0 =
-        once One Other agree came.0 comes.0 (seen_of one status free of One files U x came ends) (seen_of other again free_too of Other also V y comes ended) in
+        once One Other agree came.0 comes.0 (seen_of one status free of One files U x came ends)
+        (seen_of other again free_too of Other also V y comes ended) in
         let outcomes : y ≡ x = comes.2 ∙ sym (ap (outcome_by of) results) ∙ sym came.2 in
         let here = told_of one status free x ends in
         let there = told_of other again free_too y ended in (
@@ -408,51 +495,67 @@ module _ {D : Type 0} (view : D → DiskView) (one other : Around D) (alike : Ar
   l = other.outside.inputs.after
 
   -- of each command
-  by_command : (c : Command) → ReachesBeyond c → TellsEach told (command_files c) → (x y : Outcome) → (work view one.outside c).does x → (work view other.outside c).does y
+  by_command : (c : Command) → ReachesBeyond c → TellsEach told (command_files c) → (x y : Outcome)
+      → (work view one.outside c).does x → (work view other.outside c).does y
       → EndsWith one.taken one.sink_faults status x → EndsWith other.taken other.sink_faults again y → Ending
   by_command (Accuse first second link) reaches tells x y came comes ends ended =
-      alike_ends of_accused (AccuseComes one.outside.inputs first second link) (AccuseComes other.outside.inputs first second link)
+      alike_ends of_accused (AccuseComes one.outside.inputs first second link)
+      (AccuseComes other.outside.inputs first second link)
       (accuse_files one.outside.inputs first second link) (accuse_files other.outside.inputs first second link)
-      (subst (λ (t : Option Files). Agree (AccuseComes (asked told m n) first second link) (AccuseComes (asked t k l) first second link)) (sym alike.same_told)
+      (subst (λ (t : Option Files). Agree (AccuseComes (asked told m n) first second link)
+      (AccuseComes (asked t k l) first second link)) (sym alike.same_told)
       (accuse_agree told first second link tells m n k l))
       (IsDiskUntouched view one.outside) (IsDiskUntouched view other.outside) x y came comes ends ended
   by_command (CheckFork file anchors) reaches tells x y came comes ends ended =
-      alike_ends of_fork (CheckForkComes one.outside.inputs file anchors) (CheckForkComes other.outside.inputs file anchors)
+      alike_ends of_fork (CheckForkComes one.outside.inputs file anchors) (CheckForkComes other.outside.inputs file
+      anchors)
       (fork_files one.outside.inputs file anchors) (fork_files other.outside.inputs file anchors)
-      (subst (λ (t : Option Files). Agree (CheckForkComes (asked told m n) file anchors) (CheckForkComes (asked t k l) file anchors)) (sym alike.same_told)
+      (subst (λ (t : Option Files). Agree (CheckForkComes (asked told m n) file anchors)
+      (CheckForkComes (asked t k l) file anchors)) (sym alike.same_told)
       (fork_agree told file anchors tells m n k l))
       (IsDiskUntouched view one.outside) (IsDiskUntouched view other.outside) x y came comes ends ended
   by_command (CheckMap low high anchors) reaches tells x y came comes ends ended =
-      alike_ends of_mapped (CheckMapComes one.outside.inputs low high anchors) (CheckMapComes other.outside.inputs low high anchors)
+      alike_ends of_mapped (CheckMapComes one.outside.inputs low high anchors)
+      (CheckMapComes other.outside.inputs low high anchors)
       (map_files one.outside.inputs low high anchors) (map_files other.outside.inputs low high anchors)
-      (subst (λ (t : Option Files). Agree (CheckMapComes (asked told m n) low high anchors) (CheckMapComes (asked t k l) low high anchors)) (sym alike.same_told)
+      (subst (λ (t : Option Files). Agree (CheckMapComes (asked told m n) low high anchors)
+      (CheckMapComes (asked t k l) low high anchors)) (sym alike.same_told)
       (map_agree told low high anchors tells m n k l))
       (IsDiskUntouched view one.outside) (IsDiskUntouched view other.outside) x y came comes ends ended
   by_command (Atlas name pos files) reaches tells x y came comes ends ended =
       let start : Key = record { from = name; step = pos } in
       alike_ends of_planned (AtlasComes one.outside.inputs start files) (AtlasComes other.outside.inputs start files)
       (atlas_files one.outside.inputs start files) (atlas_files other.outside.inputs start files)
-      (subst (λ (t : Option Files). Agree (AtlasComes (asked told m n) start files) (AtlasComes (asked t k l) start files)) (sym alike.same_told)
+      (subst (λ (t : Option Files). Agree (AtlasComes (asked told m n) start files)
+      (AtlasComes (asked t k l) start files)) (sym alike.same_told)
       (atlas_agree told start files tells m n k l))
       (IsDiskUntouched view one.outside) (IsDiskUntouched view other.outside) x y came comes ends ended
   by_command (Audit proof anchors histories) reaches tells x y came comes ends ended =
-      alike_ends of_audited (AuditComes one.outside.inputs proof anchors histories) (AuditComes other.outside.inputs proof anchors histories)
-      (audit_files one.outside.inputs proof anchors histories) (audit_files other.outside.inputs proof anchors histories)
-      (subst (λ (t : Option Files). Agree (AuditComes (asked told m n) proof anchors histories) (AuditComes (asked t k l) proof anchors histories)) (sym alike.same_told)
+      alike_ends of_audited (AuditComes one.outside.inputs proof anchors histories)
+      (AuditComes other.outside.inputs proof anchors histories)
+      (audit_files one.outside.inputs proof anchors histories) (audit_files other.outside.inputs proof anchors
+      histories)
+      (subst (λ (t : Option Files). Agree (AuditComes (asked told m n) proof anchors histories)
+      (AuditComes (asked t k l) proof anchors histories)) (sym alike.same_told)
       (audit_agree told proof anchors histories tells m n k l))
       (IsDiskUntouched view one.outside) (IsDiskUntouched view other.outside) x y came comes ends ended
   by_command (Adopt history anchors proof more) reaches tells x y came comes ends ended =
-      alike_ends of_taken (AdoptComes one.outside.inputs history anchors (proof ∷ more)) (AdoptComes other.outside.inputs history anchors (proof ∷ more))
-      (adopt_files one.outside.inputs history anchors (proof ∷ more)) (adopt_files other.outside.inputs history anchors (proof ∷ more))
-      (subst (λ (t : Option Files). Agree (AdoptComes (asked told m n) history anchors (proof ∷ more)) (AdoptComes (asked t k l) history anchors (proof ∷ more))) (sym alike.same_told)
+      alike_ends of_taken (AdoptComes one.outside.inputs history anchors (proof ∷ more))
+      (AdoptComes other.outside.inputs history anchors (proof ∷ more))
+      (adopt_files one.outside.inputs history anchors (proof ∷ more)) (adopt_files other.outside.inputs history anchors
+      (proof ∷ more))
+      (subst (λ (t : Option Files). Agree (AdoptComes (asked told m n) history anchors (proof ∷ more))
+      (AdoptComes (asked t k l) history anchors (proof ∷ more))) (sym alike.same_told)
       (adopt_agree told history anchors proof more tells m n k l))
       (IsDiskUntouched view one.outside) (IsDiskUntouched view other.outside) x y came comes ends ended
   by_command _ reaches tells x y came comes ends ended = absurd reaches
 
   abbrev HasAt : Around D → Outcome → Option Command → Type 0
-  HasAt a outcome option = MatchOption option (HaveNoForm a.words outcome × IsDiskUntouched view a.outside) (λ c. (work view a.outside c).does outcome)
+  HasAt a outcome option = MatchOption option (HaveNoForm a.words outcome × IsDiskUntouched view a.outside)
+      (λ c. (work view a.outside c).does outcome)
 
   pub one_ending : EndsAllowed view one status → EndsAllowed view other again → Ending
   one_ending run also =
-      by_command alike.command alike.reaches alike.tells run.0 also.0 (subst (HasAt one run.0) alike.is_command run.1.has)
+      by_command alike.command alike.reaches alike.tells run.0 also.0 (subst (HasAt one run.0) alike.is_command
+      run.1.has)
       (subst (HasAt other also.0) (ap command_of alike.same_words ∙ alike.is_command) also.1.has) run.1.ends also.1.ends

@@ -28,13 +28,16 @@ use Rattle.tw_app.proofs.ToldFiles.{place_once}
 
 -- ---- evidence of a fork
 
-pub fork_once : (anchors : List Thread) (bytes : List ℕ) (v w : ForkVerdict) → IsForkVerdict sha256 anchors bytes v → IsForkVerdict sha256 anchors bytes w → v ≡ w
+pub fork_once : (anchors : List Thread) (bytes : List ℕ) (v w : ForkVerdict) → IsForkVerdict sha256 anchors bytes v
+    → IsForkVerdict sha256 anchors bytes w → v ≡ w
 fork_once anchors bytes v w (inl one) (inl other) =
-    one.2 ∙ sym (ap (fork_verdict sha256 anchors) (one_value evidence_layout bytes other.0 one.0 other.1 one.1)) ∙ sym other.2
+    one.2 ∙ sym (ap (fork_verdict sha256 anchors) (one_value evidence_layout bytes other.0 one.0 other.1 one.1))
+    ∙ sym other.2
 fork_once anchors bytes v w (inl one) (inr other) = absurd (other.0 one.0 one.1)
 fork_once anchors bytes v w (inr one) (inl other) = absurd (one.0 other.0 other.1)
 fork_once anchors bytes v w (inr one) (inr other) =
-    one.1.2 ∙ ap (λ (n : ℕ). No (fork.Malformed n)) (place_once evidence_layout bytes one.1.0 other.1.0 one.1.1 other.1.1) ∙ sym other.1.2
+    one.1.2 ∙ ap (λ (n : ℕ). No (fork.Malformed n)) (place_once evidence_layout bytes one.1.0 other.1.0 one.1.1
+    other.1.1) ∙ sym other.1.2
 
 -- ---- audits
 
@@ -53,10 +56,12 @@ same_answer x y is = sym (back_is x x) ∙ ap (back x) is ∙ back_is x y
 
 module _ (family : List History) (anchors : List Thread) (bytes : List ℕ) where
   abbrev IsRejected : Audited → Type 0
-  IsRejected x = (reason : Reason) × (x ≡ Found (finding.NotAccepted reason)) × IsVerdict sha256 anchors false bytes (verdict.No reason)
+  IsRejected x = (reason : Reason) × (x ≡ Found (finding.NotAccepted reason)) × IsVerdict sha256 anchors false bytes
+      (verdict.No reason)
 
   abbrev IsFound : Audited → Type 0
-  IsFound x = (accepts : Accepts sha256 anchors bytes) × (finding_answer x ≡ audit_answer sha256 family anchors accepts.0)
+  IsFound x = (accepts : Accepts sha256 anchors bytes) × (finding_answer x ≡ audit_answer sha256 family anchors
+      accepts.0)
 
   either : (x : Audited) → IsAudit sha256 family anchors bytes (finding_answer x) → IsRejected x ⊎ IsFound x
   either (Found (finding.NotAccepted reason)) says = inl (reason, refl, says)
@@ -67,12 +72,14 @@ module _ (family : List History) (anchors : List Thread) (bytes : List ℕ) wher
   apart : (x y : Audited) → IsRejected x → IsFound y → ⊥
   apart x y rejected found = let strict : false ≡ true = (rejected.2.0 found.0).0 in cc
 
-  pub audited_once : (x y : Audited) → IsAudit sha256 family anchors bytes (finding_answer x) → IsAudit sha256 family anchors bytes (finding_answer y) → x ≡ y
+  pub audited_once : (x y : Audited) → IsAudit sha256 family anchors bytes (finding_answer x) → IsAudit sha256 family
+      anchors bytes (finding_answer y) → x ≡ y
   audited_once x y says also = by (either x says) (either y also)
     where
       by : IsRejected x ⊎ IsFound x → IsRejected y ⊎ IsFound y → x ≡ y
       by (inl one) (inl other) =
-          one.1 ∙ ap (λ (r : Reason). Found (finding.NotAccepted r)) (lowest_once sha256 anchors false bytes one.0 other.0 one.2.1 other.2.1) ∙ sym other.1
+          one.1 ∙ ap (λ (r : Reason). Found (finding.NotAccepted r)) (lowest_once sha256 anchors false bytes one.0
+          other.0 one.2.1 other.2.1) ∙ sym other.1
       by (inl one) (inr other) = absurd (apart x y one other)
       by (inr one) (inl other) = absurd (apart y x other one)
       by (inr one) (inr other) =

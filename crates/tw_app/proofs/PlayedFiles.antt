@@ -26,20 +26,30 @@ same_script : (all bytes : List ℕ) → all ≡ take script_read bytes → scri
 same_script all bytes is = elim (cases_lt script_read (length bytes)) [
   | inl longer ↦
       let size : length all ≡ script_read = ap length is ∙ length-take-le script_read bytes (omega (arith, longer)) in
-      let front : take MOST_SCRIPT_BYTES all ≡ take MOST_SCRIPT_BYTES bytes = ap (take MOST_SCRIPT_BYTES) is ∙ take-take MOST_SCRIPT_BYTES script_read bytes (omega arith) in
+      let front : take MOST_SCRIPT_BYTES all ≡ take MOST_SCRIPT_BYTES bytes = ap (take MOST_SCRIPT_BYTES) is ∙ take-take
+      MOST_SCRIPT_BYTES script_read bytes (omega arith) in
       let number : ℕ = line_number_at MOST_SCRIPT_BYTES bytes in
-      too-long all number (omega (arith, size)) (ap (λ (l : List ℕ). suc (count_by is_line_feed l)) (sym front)) ∙ sym (too-long bytes number (omega (arith, longer)) refl)
+      too-long all number (omega (arith, size)) (ap (λ (l : List ℕ). suc (count_by is_line_feed l)) (sym front))
+      ∙ sym (too-long bytes number (omega (arith, longer)) refl)
   | inr fits ↦ ap script_of (is ∙ take_all script_read bytes fits)
 ]
 
-module _ (a : Asked) (file all : List ℕ) (there : IsThere a.told file) (read : IsReadTo a.told file script_read all) where
-  pub plays : (played : Played) (text : List ℕ) → Replays all (Ok played) → text ≡ played.text → ReplayComes a file (Ok text)
-  plays played text replays is = (there, λ bytes tells. (played, (replays.0, sym (same_script all bytes (read bytes tells)) ∙ replays.1, replays.2), is))
+module _ (a : Asked) (file all : List ℕ) (there : IsThere a.told file) (read : IsReadTo a.told file script_read
+    all) where
+  pub plays : (played : Played) (text : List ℕ) → Replays all (Ok played) → text ≡ played.text
+      → ReplayComes a file (Ok text)
+  plays played text replays is = (
+    there,
+    λ bytes tells. (played, (replays.0, sym (same_script all bytes (read bytes tells)) ∙ replays.1, replays.2), is),
+  )
 
-  pub stops : (fault : ScriptFault) (came : CommandFault) → Replays all (Err fault) → came ≡ fault_of_script file fault → ReplayComes a file (Err came)
+  pub stops : (fault : ScriptFault) (came : CommandFault) → Replays all (Err fault) → came ≡ fault_of_script file fault
+      → ReplayComes a file (Err came)
   stops fault came replays is = subst (λ (f : CommandFault). ReplayComes a file (Err f)) (sym is) (by fault replays)
     where
       by : (f : ScriptFault) → Replays all (Err f) → ReplayComes a file (Err (fault_of_script file f))
-      by (script.BadLine line) unread = (refl, there, λ bytes tells. inl (sym (same_script all bytes (read bytes tells)) ∙ unread))
-      by (script.TooLong line) unread = (refl, there, λ bytes tells. inr (sym (same_script all bytes (read bytes tells)) ∙ unread))
+      by (script.BadLine line) unread =
+          (refl, there, λ bytes tells. inl (sym (same_script all bytes (read bytes tells)) ∙ unread))
+      by (script.TooLong line) unread =
+          (refl, there, λ bytes tells. inr (sym (same_script all bytes (read bytes tells)) ∙ unread))
       by script.NoMemory unread = tt

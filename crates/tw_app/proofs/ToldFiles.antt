@@ -15,27 +15,31 @@ use Rattle.tw_app.specs.Alike.{TellsEach}
 pub there : (told : Option Files) (name bytes : List ℕ) → TellsBytes told name bytes → IsThere told name
 there told name bytes tells = λ some. subst IsSome (sym tells) refl
 
-pub same : (told : Option Files) (name bytes other : List ℕ) → TellsBytes told name bytes → TellsBytes told name other → bytes ≡ other
+pub same : (told : Option Files) (name bytes other : List ℕ) → TellsBytes told name bytes → TellsBytes told name other
+    → bytes ≡ other
 same told name bytes other tells tells_other = some (sym tells ∙ tells_other)
   where
     some : Some bytes ≡ Some other → bytes ≡ other
     some is = cc
 
 -- bytes that are no word have one place
-pub place_once : {X : Type 0} (f : Format X) (bytes : List ℕ) (one other : ℕ) → IsPlace f bytes one → IsPlace f bytes other → one ≡ other
+pub place_once : {X : Type 0} (f : Format X) (bytes : List ℕ) (one other : ℕ) → IsPlace f bytes one
+    → IsPlace f bytes other → one ≡ other
 place_once f bytes one other first second =
     let below : other ≤ one = first.longest other second.within second.good in
     let above : one ≤ other = second.longest one first.within first.good in
     omega (arith, below, above)
 
 -- the bytes of all files
-pub tell_all : (told : Option Files) (files : List (List ℕ)) → TellsEach told files → (all : List (List ℕ)) × TellAll told files all
+pub tell_all : (told : Option Files) (files : List (List ℕ)) → TellsEach told files → (all : List (List ℕ))
+    × TellAll told files all
 tell_all told [] each = ([], tt)
 tell_all told (file ∷ files) each = let rest = tell_all told files each.1 in (each.0.0 ∷ rest.0, (each.0.1, rest.1))
 
 -- ---- what a file holds
 
-module _ {X : Type 0} (layout : Format X) (told : Option Files) (file bytes : List ℕ) (tells : TellsBytes told file bytes) where
+module _ {X : Type 0} (layout : Format X) (told : Option Files) (file bytes : List ℕ)
+    (tells : TellsBytes told file bytes) where
   held_spells : (x : X) → FileHolds layout told file x → Spells layout bytes x
   held_spells x holds = subst (λ (b : List ℕ). Spells layout b x) (sym (holds.same bytes tells)) holds.spelled
 
@@ -68,17 +72,21 @@ module _ (told : Option Files) (file bytes : List ℕ) (tells : TellsBytes told 
   has_anchors_of anchors are = record {
     there = there told file bytes tells;
     good = λ others other. subst (λ (b : List ℕ). AllGood (lines b)) (same told file bytes others tells other) are.good;
-    same = λ others other. are.are ∙ ap (λ (b : List ℕ). map anchor_on (lines b)) (same told file bytes others tells other);
+    same = λ others other. are.are ∙ ap (λ (b : List ℕ). map anchor_on (lines b))
+        (same told file bytes others tells other);
   }
 
   pub anchors_once : (one other : List Thread) → HasAnchors told file one → HasAnchors told file other → one ≡ other
   anchors_once one other has also = has.same bytes tells ∙ sym (also.same bytes tells)
 
-  pub good_not_bad : (held : List Thread) (proof : List ℕ) (number : ℕ) → HasAnchors told file held → HasBadLine told proof file number → ⊥
+  pub good_not_bad : (held : List Thread) (proof : List ℕ) (number : ℕ) → HasAnchors told file held
+      → HasBadLine told proof file number → ⊥
   good_not_bad held proof number has bad =
       let first = bad.bad bytes tells in
       let both : true ≡ false = sym (has.good bytes tells first.index first.within) ∙ first.bad in
       cc
 
-  pub bad_line_once : (proof : List ℕ) (one other : ℕ) → HasBadLine told proof file one → HasBadLine told proof file other → one ≡ other
-  bad_line_once proof one other is also = first_bad_once (lines bytes) one other (is.bad bytes tells) (also.bad bytes tells)
+  pub bad_line_once : (proof : List ℕ) (one other : ℕ) → HasBadLine told proof file one → HasBadLine told proof file
+      other → one ≡ other
+  bad_line_once proof one other is also = first_bad_once (lines bytes) one other (is.bad bytes tells)
+      (also.bad bytes tells)

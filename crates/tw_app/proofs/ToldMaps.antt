@@ -9,7 +9,8 @@ use Rattle.tw_outside.specs.Files.{Files}
 use Rattle.tw_words.specs.declared.command.Command.{Command}
 use Rattle.tw_words.specs.declared.command.Command.TheVariants.{CheckMap}
 use Rattle.tw_text.specs.declared.fault.CommandFault.{CommandFault}
-use Rattle.tw_text.specs.declared.fault.CommandFault.TheVariants.{DiskFault, InputFault, NoMemory, Refused, Unreadable, Unserved}
+use Rattle.tw_text.specs.declared.fault.CommandFault.TheVariants.{DiskFault, InputFault, NoMemory, Refused, Unreadable}
+use Rattle.tw_text.specs.declared.fault.CommandFault.TheVariants.{Unserved}
 use Rattle.tw_text.specs.declared.refusal.BadInput.{BadInput}
 use Rattle.tw_text.specs.Faults.{fault_text}
 use Rattle.tw_msg.specs.AnchorsFile.{AllGood, anchor_on, lines}
@@ -28,13 +29,15 @@ use Rattle.tw_app.specs.declared.outcome.Outcome.{Outcome}
 use Rattle.tw_app.specs.Alike.{TellsEach}
 use Rattle.tw_app.specs.Around.{Around, Writes}
 use Rattle.tw_app.specs.Commands.{command_files}
-use Rattle.tw_app.specs.MapRuns.{AreAsked, AreOwnMaps, EndsUnhindered, JudgesMaps, RefusesMaps, TellsMapVerdict, bounds_of}
+use Rattle.tw_app.specs.MapRuns.{AreAsked, AreOwnMaps, EndsUnhindered, JudgesMaps, RefusesMaps, TellsMapVerdict}
+use Rattle.tw_app.specs.MapRuns.{bounds_of}
 use Rattle.tw_app.specs.Outcomes.{of_mapped, outcome_by, status_of, text_of}
 use Rattle.tw_app.specs.Running.{EndsAllowed, EndsWith, HaveNoForm, IsDiskUntouched, IsOutcomeOf, work}
 use Rattle.tw_app.proofs.OneMap.{bad_map_once, maps_not_bad}
 use Rattle.tw_app.proofs.ToldFiles.{held_once, same, there}
 
-module _ {D : Type 0} (view : D → DiskView) (a : Around D) (low : LowFile) (high : HighFile) (anchors : List Thread) (status : ℕ)
+module _ {D : Type 0} (view : D → DiskView) (a : Around D) (low : LowFile) (high : HighFile) (anchors : List Thread)
+    (status : ℕ)
     (is : JudgesMaps a.outside.inputs.told a.words low high anchors) where
   abbrev told : Option Files
   told = a.outside.inputs.told
@@ -69,15 +72,19 @@ module _ {D : Type 0} (view : D → DiskView) (a : Around D) (low : LowFile) (hi
   good : HasAnchors told is.anchors_file anchors
   good = record {
     there = there told is.anchors_file is.anchors_bytes is.anchors_tell;
-    good = λ others tells. subst (λ (b : List ℕ). AllGood (lines b)) (same told is.anchors_file is.anchors_bytes others is.anchors_tell tells) is.are_anchors.good;
-    same = λ others tells. is.are_anchors.are ∙ ap (λ (b : List ℕ). map anchor_on (lines b)) (same told is.anchors_file is.anchors_bytes others is.anchors_tell tells);
+    good = λ others tells. subst (λ (b : List ℕ). AllGood (lines b)) (same told is.anchors_file is.anchors_bytes others
+        is.anchors_tell tells) is.are_anchors.good;
+    same = λ others tells. is.are_anchors.are ∙ ap (λ (b : List ℕ). map anchor_on (lines b))
+        (same told is.anchors_file is.anchors_bytes others is.anchors_tell tells);
   }
 
   -- so the verdict is that on these
   verdict_is : (verdict : MapVerdict) → Comes (Ok verdict) → verdict ≡ map_verdict sha256 anchors low high
   verdict_is verdict comes =
-      let low_is : comes.0 ≡ low = held_once low_layout told is.low_file is.low_bytes is.low_tells comes.0 low comes.3.0.low_held low_holds in
-      let high_is : comes.1 ≡ high = held_once high_layout told is.high_file is.high_bytes is.high_tells comes.1 high comes.3.0.high_held high_holds in
+      let low_is : comes.0 ≡ low = held_once low_layout told is.low_file is.low_bytes is.low_tells comes.0 low
+      comes.3.0.low_held low_holds in
+      let high_is : comes.1 ≡ high = held_once high_layout told is.high_file is.high_bytes is.high_tells comes.1 high
+      comes.3.0.high_held high_holds in
       let held_is : comes.2 ≡ anchors = comes.3.1.same is.anchors_bytes is.anchors_tell ∙ sym is.are_anchors.are in
       comes.3.2.is_verdict ∙ (λ k. map_verdict sha256 (held_is k) (low_is k) (high_is k))
 
@@ -93,7 +100,8 @@ module _ {D : Type 0} (view : D → DiskView) (a : Around D) (low : LowFile) (hi
       let agrees = verdict_is verdict comes in
       inr (
         ends.0 ∙ ap status_of came ∙ status_is verdict ∙ ap map_command_status agrees,
-        subst (λ (v : MapVerdict). Writes a (map_text v)) agrees (subst (λ (o : Outcome). Writes a (text_of o)) came ends.1),
+        subst (λ (v : MapVerdict). Writes a (map_text v)) agrees (subst (λ (o : Outcome). Writes a (text_of o)) came
+            ends.1),
       )
   by_result (Err InputFault) comes outcome came (inl ends) = inl (inl (ends.0 ∙ ap status_of came, comes))
   by_result (Err NoMemory) comes outcome came (inl ends) = inl (inr (inr (ends.0 ∙ ap status_of came)))
@@ -101,13 +109,16 @@ module _ {D : Type 0} (view : D → DiskView) (a : Around D) (low : LowFile) (hi
   by_result (Err (Refused refusal)) comes outcome came (inl ends) = absurd comes
   by_result (Err (Unserved cause)) comes outcome came (inl ends) = absurd comes
   by_result (Err (Unreadable bad)) comes outcome came (inl ends) =
-      absurd (maps_not_bad told is.low_file is.high_file is.anchors_file tells low high anchors (record { low_held = low_holds; high_held = high_holds }) good bad comes)
+      absurd (maps_not_bad told is.low_file is.high_file is.anchors_file tells low high anchors
+      (record { low_held = low_holds; high_held = high_holds }) good bad comes)
 
   abbrev HasAt : Outcome → Option Command → Type 0
-  HasAt outcome option = MatchOption option (HaveNoForm a.words outcome × IsDiskUntouched view a.outside) (λ c. (work view a.outside c).does outcome)
+  HasAt outcome option = MatchOption option (HaveNoForm a.words outcome × IsDiskUntouched view a.outside)
+      (λ c. (work view a.outside c).does outcome)
 
   abbrev Came : Outcome → Type 0
-  Came outcome = IsOutcomeOf of_mapped (λ (r : Result MapVerdict CommandFault). Comes r × IsDiskUntouched view a.outside) outcome
+  Came outcome = IsOutcomeOf of_mapped (λ (r : Result MapVerdict CommandFault). Comes r × IsDiskUntouched view
+      a.outside) outcome
 
   by_outcome : (outcome : Outcome) → Came outcome → EndsWith a.taken a.sink_faults status outcome → Ending
   by_outcome outcome came ends = by_result came.0 came.1.0 outcome came.2 ends
@@ -116,17 +127,20 @@ module _ {D : Type 0} (view : D → DiskView) (a : Around D) (low : LowFile) (hi
   tells_verdict run = by_outcome run.0 (subst (HasAt run.0) is.is_command run.1.has) run.1.ends
 
   -- two services' own files
-  pub tells_bounds : (own other : History) (step top upto : ℕ) → AreAsked own other step top upto → AreOwnMaps own other step top upto low high anchors → EndsAllowed view a status
+  pub tells_bounds : (own other : History) (step top upto : ℕ) → AreAsked own other step top upto → AreOwnMaps own other
+      step top upto low high anchors → EndsAllowed view a status
       → TellsMapVerdict a status (bounds_of own other step upto)
   tells_bounds own other step top upto asked are run =
       subst (λ (v : MapVerdict). TellsMapVerdict a status v)
-      (own-accepted sha256 own other step top upto low high anchors asked.own_sound asked.other_sound asked.from_1 asked.order asked.within asked.some asked.upto_within are.own_low
+      (own-accepted sha256 own other step top upto low high anchors asked.own_sound asked.other_sound asked.from_1
+      asked.order asked.within asked.some asked.upto_within are.own_low
       are.own_high are.own_held are.other_held)
       (tells_verdict run)
 
 -- ---- one of the files isn't what it has to be
 
-module _ {D : Type 0} (view : D → DiskView) (a : Around D) (bad : BadInput) (status : ℕ) (is : RefusesMaps a.outside.inputs.told a.words bad) where
+module _ {D : Type 0} (view : D → DiskView) (a : Around D) (bad : BadInput) (status : ℕ)
+    (is : RefusesMaps a.outside.inputs.told a.words bad) where
   abbrev ComesSo : Result MapVerdict CommandFault → Type 0
   ComesSo r = CheckMapComes a.outside.inputs is.low_file is.high_file is.anchors_file r
 
@@ -137,12 +151,15 @@ module _ {D : Type 0} (view : D → DiskView) (a : Around D) (bad : BadInput) (s
       → EndsWith a.taken a.sink_faults status outcome → EndsSo
   refused_by r comes outcome came (inr cut) = inl (inr (inl (cut.0, cut.2)))
   refused_by (Ok verdict) comes outcome came (inl ends) =
-      absurd (maps_not_bad a.outside.inputs.told is.low_file is.high_file is.anchors_file is.tells comes.0 comes.1 comes.2 comes.3.0 comes.3.1 bad is.bad_file)
+      absurd (maps_not_bad a.outside.inputs.told is.low_file is.high_file is.anchors_file is.tells comes.0 comes.1
+      comes.2 comes.3.0 comes.3.1 bad is.bad_file)
   refused_by (Err (Unreadable other)) comes outcome came (inl ends) =
-      let agrees : other ≡ bad = bad_map_once a.outside.inputs.told is.low_file is.high_file is.anchors_file is.tells other bad comes is.bad_file in
+      let agrees : other ≡ bad = bad_map_once a.outside.inputs.told is.low_file is.high_file is.anchors_file is.tells
+      other bad comes is.bad_file in
       inr (
         ends.0 ∙ ap status_of came,
-        subst (λ (b : BadInput). Writes a (fault_text (Unreadable b))) agrees (subst (λ (o : Outcome). Writes a (text_of o)) came ends.1),
+        subst (λ (b : BadInput). Writes a (fault_text (Unreadable b))) agrees
+            (subst (λ (o : Outcome). Writes a (text_of o)) came ends.1),
       )
   refused_by (Err InputFault) comes outcome came (inl ends) = inl (inl (ends.0 ∙ ap status_of came, comes))
   refused_by (Err NoMemory) comes outcome came (inl ends) = inl (inr (inr (ends.0 ∙ ap status_of came)))
@@ -151,10 +168,12 @@ module _ {D : Type 0} (view : D → DiskView) (a : Around D) (bad : BadInput) (s
   refused_by (Err (Unserved cause)) comes outcome came (inl ends) = absurd comes
 
   abbrev Has : Outcome → Option Command → Type 0
-  Has outcome option = MatchOption option (HaveNoForm a.words outcome × IsDiskUntouched view a.outside) (λ c. (work view a.outside c).does outcome)
+  Has outcome option = MatchOption option (HaveNoForm a.words outcome × IsDiskUntouched view a.outside)
+      (λ c. (work view a.outside c).does outcome)
 
   abbrev CameSo : Outcome → Type 0
-  CameSo outcome = IsOutcomeOf of_mapped (λ (r : Result MapVerdict CommandFault). ComesSo r × IsDiskUntouched view a.outside) outcome
+  CameSo outcome = IsOutcomeOf of_mapped (λ (r : Result MapVerdict CommandFault). ComesSo r × IsDiskUntouched view
+      a.outside) outcome
 
   refusal_of : (outcome : Outcome) → CameSo outcome → EndsWith a.taken a.sink_faults status outcome → EndsSo
   refusal_of outcome came ends = refused_by came.0 came.1.0 outcome came.2 ends

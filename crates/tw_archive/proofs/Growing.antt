@@ -30,7 +30,8 @@ use Rattle.tw_archive.proofs.Keeping.{keeps-on, kept-named}
 use Rattle.tw_archive.proofs.NextTree.{keeps-last, from-some, stays-sound}
 use Rattle.tw_archive.proofs.Planted.{entries-within}
 
-module _ (dig : List ℕ → List ℕ) (ps more : Image) (h : History) (step_page : ℕ → ℕ) (archive : ℕ → Root) (root : Root) (grown : Tree) (t : Thread) (time : Option ℕ)
+module _ (dig : List ℕ → List ℕ) (ps more : Image) (h : History) (step_page : ℕ → ℕ) (archive : ℕ → Root) (root : Root)
+    (grown : Tree) (t : Thread) (time : Option ℕ)
     (keeps : KeepsTrees dig ps h step_page archive) (has : HasGrown dig ps more h step_page archive root grown t) where
   abbrev now : Image
   now = ps ++ more
@@ -56,8 +57,10 @@ module _ (dig : List ℕ → List ℕ) (ps more : Image) (h : History) (step_pag
   one_tree : (page : ℕ) (a b : Tree) → IsRootTree dig any_page now page a → IsRootTree dig any_page now page b → a ≡ b
   one_tree page a b one other = root-once dig any_page now page a b one other
 
-  grown-members : (e : Entry) → In e (entries grown) → (e ≡ record { thread = t; archived = suc last }) ⊎ In e (entries (tree h last))
-  grown-members e there = with_entry-in (record { thread = t; archived = suc last }) (entries (tree h last)) e (subst (λ (es : List Entry). In e es) has.lists there)
+  grown-members : (e : Entry) → In e (entries grown) → (e ≡ record { thread = t; archived = suc last })
+      ⊎ In e (entries (tree h last))
+  grown-members e there = with_entry-in (record { thread = t; archived = suc last }) (entries (tree h last)) e
+      (subst (λ (es : List Entry). In e es) has.lists there)
 
   -- nodes are listed of the new tree
   pub grown-nodes : (nodes : List NewNode) × (listed dig now from root ≡ Is nodes)
@@ -72,11 +75,14 @@ module _ (dig : List ℕ → List ℕ) (ps more : Image) (h : History) (step_pag
         (p.trees, subst (λ (ns : List NewNode). AreNodeTrees dig Known now from [] ns p.trees) same p.are, p.within)
 
     -- their entries are those of steps of the longer history
-    listed-known : Each (λ (n : NewNode). entry_to (plus h (step_of nodes)) (suc last) n.entry.archived ≡ Some n.entry) nodes
+    listed-known : Each (λ (n : NewNode). entry_to (plus h (step_of nodes)) (suc last) n.entry.archived ≡ Some n.entry)
+        nodes
     listed-known =
         let all = listed-trees in
-        entries-within dig Known now from (λ (e : Entry). entry_to (plus h (step_of nodes)) (suc last) e.archived ≡ Some e) [] nodes all.0 all.1
-        (Each-map (IsWithin grown) (λ (x : Tree). (e : Entry) → In e (entries x) → entry_to (plus h (step_of nodes)) (suc last) e.archived ≡ Some e) all.0
+        entries-within dig Known now from (λ (e : Entry). entry_to (plus h (step_of nodes)) (suc last) e.archived ≡ Some
+        e) [] nodes all.0 all.1
+        (Each-map (IsWithin grown) (λ (x : Tree). (e : Entry) → In e (entries x) → entry_to (plus h (step_of nodes))
+        (suc last) e.archived ≡ Some e) all.0
         (λ x inside e there. entry-known h (step_of nodes) t refl grown grown-members e (inside e there)) all.2)
 
     marks : StandsWith dig (IsMarked from nodes) now root grown
@@ -84,20 +90,25 @@ module _ (dig : List ℕ → List ℕ) (ps more : Image) (h : History) (step_pag
 
     -- the step that archives the thread with them has the new tree
     pub grown-tree : tree (plus h (step_of nodes)) (suc last) ≡ grown
-    grown-tree = let all = listed-trees in tree-next dig ps h step_page archive keeps now one_page one_tree root grown t time nodes all.0 all.1 listed-known has.stands marks some
+    grown-tree = let all = listed-trees in tree-next dig ps h step_page archive keeps now one_page one_tree root grown t
+        time nodes all.0 all.1 listed-known has.stands marks some
 
-    module _ (next_page : ℕ → ℕ) (next_archive : ℕ → Root) (pages_same : Agree (length h.steps) step_page next_page) (roots_same : Agree (length h.steps) archive next_archive)
+    module _ (next_page : ℕ → ℕ) (next_archive : ℕ → Root) (pages_same : Agree (length h.steps) step_page next_page)
+        (roots_same : Agree (length h.steps) archive next_archive)
         (root_is : next_archive (suc (length h.steps)) ≡ root) where
       -- the pages keep the tree of each step with it
       pub archived-keeps : KeepsTrees dig now (plus h (step_of nodes)) next_page next_archive
       archived-keeps =
           let all = listed-trees in
-          keeps-on dig ps h step_page archive keeps more next_page next_archive pages_same roots_same (step_of nodes) (kept-named dig ps more)
-          (keeps-last dig ps h step_page archive keeps more one_page one_tree root grown t time nodes all.0 next_page next_archive pages_same roots_same root_is is some all.1 listed-known has.stands marks)
+          keeps-on dig ps h step_page archive keeps more next_page next_archive pages_same roots_same (step_of nodes)
+          (kept-named dig ps more)
+          (keeps-last dig ps h step_page archive keeps more one_page one_tree root grown t time nodes all.0 next_page
+          next_archive pages_same roots_same root_is is some all.1 listed-known has.stands marks)
 
       -- and the history stays sound
       pub archived-sound : IsSound h → MayArchive h t time → IsSound (plus h (step_of nodes))
       archived-sound sound may =
           let all = listed-trees in
-          stays-sound dig ps h step_page archive keeps more one_page one_tree root grown t time nodes all.0 next_page next_archive pages_same roots_same root_is is some all.1 listed-known has.stands marks
+          stays-sound dig ps h step_page archive keeps more one_page one_tree root grown t time nodes all.0 next_page
+          next_archive pages_same roots_same root_is is some all.1 listed-known has.stands marks
           (λ es e. length-with_entry e es) has.lists archived-keeps sound may

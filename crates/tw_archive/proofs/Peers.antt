@@ -1,5 +1,6 @@
 -- The last entry of a peer, and the entry of a key.
-use Rattle.std.proofs.Common.{◌≡◌, ◌≢◌, ◌⊎◌, ℕ, ◌<◌, ◌^◌, ◌+◌, List, [], ◌∷◌, Bool, true, false, refl, ap, sym, ◌∙◌, subst, arith, inl, inr}
+use Rattle.std.proofs.Common.{◌≡◌, ◌≢◌, ◌⊎◌, ℕ, ◌<◌, ◌^◌, ◌+◌, List, [], ◌∷◌, Bool, true, false, refl, ap, sym, ◌∙◌}
+use Rattle.std.proofs.Common.{subst, arith, inl, inr}
 use Rattle.std.specs.Prelude.{Option, Some, None, cond, nat_lt}
 use Rattle.std.specs.FinMap.{nat_cmp-IsAntisymmetric, slice_cmp-IsAntisymmetric}
 use Rattle.std.specs.declared.cmp.Ordering.{Ordering}
@@ -29,7 +30,8 @@ equal-key a b is = by (slice_cmp nat_cmp a.from b.from) refl is
 
     by : (o : Ordering) → slice_cmp nat_cmp a.from b.from ≡ o → ordering_then o (nat_cmp a.step b.step) ≡ Equal → a ≡ b
     by Less names steps = cc
-    by Equal names steps = both (slice_cmp-IsAntisymmetric nat_cmp-IsAntisymmetric a.from b.from names) (nat_cmp-IsAntisymmetric a.step b.step steps)
+    by Equal names steps = both (slice_cmp-IsAntisymmetric nat_cmp-IsAntisymmetric a.from b.from names)
+        (nat_cmp-IsAntisymmetric a.step b.step steps)
     by Greater names steps = cc
 
 -- an entry that is answered has the key
@@ -37,10 +39,13 @@ pub with-key : (es : List Entry) (key : Key) (e : Entry) → entry_with es key �
 with-key [] key e is = cc
 with-key (f ∷ es) key e is = by (key_cmp key (key_of f)) refl (with-key es key e) is
   where
-    on : (o : Ordering) → key_cmp key (key_of f) ≡ o → is_eq o ≡ false → (entry_with es key ≡ Some e → key_of e ≡ key) → entry_with (f ∷ es) key ≡ Some e → key_of e ≡ key
-    on o compared other rest found = rest (sym (ap (λ b. cond b (Some f) (entry_with es key)) (ap is_eq compared ∙ other)) ∙ found)
+    on : (o : Ordering) → key_cmp key (key_of f) ≡ o → is_eq o ≡ false → (entry_with es key ≡ Some e → key_of e ≡ key)
+        → entry_with (f ∷ es) key ≡ Some e → key_of e ≡ key
+    on o compared other rest found =
+        rest (sym (ap (λ b. cond b (Some f) (entry_with es key)) (ap is_eq compared ∙ other)) ∙ found)
 
-    by : (o : Ordering) → key_cmp key (key_of f) ≡ o → (entry_with es key ≡ Some e → key_of e ≡ key) → entry_with (f ∷ es) key ≡ Some e → key_of e ≡ key
+    by : (o : Ordering) → key_cmp key (key_of f) ≡ o → (entry_with es key ≡ Some e → key_of e ≡ key)
+        → entry_with (f ∷ es) key ≡ Some e → key_of e ≡ key
     by Less compared rest found = on Less compared refl rest found
     by Equal compared rest found =
         let some : Some f ≡ Some e = sym (ap (λ b. cond b (Some f) (entry_with es key)) (ap is_eq compared)) ∙ found in
@@ -53,8 +58,10 @@ module _ (peer : List ℕ) where
   of-peer None e is = cc
   of-peer (Some f) e is = by (bytes_eq f.thread.from peer) refl is
     where
-      by : (b : Bool) → bytes_eq f.thread.from peer ≡ b → cond b (Some f) None ≡ Some e → (Some f ≡ Some e) × (e.thread.from ≡ peer)
-      by true same found = let one : f ≡ e = cc in (found, ap (λ (x : Entry). x.thread.from) (sym one) ∙ (bytes_eq-Decides f.thread.from peer).0 same)
+      by : (b : Bool) → bytes_eq f.thread.from peer ≡ b → cond b (Some f) None ≡ Some e → (Some f ≡ Some e)
+          × (e.thread.from ≡ peer)
+      by true same found = let one : f ≡ e = cc in
+          (found, ap (λ (x : Entry). x.thread.from) (sym one) ∙ (bytes_eq-Decides f.thread.from peer).0 same)
       by false same found = cc
 
   pub peer-of : (e : Entry) → e.thread.from ≡ peer → of_peer peer (Some e) ≡ Some e
@@ -64,32 +71,39 @@ module _ (peer : List ℕ) where
   module _ (es : List Entry) where
     abbrev pub IsLatest : Entry → Type 0
     IsLatest e =
-        (last : Entry) × (last_below es (record { from = peer; step = 2 ^ 40 }) ≡ Some last) × In last es × (last.thread.from ≡ peer) × ((e ≡ last) ⊎ (e.thread.step < last.thread.step))
+        (last : Entry) × (last_below es (record { from = peer; step = 2 ^ 40 }) ≡ Some last) × In last es
+        × (last.thread.from ≡ peer) × ((e ≡ last) ⊎ (e.thread.step < last.thread.step))
 
     module _ (latest : (e : Entry) → In e es → e.thread.from ≡ peer → IsLatest e) where
       -- where the peer has an entry, it has a last one
       pub has-last : (f : Entry) → In f es → f.thread.from ≡ peer →
-          (e : Entry) × (last_of_peer es peer ≡ Some e) × In e es × (e.thread.from ≡ peer) × ((f ≡ e) ⊎ (f.thread.step < e.thread.step))
+          (e : Entry) × (last_of_peer es peer ≡ Some e) × In e es × (e.thread.from ≡ peer)
+          × ((f ≡ e) ⊎ (f.thread.step < e.thread.step))
       has-last f there same =
           let l = latest f there same in
           (l.0, ap (of_peer peer) l.1 ∙ peer-of l.0 l.3, l.2, l.3, l.4)
 
       pub without-last : last_of_peer es peer ≡ None → (f : Entry) → In f es → f.thread.from ≡ peer → ⊥
-      without-last none f there same = let l = has-last f there same in let never : Some l.0 ≡ None = sym l.1 ∙ none in cc
+      without-last none f there same = let l = has-last f there same in let never : Some l.0 ≡ None = sym l.1 ∙ none in
+          cc
 
       -- no entry of the peer is above its last one
-      pub up-to-last : (f : Entry) → In f es → f.thread.from ≡ peer → f.thread.step < last_entry_step (last_of_peer es peer) + 1
+      pub up-to-last : (f : Entry) → In f es → f.thread.from ≡ peer → f.thread.step < last_entry_step
+          (last_of_peer es peer) + 1
       up-to-last f there same =
           let l = has-last f there same in
           let is : last_entry_step (last_of_peer es peer) ≡ l.0.thread.step = ap last_entry_step l.1 in
           elim l.4 [
-            | inl one ↦ (let steps : f.thread.step ≡ l.0.thread.step = ap (λ (x : Entry). x.thread.step) one in omega (arith, is, steps))
+            | inl one ↦ (let steps : f.thread.step ≡ l.0.thread.step = ap (λ (x : Entry). x.thread.step) one in
+                omega (arith, is, steps))
             | inr less ↦ omega (arith, is, less)
           ]
 
-      pub above-last : (step : ℕ) → nat_lt (last_entry_step (last_of_peer es peer)) step ≡ true → entry_with es (record { from = peer; step = step }) ≡ None
+      pub above-last : (step : ℕ) → nat_lt (last_entry_step (last_of_peer es peer)) step ≡ true
+          → entry_with es (record { from = peer; step = step }) ≡ None
       above-last step above =
-          without-each es (record { from = peer; step = step }) (each-of (λ (f : Entry). key_of f ≢ record { from = peer; step = step }) es never)
+          without-each es (record { from = peer; step = step })
+          (each-of (λ (f : Entry). key_of f ≢ record { from = peer; step = step }) es never)
         where
           never : (f : Entry) → In f es → key_of f ≢ record { from = peer; step = step }
           never f there is =
@@ -99,11 +113,13 @@ module _ (peer : List ℕ) where
               omega (arith, low, same, less)
 
       pub last-is : (e : Entry) → (last_below es (peer_end peer) ≡ Some e → In e es) → last_of_peer es peer ≡ Some e →
-          In e es × (e.thread.from ≡ peer) × ((f : Entry) → In f es → f.thread.from ≡ peer → (f ≡ e) ⊎ (f.thread.step < e.thread.step))
+          In e es × (e.thread.from ≡ peer) × ((f : Entry) → In f es → f.thread.from ≡ peer
+          → (f ≡ e) ⊎ (f.thread.step < e.thread.step))
       last-is e has is =
           let o = of-peer (last_below es (peer_end peer)) e is in (
             has o.0,
             o.1,
-            λ f there same. (let l = has-last f there same in let some : Some l.0 ≡ Some e = sym l.1 ∙ is in let one : l.0 ≡ e = cc in
+            λ f there same. (let l = has-last f there same in let some : Some l.0 ≡ Some e = sym l.1 ∙ is in
+                let one : l.0 ≡ e = cc in
                 subst (λ (x : Entry). (f ≡ x) ⊎ (f.thread.step < x.thread.step)) one l.4),
           )

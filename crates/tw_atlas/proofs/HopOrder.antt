@@ -1,5 +1,6 @@
 -- The order of hops, and the different hops of a list.
-use Rattle.std.proofs.Common.{◌≡◌, ◌≢◌, ◌⊎◌, ℕ, ◌+◌, ◌≤◌, List, [], ◌∷◌, length, refl, sym, ◌∙◌, ap, subst, inl, inr, arith}
+use Rattle.std.proofs.Common.{◌≡◌, ◌≢◌, ◌⊎◌, ℕ, ◌+◌, ◌≤◌, List, [], ◌∷◌, length, refl, sym, ◌∙◌, ap, subst, inl, inr}
+use Rattle.std.proofs.Common.{arith}
 use Rattle.std.specs.Prelude.{fold}
 use Rattle.std.specs.List.{AllByRecursion}
 use Rattle.std.specs.List.Sorted.{IsStrictlySortedBy}
@@ -27,8 +28,10 @@ step_cmp x y = ordering_then (slice_cmp nat_cmp x.0 y.0) (nat_cmp x.1 y.1)
 pub same-hop : (a b : Hop) → hop_cmp a b ≡ Equal → a ≡ b
 unfolding step_cmp
 same-hop a b is =
-    let pairs : (x y : List ℕ × ℕ) → step_cmp x y ≡ Equal → x ≡ y = exact_pairs (slice_cmp nat_cmp) nat_cmp exact_bytes exact_unsigned in
-    let both = exact_pairs step_cmp step_cmp pairs pairs ((a.from, a.step), (a.by, a.archived)) ((b.from, b.step), (b.by, b.archived)) is in
+    let pairs : (x y : List ℕ × ℕ) → step_cmp x y ≡ Equal → x ≡ y = exact_pairs (slice_cmp nat_cmp) nat_cmp exact_bytes
+    exact_unsigned in
+    let both = exact_pairs step_cmp step_cmp pairs pairs ((a.from, a.step), (a.by, a.archived))
+    ((b.from, b.step), (b.by, b.archived)) is in
     ap (λ (p : (List ℕ × ℕ) × (List ℕ × ℕ)). record { from = p.0.0; step = p.0.1; by = p.1.0; archived = p.1.1 }) both
 
 abbrev pub HopBelow : Hop → Hop → Type 0
@@ -49,7 +52,8 @@ Rises (hop ∷ hops) = Each (HopBelow hop) hops × Rises hops
 
 pub rises-apart : (hops : List Hop) → Rises hops → Apart hops
 rises-apart [] rises = tt
-rises-apart (hop ∷ hops) rises = (Each-map (HopBelow hop) (λ (y : Hop). hop ≢ y) hops (below-differs hop) rises.0, rises-apart hops rises.1)
+rises-apart (hop ∷ hops) rises =
+    (Each-map (HopBelow hop) (λ (y : Hop). hop ≢ y) hops (below-differs hop) rises.0, rises-apart hops rises.1)
 
 -- ---- a hop more
 
@@ -57,7 +61,8 @@ each-put : (P : Hop → Type 0) (hop : Hop) (hops : List Hop) → P hop → Each
 each-put P hop [] here all = (here, tt)
 each-put P hop (first ∷ rest) here all = by (hop_cmp hop first) (each-put P hop rest here all.1)
   where
-    by : (o : Ordering) → Each P (put_hop hop rest) → Each P (match_ordering o (hop ∷ first ∷ rest) (first ∷ rest) (first ∷ put_hop hop rest))
+    by : (o : Ordering) → Each P (put_hop hop rest) → Each P (match_ordering o (hop ∷ first ∷ rest) (first ∷ rest)
+        (first ∷ put_hop hop rest))
     by Less more = (here, all)
     by Equal more = all
     by Greater more = (all.0, more)
@@ -66,8 +71,12 @@ rises-put : (hop : Hop) (hops : List Hop) → Rises hops → Rises (put_hop hop 
 rises-put hop [] rises = (tt, tt)
 rises-put hop (first ∷ rest) rises = by (hop_cmp hop first) refl (rises-put hop rest rises.1)
   where
-    by : (o : Ordering) → hop_cmp hop first ≡ o → Rises (put_hop hop rest) → Rises (match_ordering o (hop ∷ first ∷ rest) (first ∷ rest) (first ∷ put_hop hop rest))
-    by Less is more = ((is, Each-map (HopBelow first) (HopBelow hop) rest (λ y below. hop_cmp_total.trans hop first y is below) rises.0), rises)
+    by : (o : Ordering) → hop_cmp hop first ≡ o → Rises (put_hop hop rest)
+        → Rises (match_ordering o (hop ∷ first ∷ rest) (first ∷ rest) (first ∷ put_hop hop rest))
+    by Less is more = (
+      (is, Each-map (HopBelow first) (HopBelow hop) rest (λ y below. hop_cmp_total.trans hop first y is below) rises.0),
+      rises,
+    )
     by Equal is more = rises
     by Greater is more = (each-put (HopBelow first) hop rest (above hop first is) rises.0, more)
 
@@ -77,7 +86,8 @@ in-put x hop [] (inr p) = absurd p
 in-put x hop (first ∷ rest) p = by (hop_cmp hop first) (in-put x hop rest) p
   where
     by : (o : Ordering) → (In x (put_hop hop rest) → (x ≡ hop) ⊎ In x rest)
-        → In x (match_ordering o (hop ∷ first ∷ rest) (first ∷ rest) (first ∷ put_hop hop rest)) → (x ≡ hop) ⊎ In x (first ∷ rest)
+        → In x (match_ordering o (hop ∷ first ∷ rest) (first ∷ rest) (first ∷ put_hop hop rest)) → (x ≡ hop)
+        ⊎ In x (first ∷ rest)
     by Less more p = p
     by Equal more p = inr p
     by Greater more (inl same) = inr (inl same)
@@ -88,7 +98,8 @@ put-has x hop [] (inl same) = inl same
 put-has x hop [] (inr p) = absurd p
 put-has x hop (first ∷ rest) p = by (hop_cmp hop first) refl (put-has x hop rest) p
   where
-    by : (o : Ordering) → hop_cmp hop first ≡ o → ((x ≡ hop) ⊎ In x rest → In x (put_hop hop rest)) → (x ≡ hop) ⊎ In x (first ∷ rest)
+    by : (o : Ordering) → hop_cmp hop first ≡ o → ((x ≡ hop) ⊎ In x rest → In x (put_hop hop rest)) → (x ≡ hop)
+        ⊎ In x (first ∷ rest)
         → In x (match_ordering o (hop ∷ first ∷ rest) (first ∷ rest) (first ∷ put_hop hop rest))
     by Less is more p = p
     by Equal is more (inl same) = inl (same ∙ same-hop hop first is)
@@ -102,7 +113,8 @@ length-put hop [] = omega arith
 length-put hop (first ∷ rest) = by (hop_cmp hop first) (length-put hop rest)
   where
     by : (o : Ordering) → length (put_hop hop rest) ≤ length rest + 1
-        → length (match_ordering o (hop ∷ first ∷ rest) (first ∷ rest) (first ∷ put_hop hop rest)) ≤ length (first ∷ rest) + 1
+        → length (match_ordering o (hop ∷ first ∷ rest) (first ∷ rest) (first ∷ put_hop hop rest)) ≤ length
+        (first ∷ rest) + 1
     by Less more = omega arith
     by Equal more = omega arith
     by Greater more = omega (arith, more)
@@ -136,7 +148,8 @@ all-has x (hop ∷ hops) put (inr (inr p)) = all-has x hops (put_hop hop put) (i
 length-all : (hops put : List Hop) → length (put_all put hops) ≤ length put + length hops
 unfolding put_all
 length-all [] put = omega arith
-length-all (hop ∷ hops) put = let more = length-all hops (put_hop hop put) in let one = length-put hop put in omega (arith, more, one)
+length-all (hop ∷ hops) put = let more = length-all hops (put_hop hop put) in let one = length-put hop put in
+    omega (arith, more, one)
 
 pub ordered-rises : (hops : List Hop) → Rises (ordered hops)
 unfolding put_all

@@ -1,5 +1,6 @@
 -- What the test of a hop says, and membership by place.
-use Rattle.std.proofs.Common.{◌≡◌, ℕ, suc, zero, ◌≤◌, List, [], ◌∷◌, Bool, true, false, Some, refl, sym, ◌∙◌, ap, inl, inr}
+use Rattle.std.proofs.Common.{◌≡◌, ℕ, suc, zero, ◌≤◌, List, [], ◌∷◌, Bool, true, false, Some, refl, sym, ◌∙◌, ap, inl}
+use Rattle.std.proofs.Common.{inr}
 use Rattle.std.specs.Prelude.{map, nat_le, slice_get, ◌&&◌}
 use Rattle.std.specs.Str.{bytes_eq}
 use Rattle.std.proofs.lemmas.Bool.{leb-true, le-leb}
@@ -48,7 +49,8 @@ module _ {X Y : Type 0} (f : X → Y) where
   in-mapped (x ∷ xs) y (inl e) = (x, inl refl, e)
   in-mapped (x ∷ xs) y (inr p) = let there = in-mapped xs y p in (there.0, inr there.1, there.2)
 
-  pub get-mapped : (xs : List X) (k : ℕ) (y : Y) → slice_get (map f xs) k ≡ Some y → (x : X) × (slice_get xs k ≡ Some x) × (f x ≡ y)
+  pub get-mapped : (xs : List X) (k : ℕ) (y : Y) → slice_get (map f xs) k ≡ Some y → (x : X) × (slice_get xs k ≡ Some x)
+      × (f x ≡ y)
   get-mapped [] k y e = cc
   get-mapped (x ∷ xs) zero y e = (x, refl, (let same : Some (f x) ≡ Some y = e in cc))
   get-mapped (x ∷ xs) (suc k) y e = get-mapped xs k y e

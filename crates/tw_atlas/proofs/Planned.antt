@@ -10,7 +10,8 @@ use Rattle.tw_atlas.specs.Rounds.{legs_of}
 use Rattle.tw_atlas.proofs.Leastness.{earliest}
 use Rattle.tw_atlas.proofs.RoundLaws.{Whole, legs-whole, pairs-apart}
 
-pub planned : (given : List Hop) (start : Key) (legs : List Leg) (arrivals : List Arrival) → legs ≡ legs_of given start → AreArrivals (stops start legs) arrivals
+pub planned : (given : List Hop) (start : Key) (legs : List Leg) (arrivals : List Arrival) → legs ≡ legs_of given start
+    → AreArrivals (stops start legs) arrivals
     → IsAtlasPlanned given start (record { legs = legs; arrivals = arrivals })
 planned given start legs arrivals are arrive =
     let whole = subst (Whole given start) (sym are) (legs-whole given start) in
@@ -20,4 +21,8 @@ planned given start legs arrivals are arrive =
       closed = whole.closed;
       arrivals = arrive;
     } in
-    record { legs = are; is_atlas = is; earliest = earliest given start (record { legs = legs; arrivals = arrivals }) is }
+    record {
+      legs = are;
+      is_atlas = is;
+      earliest = earliest given start (record { legs = legs; arrivals = arrivals }) is;
+    }

@@ -13,11 +13,14 @@ module _ (dig : List ℕ → List ℕ) (family : List History) where
   pub agrees-has : (t : Thread) → agrees_with dig family t ≡ true → HasThread dig family t
   agrees-has t = by (history_of family t.from) refl
     where
-      within : (h : History) → history_of family t.from ≡ Some h → (b : Bool) → nat_le t.step (length h.steps) ≡ b → is_found (if b then Some (auth dig h t.step) else None) t ≡ true → HasThread dig family t
-      within h has true inside agrees = (h, has, leb-true t.step (length h.steps) inside, (bytes_eq-Decides (auth dig h t.step) t.auth).0 agrees)
+      within : (h : History) → history_of family t.from ≡ Some h → (b : Bool) → nat_le t.step (length h.steps) ≡ b
+          → is_found (if b then Some (auth dig h t.step) else None) t ≡ true → HasThread dig family t
+      within h has true inside agrees =
+          (h, has, leb-true t.step (length h.steps) inside, (bytes_eq-Decides (auth dig h t.step) t.auth).0 agrees)
       within h has false inside agrees = cc
 
-      by : (o : Option History) → history_of family t.from ≡ o → is_found (option_and_then (λ h. auth_within dig h t.step) o) t ≡ true → HasThread dig family t
+      by : (o : Option History) → history_of family t.from ≡ o
+          → is_found (option_and_then (λ h. auth_within dig h t.step) o) t ≡ true → HasThread dig family t
       by None none agrees = cc
       by (Some h) some agrees = within h some (nat_le t.step (length h.steps)) refl agrees
 
@@ -36,7 +39,8 @@ module _ (dig : List ℕ → List ℕ) (family : List History) where
   none-missing [] none = tt
   none-missing (t ∷ ts) none = by (none-missing ts) (agrees_with dig family t) refl none
     where
-      by : (find lacks ts ≡ None → HasThreads dig family ts) → (b : Bool) → agrees_with dig family t ≡ b → (if not b then Some t else find lacks ts) ≡ None → HasThreads dig family (t ∷ ts)
+      by : (find lacks ts ≡ None → HasThreads dig family ts) → (b : Bool) → agrees_with dig family t ≡ b
+          → (if not b then Some t else find lacks ts) ≡ None → HasThreads dig family (t ∷ ts)
       by more true agrees rest = (agrees-has t agrees, more rest)
       by more false agrees rest = cc
 
@@ -52,10 +56,17 @@ module _ (dig : List ℕ → List ℕ) (family : List History) where
   first-missing [] t some = cc
   first-missing (u ∷ ts) t some = by (first-missing ts t) (agrees_with dig family u) refl some
     where
-      by : (find lacks ts ≡ Some t → Missing ts t) → (b : Bool) → agrees_with dig family u ≡ b → (if not b then Some u else find lacks ts) ≡ Some t → Missing (u ∷ ts) t
+      by : (find lacks ts ≡ Some t → Missing ts t) → (b : Bool) → agrees_with dig family u ≡ b
+          → (if not b then Some u else find lacks ts) ≡ Some t → Missing (u ∷ ts) t
       by later true agrees rest =
           let more = later rest in
-          record { before = u ∷ more.before; after = more.after; split = ap (λ us. u ∷ us) more.split; there = (agrees-has u agrees, more.there); lacked = more.lacked }
+          record {
+            before = u ∷ more.before;
+            after = more.after;
+            split = ap (λ us. u ∷ us) more.split;
+            there = (agrees-has u agrees, more.there);
+            lacked = more.lacked;
+          }
       by later false agrees rest =
           let same : u ≡ t = cc in
           record {
@@ -63,5 +74,6 @@ module _ (dig : List ℕ → List ℕ) (family : List History) where
             after = ts;
             split = ap (λ v. v ∷ ts) same;
             there = tt;
-            lacked = λ has. (let yes : agrees_with dig family t ≡ true = has-agrees t has in let no : agrees_with dig family t ≡ false = subst (λ v. agrees_with dig family v ≡ false) same agrees in cc);
+            lacked = λ has. (let yes : agrees_with dig family t ≡ true = has-agrees t has in let no : agrees_with dig
+                family t ≡ false = subst (λ v. agrees_with dig family v ≡ false) same agrees in cc);
           }

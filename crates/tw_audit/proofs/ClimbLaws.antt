@@ -8,8 +8,10 @@ use Rattle.tw_skipproof.specs.Paths.{path_texts}
 
 module _ (dig : List ℕ → List ℕ) where
   -- the opening, and the path over what it computes
-  pub part-then : (service : List ℕ) (step top : ℕ) (path : Path) (o : Opening) (bottom : List ℕ) → bottom ≡ opening_auth dig step o
+  pub part-then : (service : List ℕ) (step top : ℕ) (path : Path) (o : Opening) (bottom : List ℕ)
+      → bottom ≡ opening_auth dig step o
       → opening_texts dig step o ++ path_texts dig path.links top step bottom
       ≡ part_texts dig (record { service = service; step = step; top = top; path = path; opening = o })
   unfolding part_texts
-  part-then service step top path o bottom is = ap (λ b. opening_texts dig step o ++ path_texts dig path.links top step b) is
+  part-then service step top path o bottom is = ap (λ b. opening_texts dig step o ++ path_texts dig path.links top step
+      b) is

@@ -1,5 +1,6 @@
 -- The four numbers of a digest tell it.
-use Rattle.std.proofs.Common.{◌≡◌, ◌≢◌, ℕ, suc, zero, ◌-◌, ◌<◌, List, [], ◌∷◌, ◌++◌, length, get_or, take, drop, refl, ap, sym, ◌∙◌, subst, arith, false}
+use Rattle.std.proofs.Common.{◌≡◌, ◌≢◌, ℕ, suc, zero, ◌-◌, ◌<◌, List, [], ◌∷◌, ◌++◌, length, get_or, take, drop, refl}
+use Rattle.std.proofs.Common.{ap, sym, ◌∙◌, subst, arith, false}
 use Rattle.std.specs.Prelude.{slice_range}
 use Rattle.std.specs.Ordering.{is_eq, nat_cmp}
 use Rattle.std.specs.declared.cmp.Ordering.{Ordering}
@@ -51,14 +52,17 @@ parts d size =
 -- the digest that has these words
 of_words : List ℕ → List ℕ
 of_words words =
-    to_be_bytes w64 (get_or words 0 0) ++ (to_be_bytes w64 (get_or words 1 0) ++ (to_be_bytes w64 (get_or words 2 0) ++ to_be_bytes w64 (get_or words 3 0)))
+    to_be_bytes w64 (get_or words 0 0) ++ (to_be_bytes w64 (get_or words 1 0)
+    ++ (to_be_bytes w64 (get_or words 2 0) ++ to_be_bytes w64 (get_or words 3 0)))
 
 of_words-is : (d : List ℕ) → HasBytes 32 d → of_words (words_of d) ≡ d
 unfolding of_words
 of_words-is d is =
     let p = parts d is.0 in
-    let are_all : AreBytes (slice_range d 0 8 ++ (slice_range d 8 16 ++ (slice_range d 16 24 ++ slice_range d 24 32))) = subst AreBytes p.whole is.1 in
-    let one = Each-parts (λ b. b < 256) (slice_range d 0 8) (slice_range d 8 16 ++ (slice_range d 16 24 ++ slice_range d 24 32)) are_all in
+    let are_all : AreBytes (slice_range d 0 8 ++ (slice_range d 8 16 ++ (slice_range d 16 24 ++ slice_range d 24 32))) =
+    subst AreBytes p.whole is.1 in
+    let one = Each-parts (λ b. b < 256) (slice_range d 0 8)
+    (slice_range d 8 16 ++ (slice_range d 16 24 ++ slice_range d 24 32)) are_all in
     let two = Each-parts (λ b. b < 256) (slice_range d 8 16) (slice_range d 16 24 ++ slice_range d 24 32) one.1 in
     let three = Each-parts (λ b. b < 256) (slice_range d 16 24) (slice_range d 24 32) two.1 in
     (λ k. eight (slice_range d 0 8) p.first one.0 k ++ (eight (slice_range d 8 16) p.second two.0 k
@@ -74,6 +78,8 @@ unequal Equal differ = absurd (differ refl)
 unequal Greater differ = refl
 
 -- the words of two digests that differ compare as such
-pub words-apart : (d e : List ℕ) → HasBytes 32 d → HasBytes 32 e → e ≢ d → is_eq (slice_cmp nat_cmp (words_of d) (words_of e)) ≡ false
+pub words-apart : (d e : List ℕ) → HasBytes 32 d → HasBytes 32 e → e ≢ d
+    → is_eq (slice_cmp nat_cmp (words_of d) (words_of e)) ≡ false
 words-apart d e is also differ =
-    unequal (slice_cmp nat_cmp (words_of d) (words_of e)) (λ same. differ (sym (words-tell d e is also (exact_bytes (words_of d) (words_of e) same))))
+    unequal (slice_cmp nat_cmp (words_of d) (words_of e))
+    (λ same. differ (sym (words-tell d e is also (exact_bytes (words_of d) (words_of e) same))))

@@ -32,19 +32,24 @@ module _ (dig : List ℕ → List ℕ) (family : List History) (anchors : List T
   first = find (λ (t : Thread). not (agrees_with dig family t)) (held anchors p)
 
   -- a thread is missing
-  pub answer-missing : (m : Missing) → Some m ≡ missing_in dig family (held anchors p) → Err (NotHeld m.held m.found) ≡ audit_answer dig family anchors p
+  pub answer-missing : (m : Missing) → Some m ≡ missing_in dig family (held anchors p) → Err (NotHeld m.held m.found)
+      ≡ audit_answer dig family anchors p
   answer-missing m is = by first is
     where
-      by : (o : Option Thread) → Some m ≡ noted o → (Err (NotHeld m.held m.found)) ≡ told o (Ok (of_pair dig (report_of p) (clash_pair dig (audited_texts dig family p))))
+      by : (o : Option Thread) → Some m ≡ noted o → (Err (NotHeld m.held m.found)) ≡ told o
+          (Ok (of_pair dig (report_of p) (clash_pair dig (audited_texts dig family p))))
       by None e = cc
       by (Some t) e = cc
 
   -- none is
-  pub answer-found : (found : Finding) (report : Report) (pair : Option Pair) → None ≡ missing_in dig family (held anchors p) → report ≡ report_of p
-      → pair ≡ clash_pair dig (audited_texts dig family p) → found ≡ of_pair dig report pair → Ok found ≡ audit_answer dig family anchors p
+  pub answer-found : (found : Finding) (report : Report) (pair : Option Pair) → None ≡ missing_in dig family
+      (held anchors p) → report ≡ report_of p
+      → pair ≡ clash_pair dig (audited_texts dig family p) → found ≡ of_pair dig report pair → Ok found ≡ audit_answer
+      dig family anchors p
   answer-found found report pair none is_report is_pair is = by first none
     where
-      by : (o : Option Thread) → None ≡ noted o → (Ok found) ≡ told o (Ok (of_pair dig (report_of p) (clash_pair dig (audited_texts dig family p))))
+      by : (o : Option Thread) → None ≡ noted o
+          → (Ok found) ≡ told o (Ok (of_pair dig (report_of p) (clash_pair dig (audited_texts dig family p))))
       by None e = ap (λ f. Ok f) is ∙ (λ k. Ok (of_pair dig (is_report k) (is_pair k)))
       by (Some t) e = cc
 
@@ -52,23 +57,28 @@ module _ (dig : List ℕ → List ℕ) (family : List History) (anchors : List T
   never-rejected : (reason : Reason) → Ok (NotAccepted reason) ≡ audit_answer dig family anchors p → ⊥
   never-rejected reason is = by first (clash_pair dig (audited_texts dig family p)) is
     where
-      by : (o : Option Thread) (pair : Option Pair) → (Ok (NotAccepted reason)) ≡ told o (Ok (of_pair dig (report_of p) pair)) → ⊥
+      by : (o : Option Thread) (pair : Option Pair) → (Ok (NotAccepted reason)) ≡ told o
+          (Ok (of_pair dig (report_of p) pair)) → ⊥
       by None None e = cc
       by None (Some pair) e = cc
       by (Some t) pair e = cc
 
 -- what is found of an accepted proof is what an audit of its bytes answers
-pub answer-audit : (dig : List ℕ → List ℕ) (family : List History) (anchors : List Thread) (bytes : List ℕ) (accepts : Accepts dig anchors bytes) (result : Result Finding AuditFault)
+pub answer-audit : (dig : List ℕ → List ℕ) (family : List History) (anchors : List Thread) (bytes : List ℕ)
+    (accepts : Accepts dig anchors bytes) (result : Result Finding AuditFault)
     → IsAuditAnswer dig family anchors accepts.0 result → IsAudit dig family anchors bytes result
 answer-audit dig family anchors bytes accepts (Ok (Stands report)) is = (accepts, is)
 answer-audit dig family anchors bytes accepts (Ok (Clash one other digest)) is = (accepts, is)
-answer-audit dig family anchors bytes accepts (Ok (NotAccepted reason)) is = absurd (never-rejected dig family anchors accepts.0 reason is)
+answer-audit dig family anchors bytes accepts (Ok (NotAccepted reason)) is =
+    absurd (never-rejected dig family anchors accepts.0 reason is)
 answer-audit dig family anchors bytes accepts (Err (NotHeld t found)) is = (accepts, is)
 answer-audit dig family anchors bytes accepts (Err NoMemory) is = tt
 
 -- of a verdict that accepts
-pub verdict-audit : (dig : List ℕ → List ℕ) (family : List History) (anchors : List Thread) (bytes : List ℕ) (report : Report) (result : Result Finding AuditFault)
-    → IsVerdict dig anchors false bytes (Yes report) → ((p : Proof) → Spells proof_layout bytes p → report ≡ report_of p → IsAuditAnswer dig family anchors p result)
+pub verdict-audit : (dig : List ℕ → List ℕ) (family : List History) (anchors : List Thread) (bytes : List ℕ)
+    (report : Report) (result : Result Finding AuditFault)
+    → IsVerdict dig anchors false bytes (Yes report) → ((p : Proof) → Spells proof_layout bytes p → report ≡ report_of p
+    → IsAuditAnswer dig family anchors p result)
     → IsAudit dig family anchors bytes result
 verdict-audit dig family anchors bytes report result verdict holds =
     let accepts : Accepts dig anchors bytes = verdict.0 in

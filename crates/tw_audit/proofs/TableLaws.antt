@@ -1,5 +1,6 @@
 -- What a table knows of the texts that it took.
-use Rattle.std.proofs.Common.{◌≡◌, ◌≢◌, ℕ, ◌+◌, ◌-◌, List, [], ◌∷◌, ◌++◌, length, take, drop, refl, ap, sym, ◌∙◌, subst, arith, false, true, Bool, inl, inr}
+use Rattle.std.proofs.Common.{◌≡◌, ◌≢◌, ℕ, ◌+◌, ◌-◌, List, [], ◌∷◌, ◌++◌, length, take, drop, refl, ap, sym, ◌∙◌, subst}
+use Rattle.std.proofs.Common.{arith, false, true, Bool, inl, inr}
 use Rattle.std.specs.Prelude.{◌⊎◌, Option, Some, None, IfSome, cond, find, is_some, if◌then◌else◌}
 use Rattle.std.specs.BTreeMap.{get}
 use Rattle.std.specs.Cmp.Lexicographic.{slice_cmp}
@@ -41,25 +42,32 @@ text-more arena more p is =
     ∙ take-append-le (p.end - p.start) (drop p.start arena) more (omega (arith, length-drop p.start arena))
 
 -- the text that was put behind the others
-text-new : (arena text : List ℕ) (p : Place) → p.start ≡ length arena → p.end ≡ length arena + length text → text_at (arena ++ text) p ≡ text
+text-new : (arena text : List ℕ) (p : Place) → p.start ≡ length arena → p.end ≡ length arena + length text
+    → text_at (arena ++ text) p ≡ text
 text-new arena text p start end =
     let size : p.end - p.start ≡ length text = omega (arith, start, end) in
-    ap (take (p.end - p.start)) (drop_at arena text p.start (sym start)) ∙ take_all (p.end - p.start) text (omega (arith, size))
+    ap (take (p.end - p.start)) (drop_at arena text p.start (sym start)) ∙ take_all (p.end - p.start) text
+    (omega (arith, size))
 
-inside-new : (arena text : List ℕ) (p : Place) → p.start ≡ length arena → p.end ≡ length arena + length text → IsInside (arena ++ text) p
-inside-new arena text p start end = record { order = omega (arith, start, end); within = omega (arith, end, length-append arena text) }
+inside-new : (arena text : List ℕ) (p : Place) → p.start ≡ length arena → p.end ≡ length arena + length text
+    → IsInside (arena ++ text) p
+inside-new arena text p start end =
+    record { order = omega (arith, start, end); within = omega (arith, end, length-append arena text) }
 
-texts-more : (arena more : List ℕ) (o : Option Place) → IfSome o (IsInside arena) → option_map (text_at (arena ++ more)) o ≡ option_map (text_at arena) o
+texts-more : (arena more : List ℕ) (o : Option Place) → IfSome o (IsInside arena) → option_map (text_at (arena ++ more))
+    o ≡ option_map (text_at arena) o
 texts-more arena more None inside = refl
 texts-more arena more (Some p) inside = ap (λ (t : List ℕ). Some t) (text-more arena more p inside)
 
-insides-more : (arena more : List ℕ) (o : Option Place) → IfSome o (IsInside arena) → IfSome o (IsInside (arena ++ more))
+insides-more : (arena more : List ℕ) (o : Option Place) → IfSome o (IsInside arena)
+    → IfSome o (IsInside (arena ++ more))
 insides-more arena more None inside = tt
 insides-more arena more (Some p) inside = inside-more arena more p inside
 
 -- the text was put behind the others, at this place
 abbrev pub IsAdded : (old new : Table) (text : List ℕ) (p : Place) → Type 0
-IsAdded old new text p = (new.arena.items ≡ old.arena.items ++ text) × (p.start ≡ length old.arena.items) × (p.end ≡ length old.arena.items + length text)
+IsAdded old new text p = (new.arena.items ≡ old.arena.items ++ text) × (p.start ≡ length old.arena.items)
+    × (p.end ≡ length old.arena.items + length text)
 
 module _ (dig : List ℕ → List ℕ) (texts : List (List ℕ)) where
   -- a table that has no pair has found none
@@ -68,11 +76,15 @@ module _ (dig : List ℕ → List ℕ) (texts : List (List ℕ)) where
 
   -- ---- a first text of its digest
 
-  module _ (old new : Table) (s : List ℕ) (p : Place) (is : HasTaken dig texts old) (none : old.found ≡ None) (absent : kept old (dig s) ≡ None)
-      (arena : new.arena.items ≡ old.arena.items ++ s) (start : p.start ≡ length old.arena.items) (end : p.end ≡ length old.arena.items + length s)
+  module _ (old new : Table) (s : List ℕ) (p : Place) (is : HasTaken dig texts old) (none : old.found ≡ None)
+      (absent : kept old (dig s) ≡ None)
+      (arena : new.arena.items ≡ old.arena.items ++ s) (start : p.start ≡ length old.arena.items)
+      (end : p.end ≡ length old.arena.items + length s)
       (same : new.found ≡ old.found) (here : place_in_table new (words_of (dig s)) ≡ Some p)
-      (others : (t : List ℕ) → dig t ≢ dig s → place_in_table new (words_of (dig t)) ≡ place_in_table old (words_of (dig t)))
-      (places : (words : List ℕ) → (place_in_table new words ≡ place_in_table old words) ⊎ (place_in_table new words ≡ Some p)) where
+      (others : (t : List ℕ) → dig t ≢ dig s → place_in_table new (words_of (dig t)) ≡ place_in_table old
+      (words_of (dig t)))
+      (places : (words : List ℕ) → (place_in_table new words ≡ place_in_table old words)
+      ⊎ (place_in_table new words ≡ Some p)) where
     kept_here : kept new (dig s) ≡ Some s
     kept_here =
         ap (option_map (text_at new.arena.items)) here
@@ -90,22 +102,28 @@ module _ (dig : List ℕ → List ℕ) (texts : List (List ℕ)) where
     inside : (words : List ℕ) → IfSome (place_in_table new words) (IsInside new.arena.items)
     inside words = subst (λ a. IfSome (place_in_table new words) (IsInside a)) (sym arena) (by (places words))
       where
-        by : (place_in_table new words ≡ place_in_table old words) ⊎ (place_in_table new words ≡ Some p) → IfSome (place_in_table new words) (IsInside (old.arena.items ++ s))
-        by (inl e) = subst (λ o. IfSome o (IsInside (old.arena.items ++ s))) (sym e) (insides-more old.arena.items s (place_in_table old words) (is.places words))
-        by (inr e) = subst (λ o. IfSome o (IsInside (old.arena.items ++ s))) (sym e) (inside-new old.arena.items s p start end)
+        by : (place_in_table new words ≡ place_in_table old words) ⊎ (place_in_table new words ≡ Some p)
+            → IfSome (place_in_table new words) (IsInside (old.arena.items ++ s))
+        by (inl e) = subst (λ o. IfSome o (IsInside (old.arena.items ++ s))) (sym e)
+            (insides-more old.arena.items s (place_in_table old words) (is.places words))
+        by (inr e) = subst (λ o. IfSome o (IsInside (old.arena.items ++ s))) (sym e)
+            (inside-new old.arena.items s p start end)
 
     pub taken-new : HasTaken dig (texts ++ s ∷ []) new
     taken-new = record {
-      pair = pair-none dig texts s (no_pair old is none) ∙ ap (option_map (λ one. record { one = one; other = s })) no_clash
+      pair = pair-none dig texts s (no_pair old is none) ∙ ap (option_map (λ one. record { one = one; other = s }))
+          no_clash
           ∙ sym (ap (option_map (pair_at new.arena.items)) (same ∙ none));
       knows = λ unfound. knows-new dig texts s (kept old) (kept new) (is.knows none) absent kept_here kept_others;
       places = inside;
-      found = subst (λ o. IfSome o (λ (q : PairPlaces). IsInside new.arena.items q.one × IsInside new.arena.items q.other)) (sym (same ∙ none)) tt;
+      found = subst (λ o. IfSome o (λ (q : PairPlaces). IsInside new.arena.items q.one × IsInside new.arena.items
+          q.other)) (sym (same ∙ none)) tt;
     }
 
   -- ---- the text that is kept, once more
 
-  pub taken-same : (t : Table) (s : List ℕ) → HasTaken dig texts t → t.found ≡ None → kept t (dig s) ≡ Some s → HasTaken dig (texts ++ s ∷ []) t
+  pub taken-same : (t : Table) (s : List ℕ) → HasTaken dig texts t → t.found ≡ None → kept t (dig s) ≡ Some s
+      → HasTaken dig (texts ++ s ∷ []) t
   taken-same t s is none here = record {
     pair = pair-none dig texts s (no_pair t is none)
         ∙ ap (option_map (λ one. record { one = one; other = s })) (is.knows none s ∙ ap (other_than s) here ∙ itself s)
@@ -117,20 +135,25 @@ module _ (dig : List ℕ → List ℕ) (texts : List (List ℕ)) where
 
   -- ---- a text that clashes with the one that is kept
 
-  pub taken-pair : (old new : Table) (s first : List ℕ) (one other : Place) → HasTaken dig texts old → old.found ≡ None → kept old (dig s) ≡ Some first → first ≢ s
+  pub taken-pair : (old new : Table) (s first : List ℕ) (one other : Place) → HasTaken dig texts old → old.found ≡ None
+      → kept old (dig s) ≡ Some first → first ≢ s
       → text_at old.arena.items one ≡ first → IsInside old.arena.items one → IsAdded old new s other
-      → new.places ≡ old.places → new.found ≡ Some (record { one = one; other = other }) → HasTaken dig (texts ++ s ∷ []) new
+      → new.places ≡ old.places → new.found ≡ Some (record { one = one; other = other })
+      → HasTaken dig (texts ++ s ∷ []) new
   taken-pair old new s first one other is none here differ at inside (arena, start, end) places found = record {
     pair = pair-none dig texts s (no_pair old is none)
-        ∙ ap (option_map (λ one. record { one = one; other = s })) (is.knows none s ∙ ap (other_than s) here ∙ another s first differ)
+        ∙ ap (option_map (λ one. record { one = one; other = s })) (is.knows none s ∙ ap (other_than s) here ∙ another s
+        first differ)
         ∙ sym (ap (option_map (pair_at new.arena.items)) found
         ∙ (λ k. Some (record { one = one_is k; other = other_is k })));
     knows = λ unfound. (let no : Some (record { one = one; other = other }) ≡ None = sym found ∙ unfound in cc);
     places = λ words. subst (λ a. IfSome (place_in_table new words) (IsInside a)) (sym arena)
         (subst (λ m. IfSome (get (slice_cmp nat_cmp) m words) (IsInside (old.arena.items ++ s))) (sym places)
         (insides-more old.arena.items s (place_in_table old words) (is.places words)));
-    found = subst (λ o. IfSome o (λ (q : PairPlaces). IsInside new.arena.items q.one × IsInside new.arena.items q.other)) (sym found)
-        (subst (λ a. IsInside a one × IsInside a other) (sym arena) (inside-more old.arena.items s one inside, inside-new old.arena.items s other start end));
+    found = subst (λ o. IfSome o (λ (q : PairPlaces). IsInside new.arena.items q.one × IsInside new.arena.items
+        q.other)) (sym found)
+        (subst (λ a. IsInside a one × IsInside a other) (sym arena)
+        (inside-more old.arena.items s one inside, inside-new old.arena.items s other start end));
   }
     where
       one_is : text_at new.arena.items one ≡ first
@@ -141,15 +164,18 @@ module _ (dig : List ℕ → List ℕ) (texts : List (List ℕ)) where
 
   -- ---- with a pair nothing more counts
 
-  pub taken-past : (t : Table) (s : List ℕ) (p : PairPlaces) → HasTaken dig texts t → t.found ≡ Some p → HasTaken dig (texts ++ s ∷ []) t
+  pub taken-past : (t : Table) (s : List ℕ) (p : PairPlaces) → HasTaken dig texts t → t.found ≡ Some p
+      → HasTaken dig (texts ++ s ∷ []) t
   taken-past t s p is found = record {
-    pair = pair-some dig texts s (pair_at t.arena.items p) (is.pair ∙ ap (option_map (pair_at t.arena.items)) found) ∙ sym (ap (option_map (pair_at t.arena.items)) found);
+    pair = pair-some dig texts s (pair_at t.arena.items p) (is.pair ∙ ap (option_map (pair_at t.arena.items)) found)
+        ∙ sym (ap (option_map (pair_at t.arena.items)) found);
     knows = λ unfound. (let no : Some p ≡ None = sym found ∙ unfound in cc);
     places = is.places;
     found = is.found;
   }
 
-  pub taken-found : (t : Table) (s : List ℕ) → HasTaken dig texts t → is_some t.found ≡ true → HasTaken dig (texts ++ s ∷ []) t
+  pub taken-found : (t : Table) (s : List ℕ) → HasTaken dig texts t → is_some t.found ≡ true
+      → HasTaken dig (texts ++ s ∷ []) t
   taken-found t s is some = by t.found refl some
     where
       by : (o : Option PairPlaces) → t.found ≡ o → is_some o ≡ true → HasTaken dig (texts ++ s ∷ []) t
@@ -157,6 +183,7 @@ module _ (dig : List ℕ → List ℕ) (texts : List (List ℕ)) where
       by (Some p) found some = taken-past t s p is found
 
 -- what an insert leaves at each key
-pub either_place : {X : Type 0} (b : Bool) (new old old' : Option X) (p : X) → new ≡ cond b (Some p) old → old ≡ old' → (new ≡ old') ⊎ (new ≡ Some p)
+pub either_place : {X : Type 0} (b : Bool) (new old old' : Option X) (p : X) → new ≡ cond b (Some p) old → old ≡ old'
+    → (new ≡ old') ⊎ (new ≡ Some p)
 either_place true new old old' p is same = inr is
 either_place false new old old' p is same = inl (is ∙ same)

@@ -22,7 +22,8 @@ lower-none (Some reason) = refl
 
 module _ (dig : List ℕ → List ℕ) (anchors : List Thread) where
   -- checks behind others
-  pub found-append : (xs ys : List Check) → found_in dig anchors (xs ++ ys) ≡ lower_of (found_in dig anchors xs) (found_in dig anchors ys)
+  pub found-append : (xs ys : List Check) → found_in dig anchors (xs ++ ys) ≡ lower_of (found_in dig anchors xs)
+      (found_in dig anchors ys)
   found-append [] ys = refl
   found-append (c ∷ xs) ys =
       let own : Option Reason = if passes dig anchors c then None else Some (reason_of c) in
@@ -46,39 +47,51 @@ module _ (dig : List ℕ → List ℕ) (anchors : List Thread) where
 
   -- an order, an anchor and a path that climbs to it, where it does so as this says of the anchor's authenticator
   module _ (found before : Option Reason) (order : Check) (key : Key) (path : Check) (holds : List ℕ → Type 0)
-      (is : Decides (passes dig anchors path) (IfSome (upper_auth anchors (AtAnchor key)) holds)) (was : before ≡ reason_with dig anchors found (order ∷ [])) where
-    onto : reason_with dig anchors before (NeedsAnchor key ∷ path ∷ []) ≡ reason_with dig anchors found (order ∷ NeedsAnchor key ∷ path ∷ [])
+      (is : Decides (passes dig anchors path) (IfSome (upper_auth anchors (AtAnchor key)) holds))
+      (was : before ≡ reason_with dig anchors found (order ∷ [])) where
+    onto : reason_with dig anchors before (NeedsAnchor key ∷ path ∷ []) ≡ reason_with dig anchors found
+        (order ∷ NeedsAnchor key ∷ path ∷ [])
     onto = found-onto found before (order ∷ []) (NeedsAnchor key ∷ path ∷ []) was
 
     -- the anchor isn't held
     pub found-not_held : anchor_at anchors key ≡ None
-        → lower_of before (Some (NotHeld key.from key.step)) ≡ reason_with dig anchors found (order ∷ NeedsAnchor key ∷ path ∷ [])
+        → lower_of before (Some (NotHeld key.from key.step)) ≡ reason_with dig anchors found
+        (order ∷ NeedsAnchor key ∷ path ∷ [])
     found-not_held none =
-        let free : passes dig anchors path ≡ true = is.1 (subst (λ (o : Option Thread). IfSome (option_map (λ (t : Thread). t.auth) o) holds) (sym none) tt) in
-        let here : lower_of before (Some (NotHeld key.from key.step)) ≡ reason_with dig anchors before (NeedsAnchor key ∷ path ∷ []) = rw (none, free) refl in
+        let free : passes dig anchors path ≡ true =
+        is.1 (subst (λ (o : Option Thread). IfSome (option_map (λ (t : Thread). t.auth) o) holds) (sym none) tt) in
+        let here : lower_of before (Some (NotHeld key.from key.step)) ≡ reason_with dig anchors before
+        (NeedsAnchor key ∷ path ∷ []) = rw (none, free) refl in
         here ∙ onto
 
     -- the anchor is held
     pub found-held : (anchor : Thread) (b : Bool) → anchor_at anchors key ≡ Some anchor → Decides b (holds anchor.auth)
-        → lower_of before (if b then None else Some (reason_of path)) ≡ reason_with dig anchors found (order ∷ NeedsAnchor key ∷ path ∷ [])
+        → lower_of before (if b then None else Some (reason_of path)) ≡ reason_with dig anchors found
+        (order ∷ NeedsAnchor key ∷ path ∷ [])
     found-held anchor b some climbs =
         let own : Decides b (IfSome (upper_auth anchors (AtAnchor key)) holds) =
-        subst (λ (o : Option Thread). Decides b (IfSome (option_map (λ (t : Thread). t.auth) o) holds)) (sym some) climbs in
+        subst (λ (o : Option Thread). Decides b (IfSome (option_map (λ (t : Thread). t.auth) o) holds)) (sym some)
+        climbs in
         let same : b ≡ passes dig anchors path = same_from_decides b (passes dig anchors path) own is in
-        let here : lower_of before (if b then None else Some (reason_of path)) ≡ reason_with dig anchors before (NeedsAnchor key ∷ path ∷ []) =
+        let here : lower_of before (if b then None else Some (reason_of path)) ≡ reason_with dig anchors before
+        (NeedsAnchor key ∷ path ∷ []) =
         ap (λ (t : Bool). lower_of before (if t then None else Some (reason_of path))) same
         ∙ ap (lower_of before) (sym (lower-none (if passes dig anchors path then None else Some (reason_of path))))
         ∙ rw some refl in
         here ∙ onto
 
   -- three checks, one after another
-  pub found-three : (found one two : Option Reason) (a b c : Check) → one ≡ reason_with dig anchors found (a ∷ []) → two ≡ reason_with dig anchors one (b ∷ [])
+  pub found-three : (found one two : Option Reason) (a b c : Check) → one ≡ reason_with dig anchors found (a ∷ [])
+      → two ≡ reason_with dig anchors one (b ∷ [])
       → reason_with dig anchors two (c ∷ []) ≡ reason_with dig anchors found (a ∷ b ∷ c ∷ [])
   found-three found one two a b c first second =
       found-onto found two (a ∷ b ∷ []) (c ∷ []) (second ∙ found-onto found one (a ∷ []) (b ∷ []) first)
 
   -- two checks, and those behind them in two parts
-  pub found-four : (found one two three : Option Reason) (a b : Check) (cs ds : List Check) → one ≡ reason_with dig anchors found (a ∷ []) → two ≡ reason_with dig anchors one (b ∷ [])
-      → three ≡ reason_with dig anchors two cs → reason_with dig anchors three ds ≡ reason_with dig anchors found (a ∷ b ∷ (cs ++ ds))
+  pub found-four : (found one two three : Option Reason) (a b : Check) (cs ds : List Check) → one ≡ reason_with dig
+      anchors found (a ∷ []) → two ≡ reason_with dig anchors one (b ∷ [])
+      → three ≡ reason_with dig anchors two cs → reason_with dig anchors three ds ≡ reason_with dig anchors found
+      (a ∷ b ∷ (cs ++ ds))
   found-four found one two three a b cs ds first second third =
-      found-onto two three cs ds third ∙ found-onto one two (b ∷ []) (cs ++ ds) second ∙ found-onto found one (a ∷ []) (b ∷ (cs ++ ds)) first
+      found-onto two three cs ds third ∙ found-onto one two (b ∷ []) (cs ++ ds) second ∙ found-onto found one (a ∷ [])
+      (b ∷ (cs ++ ds)) first

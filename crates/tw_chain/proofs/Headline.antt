@@ -24,14 +24,18 @@ use Rattle.tw_chain.specs.declared.verdict.Verdict.{Verdict}
 use Rattle.tw_chain.specs.declared.verdict.Verdict.TheVariants.{Yes, No}
 use Rattle.tw_chain.specs.Accepting.{Accepts, IsAccepted, claim_of, hops_of, proof_texts, report_of, seen_at}
 use Rattle.tw_chain.specs.Binding.{BindsHistories, BindsReport}
-use Rattle.tw_chain.specs.Checks.{Check, checks, end_of_order, head_checks, hops_checks, opening_checks, opening_root, start_of, tail_at, tail_checks, under_anchor}
+use Rattle.tw_chain.specs.Checks.{Check, checks, end_of_order, head_checks, hops_checks, opening_checks, opening_root}
+use Rattle.tw_chain.specs.Checks.{start_of, tail_at, tail_checks, under_anchor}
 use Rattle.tw_chain.specs.Checks.Check.{AnswerOf, EventOf, InOrder}
-use Rattle.tw_chain.specs.Proofs.{absence_body, behind_codec, following, hop_bytes, hop_codec, hops_codec, kinds_codec, link_body, precedence_body, proof_codec, proof_layout, tail_codec, thread_body}
+use Rattle.tw_chain.specs.Proofs.{absence_body, behind_codec, following, hop_bytes, hop_codec, hops_codec, kinds_codec}
+use Rattle.tw_chain.specs.Proofs.{link_body, precedence_body, proof_codec, proof_layout, tail_codec, thread_body}
 use Rattle.tw_chain.specs.Reasons.{IsVerdict}
 use Rattle.tw_chain.proofs.ArchiveAnswers.{has-received, lacks-received}
 use Rattle.tw_chain.proofs.ChainBinds.{FitsOpening, chain-binds}
-use Rattle.tw_chain.proofs.CheckBinds.{AreChecked, Opened, OrTheyClash, Setting, anchored-part, answer-step, each-checked, event-step, link-step, parted, part-step}
-use Rattle.tw_chain.proofs.PieceSizes.{PartSizes, event-sizes, gap-sizes, opening-sizes, part-sizes, path-sizes, present-sizes}
+use Rattle.tw_chain.proofs.CheckBinds.{AreChecked, Opened, OrTheyClash, Setting, anchored-part, answer-step}
+use Rattle.tw_chain.proofs.CheckBinds.{each-checked, event-step, link-step, parted, part-step}
+use Rattle.tw_chain.proofs.PieceSizes.{PartSizes, event-sizes, gap-sizes, opening-sizes, part-sizes, path-sizes}
+use Rattle.tw_chain.proofs.PieceSizes.{present-sizes}
 use Rattle.tw_chain.proofs.ProofCodec.{proof-lawful}
 use Rattle.tw_chain.proofs.TimesRise.{times-rise}
 
@@ -54,7 +58,10 @@ chain-fits p fits =
       second = event-sizes p.head.opening.count p.event fits.1.1.0;
       before = behind.0;
       hops = behind.1.0;
-      tail = record { links = path-sizes _ p.tail.step p.tail.path.links tail.1.0; opening = opening-sizes 1 p.tail.step p.tail.opening tail.1.1.0 };
+      tail = record {
+        links = path-sizes _ p.tail.step p.tail.path.links tail.1.0;
+        opening = opening-sizes 1 p.tail.step p.tail.opening tail.1.1.0;
+      };
       first = event-sizes p.tail.opening.count p.tail.event tail.1.1.1;
     }
 
@@ -62,48 +69,66 @@ module _ (s : Setting) where
   abbrev OpenedPart : Part → Type 0
   OpenedPart at = Opened s at.service at.step at.opening
 
-  exists-binds : (p : ExistenceProof) → existence_body.Fits p → AreChecked s (checks (Exists p)) → OrTheyClash s (SeenStands s.family (seen_at p.at p.event))
+  exists-binds : (p : ExistenceProof) → existence_body.Fits p → AreChecked s (checks (Exists p))
+      → OrTheyClash s (SeenStands s.family (seen_at p.at p.event))
   unfolding existence_body pair seen
   exists-binds p fits checked =
       let parts = parted s (under_anchor 0 p.at) (EventOf 0 p.at.opening p.event ∷ []) checked in
       and_then s.dig s.texts _ _ (anchored-part s 0 p.at (part-sizes 1 p.at fits.0) parts.0)
       (λ opened. event-step s 0 p.at p.event (event-sizes p.at.opening.count p.event fits.1) opened parts.1.0)
 
-  archived-binds : (p : ThreadProof) → thread_body.Fits p → AreChecked s (checks (Archived p)) → OrTheyClash s (WasReceived s.family p.at.service p.at.step p.entry)
+  archived-binds : (p : ThreadProof) → thread_body.Fits p → AreChecked s (checks (Archived p))
+      → OrTheyClash s (WasReceived s.family p.at.service p.at.step p.entry)
   unfolding thread_body pair seen
   archived-binds p fits checked =
       let at : Part = p.at in
-      let shown : List Check = InOrder p.entry.archived at.step ∷ AnswerOf 0 at.opening.archive_root (ask.Present p.entry) p.shown ∷ [] in
+      let shown : List Check = InOrder p.entry.archived at.step ∷ AnswerOf 0 at.opening.archive_root
+      (ask.Present p.entry) p.shown ∷ [] in
       let parts = parted s (under_anchor 0 at) shown checked in
       and_then s.dig s.texts _ _ (anchored-part s 0 at (part-sizes 0 at fits.0) parts.0)
       (λ (opened : OpenedPart at). and_then s.dig s.texts _ _
-      (answer-step s 0 at.service at.step at.opening (ask.Present p.entry) p.shown (present-sizes p.entry p.shown fits.1.0 fits.1.1) opened parts.1.1.0)
-      (λ found. inl (record { history = opened.history; has = opened.has; received = has-received opened.history at.step p.entry found; order = parts.1.0.passes })))
+      (answer-step s 0 at.service at.step at.opening (ask.Present p.entry) p.shown
+      (present-sizes p.entry p.shown fits.1.0 fits.1.1) opened parts.1.1.0)
+      (λ found. inl
+      (record {
+        history = opened.history;
+        has = opened.has;
+        received = has-received opened.history at.step p.entry found;
+        order = parts.1.0.passes;
+      })))
 
-  absent-binds : (p : AbsenceProof) → absence_body.Fits p → AreChecked s (checks (Absent p)) → OrTheyClash s (WasNotReceived s.family p.at.service p.at.step p.key)
+  absent-binds : (p : AbsenceProof) → absence_body.Fits p → AreChecked s (checks (Absent p))
+      → OrTheyClash s (WasNotReceived s.family p.at.service p.at.step p.key)
   unfolding absence_body pair seen
   absent-binds p fits checked =
       let at : Part = p.at in
-      let parts = parted s (under_anchor 0 at) (AnswerOf 0 at.opening.archive_root (ask.Absent p.key) p.shown ∷ []) checked in
+      let parts = parted s (under_anchor 0 at) (AnswerOf 0 at.opening.archive_root (ask.Absent p.key) p.shown ∷ [])
+      checked in
       and_then s.dig s.texts _ _ (anchored-part s 0 at (part-sizes 0 at fits.0) parts.0)
       (λ (opened : OpenedPart at). and_then s.dig s.texts _ _
-      (answer-step s 0 at.service at.step at.opening (ask.Absent p.key) p.shown (gap-sizes p.key p.shown fits.1.1) opened parts.1.0)
+      (answer-step s 0 at.service at.step at.opening (ask.Absent p.key) p.shown (gap-sizes p.key p.shown fits.1.1)
+      opened parts.1.0)
       (λ none. inl (record {
         history = opened.history;
         has = opened.has;
-        none = lacks-received opened.history at.step (sound_of s.family at.service opened.history s.sound opened.has) opened.within p.key none;
+        none = lacks-received opened.history at.step (sound_of s.family at.service opened.history s.sound opened.has)
+            opened.within p.key none;
       })))
 
-  linked-binds : (p : LinkProof) → link_body.Fits p → AreChecked s (checks (Linked p)) → OrTheyClash s (HasThread s.dig s.family (record { from = p.service; step = p.step; auth = p.auth }))
+  linked-binds : (p : LinkProof) → link_body.Fits p → AreChecked s (checks (Linked p))
+      → OrTheyClash s (HasThread s.dig s.family (record { from = p.service; step = p.step; auth = p.auth }))
   unfolding link_body pair seen bytes_codec
-  linked-binds p fits checked = link-step s 0 p fits.1.1.1.0.1 (path-sizes p.top p.step p.path.links fits.1.1.1.1) checked
+  linked-binds p fits checked = link-step s 0 p fits.1.1.1.0.1 (path-sizes p.top p.step p.path.links fits.1.1.1.1)
+      checked
 
   -- the first event, under the thread that the hops come to
-  tail-binds : (p : PrecedenceProof) → ChainFits p → HasThread s.dig s.family (end_of_order p) → AreChecked s (tail_checks (suc (length p.hops)) (end_of_order p) p.tail)
+  tail-binds : (p : PrecedenceProof) → ChainFits p → HasThread s.dig s.family (end_of_order p)
+      → AreChecked s (tail_checks (suc (length p.hops)) (end_of_order p) p.tail)
       → OrTheyClash s (SeenStands s.family (seen_at (tail_at (end_of_order p) p.tail) p.tail.event))
   tail-binds p fits thread checked =
       let at : Part = tail_at (end_of_order p) p.tail in
-      and_then s.dig s.texts _ _ (part-step s at (end_of_order p).auth fits.tail thread checked.0.passes checked.1.0.passes checked.1.0.within)
+      and_then s.dig s.texts _ _ (part-step s at (end_of_order p).auth fits.tail thread checked.0.passes
+      checked.1.0.passes checked.1.0.within)
       (λ opened. event-step s (suc (length p.hops)) at p.tail.event fits.first opened checked.1.1.0)
 
   -- the step before the second event's, as that step's opening has it
@@ -111,32 +136,47 @@ module _ (s : Setting) where
   start-binds p opened = (opened.history, opened.has, omega (arith, opened.within), opened.binds.prev)
 
   precedes-binds : (p : PrecedenceProof) → ChainFits p → AreChecked s (checks (Precedes p))
-      → OrTheyClash s (Precedence s.dig s.family (hops_of (Precedes p)) (seen_at (tail_at (end_of_order p) p.tail) p.tail.event) (seen_at p.head p.event))
+      → OrTheyClash s (Precedence s.dig s.family (hops_of (Precedes p)) (seen_at (tail_at (end_of_order p) p.tail)
+      p.tail.event) (seen_at p.head p.event))
   precedes-binds p fits checked =
       let hops : List Check = hops_checks 1 (start_of p).step (opening_root p.before) p.hops in
       let tail : List Check = tail_checks (suc (length p.hops)) (end_of_order p) p.tail in
       let parts = parted s (head_checks p) (hops ++ tail) checked in
-      let head = parted s (under_anchor 0 p.head) (EventOf 0 p.head.opening p.event ∷ opening_checks 0 (start_of p) p.before) parts.0 in
+      let head = parted s (under_anchor 0 p.head) (EventOf 0 p.head.opening p.event ∷ opening_checks 0 (start_of p)
+      p.before) parts.0 in
       let rest = parted s hops tail parts.1 in
       and_then s.dig s.texts _ _ (anchored-part s 0 p.head fits.head head.0)
-      (λ (opened : OpenedPart p.head). and_then s.dig s.texts _ _ (event-step s 0 p.head p.event fits.second opened head.1.0)
+      (λ (opened : OpenedPart p.head). and_then s.dig s.texts _ _ (event-step s 0 p.head p.event fits.second opened
+      head.1.0)
       (λ second. and_then s.dig s.texts _ _
-      (chain-binds s p.hops 0 1 (start_of p) p.before fits.hops fits.before (start-binds p opened) head.1.1 rest.0 p.tail.step rest.1.0.passes)
+      (chain-binds s p.hops 0 1 (start_of p) p.before fits.hops fits.before (start-binds p opened) head.1.1 rest.0
+      p.tail.step rest.1.0.passes)
       (λ chain. and_then s.dig s.texts _ _ (tail-binds p fits chain.0 rest.1)
       (λ first. inl (record { first_stands = first; second_stands = second; leads = chain.1 })))))
 
-  claim-binds : (p : Proof) → proof_codec.Fits p → AreChecked s (checks p) → OrTheyClash s (Facts s.dig s.family (hops_of p) (claim_of p) × TimesRise (hops_of p) (claim_of p))
+  claim-binds : (p : Proof) → proof_codec.Fits p → AreChecked s (checks p)
+      → OrTheyClash s (Facts s.dig s.family (hops_of p) (claim_of p) × TimesRise (hops_of p) (claim_of p))
   unfolding proof_codec kinds_codec behind by_kind variant
-  claim-binds (Exists p) fits checked = and_then s.dig s.texts _ _ (exists-binds p fits.1.1 checked) (λ fact. inl (fact, tt))
+  claim-binds (Exists p) fits checked = and_then s.dig s.texts _ _ (exists-binds p fits.1.1 checked)
+      (λ fact. inl (fact, tt))
   claim-binds (Precedes p) fits checked =
       and_then s.dig s.texts _ _ (precedes-binds p (chain-fits p fits.1.1) checked)
-      (λ fact. inl (fact, times-rise s.dig s.family s.sound (hops_of (Precedes p)) (seen_at (tail_at (end_of_order p) p.tail) p.tail.event) (seen_at p.head p.event) fact))
-  claim-binds (Archived p) fits checked = and_then s.dig s.texts _ _ (archived-binds p fits.1.1 checked) (λ fact. inl (fact, tt))
-  claim-binds (Absent p) fits checked = and_then s.dig s.texts _ _ (absent-binds p fits.1.1 checked) (λ fact. inl (fact, tt))
-  claim-binds (Linked p) fits checked = and_then s.dig s.texts _ _ (linked-binds p fits.1.1 checked) (λ fact. inl (fact, tt))
+      (λ fact. inl (
+        fact,
+        times-rise s.dig s.family s.sound (hops_of (Precedes p)) (seen_at (tail_at (end_of_order p) p.tail)
+            p.tail.event) (seen_at p.head p.event) fact,
+      ))
+  claim-binds (Archived p) fits checked = and_then s.dig s.texts _ _ (archived-binds p fits.1.1 checked)
+      (λ fact. inl (fact, tt))
+  claim-binds (Absent p) fits checked = and_then s.dig s.texts _ _ (absent-binds p fits.1.1 checked)
+      (λ fact. inl (fact, tt))
+  claim-binds (Linked p) fits checked = and_then s.dig s.texts _ _ (linked-binds p fits.1.1 checked)
+      (λ fact. inl (fact, tt))
 
-module _ (dig : List ℕ → List ℕ) (size : (text : List ℕ) → length (dig text) ≡ 32) (are : (text : List ℕ) → AreBytes (dig text)) (anchors : List Thread) where
-  pub headline : (bytes : List ℕ) (p : Proof) → Spells proof_layout bytes p → IsAccepted dig anchors p → BindsReport dig anchors p (report_of p)
+module _ (dig : List ℕ → List ℕ) (size : (text : List ℕ) → length (dig text) ≡ 32) (are : (text : List ℕ)
+    → AreBytes (dig text)) (anchors : List Thread) where
+  pub headline : (bytes : List ℕ) (p : Proof) → Spells proof_layout bytes p → IsAccepted dig anchors p
+      → BindsReport dig anchors p (report_of p)
   headline bytes p spells accepted family sound has =
       let of_family : List (List ℕ) = family_texts dig family in
       let own : List (List ℕ) = proof_texts dig p in
@@ -150,10 +190,12 @@ module _ (dig : List ℕ → List ℕ) (size : (text : List ℕ) → length (dig
         texts = of_family ++ own;
         has_texts = λ t a. Among-left t of_family own a;
       } in
-      claim-binds s p (spelled-fits proof_codec proof-lawful bytes p spells) (each-checked s (checks p) accepted has (λ t a. Among-right t of_family own a))
+      claim-binds s p (spelled-fits proof_codec proof-lawful bytes p spells)
+      (each-checked s (checks p) accepted has (λ t a. Among-right t of_family own a))
 
   -- a verdict binds, whatever it is
-  pub verdict-binds : (strict : Bool) (bytes : List ℕ) (verdict : Verdict) → IsVerdict dig anchors strict bytes verdict → BindsHistories dig anchors bytes verdict
+  pub verdict-binds : (strict : Bool) (bytes : List ℕ) (verdict : Verdict) → IsVerdict dig anchors strict bytes verdict
+      → BindsHistories dig anchors bytes verdict
   verdict-binds strict bytes (No reason) is = tt
   verdict-binds strict bytes (Yes report) is = λ p spells.
       let accepts : Accepts dig anchors bytes = is.0 in

@@ -16,7 +16,8 @@ below-not n p m q k r one two = grind arith
 
 module _ (a b c : Reason) where
   by : (ba cb ca : Bool) → (ba ≡ true → cb ≡ true → ca ≡ true) → (ba ≡ false → cb ≡ false → ca ≡ false)
-      → (if ba then (if cb then Some c else Some b) else (if ca then Some c else Some a)) ≡ (if cb then (if ca then Some c else Some a) else (if ba then Some b else Some a))
+      → (if ba then (if cb then Some c else Some b) else (if ca then Some c else Some a))
+      ≡ (if cb then (if ca then Some c else Some a) else (if ba then Some b else Some a))
   by true true true up down = refl
   by true true false up down = absurd (let no : false ≡ true = up refl refl in cc)
   by true false ca up down = refl
@@ -38,8 +39,10 @@ module _ (a b c : Reason) where
   three =
       first (is_lower b a)
       ∙ by (is_lower b a) (is_lower c b) (is_lower c a)
-      (λ one two. below-trans (reason_number c) (reason_place c) (reason_number b) (reason_place b) (reason_number a) (reason_place a) two one)
-      (λ one two. below-not (reason_number c) (reason_place c) (reason_number b) (reason_place b) (reason_number a) (reason_place a) one two)
+      (λ one two. below-trans (reason_number c) (reason_place c) (reason_number b) (reason_place b) (reason_number a)
+      (reason_place a) two one)
+      (λ one two. below-not (reason_number c) (reason_place c) (reason_number b) (reason_place b) (reason_number a)
+      (reason_place a) one two)
       ∙ sym (second (is_lower c b))
 
 pub lower-assoc : (a b c : Option Reason) → lower_of (lower_of a b) c ≡ lower_of a (lower_of b c)

@@ -12,7 +12,8 @@ use Rattle.tw_base.specs.declared.history.thread.Thread.{Thread}
 use Rattle.tw_base.specs.kinds.Lists.{Each}
 use Rattle.tw_base.specs.history.Reasons.{IsNoHigher, reason_number, reason_place}
 use Rattle.tw_chain.specs.Checks.{Check}
-use Rattle.tw_chain.specs.Checks.Check.{InOrder, NeedsAnchor, CarriesThread, PathOf, LinkOf, OpeningOf, EventOf, AnswerOf}
+use Rattle.tw_chain.specs.Checks.Check.{InOrder, NeedsAnchor, CarriesThread, PathOf, LinkOf, OpeningOf, EventOf}
+use Rattle.tw_chain.specs.Checks.Check.{AnswerOf}
 use Rattle.tw_chain.specs.Finding.{found_in, is_lower, lower_of, passes}
 use Rattle.tw_chain.specs.Passing.{Passes, anchor_at, needed_by, reason_of}
 use Rattle.tw_chain.specs.Reasons.{Fails, first_not_held}
@@ -53,11 +54,13 @@ same_key one other e =
     let made : (service : List ℕ) (at : ℕ) → Key = λ service at. record { from = service; step = at } in
     ap (λ (service : List ℕ). made service one.step) from ∙ ap (made other.from) step
 
-held-first : (anchor : Option Thread) (own : Key) (behind : Option Key) → IsSome anchor → option_map_or (λ t. behind) anchor (Some own) ≡ behind
+held-first : (anchor : Option Thread) (own : Key) (behind : Option Key) → IsSome anchor → option_map_or (λ t. behind)
+    anchor (Some own) ≡ behind
 held-first None own behind held = absurd (let no : false ≡ true = held in cc)
 held-first (Some t) own behind held = refl
 
-missing-first : (anchor : Option Thread) (own : Key) (behind : Option Key) → (IsSome anchor → ⊥) → option_map_or (λ t. behind) anchor (Some own) ≡ Some own
+missing-first : (anchor : Option Thread) (own : Key) (behind : Option Key) → (IsSome anchor → ⊥)
+    → option_map_or (λ t. behind) anchor (Some own) ≡ Some own
 missing-first None own behind missing = refl
 missing-first (Some t) own behind missing = absurd (missing refl)
 
@@ -75,8 +78,10 @@ module _ (dig : List ℕ → List ℕ) (anchors : List Thread) (strict : Bool) w
   first-passed (EventOf part o e) cs passed = refl
   first-passed (AnswerOf part root ask proof) cs passed = refl
 
-  first-here : (c : Check) (cs : List Check) (key : Key) → (Passes dig anchors c → ⊥) → reason_of c ≡ NotHeld key.from key.step → first_of (c ∷ cs) ≡ Some key
-  first-here (NeedsAnchor own) cs key missing is = missing-first (anchor_at anchors own) own (first_of cs) missing ∙ ap (λ (k : Key). Some k) (same_key own key is)
+  first-here : (c : Check) (cs : List Check) (key : Key) → (Passes dig anchors c → ⊥) → reason_of c ≡ NotHeld key.from
+      key.step → first_of (c ∷ cs) ≡ Some key
+  first-here (NeedsAnchor own) cs key missing is = missing-first (anchor_at anchors own) own (first_of cs) missing
+      ∙ ap (λ (k : Key). Some k) (same_key own key is)
   first-here (InOrder lower upper) cs key fails is = absurd (cc)
   first-here (CarriesThread t) cs key fails is = absurd (cc)
   first-here (PathOf part at upper) cs key fails is = absurd (cc)
@@ -86,7 +91,8 @@ module _ (dig : List ℕ → List ℕ) (anchors : List Thread) (strict : Bool) w
   first-here (AnswerOf part root ask proof) cs key fails is = absurd (cc)
 
   -- a reason that is lower than that of the check before it isn't of an anchor behind another that isn't held
-  first-behind : (c : Check) (cs : List Check) (key : Key) → is_lower (NotHeld key.from key.step) (reason_of c) ≡ true → first_of (c ∷ cs) ≡ first_of cs
+  first-behind : (c : Check) (cs : List Check) (key : Key) → is_lower (NotHeld key.from key.step) (reason_of c) ≡ true
+      → first_of (c ∷ cs) ≡ first_of cs
   first-behind (NeedsAnchor own) cs key lower = absurd (let no : false ≡ true = lower in cc)
   first-behind (InOrder lower upper) cs key is = refl
   first-behind (CarriesThread t) cs key is = refl
@@ -109,12 +115,14 @@ module _ (dig : List ℕ → List ℕ) (anchors : List Thread) (strict : Bool) w
   IsFound cs None = Each (Passes dig anchors) cs
   IsFound cs (Some reason) = IsLeast cs reason
 
-  pub passing-fails : (cs : List Check) (reason : Reason) → Each (Passes dig anchors) cs → Fails dig anchors strict cs reason → ⊥
+  pub passing-fails : (cs : List Check) (reason : Reason) → Each (Passes dig anchors) cs → Fails dig anchors strict cs
+      reason → ⊥
   passing-fails [] reason all fails = fails
   passing-fails (c ∷ cs) reason all (inl here) = here.1 all.0
   passing-fails (c ∷ cs) reason all (inr there) = passing-fails cs reason all.1 there
 
-  passed : (c : Check) (cs : List Check) (found : Option Reason) → Passes dig anchors c → IsFound cs found → IsFound (c ∷ cs) found
+  passed : (c : Check) (cs : List Check) (found : Option Reason) → Passes dig anchors c → IsFound cs found
+      → IsFound (c ∷ cs) found
   passed c cs None passes_c is = (passes_c, is)
   passed c cs (Some reason) passes_c is = record {
     fails = inr is.fails;
@@ -169,7 +177,8 @@ module _ (dig : List ℕ → List ℕ) (anchors : List Thread) (strict : Bool) w
       let behind : Option Reason = found_in dig anchors cs in
       let all : IsFound cs behind = found-is cs in
       let is = passes-is dig anchors c in
-      let cases : (b : Bool) → passes dig anchors c ≡ b → IsFound (c ∷ cs) (lower_of (if b then None else Some (reason_of c)) behind) =
+      let cases : (b : Bool) → passes dig anchors c ≡ b
+      → IsFound (c ∷ cs) (lower_of (if b then None else Some (reason_of c)) behind) =
       elim [
         | true ↦ λ passes_c. passed c cs behind (is.0 passes_c) all
         | false ↦ λ fails_c. failed c cs (λ had. both_ways (passes dig anchors c) fails_c (is.1 had)) behind all
@@ -187,7 +196,8 @@ module _ (dig : List ℕ → List ℕ) (anchors : List Thread) (strict : Bool) w
   found-lowest cs reason some = subst (IsFound cs) some (found-is cs)
 
   needed_fails : (own : Key) (cs : List Check) (key : Key) (anchor : Option Thread) → anchor_at anchors own ≡ anchor
-      → option_map_or (λ t. first_of cs) anchor (Some own) ≡ Some key → (first_of cs ≡ Some key → Fails dig anchors strict cs (NotHeld key.from key.step))
+      → option_map_or (λ t. first_of cs) anchor (Some own) ≡ Some key
+      → (first_of cs ≡ Some key → Fails dig anchors strict cs (NotHeld key.from key.step))
       → Fails dig anchors strict (NeedsAnchor own ∷ cs) (NotHeld key.from key.step)
   needed_fails own cs key None missing is behind = inl (
     ap (λ (k : Key). NotHeld k.from k.step) (sym (same_some own key is)),
@@ -196,9 +206,11 @@ module _ (dig : List ℕ → List ℕ) (anchors : List Thread) (strict : Bool) w
   needed_fails own cs key (Some t) held is behind = inr (behind is)
 
   -- the first anchor that isn't held is one that isn't held
-  pub first-fails : (cs : List Check) (key : Key) → first_of cs ≡ Some key → Fails dig anchors strict cs (NotHeld key.from key.step)
+  pub first-fails : (cs : List Check) (key : Key) → first_of cs ≡ Some key → Fails dig anchors strict cs
+      (NotHeld key.from key.step)
   first-fails [] key none = absurd (cc)
-  first-fails (NeedsAnchor own ∷ cs) key is = needed_fails own cs key (anchor_at anchors own) refl is (first-fails cs key)
+  first-fails (NeedsAnchor own ∷ cs) key is = needed_fails own cs key (anchor_at anchors own) refl is
+      (first-fails cs key)
   first-fails (InOrder lower upper ∷ cs) key is = inr (first-fails cs key is)
   first-fails (CarriesThread t ∷ cs) key is = inr (first-fails cs key is)
   first-fails (PathOf part at upper ∷ cs) key is = inr (first-fails cs key is)

@@ -1,5 +1,7 @@
--- A history has proofs of its own: of each event, received thread, key not received, and step, under each top from there on.
-use Rattle.std.proofs.Common.{◌≡◌, ◌≢◌, ℕ, suc, zero, ◌-◌, ◌<◌, ◌≤◌, ◌^◌, List, [], ◌∷◌, length, drop, Bool, true, false, refl, subst, lit<, arith}
+-- A history has proofs of its own: of each event, received thread, key not received, and step, under each top from
+-- there on.
+use Rattle.std.proofs.Common.{◌≡◌, ◌≢◌, ℕ, suc, zero, ◌-◌, ◌<◌, ◌≤◌, ◌^◌, List, [], ◌∷◌, length, drop, Bool, true}
+use Rattle.std.proofs.Common.{false, refl, subst, lit<, arith}
 use Rattle.std.specs.Prelude.{Some, nat_le, remove}
 use Rattle.std.proofs.Math.Nat.{one-le-pow}
 use Rattle.std.proofs.lemmas.Bool.{leb-false, leb-true}
@@ -39,7 +41,11 @@ module _ (dig : List ℕ → List ℕ) (h : History) where
   }
 
   opening-made : (step : ℕ) → IsOpeningOf dig h step (opening_of step)
-  opening-made step = record { binds = record { event_root = refl; archive_root = refl; count = refl; time = refl; prev = refl }; others = refl }
+  opening-made step =
+      record {
+        binds = record { event_root = refl; archive_root = refl; count = refl; time = refl; prev = refl };
+        others = refl;
+      }
 
   abbrev HasPath : (from to : ℕ) → Type 0
   HasPath from to = (links : List Link) × IsPathOf dig h links from to
@@ -49,14 +55,17 @@ module _ (dig : List ℕ → List ℕ) (h : History) where
   path-within zero from to few order = ([], omega (arith, few))
   path-within (suc most) from to few order =
       let some : 1 ≤ 2 ^ hop_level from to = one-le-pow (hop_level from to) 2 (lit< tt) in
-      by (nat_le from to) refl (λ below. path-within most (hop from to) to (omega (arith, few, below, some)) (hop-below from to below))
+      by (nat_le from to) refl (λ below. path-within most (hop from to) to (omega (arith, few, below, some))
+      (hop-below from to below))
     where
       by : (end : Bool) → nat_le from to ≡ end → (to < from → HasPath (hop from to) to) → HasPath from to
       by true is onward = ([], leb-true from to is)
       by false is onward =
           let below : to < from = leb-false from to is in
           let rest = onward below in
-          let link : Link = record { datum = dig (datum_text_at dig h from); others = remove (labels_at dig h from) (hop_level from to) } in
+          let link : Link =
+          record { datum = dig (datum_text_at dig h from); others = remove (labels_at dig h from) (hop_level from to) }
+          in
           (link ∷ rest.0, (below, refl, refl, rest.1))
 
   path-made : (from to : ℕ) → to ≤ from → HasPath from to
@@ -65,27 +74,43 @@ module _ (dig : List ℕ → List ℕ) (h : History) where
   part-made : (step top : ℕ) → step ≤ top → (p : Part) × IsPartOfHistory dig h step top p
   part-made step top order =
       let path = path-made top step order in (
-        record { service = h.name; step = step; top = top; path = record { links = path.0 }; opening = opening_of step },
+        record {
+          service = h.name;
+          step = step;
+          top = top;
+          path = record { links = path.0 };
+          opening = opening_of step;
+        },
         record { service = refl; at_step = refl; at_top = refl; path = path.1; opening = opening-made step },
       )
 
   -- ---- each kind
 
-  pub event-made : (step index top : ℕ) → step ≤ top → index < length (events_at h step) → HasOwnEvent dig h step top index
+  pub event-made : (step index top : ℕ) → step ≤ top → index < length (events_at h step) → HasOwnEvent dig h step top
+      index
   event-made step index top order inside =
-      let at = part-made step top order in
-      (record { at = at.0; event = event_part dig (events_at h step) index }, record { at = at.1; inside = inside; event = refl })
+      let at = part-made step top order in (
+        record { at = at.0; event = event_part dig (events_at h step) index },
+        record { at = at.1; inside = inside; event = refl },
+      )
 
-  pub thread-made : (step top : ℕ) (entry : Entry) (k : ℕ) → step ≤ top → entry_at h k ≡ Some entry → k ≤ step → HasOwnThread dig h step top entry
+  pub thread-made : (step top : ℕ) (entry : Entry) (k : ℕ) → step ≤ top → entry_at h k ≡ Some entry → k ≤ step
+      → HasOwnThread dig h step top entry
   thread-made step top entry k order had before =
       let at = part-made step top order in
       let same : k ≡ entry.archived = (entry_at-parts h k entry had).0 in (
         record { at = at.0; entry = entry; shown = proof_of dig (tree h step) (ask.Present entry) },
         refl,
-        record { at = at.1; received = subst (λ i. entry_at h i ≡ Some entry) same had; before = subst (λ i. i ≤ step) same before; shown = refl },
+        record {
+          at = at.1;
+          received = subst (λ i. entry_at h i ≡ Some entry) same had;
+          before = subst (λ i. i ≤ step) same before;
+          shown = refl;
+        },
       )
 
-  pub absence-made : (step top : ℕ) (key : Key) → 0 < step → step ≤ top → IsName key.from → (0 < key.step) × (key.step ≤ LAST_STEP)
+  pub absence-made : (step top : ℕ) (key : Key) → 0 < step → step ≤ top → IsName key.from → (0 < key.step)
+      × (key.step ≤ LAST_STEP)
       → Each (λ entry. key_of entry ≢ key) (received h step) → HasOwnAbsence dig h step top key
   absence-made step top key from_1 order name within none =
       let at = part-made step top order in (

@@ -4,7 +4,8 @@ use Rattle.tw_base.specs.declared.history.thread.Entry.{Entry}
 use Rattle.tw_base.specs.declared.history.tree_proof.Ask.{Ask}
 use Rattle.tw_base.specs.declared.history.tree_proof.Ask.TheVariants as ask
 use Rattle.tw_base.specs.kinds.Bytes.{AreBytes}
-use Rattle.tw_base.specs.format.Codecs.{HasBytes, behind, by_kind, bytes_codec, name_codec, number_codec, pair, seen, variant}
+use Rattle.tw_base.specs.format.Codecs.{HasBytes, behind, by_kind, bytes_codec, name_codec, number_codec, pair, seen}
+use Rattle.tw_base.specs.format.Codecs.{variant}
 use Rattle.tw_base.specs.history.Entries.{key_of}
 use Rattle.tw_base.specs.history.EntryCodec.{entry_codec}
 use Rattle.tw_base.proofs.lemmas.history.EntryCodecLaws.{entry-fits}
@@ -37,17 +38,20 @@ use Rattle.tw_chain.specs.declared.proof.Proof.{Proof}
 use Rattle.tw_chain.specs.declared.proof.Proof.TheVariants.{Exists, Precedes, Archived, Absent, Linked}
 use Rattle.tw_chain.specs.declared.proof.ThreadProof.{ThreadProof}
 use Rattle.tw_chain.specs.OwnProofs.{HasFewNodes, IsAbsenceProofOf, IsLinkProofOf, IsOwnProof, IsThreadProofOf}
-use Rattle.tw_chain.specs.Proofs.{absence_body, key_codec, kinds_codec, link_body, proof_bytes, proof_codec, proof_layout, thread_body}
+use Rattle.tw_chain.specs.Proofs.{absence_body, key_codec, kinds_codec, link_body, proof_bytes, proof_codec}
+use Rattle.tw_chain.specs.Proofs.{proof_layout, thread_body}
 use Rattle.tw_chain.proofs.ArchiveAnswers.{lacks-is_so, received-is_so}
 use Rattle.tw_chain.proofs.Completeness.{from_1_of_entry}
 use Rattle.tw_chain.proofs.OwnTrees.{gap-few, own-gap-fits, own-present-fits, present-few}
 use Rattle.tw_chain.proofs.ProofCodec.{proof-lawful, to_fits}
 
-module _ (dig : List ℕ → List ℕ) (h : History) (step top : ℕ) (size : (text : List ℕ) → length (dig text) ≡ 32) (are : (text : List ℕ) → AreBytes (dig text))
+module _ (dig : List ℕ → List ℕ) (h : History) (step top : ℕ) (size : (text : List ℕ) → length (dig text) ≡ 32)
+    (are : (text : List ℕ) → AreBytes (dig text))
     (sound : IsSound h) (order : step ≤ top) (has : top ≤ length h.steps) where
   part_fits : (p : Part) → IsPartOfHistory dig h step top p → 0 < step → (part_codec 0).Fits p
   part_fits p is from_1 =
-      part-fits-made dig h size are step top p is sound 0 (omega arith) (part_in_range-made dig h step top p is sound order has) (part_shaped-made dig h step top p is from_1 order)
+      part-fits-made dig h size are step top p is sound 0 (omega arith) (part_in_range-made dig h step top p is sound
+      order has) (part_shaped-made dig h step top p is from_1 order)
 
   -- each entry of the archive has a spelling
   entries_fit : Each entry_codec.Fits (entries (tree h step))
@@ -60,7 +64,8 @@ module _ (dig : List ℕ → List ℕ) (h : History) (step top : ℕ) (size : (t
           let short = sound.length in
           entry-fits e got.0 (omega (arith, got.1, parts.0)) (omega (arith, got.2, parts.0, short))
 
-  tree_fits : (asked : Ask) → height (tree h step) ≤ MOST_ABOVE_PLACE → IsSo (entries (tree h step)) asked → (tree_proof_codec (asks_entry asked)).Fits (proof_of dig (tree h step) asked)
+  tree_fits : (asked : Ask) → height (tree h step) ≤ MOST_ABOVE_PLACE → IsSo (entries (tree h step)) asked
+      → (tree_proof_codec (asks_entry asked)).Fits (proof_of dig (tree h step) asked)
   tree_fits asked low so = own-fits dig size are (tree h step) asked (tree-rises h sound step) so low entries_fit
 
   thread_fits : (p : ThreadProof) → HasFewNodes (Archived p) → IsThreadProofOf dig h step top p → thread_body.Fits p
@@ -69,9 +74,11 @@ module _ (dig : List ℕ → List ℕ) (h : History) (step top : ℕ) (size : (t
       let so = received-is_so h step sound (omega (arith, order, has)) p.entry is.received is.before in (
         part_fits p.at is.at (omega (arith, from_1_of_entry h p.entry.archived p.entry is.received, is.before)),
         (
-          Each-in entry_codec.Fits (entries (tree h step)) p.entry entries_fit (in-with (entries (tree h step)) (key_of p.entry) p.entry so),
+          Each-in entry_codec.Fits (entries (tree h step)) p.entry entries_fit
+              (in-with (entries (tree h step)) (key_of p.entry) p.entry so),
           subst present_codec.Fits (sym is.shown)
-              (own-present-fits dig size are (tree h step) p.entry (tree-rises h sound step) so entries_fit (subst (λ shown. length (ancestors_of shown) ≤ MOST_ABOVE_ENTRY) is.shown few)),
+              (own-present-fits dig size are (tree h step) p.entry (tree-rises h sound step) so entries_fit
+              (subst (λ shown. length (ancestors_of shown) ≤ MOST_ABOVE_ENTRY) is.shown few)),
         ),
       )
 
@@ -82,7 +89,8 @@ module _ (dig : List ℕ → List ℕ) (h : History) (step top : ℕ) (size : (t
     (
       (is.name, (omega (arith, is.key), is.key.1)),
       subst gap_codec.Fits (sym is.shown)
-          (own-gap-fits dig size are (tree h step) p.key (tree-rises h sound step) (lacks-is_so h step p.key is.none) entries_fit (subst (λ shown. length (ancestors_of shown) ≤ MOST_ABOVE_PLACE) is.shown few)),
+          (own-gap-fits dig size are (tree h step) p.key (tree-rises h sound step) (lacks-is_so h step p.key is.none)
+          entries_fit (subst (λ shown. length (ancestors_of shown) ≤ MOST_ABOVE_PLACE) is.shown few)),
     ),
   )
 
@@ -98,7 +106,8 @@ module _ (dig : List ℕ → List ℕ) (h : History) (step top : ℕ) (size : (t
             (
               subst (HasBytes 32) (sym is.given) (auth-digest dig size are h step),
               subst (λ s. (path_codec p.top s).Fits p.path.links) (sym is.at_step)
-                  (subst (λ t. (path_codec t step).Fits p.path.links) (sym is.at_top) (path-fits-made dig h size are p.path.links top step order is.path)),
+                  (subst (λ t. (path_codec t step).Fits p.path.links) (sym is.at_top)
+                  (path-fits-made dig h size are p.path.links top step order is.path)),
             ),
           ),
         ),
@@ -107,14 +116,16 @@ module _ (dig : List ℕ → List ℕ) (h : History) (step top : ℕ) (size : (t
   own_fits : (p : Proof) → 0 < top → HasFewNodes p → IsOwnProof dig h step top p → proof_codec.Fits p
   unfolding proof_codec kinds_codec behind by_kind variant number_codec
   own_fits (Exists p) some few is =
-      to_fits p (spelled-fits existence_codec existence-lawful (existence_bytes p) p (spelled-made dig h step is.0 top p is.1 size are sound order has))
+      to_fits p (spelled-fits existence_codec existence-lawful (existence_bytes p) p
+      (spelled-made dig h step is.0 top p is.1 size are sound order has))
   own_fits (Precedes p) some few is = absurd is
   own_fits (Archived p) some few is = ((lit≤ tt, lit≤ tt), (refl, thread_fits p few is))
   own_fits (Absent p) some few is = ((lit≤ tt, lit≤ tt), (refl, absence_fits p few is))
   own_fits (Linked p) some few is = ((lit≤ tt, lit≤ tt), (refl, link_fits p some is))
 
   -- what is written of a proof that the history has spells it
-  pub own-spelled : (p : Proof) → 0 < top → HasFewNodes p → IsOwnProof dig h step top p → Spells proof_layout (proof_bytes p) p
+  pub own-spelled : (p : Proof) → 0 < top → HasFewNodes p → IsOwnProof dig h step top p
+      → Spells proof_layout (proof_bytes p) p
   own-spelled p some few is = proof-lawful.spells p (own_fits p some few is)
 
   -- where the archive's tree isn't higher than the format has room for, few nodes stand above a place
@@ -124,5 +135,7 @@ module _ (dig : List ℕ → List ℕ) (h : History) (step top : ℕ) (size : (t
   own-few (Archived p) low is =
       let so = received-is_so h step sound (omega (arith, order, has)) p.entry is.received is.before in
       present-few p.shown (subst present_codec.Fits (sym is.shown) (tree_fits (ask.Present p.entry) low so))
-  own-few (Absent p) low is = gap-few p.shown (subst gap_codec.Fits (sym is.shown) (tree_fits (ask.Absent p.key) low (lacks-is_so h step p.key is.none)))
+  own-few (Absent p) low is =
+      gap-few p.shown
+      (subst gap_codec.Fits (sym is.shown) (tree_fits (ask.Absent p.key) low (lacks-is_so h step p.key is.none)))
   own-few (Linked p) low is = tt

@@ -1,4 +1,5 @@
--- The proof that a tree has of an entry, or of a key that it lacks, has a spelling where few nodes stand above its place.
+-- The proof that a tree has of an entry, or of a key that it lacks, has a spelling where few nodes stand above its
+-- place.
 use Rattle.std.proofs.Common.{◌≡◌, ℕ, ◌≤◌, List, [], ◌∷◌, ◌++◌, length, Bool, true, false, refl, arith}
 use Rattle.std.specs.Prelude.{if◌then◌else◌}
 use Rattle.tw_base.specs.declared.history.thread.Entry.{Entry}
@@ -37,7 +38,8 @@ gap-few (Gap up) fits = fits.1.0.1
 
 -- ---- and one that the tree has, with few nodes, has a spelling
 
-module _ (dig : List ℕ → List ℕ) (size : (text : List ℕ) → length (dig text) ≡ 32) (are : (text : List ℕ) → AreBytes (dig text)) where
+module _ (dig : List ℕ → List ℕ) (size : (text : List ℕ) → length (dig text) ≡ 32) (are : (text : List ℕ)
+    → AreBytes (dig text)) where
   abbrev Fit : List Ancestor → Type 0
   Fit = Each ancestor_codec.Fits
 
@@ -53,30 +55,41 @@ module _ (dig : List ℕ → List ℕ) (size : (text : List ℕ) → length (dig
       by (has_asked_key asked e) (is_left asked e) (way-fits asked l parts.0) (way-fits asked r parts.1.1) parts.1.0
     where
       by : (meets left : Bool) → Fit (way_up dig asked l) → Fit (way_up dig asked r) → entry_codec.Fits e
-          → Fit (if meets then [] else (if left then way_up dig asked l ++ ancestor dig e r ∷ [] else way_up dig asked r ++ ancestor dig e l ∷ []))
+          → Fit (if meets then [] else (if left then way_up dig asked l ++ ancestor dig e r ∷ [] else way_up dig asked r
+          ++ ancestor dig e l ∷ []))
       by true left one other here = tt
-      by false true one other here = Each-append ancestor_codec.Fits (way_up dig asked l) (ancestor dig e r ∷ []) one (node-fits e r here, tt)
-      by false false one other here = Each-append ancestor_codec.Fits (way_up dig asked r) (ancestor dig e l ∷ []) other (node-fits e l here, tt)
+      by false true one other here = Each-append ancestor_codec.Fits (way_up dig asked l) (ancestor dig e r ∷ []) one
+          (node-fits e r here, tt)
+      by false false one other here = Each-append ancestor_codec.Fits (way_up dig asked r) (ancestor dig e l ∷ []) other
+          (node-fits e l here, tt)
 
-  present-at : (e : Entry) (place : Tree) (up : List Ancestor) → IsAt (ask.Present e) place → length (ancestors_of (proof_at dig place up)) ≤ MOST_ABOVE_ENTRY → Fit up
+  present-at : (e : Entry) (place : Tree) (up : List Ancestor) → IsAt (ask.Present e) place
+      → length (ancestors_of (proof_at dig place up)) ≤ MOST_ABOVE_ENTRY → Fit up
       → present_codec.Fits (proof_at dig place up)
   unfolding present_codec variant by_kind pair many number_codec bytes_codec
   present-at e Empty up at few all = absurd at
   present-at e (Branch l f r) up at few all =
       (refl, ((omega arith, few), (tree_label-digest dig size are l, (tree_label-digest dig size are r, (refl, all)))))
 
-  gap-at : (key : Key) (place : Tree) (up : List Ancestor) → IsAt (ask.Absent key) place → length (ancestors_of (proof_at dig place up)) ≤ MOST_ABOVE_PLACE → Fit up
+  gap-at : (key : Key) (place : Tree) (up : List Ancestor) → IsAt (ask.Absent key) place
+      → length (ancestors_of (proof_at dig place up)) ≤ MOST_ABOVE_PLACE → Fit up
       → gap_codec.Fits (proof_at dig place up)
   unfolding gap_codec variant by_kind counted many number_codec
   gap-at key Empty up at few all = (refl, ((omega arith, few), (refl, all)))
   gap-at key (Branch l f r) up at few all = absurd at
 
-  pub own-present-fits : (t : Tree) (e : Entry) → IsRising (entries t) → IsSo (entries t) (ask.Present e) → Each entry_codec.Fits (entries t)
-      → length (ancestors_of (proof_of dig t (ask.Present e))) ≤ MOST_ABOVE_ENTRY → present_codec.Fits (proof_of dig t (ask.Present e))
+  pub own-present-fits : (t : Tree) (e : Entry) → IsRising (entries t) → IsSo (entries t) (ask.Present e)
+      → Each entry_codec.Fits (entries t)
+      → length (ancestors_of (proof_of dig t (ask.Present e))) ≤ MOST_ABOVE_ENTRY
+      → present_codec.Fits (proof_of dig t (ask.Present e))
   own-present-fits t e rising so all few =
-      present-at e (place_of_ask (ask.Present e) t) (way_up dig (ask.Present e) t) (at-place t (ask.Present e) rising so) few (way-fits (ask.Present e) t all)
+      present-at e (place_of_ask (ask.Present e) t) (way_up dig (ask.Present e) t)
+      (at-place t (ask.Present e) rising so) few (way-fits (ask.Present e) t all)
 
-  pub own-gap-fits : (t : Tree) (key : Key) → IsRising (entries t) → IsSo (entries t) (ask.Absent key) → Each entry_codec.Fits (entries t)
-      → length (ancestors_of (proof_of dig t (ask.Absent key))) ≤ MOST_ABOVE_PLACE → gap_codec.Fits (proof_of dig t (ask.Absent key))
+  pub own-gap-fits : (t : Tree) (key : Key) → IsRising (entries t) → IsSo (entries t) (ask.Absent key)
+      → Each entry_codec.Fits (entries t)
+      → length (ancestors_of (proof_of dig t (ask.Absent key))) ≤ MOST_ABOVE_PLACE
+      → gap_codec.Fits (proof_of dig t (ask.Absent key))
   own-gap-fits t key rising so all few =
-      gap-at key (place_of_ask (ask.Absent key) t) (way_up dig (ask.Absent key) t) (at-place t (ask.Absent key) rising so) few (way-fits (ask.Absent key) t all)
+      gap-at key (place_of_ask (ask.Absent key) t) (way_up dig (ask.Absent key) t)
+      (at-place t (ask.Absent key) rising so) few (way-fits (ask.Absent key) t all)

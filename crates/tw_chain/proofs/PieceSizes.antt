@@ -8,7 +8,9 @@ use Rattle.tw_base.specs.declared.history.tree_proof.Ask.TheVariants as ask
 use Rattle.tw_base.specs.declared.history.tree_proof.TreeProof.{TreeProof}
 use Rattle.tw_base.specs.declared.history.tree_proof.TreeProof.TheVariants as trees
 use Rattle.tw_base.specs.declared.history.thread.Key.{Key}
-use Rattle.tw_base.specs.format.Codecs.{EachFits, by_kind, bytes_codec, counted, each, labels_codec, many, name_codec, nothing, number_codec, optional, pair, present, seen, sized_codec, variant, written}
+use Rattle.tw_base.specs.format.Codecs.{EachFits, by_kind, bytes_codec, counted, each, labels_codec, many, name_codec}
+use Rattle.tw_base.specs.format.Codecs.{nothing, number_codec, optional, pair, present, seen, sized_codec, variant}
+use Rattle.tw_base.specs.format.Codecs.{written}
 use Rattle.tw_base.specs.kinds.Bytes.{AreBytes}
 use Rattle.tw_base.specs.kinds.Digests.{AllDigests}
 use Rattle.tw_base.specs.history.Entries.{IsFit}
@@ -18,7 +20,8 @@ use Rattle.tw_base.proofs.lemmas.kinds.Naming.{IsName-bytes}
 use Rattle.tw_skipproof.specs.declared.existence.Part.{Part}
 use Rattle.tw_skipproof.specs.declared.opening.Opening.{Opening}
 use Rattle.tw_skipproof.specs.declared.path.Link.{Link}
-use Rattle.tw_skipproof.specs.Codecs.{count_codec, event_part_codec, link_bytes, link_codec, opening_codec, part_codec, path_codec}
+use Rattle.tw_skipproof.specs.Codecs.{count_codec, event_part_codec, link_bytes, link_codec, opening_codec, part_codec}
+use Rattle.tw_skipproof.specs.Codecs.{path_codec}
 use Rattle.tw_skipproof.specs.Openings.{HasOpeningSizes}
 use Rattle.tw_skipproof.specs.Paths.{HasLinkSizes, greedy_steps}
 use Rattle.tw_base.specs.history.EntryCodec.{entry_codec}
@@ -85,7 +88,8 @@ unfolding ancestor_codec seen pair bytes_codec
 ancestors-sizes [] fits = tt
 ancestors-sizes (a ∷ up) fits = ((fits.0.1, entry-sizes a.entry fits.0.0), ancestors-sizes up fits.1)
 
-pub present-sizes : (e : Entry) (proof : TreeProof) → entry_codec.Fits e → present_codec.Fits proof → HasProofSizes (ask.Present e) proof
+pub present-sizes : (e : Entry) (proof : TreeProof) → entry_codec.Fits e → present_codec.Fits proof
+    → HasProofSizes (ask.Present e) proof
 unfolding present_codec variant by_kind pair many bytes_codec
 present-sizes e (trees.Present left right up) entry fits =
     let parts = fits.1.1 in ((parts.0, parts.1.0, entry-sizes e entry), ancestors-sizes up parts.1.1.1)

@@ -25,13 +25,15 @@ module _ {X : Type 0} where
   same_found x y e = ap (λ (f : Found X). value_or x f) e
 
 module _ {X Y Z : Type 0} where
-  pub in_turn : (one : Found X) (next : X → Found Y) (last : Y → Found Z) → ((one >>= next) >>= last) ≡ (one >>= (λ x. next x >>= last))
+  pub in_turn : (one : Found X) (next : X → Found Y) (last : Y → Found Z) → ((one >>= next) >>= last)
+      ≡ (one >>= (λ x. next x >>= last))
   in_turn (Is x) next last = refl
   in_turn (Bad page) next last = refl
 
 -- ---- the bytes of a page
 
-pub bytes_in-within : (ps : Image) (page : ℕ) → 4 ≤ page → page < 4 + length ps → bytes_in ps page ≡ Is (page_at ps (page - 4))
+pub bytes_in-within : (ps : Image) (page : ℕ) → 4 ≤ page → page < 4 + length ps → bytes_in ps page ≡ Is
+    (page_at ps (page - 4))
 unfolding bytes_in
 bytes_in-within ps page low below =
     ap (λ (b : Bool). when (b && nat_lt page (4 + length ps)) page (page_at ps (page - 4))) (le-leb 4 page low)
@@ -39,7 +41,8 @@ bytes_in-within ps page low below =
 
 pub bytes_in-low : (ps : Image) (page : ℕ) → page < 4 → bytes_in ps page ≡ Bad page
 unfolding bytes_in
-bytes_in-low ps page low = ap (λ (b : Bool). when (b && nat_lt page (4 + length ps)) page (page_at ps (page - 4))) (lt-leb 4 page low)
+bytes_in-low ps page low = ap (λ (b : Bool). when (b && nat_lt page (4 + length ps)) page (page_at ps (page - 4)))
+    (lt-leb 4 page low)
 
 pub bytes_in-past : (ps : Image) (page : ℕ) → 4 ≤ page → 4 + length ps ≤ page → bytes_in ps page ≡ Bad page
 unfolding bytes_in

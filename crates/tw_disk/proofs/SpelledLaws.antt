@@ -1,5 +1,6 @@
 -- What the bytes of a page spell.
-use Rattle.std.proofs.Common.{◌≡◌, ℕ, suc, zero, ◌+◌, ◌-◌, List, [], ◌∷◌, ◌++◌, length, replicate, drop, refl, ap, sym, ◌∙◌, arith, subst, Result, Ok, Err, Bool, true, false}
+use Rattle.std.proofs.Common.{◌≡◌, ℕ, suc, zero, ◌+◌, ◌-◌, List, [], ◌∷◌, ◌++◌, length, replicate, drop, refl, ap, sym}
+use Rattle.std.proofs.Common.{◌∙◌, arith, subst, Result, Ok, Err, Bool, true, false}
 use Rattle.std.specs.Prelude.{◌==◌}
 use Rattle.std.proofs.lemmas.Bool.{and_parts, eqb-true}
 use Rattle.std.proofs.lemmas.List.{drop_at}
@@ -39,22 +40,31 @@ module _ {X : Type 0} (page size : ℕ) (c : Codec X) (l : Lawful c) (bytes : Li
       let word : List ℕ = c.write x in
       let zeros : List ℕ = replicate (size - length word) 0 in
       let rest : drop (0 + length word) bytes ≡ replicate (size - (0 + length word)) 0 =
-      ap (drop (0 + length word)) is.bytes_are ∙ drop_at word zeros (0 + length word) (omega arith) ∙ ap (λ (n : ℕ). replicate (size - n) 0) (omega arith) in
-      ap (or_bad page size bytes) (sym (l.reads bytes 0) ∙ read_at-word c.format bytes word zeros 0 x (l.spells x is.fits) is.bytes_are)
+      ap (drop (0 + length word)) is.bytes_are ∙ drop_at word zeros (0 + length word) (omega arith)
+      ∙ ap (λ (n : ℕ). replicate (size - n) 0) (omega arith) in
+      ap (or_bad page size bytes) (sym (l.reads bytes 0) ∙ read_at-word c.format bytes word zeros 0 x
+      (l.spells x is.fits) is.bytes_are)
       ∙ ap (λ (b : Bool). when b page x) (zeros-true (size - (0 + length word)) (drop (0 + length word) bytes) rest)
 
   -- what is read in front of zeros is spelled
-  spelt : (read : Placed X) → c.read bytes 0 ≡ Ok read → is_zeros (size - read.after) (drop read.after bytes) ≡ true → Spelt size c bytes read.value
+  spelt : (read : Placed X) → c.read bytes 0 ≡ Ok read → is_zeros (size - read.after) (drop read.after bytes) ≡ true
+      → Spelt size c bytes read.value
   spelt read e is =
       let got = read_at-spells c.format bytes 0 read.after read.value (l.reads bytes 0 ∙ e) in
       let words = l.words got.0 read.value got.4 in
       let after : length got.0 ≡ read.after = omega (arith, got.3) in
-      let rest : got.1 ≡ replicate (size - read.after) 0 = sym (drop_at got.0 got.1 read.after after) ∙ ap (drop read.after) (sym got.2) ∙ true-zeros (size - read.after) (drop read.after bytes) is in
+      let rest : got.1 ≡ replicate (size - read.after) 0 = sym (drop_at got.0 got.1 read.after after)
+      ∙ ap (drop read.after) (sym got.2) ∙ true-zeros (size - read.after) (drop read.after bytes) is in
       let counts : read.after ≡ length (c.write read.value) = sym after ∙ ap (λ (t : List ℕ). length t) words.0 in
-      record { bytes_are = got.2 ∙ (λ j. words.0 j ++ rest j) ∙ ap (λ (n : ℕ). c.write read.value ++ replicate (size - n) 0) counts; fits = words.1 }
+      record {
+        bytes_are = got.2 ∙ (λ j. words.0 j ++ rest j) ∙ ap (λ (n : ℕ). c.write read.value ++ replicate (size - n) 0)
+            counts;
+        fits = words.1;
+      }
 
   module _ (x : X) where
-    was_zeros : (read : Placed X) → c.read bytes 0 ≡ Ok read → (b : Bool) → is_zeros (size - read.after) (drop read.after bytes) ≡ b → when b page read.value ≡ Is x → Spelt size c bytes x
+    was_zeros : (read : Placed X) → c.read bytes 0 ≡ Ok read → (b : Bool) → is_zeros (size - read.after)
+        (drop read.after bytes) ≡ b → when b page read.value ≡ Is x → Spelt size c bytes x
     was_zeros read e false is found = cc
     was_zeros read e true is found = subst (Spelt size c bytes) (same_found read.value x found) (spelt read e is)
 
@@ -81,7 +91,8 @@ module _ {X : Type 0} (page size : ℕ) (c : Codec X) (l : Lawful c) (bytes : Li
   spelled-bad p e = e ∙ bad_word (c.read bytes 0) p e
 
   module _ (none : (x : X) → Spelt size c bytes x → ⊥) where
-    no_zeros : (read : Placed X) → c.read bytes 0 ≡ Ok read → (b : Bool) → is_zeros (size - read.after) (drop read.after bytes) ≡ b → when b page read.value ≡ Bad page
+    no_zeros : (read : Placed X) → c.read bytes 0 ≡ Ok read → (b : Bool) → is_zeros (size - read.after)
+        (drop read.after bytes) ≡ b → when b page read.value ≡ Bad page
     no_zeros read e false is = refl
     no_zeros read e true is = absurd (none read.value (spelt read e is))
 

@@ -30,8 +30,10 @@ use Rattle.tw_diskcmd.specs.Faults.{fault_of_service}
 pub own_name : (name : List ℕ) (h : History) (image : Image) → StandsFor sha256 image name h → IsImageOfHeads h image
 own_name name h image stands = subst (λ (n : List ℕ). StandsFor sha256 image n h) (sym stands.named) stands
 
-own_names : (name : List ℕ) (h next : History) (image : Image) → StandsForOneOf sha256 name h next image → OneOf IsImageOfHeads h next image
-own_names name h next image each = ⊎_elim (λ is. inl (own_name name h image is)) (λ is. inr (own_name name next image is)) each
+own_names : (name : List ℕ) (h next : History) (image : Image) → StandsForOneOf sha256 name h next image
+    → OneOf IsImageOfHeads h next image
+own_names name h next image each = ⊎_elim (λ is. inl (own_name name h image is))
+    (λ is. inr (own_name name next image is)) each
 
 -- an image that stands for a history has a store
 pub stands_taken : (h : History) (image : Image) → IsImageOfHeads h image → IsTaken image
@@ -41,30 +43,44 @@ pub left_keeps : {D : Type 0} (view : D → DiskView) (old new : D) → IsLeft v
 left_keeps view old new left = keeps_both root_kind IsImageOfHeads view old new left
 
 -- a disk at rest that stands for a history under some name
-pub own_rest : {D : Type 0} (view : D → DiskView) (d : D) (name : List ℕ) (h : History) → IsAtRest (view d) (λ i. StandsFor sha256 i name h) → RestsAtHeads view d h
+pub own_rest : {D : Type 0} (view : D → DiskView) (d : D) (name : List ℕ) (h : History)
+    → IsAtRest (view d) (λ i. StandsFor sha256 i name h) → RestsAtHeads view d h
 own_rest view d name h rest =
-    own_rest_as IsImageOfHeads view d h (record { image = rest.image; told = rest.told; only = rest.only; has = own_name name h rest.image rest.has })
+    own_rest_as IsImageOfHeads view d h
+    (record { image = rest.image; told = rest.told; only = rest.only; has = own_name name h rest.image rest.has })
 
-module _ {D H X : Type 0} {g : _} {k : _} (view : D → DiskView) (only_now : (d : D) (image : Image) → (view d).left_since (view d).moment image → (view d).may_leave image)
+module _ {D H X : Type 0} {g : _} {k : _} (view : D → DiskView) (only_now : (d : D) (image : Image)
+    → (view d).left_since (view d).moment image → (view d).may_leave image)
     (call : Call) (reply : X → Reply) (old new : Service D H g k) (h : History) where
   abbrev Adds : Result X CommandFault → Type 0
-  Adds came = AddsFrom IsImageOfHeads view (disk_of old) (disk_of new) (NextBy call) (λ x. StepsBy call (reply x)) h came
+  Adds came = AddsFrom IsImageOfHeads view (disk_of old) (disk_of new) (NextBy call) (λ x. StepsBy call (reply x)) h
+      came
 
   rests : (s : History) → Serves sha256 view new s → RestsAtHeads view (disk_of new) s
-  rests s served = own_rest view (disk_of new) (name_of new) s (rest_for_good view only_now sha256 new.recorded.kept.store (record_of new) s served)
+  rests s served = own_rest view (disk_of new) (name_of new) s
+      (rest_for_good view only_now sha256 new.recorded.kept.store (record_of new) s served)
 
-  any_moment : (next : History) → LeavesOnly (view (disk_of old)) (view (disk_of new)) (StandsForOneOf sha256 (name_of old) h next)
+  any_moment : (next : History) → LeavesOnly (view (disk_of old)) (view (disk_of new))
+      (StandsForOneOf sha256 (name_of old) h next)
       → LeavesOnly (view (disk_of old)) (view (disk_of new)) (OneOf IsImageOfHeads h next)
   any_moment next left =
-      leaves_weaker (view (disk_of old)) (view (disk_of new)) (StandsForOneOf sha256 (name_of old) h next) (OneOf IsImageOfHeads h next) (own_names (name_of old) h next) left
+      leaves_weaker (view (disk_of old)) (view (disk_of new)) (StandsForOneOf sha256 (name_of old) h next)
+      (OneOf IsImageOfHeads h next) (own_names (name_of old) h next) left
 
   -- an answer, and a refusal
   pub answered_steps : (x : X) → CallSteps sha256 view call reply old new (Ok x) h → Adds (Ok x)
-  answered_steps x made = (made.next, (made.is_next, made.done.0), rests made.next made.done.1, any_moment made.next made.any_moment)
+  answered_steps x made =
+      (made.next, (made.is_next, made.done.0), rests made.next made.done.1, any_moment made.next made.any_moment)
 
-  pub refused_steps : (r : Refusal) (came : CommandFault) → came ≡ fault_of_service r → CallSteps sha256 view call reply old new (Err r) h → Adds (Err came)
+  pub refused_steps : (r : Refusal) (came : CommandFault) → came ≡ fault_of_service r → CallSteps sha256 view call reply
+      old new (Err r) h → Adds (Err came)
   refused_steps r came is made =
-      refused_adds IsImageOfHeads view (NextBy call) (λ x. StepsBy call (reply x)) service.DiskFault fault_of_service refl (disk_of old) (disk_of new) h made.next made.is_next
+      refused_adds IsImageOfHeads view (NextBy call) (λ x. StepsBy call (reply x)) service.DiskFault fault_of_service
+      refl (disk_of old) (disk_of new) h made.next made.is_next
       (any_moment made.next made.any_moment)
-      (record { image = made.told.image; told = made.told.told; has = own_names (name_of old) h made.next made.told.image made.told.has }) r came is
+      (record {
+        image = made.told.image;
+        told = made.told.told;
+        has = own_names (name_of old) h made.next made.told.image made.told.has;
+      }) r came is
       (⊎_elim (λ fault. inl fault) (λ kept. inr (rests h kept.0)) made.refused)

@@ -16,8 +16,10 @@ use Rattle.tw_service.specs.Writing.{AppendsTo, ArchivesTo, IsReceiptOfRecord, I
 use Rattle.tw_diskcmd.specs.Comes.{FoundDisk}
 use Rattle.tw_diskcmd.specs.Files.{IsBadMessageByte, IsMessageIn}
 use Rattle.tw_diskcmd.specs.Leaves.{StaysOr}
-use Rattle.tw_diskcmd.proofs.StoreCommandLaws.{HasCauses, IsSafe, file_causes, make_causes, making_is_safe, reading_is_safe, writing_is_safe}
-use Rattle.tw_diskcmd.specs.Appending.{AppendComes, AppendLeaves, AppendSafe, AreEventsOf, IsBadEventsByte, IsStepResult}
+use Rattle.tw_diskcmd.proofs.StoreCommandLaws.{HasCauses, IsSafe, file_causes, make_causes, making_is_safe}
+use Rattle.tw_diskcmd.proofs.StoreCommandLaws.{reading_is_safe, writing_is_safe}
+use Rattle.tw_diskcmd.specs.Appending.{AppendComes, AppendLeaves, AppendSafe, AreEventsOf, IsBadEventsByte}
+use Rattle.tw_diskcmd.specs.Appending.{IsStepResult}
 use Rattle.tw_diskcmd.specs.Asking.{AskComes}
 use Rattle.tw_diskcmd.specs.Disks.{IsImageOfHeads, IsLeft, KeepsFollowerDisk, NextBy, ReadLeavesHistory, StepsBy}
 use Rattle.tw_diskcmd.specs.Making.{InitComes, InitLeaves, InitSafe}
@@ -27,13 +29,17 @@ module _ (a : Asked) (t : FoundDisk) where
   pub init_causes : (name : List ℕ) → HasCauses IsImageOfHeads a t ⊥ (Unit {0}) (InitComes t name)
   init_causes name = make_causes IsImageOfHeads a t (last_thread sha256 (no_history name))
 
-  pub append_causes : (file : List ℕ) (time : Option ℕ) → HasCauses IsImageOfHeads a t (Unit {0}) (Unit {0}) (AppendComes a t file time)
+  pub append_causes : (file : List ℕ) (time : Option ℕ) → HasCauses IsImageOfHeads a t (Unit {0}) (Unit {0})
+      (AppendComes a t file time)
   append_causes file time =
-      file_causes IsImageOfHeads a t file IsBadEventsByte (AreEventsOf a.told file) (λ events found came. IsStepResult found events time came) (λ events h reads why is. is.machine h reads)
+      file_causes IsImageOfHeads a t file IsBadEventsByte (AreEventsOf a.told file)
+      (λ events found came. IsStepResult found events time came) (λ events h reads why is. is.machine h reads)
 
-  pub receive_causes : (file : List ℕ) (time : Option ℕ) → HasCauses IsImageOfHeads a t (Unit {0}) (Unit {0}) (ReceiveComes a t file time)
+  pub receive_causes : (file : List ℕ) (time : Option ℕ) → HasCauses IsImageOfHeads a t (Unit {0}) (Unit {0})
+      (ReceiveComes a t file time)
   receive_causes file time =
-      file_causes IsImageOfHeads a t file IsBadMessageByte (IsMessageIn a.told file) (λ m found came. IsReceived m time found came) (λ m h reads why is. is.machine h reads)
+      file_causes IsImageOfHeads a t file IsBadMessageByte (IsMessageIn a.told file)
+      (λ m found came. IsReceived m time found came) (λ m h reads why is. is.machine h reads)
 
   pub ask_causes : (q : Question) → HasCauses IsImageOfHeads a t ⊥ (Unit {0}) (AskComes t q)
   unfolding AskComes
@@ -45,7 +51,8 @@ module _ (a : Asked) (t : FoundDisk) where
   }
 
 module _ {D : Type 0} (view : D → DiskView) (old new : D) where
-  pub asking_is_safe : {X : Type 0} → IsSafe view old new {X = X} (ReadLeavesHistory view old new) (IsLeft view old new × KeepsFollowerDisk view old new)
+  pub asking_is_safe : {X : Type 0} → IsSafe view old new {X = X} (ReadLeavesHistory view old new)
+      (IsLeft view old new × KeepsFollowerDisk view old new)
   asking_is_safe = reading_is_safe root_kind IsImageOfHeads view old new
 
 module _ {D : Type 0} (view : D → DiskView) (old new : D)
@@ -54,14 +61,20 @@ module _ {D : Type 0} (view : D → DiskView) (old new : D)
   pub init_is_safe : (name : List ℕ) → IsSafe view old new (InitLeaves view old new name) (InitSafe view old new name)
   init_is_safe name = making_is_safe root_kind IsImageOfHeads view old new as_it_reads (no_history name)
 
-  pub append_is_safe : (told : Option Files) (file : List ℕ) (time : Option ℕ) → IsSafe view old new (AppendLeaves view old new told file time) (AppendSafe view old new told file time)
+  pub append_is_safe : (told : Option Files) (file : List ℕ) (time : Option ℕ)
+      → IsSafe view old new (AppendLeaves view old new told file time) (AppendSafe view old new told file time)
   append_is_safe told file time =
-      writing_is_safe root_kind IsImageOfHeads view old new as_it_reads only_now (AreEventsOf told file) (λ events. NextBy (Append events time)) (λ events. StaysOr (AppendsTo sha256 events time))
-      (λ events found came. IsStepResult found events time came) (λ events thread. StepsBy (Append events time) (OfThread thread)) (λ events thread. IsThreadOfNext sha256 events time thread)
+      writing_is_safe root_kind IsImageOfHeads view old new as_it_reads only_now (AreEventsOf told file)
+      (λ events. NextBy (Append events time)) (λ events. StaysOr (AppendsTo sha256 events time))
+      (λ events found came. IsStepResult found events time came) (λ events thread. StepsBy (Append events time)
+      (OfThread thread)) (λ events thread. IsThreadOfNext sha256 events time thread)
       (λ events thread h next steps. steps.0) (λ events thread w next is. inr is.1)
 
-  pub receive_is_safe : (told : Option Files) (file : List ℕ) (time : Option ℕ) → IsSafe view old new (ReceiveLeaves view old new told file time) (ReceiveSafe view old new told file time)
+  pub receive_is_safe : (told : Option Files) (file : List ℕ) (time : Option ℕ)
+      → IsSafe view old new (ReceiveLeaves view old new told file time) (ReceiveSafe view old new told file time)
   receive_is_safe told file time =
-      writing_is_safe root_kind IsImageOfHeads view old new as_it_reads only_now (IsMessageIn told file) (λ m. NextBy (Receive m time)) (λ m. StaysOr (ArchivesTo sha256 m time))
-      (λ m found came. IsReceived m time found came) (λ m receipt. StepsBy (Receive m time) (OfReceipt receipt)) (λ m receipt. IsReceiptOfRecord sha256 m time receipt)
+      writing_is_safe root_kind IsImageOfHeads view old new as_it_reads only_now (IsMessageIn told file)
+      (λ m. NextBy (Receive m time)) (λ m. StaysOr (ArchivesTo sha256 m time))
+      (λ m found came. IsReceived m time found came) (λ m receipt. StepsBy (Receive m time) (OfReceipt receipt))
+      (λ m receipt. IsReceiptOfRecord sha256 m time receipt)
       (λ m receipt h next steps. steps.0) (λ m receipt w next is. ⊎_elim (λ same. inl same.0) (λ made. inr made.1) is)

@@ -26,21 +26,29 @@ is_whole all bytes is short = elim (cases_lt events_read (length bytes)) [
   | inr fits ↦ is ∙ take_all events_read bytes fits
 ]
 
-is_longer : (all bytes : List ℕ) → all ≡ take events_read bytes → EVENTS_LIMIT < length all → EVENTS_LIMIT < length bytes
+is_longer : (all bytes : List ℕ) → all ≡ take events_read bytes → EVENTS_LIMIT < length all → EVENTS_LIMIT < length
+    bytes
 is_longer all bytes is longer = omega (arith, ap length is, length-take events_read bytes, longer)
 
-module _ (a : Asked) (file all : List ℕ) (there : IsThere a.told file) (read : IsReadTo a.told file events_read all) where
-  pub are_events : (events : List (List ℕ)) → length all ≤ EVENTS_LIMIT → Spells events_file all events → AreEventsOf a.told file events
+module _ (a : Asked) (file all : List ℕ) (there : IsThere a.told file) (read : IsReadTo a.told file events_read
+    all) where
+  pub are_events : (events : List (List ℕ)) → length all ≤ EVENTS_LIMIT → Spells events_file all events
+      → AreEventsOf a.told file events
   are_events events short spelled = record {
     there = there;
-    short = λ bytes tells. subst (λ (b : List ℕ). length b ≤ EVENTS_LIMIT) (is_whole all bytes (read bytes tells) short) short;
-    spelled = λ bytes tells. subst (λ (b : List ℕ). Spells events_file b events) (is_whole all bytes (read bytes tells) short) spelled;
+    short = λ bytes tells. subst (λ (b : List ℕ). length b ≤ EVENTS_LIMIT) (is_whole all bytes (read bytes tells) short)
+        short;
+    spelled = λ bytes tells. subst (λ (b : List ℕ). Spells events_file b events)
+        (is_whole all bytes (read bytes tells) short) spelled;
   }
 
-  pub too_long : (came : CommandFault) → EVENTS_LIMIT < length all → came ≡ Unreadable (BadByte file EVENTS_LIMIT) → StopsAt a file IsBadEventsByte came
-  too_long came longer is = subst (StopsAt a file IsBadEventsByte) (sym is) (refl, there, λ bytes tells. inl (is_longer all bytes (read bytes tells) longer, refl))
+  pub too_long : (came : CommandFault) → EVENTS_LIMIT < length all → came ≡ Unreadable (BadByte file EVENTS_LIMIT)
+      → StopsAt a file IsBadEventsByte came
+  too_long came longer is = subst (StopsAt a file IsBadEventsByte) (sym is)
+      (refl, there, λ bytes tells. inl (is_longer all bytes (read bytes tells) longer, refl))
 
-  pub no_events : (place : ℕ) (came : CommandFault) → length all ≤ EVENTS_LIMIT → SpellsNothing events_file all × IsPlace events_file all place
+  pub no_events : (place : ℕ) (came : CommandFault) → length all ≤ EVENTS_LIMIT → SpellsNothing events_file all
+      × IsPlace events_file all place
       → came ≡ Unreadable (BadByte file place) → StopsAt a file IsBadEventsByte came
   no_events place came short none is = subst (StopsAt a file IsBadEventsByte) (sym is) (
     refl,

@@ -29,20 +29,26 @@ use Rattle.tw_diskcmd.specs.Listing.{HeadsComes, IsListed, ListsTo, TableLists, 
 use Rattle.tw_diskcmd.proofs.Offered.{not_opened}
 
 -- a follower that was just opened hasn't to be opened anew
-pub never_reopened : (is_broken : Bool) → is_broken ≡ false → (r : FollowRefusal) → ((◌≡◌ {A = Result (List Thread) FollowRefusal} (Err r) (Err follower.Reopen)) ↔ IsTrue is_broken) → r ≢ follower.Reopen
+pub never_reopened : (is_broken : Bool) → is_broken ≡ false → (r : FollowRefusal)
+    → ((◌≡◌ {A = Result (List Thread) FollowRefusal} (Err r) (Err follower.Reopen)) ↔ IsTrue is_broken)
+    → r ≢ follower.Reopen
 never_reopened is_broken whole r reopen is = not_both is_broken whole (reopen.0 (ap (λ (x : FollowRefusal). Err x) is))
 
 -- the lines that were written of heads that rise
-pub lists-to : (head : Thread) (heads : List Thread) (lines : Result (List ℕ) CommandFault) → RiseTo head heads → IfOk lines (λ text. text ≡ head_lines heads)
+pub lists-to : (head : Thread) (heads : List Thread) (lines : Result (List ℕ) CommandFault) → RiseTo head heads
+    → IfOk lines (λ text. text ≡ head_lines heads)
     → IfOk lines (λ text. ListsTo head text)
 lists-to head heads (Ok text) rises is = (heads, rises, is)
 lists-to head heads (Err why) rises is = tt
 
 module _ (found : Option Image) (before after : ℕ) where
   -- a follower was opened, with the list that the disk reads as, where it reads as one
-  module _ (root : RootRecord) (pages : Option Image) (opens : (image : Image) → found ≡ Some image → OpensWith sha256 image root (λ ps. pages ≡ Some ps))
-      (lists : (k : Kept) → ReadsAs found k → (ps : Image) × (pages ≡ Some ps) × (found_heads ps root ≡ Is k.heads)) where
-    is_listed : (result : Result (List ℕ) CommandFault) → TableLists result → ((ps : Image) → pages ≡ Some ps → result ≡ as_lines (found_heads ps root)) → IsListed found result
+  module _ (root : RootRecord) (pages : Option Image) (opens : (image : Image) → found ≡ Some image
+      → OpensWith sha256 image root (λ ps. pages ≡ Some ps))
+      (lists : (k : Kept) → ReadsAs found k → (ps : Image) × (pages ≡ Some ps)
+      × (found_heads ps root ≡ Is k.heads)) where
+    is_listed : (result : Result (List ℕ) CommandFault) → TableLists result
+        → ((ps : Image) → pages ≡ Some ps → result ≡ as_lines (found_heads ps root)) → IsListed found result
     is_listed result table is = record {
       answer = λ image told. let o = opens image told in
           (Opened root o.0, o.1, is o.0 o.2);
@@ -51,32 +57,44 @@ module _ (found : Option Image) (before after : ℕ) where
     }
 
     -- its lines, or want of memory for them
-    pub listed : (heads : List Thread) (lines : Result (List ℕ) CommandFault) → RiseTo root.head heads → ((ps : Image) → pages ≡ Some ps → AnswersAs follower_refusals (λ (hs : List Thread). hs) (Ok heads) (found_heads ps root))
-        → IfOk lines (λ text. text ≡ head_lines heads) → IfErr lines (λ why. why ≡ fault.NoMemory) → HeadsComes (found_disk found before after) lines
-    listed heads (Ok text) rises answer is memory = is_listed (Ok text) (root.head, (heads, rises, is)) (λ ps told. ap (λ (x : List ℕ). Ok x) is ∙ sym (ap as_lines (answer ps told)))
-    listed heads (Err why) rises answer is memory = subst (λ (x : CommandFault). HeadsComes (found_disk found before after) (Err x)) (sym memory) tt
+    pub listed : (heads : List Thread) (lines : Result (List ℕ) CommandFault) → RiseTo root.head heads
+        → ((ps : Image) → pages ≡ Some ps → AnswersAs follower_refusals (λ (hs : List Thread). hs) (Ok heads)
+        (found_heads ps root))
+        → IfOk lines (λ text. text ≡ head_lines heads) → IfErr lines (λ why. why ≡ fault.NoMemory)
+        → HeadsComes (found_disk found before after) lines
+    listed heads (Ok text) rises answer is memory = is_listed (Ok text) (root.head, (heads, rises, is))
+        (λ ps told. ap (λ (x : List ℕ). Ok x) is ∙ sym (ap as_lines (answer ps told)))
+    listed heads (Err why) rises answer is memory =
+        subst (λ (x : CommandFault). HeadsComes (found_disk found before after) (Err x)) (sym memory) tt
 
-    pub unlisted : (r : FollowRefusal) → ((ps : Image) → pages ≡ Some ps → AnswersAs follower_refusals (λ (hs : List Thread). hs) (Err r) (found_heads ps root)) → (r ≡ follower.Reopen) ⊎ IsFollowerFault r
-        → r ≢ follower.Reopen → (r ≡ follower.DiskFault → Rose before after) → HeadsComes (found_disk found before after) (Err (fault_of_follower r))
-    unlisted (follower.BadPage page) answer faults fresh rose = is_listed (Err (fault.Unserved (BadPage page))) tt (λ ps told. sym (ap as_lines (answer ps told)))
+    pub unlisted : (r : FollowRefusal) → ((ps : Image) → pages ≡ Some ps → AnswersAs follower_refusals
+        (λ (hs : List Thread). hs) (Err r) (found_heads ps root)) → (r ≡ follower.Reopen) ⊎ IsFollowerFault r
+        → r ≢ follower.Reopen → (r ≡ follower.DiskFault → Rose before after)
+        → HeadsComes (found_disk found before after) (Err (fault_of_follower r))
+    unlisted (follower.BadPage page) answer faults fresh rose = is_listed (Err (fault.Unserved (BadPage page))) tt
+        (λ ps told. sym (ap as_lines (answer ps told)))
     unlisted follower.DiskFault answer faults fresh rose = rose refl
     unlisted follower.NoMemory answer faults fresh rose = tt
     unlisted r answer (inl is) fresh rose = absurd (fresh is)
     unlisted r answer (inr is) fresh rose = absurd is
 
   unserved_for : (f : StoreFault) (cause : CommandFault) → cause ≡ fault_of_store f → f ≢ store.DiskFault
-      → ((image : Image) → found ≡ Some image → (f ≡ store.DiskFault) ⊎ IsNotOpenedFor sha256 image f) → IsListed found (Err cause)
+      → ((image : Image) → found ≡ Some image → (f ≡ store.DiskFault) ⊎ IsNotOpenedFor sha256 image f)
+      → IsListed found (Err cause)
   unserved_for f cause is other why = record {
     answer = λ image told. (Unopened f, not_opened image f other (why image told), ap (λ (x : CommandFault). Err x) is);
     table = tt;
-    list = λ k reads. absurd (stands_opened sha256 reads.image k f reads.stands (not_opened reads.image f other (why reads.image reads.told)));
+    list = λ k reads. absurd (stands_opened sha256 reads.image k f reads.stands
+        (not_opened reads.image f other (why reads.image reads.told)));
   }
 
   -- where no follower is opened
-  pub unserved : (f : StoreFault) → ((image : Image) → found ≡ Some image → (f ≡ store.DiskFault) ⊎ IsNotOpenedFor sha256 image f) → (f ≢ store.Taken) × (f ≢ store.NoMemory)
+  pub unserved : (f : StoreFault) → ((image : Image) → found ≡ Some image → (f ≡ store.DiskFault) ⊎ IsNotOpenedFor
+      sha256 image f) → (f ≢ store.Taken) × (f ≢ store.NoMemory)
       → (f ≡ store.DiskFault → Rose before after) → HeadsComes (found_disk found before after) (Err (fault_of_store f))
   unserved store.Taken why never rose = absurd (never.0 refl)
   unserved store.NoMemory why never rose = absurd (never.1 refl)
   unserved store.DiskFault why never rose = rose refl
   unserved store.Blank why never rose = unserved_for store.Blank (fault.Unserved Blank) refl (λ e. cc) why
-  unserved (store.NotAStore slot) why never rose = unserved_for (store.NotAStore slot) (fault.Unserved (NotAStore slot)) refl (λ e. cc) why
+  unserved (store.NotAStore slot) why never rose = unserved_for (store.NotAStore slot) (fault.Unserved (NotAStore slot))
+      refl (λ e. cc) why

@@ -15,9 +15,11 @@ use Rattle.tw_text.specs.declared.refusal.BadInput.TheVariants.{BadByte}
 use Rattle.tw_diskcmd.specs.Files.{IsBadMessageByte, IsMessageIn, StopsAt}
 
 short : (word : List ℕ) (m : Message) → Spells message_layout word m → length word < file_limit
-short word m spelled = let size = word-size message_codec message-lawful 53828 message-most word m spelled in omega (arith, size)
+short word m spelled = let size = word-size message_codec message-lawful 53828 message-most word m spelled in
+    omega (arith, size)
 
-module _ (a : Asked) (file all : List ℕ) (there : IsThere a.told file) (read : IsReadTo a.told file file_limit all) where
+module _ (a : Asked) (file all : List ℕ) (there : IsThere a.told file)
+    (read : IsReadTo a.told file file_limit all) where
   pub is_message : (m : Message) → Spells message_layout all m → IsMessageIn a.told file m
   is_message m spelled = record {
     there = there;
@@ -26,7 +28,12 @@ module _ (a : Asked) (file all : List ℕ) (there : IsThere a.told file) (read :
     same = λ others tells. sym (word_is_whole message_layout file_limit short all others (read others tells) m spelled);
   }
 
-  pub no_message : (place : ℕ) (came : CommandFault) → SpellsNothing message_layout all × IsPlace message_layout all place → came ≡ Unreadable (BadByte file place)
+  pub no_message : (place : ℕ) (came : CommandFault) → SpellsNothing message_layout all × IsPlace message_layout all
+      place → came ≡ Unreadable (BadByte file place)
       → StopsAt a file IsBadMessageByte came
   no_message place came none is =
-      subst (StopsAt a file IsBadMessageByte) (sym is) (refl, there, λ bytes tells. none_is_none message_layout file_limit short all bytes (read bytes tells) place none.0 none.1)
+      subst (StopsAt a file IsBadMessageByte) (sym is) (
+        refl,
+        there,
+        λ bytes tells. none_is_none message_layout file_limit short all bytes (read bytes tells) place none.0 none.1,
+      )

@@ -30,14 +30,18 @@ use Rattle.tw_text.specs.declared.refusal.StoreCause.TheVariants.{Blank, NotASto
 use Rattle.tw_diskcmd.specs.StoreFaults.{fault_of_store}
 use Rattle.tw_diskcmd.specs.FollowerDisks.{ReadsAs, found_disk}
 use Rattle.tw_diskcmd.specs.FollowerFaults.{fault_of_follower}
-use Rattle.tw_diskcmd.specs.Offering.{IsOffered, OfferedMessageComes, TableOffers, list_after, next_list, offer_as_told, offered_to}
+use Rattle.tw_diskcmd.specs.Offering.{IsOffered, OfferedMessageComes, TableOffers, list_after, next_list, offer_as_told}
+use Rattle.tw_diskcmd.specs.Offering.{offered_to}
 
 module _ (bytes : List ℕ) (m : Message) (spells : Spells message_layout bytes m) where
   -- what becomes of the bytes is what the table says of the message
-  of_message : (head : Thread) (n : Message) (r : Result Offered FollowRefusal) → Spells message_layout bytes n → judged_offer sha256 head n ≡ r → judged_offer sha256 head m ≡ r
-  of_message head n r also is = ap (λ (x : Message). judged_offer sha256 head x) (one-message bytes m n spells also) ∙ is
+  of_message : (head : Thread) (n : Message) (r : Result Offered FollowRefusal) → Spells message_layout bytes n
+      → judged_offer sha256 head n ≡ r → judged_offer sha256 head m ≡ r
+  of_message head n r also is = ap (λ (x : Message). judged_offer sha256 head x) (one-message bytes m n spells also)
+      ∙ is
 
-  pub judged-ok : (head : Thread) (offered : Offered) → JudgesOffer sha256 head bytes (Ok offered) → judged_offer sha256 head m ≡ Ok offered
+  pub judged-ok : (head : Thread) (offered : Offered) → JudgesOffer sha256 head bytes (Ok offered)
+      → judged_offer sha256 head m ≡ Ok offered
   judged-ok head offered j = of_message head j.0 (Ok offered) j.1 j.2
 
   -- refusals that the table tells
@@ -47,7 +51,8 @@ module _ (bytes : List ℕ) (m : Message) (spells : Spells message_layout bytes 
   IsTold follower.NoMemory = ⊥
   IsTold refusal = Unit {0}
 
-  judged-err : (head : Thread) (r : FollowRefusal) → IsTold r → JudgesOffer sha256 head bytes (Err r) → judged_offer sha256 head m ≡ Err r
+  judged-err : (head : Thread) (r : FollowRefusal) → IsTold r → JudgesOffer sha256 head bytes (Err r)
+      → judged_offer sha256 head m ≡ Err r
   judged-err head (follower.Malformed place) told j = absurd told
   judged-err head follower.DiskFault told j = absurd told
   judged-err head follower.NoMemory told j = absurd told
@@ -65,7 +70,8 @@ module _ (bytes : List ℕ) (m : Message) (spells : Spells message_layout bytes 
       (opens : (image : Image) → found ≡ Some image → OpensWith sha256 image root (λ ps. pages ≡ Some ps))
       (list_head : (k : Kept) → ReadsAs found k → last_head sha256 k ≡ root.head) where
     -- an answer of the follower that was opened
-    is_offered : (result : Result Thread CommandFault) → result ≡ offered_to root.head m → TableOffers m result → IsOffered found m result
+    is_offered : (result : Result Thread CommandFault) → result ≡ offered_to root.head m → TableOffers m result
+        → IsOffered found m result
     is_offered result is table = record {
       answer = λ image told. let o = opens image told in
           (Opened root o.0, o.1, is);
@@ -73,21 +79,30 @@ module _ (bytes : List ℕ) (m : Message) (spells : Spells message_layout bytes 
       list = λ k reads. is ∙ ap (λ (head : Thread). offered_to head m) (sym (list_head k reads));
     }
 
-    pub answered : (thread : Thread) → AnswersOffer sha256 false root.head bytes (Ok thread) → OfferedMessageComes (found_disk found before after) m (Ok thread)
+    pub answered : (thread : Thread) → AnswersOffer sha256 false root.head bytes (Ok thread)
+        → OfferedMessageComes (found_disk found before after) m (Ok thread)
     answered thread t =
         let is : ◌≡◌ {A = Result Thread CommandFault} (Ok thread) (offered_to root.head m) =
         ap (λ (x : Thread). Ok x) t.2 ∙ ap (offer_as_told root.head) (sym (judged-ok root.head t.0 t.1)) in
         is_offered (Ok thread) is (root.head, is)
 
-    told : (r : FollowRefusal) → IsTold r → JudgesOffer sha256 root.head bytes (Err r) → ◌≡◌ {A = Result Thread CommandFault} (Err (fault_of_follower r)) (offered_to root.head m)
+    told : (r : FollowRefusal) → IsTold r → JudgesOffer sha256 root.head bytes (Err r)
+        → ◌≡◌ {A = Result Thread CommandFault} (Err (fault_of_follower r)) (offered_to root.head m)
     told r is j = ap (offer_as_told root.head) (sym (judged-err root.head r is j))
 
-    pub refused : (r : FollowRefusal) → AnswersOffer sha256 false root.head bytes (Err r) → (r ≡ follower.DiskFault → Rose before after) → OfferedMessageComes (found_disk found before after) m (Err (fault_of_follower r))
-    refused (follower.Other name) t rose = is_offered _ (told (follower.Other name) tt t) (root.head, told (follower.Other name) tt t)
-    refused (follower.Stale last) t rose = is_offered _ (told (follower.Stale last) tt t) (root.head, told (follower.Stale last) tt t)
-    refused (follower.Forked step kept offered) t rose = is_offered _ (told (follower.Forked step kept offered) tt t) (root.head, told (follower.Forked step kept offered) tt t)
-    refused (follower.BadLink last kept) t rose = is_offered _ (told (follower.BadLink last kept) tt t) (root.head, told (follower.BadLink last kept) tt t)
-    refused (follower.BadPage page) t rose = absurd (no_page root.head page (judged-err root.head (follower.BadPage page) tt t))
+    pub refused : (r : FollowRefusal) → AnswersOffer sha256 false root.head bytes (Err r)
+        → (r ≡ follower.DiskFault → Rose before after) → OfferedMessageComes (found_disk found before after) m
+        (Err (fault_of_follower r))
+    refused (follower.Other name) t rose = is_offered _ (told (follower.Other name) tt t)
+        (root.head, told (follower.Other name) tt t)
+    refused (follower.Stale last) t rose = is_offered _ (told (follower.Stale last) tt t)
+        (root.head, told (follower.Stale last) tt t)
+    refused (follower.Forked step kept offered) t rose = is_offered _ (told (follower.Forked step kept offered) tt t)
+        (root.head, told (follower.Forked step kept offered) tt t)
+    refused (follower.BadLink last kept) t rose = is_offered _ (told (follower.BadLink last kept) tt t)
+        (root.head, told (follower.BadLink last kept) tt t)
+    refused (follower.BadPage page) t rose =
+        absurd (no_page root.head page (judged-err root.head (follower.BadPage page) tt t))
     refused follower.Reopen t rose = absurd (no_reopen root.head (judged-err root.head follower.Reopen tt t))
     refused (follower.Malformed place) t rose = absurd (t.0 m spells)
     refused follower.DiskFault t rose = rose refl
@@ -99,22 +114,30 @@ module _ (bytes : List ℕ) (m : Message) (spells : Spells message_layout bytes 
   stays_or_next : (k next : Kept) → GoesByMove sha256 k (Stopped bytes) next → (next ≡ k) ⊎ (next ≡ next_list k m)
   stays_or_next k next (inl stay) = inl stay.1
   stays_or_next k next (inr (n, by)) =
-      inr (by.adds ∙ ap (list_after k) (sym (of_message (last_head sha256 k) n (Ok (Moves n.thread)) by.spelled by.moves)))
+      inr (by.adds ∙ ap (list_after k)
+      (sym (of_message (last_head sha256 k) n (Ok (Moves n.thread)) by.spelled by.moves)))
 
-  pub answered_next : (k next : Kept) (thread : Thread) → GoesByMove sha256 k (Answered bytes (Ok thread)) next → next ≡ next_list k m
-  answered_next k next thread (inl stay) = stay.1 ∙ ap (list_after k) (sym (judged-ok (last_head sha256 k) Known stay.0.0))
-  answered_next k next thread (inr (n, by)) = by.0.adds ∙ ap (list_after k) (sym (of_message (last_head sha256 k) n (Ok (Moves n.thread)) by.0.spelled by.0.moves))
+  pub answered_next : (k next : Kept) (thread : Thread) → GoesByMove sha256 k (Answered bytes (Ok thread)) next
+      → next ≡ next_list k m
+  answered_next k next thread (inl stay) = stay.1 ∙ ap (list_after k)
+      (sym (judged-ok (last_head sha256 k) Known stay.0.0))
+  answered_next k next thread (inr (n, by)) = by.0.adds ∙ ap (list_after k)
+      (sym (of_message (last_head sha256 k) n (Ok (Moves n.thread)) by.0.spelled by.0.moves))
 
   -- what stands for the list or for where it goes stands for it or the next one
-  pub widen : (k next : Kept) → GoesByMove sha256 k (Stopped bytes) next → (image : Image) → StandsForOneOf sha256 k next image → StandsForOneOf sha256 k (next_list k m) image
+  pub widen : (k next : Kept) → GoesByMove sha256 k (Stopped bytes) next → (image : Image) → StandsForOneOf sha256 k
+      next image → StandsForOneOf sha256 k (next_list k m) image
   widen k next goes image (inl stands) = inl stands
-  widen k next goes image (inr stands) = ⊎_elim (λ is. inl (subst (λ (x : Kept). StandsFor sha256 image x) is stands)) (λ is. inr (subst (λ (x : Kept). StandsFor sha256 image x) is stands)) (stays_or_next k next goes)
+  widen k next goes image (inr stands) = ⊎_elim (λ is. inl (subst (λ (x : Kept). StandsFor sha256 image x) is stands))
+      (λ is. inr (subst (λ (x : Kept). StandsFor sha256 image x) is stands)) (stays_or_next k next goes)
 
 -- a table never tells that nothing is served
-pub never_unserved : (m : Message) (head : Thread) (why : StoreCause) → ◌≡◌ {A = Result Thread CommandFault} (Err (fault.Unserved why)) (offered_to head m) → ⊥
+pub never_unserved : (m : Message) (head : Thread) (why : StoreCause) → ◌≡◌ {A = Result Thread CommandFault}
+    (Err (fault.Unserved why)) (offered_to head m) → ⊥
 never_unserved m head why is = by (judged_offer sha256 head m) (of-table sha256 head m) is
   where
-    by : (r : Result Offered FollowRefusal) → IsOfTable r → ◌≡◌ {A = Result Thread CommandFault} (Err (fault.Unserved why)) (offer_as_told head r) → ⊥
+    by : (r : Result Offered FollowRefusal) → IsOfTable r → ◌≡◌ {A = Result Thread CommandFault}
+        (Err (fault.Unserved why)) (offer_as_told head r) → ⊥
     by (Ok offered) of e = cc
     by (Err (follower.Other name)) of e = cc
     by (Err (follower.Stale last)) of e = cc
@@ -127,24 +150,31 @@ never_unserved m head why is = by (judged_offer sha256 head m) (of-table sha256 
     by (Err follower.NoMemory) of e = of
 
 -- a store that isn't opened for a reason of its content
-pub not_opened : (image : Image) (f : StoreFault) → f ≢ store.DiskFault → (f ≡ store.DiskFault) ⊎ IsNotOpenedFor sha256 image f → IsNotOpenedFor sha256 image f
+pub not_opened : (image : Image) (f : StoreFault) → f ≢ store.DiskFault → (f ≡ store.DiskFault) ⊎ IsNotOpenedFor sha256
+    image f → IsNotOpenedFor sha256 image f
 not_opened image f other (inl is) = absurd (other is)
 not_opened image f other (inr why) = why
 
 module _ (found : Option Image) (before after : ℕ) (m : Message) where
-  unserved_for : (f : StoreFault) (cause : CommandFault) → cause ≡ fault_of_store f → TableOffers m (Err cause) → f ≢ store.DiskFault
-      → ((image : Image) → found ≡ Some image → (f ≡ store.DiskFault) ⊎ IsNotOpenedFor sha256 image f) → IsOffered found m (Err cause)
+  unserved_for : (f : StoreFault) (cause : CommandFault) → cause ≡ fault_of_store f → TableOffers m (Err cause)
+      → f ≢ store.DiskFault
+      → ((image : Image) → found ≡ Some image → (f ≡ store.DiskFault) ⊎ IsNotOpenedFor sha256 image f)
+      → IsOffered found m (Err cause)
   unserved_for f cause is table other why = record {
     answer = λ image told. (Unopened f, not_opened image f other (why image told), ap (λ (x : CommandFault). Err x) is);
     table = table;
-    list = λ k reads. absurd (stands_opened sha256 reads.image k f reads.stands (not_opened reads.image f other (why reads.image reads.told)));
+    list = λ k reads. absurd (stands_opened sha256 reads.image k f reads.stands
+        (not_opened reads.image f other (why reads.image reads.told)));
   }
 
   -- where no follower is opened
-  pub unserved : (f : StoreFault) → ((image : Image) → found ≡ Some image → (f ≡ store.DiskFault) ⊎ IsNotOpenedFor sha256 image f) → (f ≢ store.Taken) × (f ≢ store.NoMemory)
-      → (f ≡ store.DiskFault → Rose before after) → OfferedMessageComes (found_disk found before after) m (Err (fault_of_store f))
+  pub unserved : (f : StoreFault) → ((image : Image) → found ≡ Some image → (f ≡ store.DiskFault) ⊎ IsNotOpenedFor
+      sha256 image f) → (f ≢ store.Taken) × (f ≢ store.NoMemory)
+      → (f ≡ store.DiskFault → Rose before after) → OfferedMessageComes (found_disk found before after) m
+      (Err (fault_of_store f))
   unserved store.Taken why never rose = absurd (never.0 refl)
   unserved store.NoMemory why never rose = absurd (never.1 refl)
   unserved store.DiskFault why never rose = rose refl
   unserved store.Blank why never rose = unserved_for store.Blank (fault.Unserved Blank) refl tt (λ e. cc) why
-  unserved (store.NotAStore slot) why never rose = unserved_for (store.NotAStore slot) (fault.Unserved (NotAStore slot)) refl tt (λ e. cc) why
+  unserved (store.NotAStore slot) why never rose = unserved_for (store.NotAStore slot) (fault.Unserved (NotAStore slot))
+      refl tt (λ e. cc) why

@@ -27,7 +27,8 @@ use Rattle.tw_diskcmd.specs.Disks.{FoundDisk, ReadsAsHeads}
 use Rattle.tw_diskcmd.specs.Faults.{fault_of_service}
 use Rattle.tw_diskcmd.proofs.AskedCalls.{further_done, further_refused}
 use Rattle.tw_diskcmd.proofs.Results.{CanCome, IsByTable, allowed}
-use Rattle.tw_diskcmd.proofs.Tables.{has_thread_can, link_can, no_thread_can, order_can, thread_can, too_long_can, top_can}
+use Rattle.tw_diskcmd.proofs.Tables.{has_thread_can, link_can, no_thread_can, order_can, thread_can, too_long_can}
+use Rattle.tw_diskcmd.proofs.Tables.{top_can}
 
 question_can : (last : ℕ) (q : Question) → Of CanCome (question_refusal false last q)
 unfolding question_refusal
@@ -56,7 +57,8 @@ unfolding Makes
 leads_by (ask.ThreadOut since) bytes h makes = (makes.0, makes.1, leads-own sha256 h since makes.0 makes.2)
 leads_by _ bytes h makes = tt
 
-module _ (t : FoundDisk) (q : Question) (is_broken : Bool) (root : RootRecord) (pages : Option Image) (opens : IsOpened t.found root pages) (whole : is_broken ≡ false)
+module _ (t : FoundDisk) (q : Question) (is_broken : Bool) (root : RootRecord) (pages : Option Image)
+    (opens : IsOpened t.found root pages) (whole : is_broken ≡ false)
     (OldServes NewServes : History → Type 0) (serves : (h : History) → ReadsAsHeads t.found h → OldServes h) where
   abbrev Else : Refusal → Type 0
   Else why = IsFault why ⊎ Besides q why
@@ -67,17 +69,22 @@ module _ (t : FoundDisk) (q : Question) (is_broken : Bool) (root : RootRecord) (
   found_is : (ps : Image) → found_answer sha256 ps root.name root.head is_broken q ≡ asked_bytes q root ps
   found_is ps = ap (λ (b : Bool). found_answer sha256 ps root.name root.head b q) whole
 
-  pub asked_came : (answer : Result (List ℕ) Refusal) (outcome : Result (List ℕ) CommandFault) → outcome ≡ came_of answer → IsByTable Else (question_refusal is_broken root.head.step q) answer
-      → IfOk answer (λ bytes. (h : History) → OldServes h → Makes sha256 h q bytes) → IfOk answer (λ bytes. (h : History) → OldServes h → IsAcceptedFor sha256 h q bytes)
-      → (is_broken ≡ false → (h : History) → OldServes h → AnswersByMachine sha256 h (Ask q) (λ b. OfBytes b) answer NewServes)
+  pub asked_came : (answer : Result (List ℕ) Refusal) (outcome : Result (List ℕ) CommandFault)
+      → outcome ≡ came_of answer → IsByTable Else (question_refusal is_broken root.head.step q) answer
+      → IfOk answer (λ bytes. (h : History) → OldServes h → Makes sha256 h q bytes)
+      → IfOk answer (λ bytes. (h : History) → OldServes h → IsAcceptedFor sha256 h q bytes)
+      → (is_broken ≡ false → (h : History) → OldServes h → AnswersByMachine sha256 h (Ask q) (λ b. OfBytes b) answer
+      NewServes)
       → (answer ≡ Err service.DiskFault → Rose t.before t.after)
       → ((ps : Image) → pages ≡ Some ps → IsFoundAnswer answer (found_answer sha256 ps root.name root.head is_broken q))
       → AskComes t q outcome
   unfolding AskComes
   asked_came (Ok bytes) outcome same table made accepted machine rose found =
       subst (AskComes t q) (sym same)
-      (further_done (asked_bytes q) (asked_table q) (asked_call q) (AnswersBy q) t root pages opens (Besides q) (besides_can q) bytes
-      (sym table_is ∙ allowed Else (question_refusal is_broken root.head.step q) bytes table) (λ ps is. sym (found_is ps) ∙ found ps is)
+      (further_done (asked_bytes q) (asked_table q) (asked_call q) (AnswersBy q) t root pages opens (Besides q)
+      (besides_can q) bytes
+      (sym table_is ∙ allowed Else (question_refusal is_broken root.head.step q) bytes table)
+      (λ ps is. sym (found_is ps) ∙ found ps is)
       (λ h reads. record {
         makes = made h (serves h reads);
         machine = let move = machine whole h (serves h reads) in (refl, move.1.1);
@@ -86,6 +93,8 @@ module _ (t : FoundDisk) (q : Question) (is_broken : Bool) (root : RootRecord) (
       }))
   asked_came (Err r) outcome same table made accepted machine rose found =
       subst (AskComes t q) (sym same)
-      (further_refused (asked_bytes q) (asked_table q) (asked_call q) (AnswersBy q) t root pages opens (Besides q) (besides_can q) (List ℕ) (λ b. OfBytes b) NewServes r (fault_of_service r) refl
+      (further_refused (asked_bytes q) (asked_table q) (asked_call q) (AnswersBy q) t root pages opens (Besides q)
+      (besides_can q) (List ℕ) (λ b. OfBytes b) NewServes r (fault_of_service r) refl
       (question_can root.head.step q) (subst (λ o. IsByTable {X = List ℕ} Else o (Err r)) table_is table)
-      (λ h reads. machine whole h (serves h reads)) (λ is. rose (ap (λ (x : Refusal). Err x) is)) (λ ps is. subst (IsRefusalFound r) (found_is ps) (found ps is)))
+      (λ h reads. machine whole h (serves h reads)) (λ is. rose (ap (λ (x : Refusal). Err x) is))
+      (λ ps is. subst (IsRefusalFound r) (found_is ps) (found ps is)))

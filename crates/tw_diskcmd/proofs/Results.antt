@@ -23,7 +23,8 @@ use Rattle.tw_text.specs.declared.refusal.StoreCause.{StoreCause}
 use Rattle.tw_text.specs.declared.refusal.StoreCause.TheVariants.{Blank, NotAStore}
 use Rattle.tw_text.specs.declared.fault.CommandFault.{CommandFault}
 use Rattle.tw_text.specs.declared.fault.CommandFault.TheVariants as fault
-use Rattle.tw_diskcmd.specs.Answers.{ComesOver, ComesTo, IsOpened, IsResult, IsResultOver, IsTheAnswer, MachineRefuses, TableAnswersOr, TableRefuses, answer_over, result_of}
+use Rattle.tw_diskcmd.specs.Answers.{ComesOver, ComesTo, IsOpened, IsResult, IsResultOver, IsTheAnswer, MachineRefuses}
+use Rattle.tw_diskcmd.specs.Answers.{TableAnswersOr, TableRefuses, answer_over, result_of}
 use Rattle.tw_diskcmd.specs.Disks.{FoundDisk, ReadsAsHeads, found_disk}
 use Rattle.tw_diskcmd.specs.Comes.{TellsContent}
 use Rattle.tw_diskcmd.specs.StoreFaults.{fault_of_store}
@@ -56,7 +57,8 @@ fault_can _ fault never = never
 
 module _ {X : Type 0} where
   -- one that is found is the answer
-  found_result : (r : Refusal) (f : Found (Result X Refusal)) → TellsOfDisk r → IsRefusalFound r f → ◌≡◌ {A = Result X CommandFault} (Err (fault_of_service r)) (result_of f)
+  found_result : (r : Refusal) (f : Found (Result X Refusal)) → TellsOfDisk r → IsRefusalFound r f
+      → ◌≡◌ {A = Result X CommandFault} (Err (fault_of_service r)) (result_of f)
   found_result service.DiskFault f tells is = absurd tells
   found_result service.NoMemory f tells is = absurd tells
   found_result service.Reopen f tells is = absurd tells
@@ -73,23 +75,27 @@ module _ {X : Type 0} where
 abbrev pub IsByTable : {X : Type 0} → (Else : Refusal → Type 0) → Option Refusal → Result X Refusal → Type 0
 IsByTable Else table result = MatchOption table (IfErr result Else) (λ refusal. result ≡ Err refusal)
 
-pub allowed : {X : Type 0} (Else : Refusal → Type 0) (table : Option Refusal) (x : X) → IsByTable Else table (Ok x) → table ≡ None
+pub allowed : {X : Type 0} (Else : Refusal → Type 0) (table : Option Refusal) (x : X) → IsByTable Else table (Ok x)
+    → table ≡ None
 allowed Else None x is = refl
 allowed {X} Else (Some r) x is = let other : ◌≡◌ {A = Result X Refusal} (Ok x) (Err r) = is in cc
 
 -- what never comes is refused by no table of a service that was just opened
-pub no_never : (X : Type 0) (Else : Refusal → Type 0) (table : Option Refusal) → Of CanCome table → ((q : Refusal) → Else q → CanCome q) → (r : Refusal) → IsByTable {X = X} Else table (Err r) → CanCome r
+pub no_never : (X : Type 0) (Else : Refusal → Type 0) (table : Option Refusal) → Of CanCome table
+    → ((q : Refusal) → Else q → CanCome q) → (r : Refusal) → IsByTable {X = X} Else table (Err r) → CanCome r
 no_never X Else None can others r is never = others r is never
 no_never X Else (Some q) can others r is never = can (subst IsNever (sym (same_err {X = X} r q is)) never)
 
 -- of a call that has no refusals but the table's and faults
-pub only_faults : {X : Type 0} (table : Option Refusal) (result : Result X Refusal) → IsByTable (λ why. IsFault why ⊎ ⊥) table result → IsByTable IsFault table result
+pub only_faults : {X : Type 0} (table : Option Refusal) (result : Result X Refusal) → IsByTable (λ why. IsFault why ⊎ ⊥)
+    table result → IsByTable IsFault table result
 only_faults None (Ok x) is = tt
 only_faults None (Err r) (inl fault) = fault
 only_faults None (Err r) (inr other) = absurd other
 only_faults (Some q) result is = is
 
-pub table_refuses : {S : Type 0} (table : S → Option Refusal) (last : S) (r : Refusal) → table last ≡ Some r → TableRefuses table (fault_of_service r)
+pub table_refuses : {S : Type 0} (table : S → Option Refusal) (last : S) (r : Refusal) → table last ≡ Some r
+    → TableRefuses table (fault_of_service r)
 table_refuses table last (service.BadPage page) is = tt
 table_refuses table last r is = (r, refl, (last, is))
 
@@ -98,18 +104,23 @@ abbrev pub Table : {X : Type 0} → Option Refusal → Result X Refusal → Type
 Table = IsByTable IsFault
 
 -- a fault that tells of the disk is a bad page, of which the table says nothing
-page_free : {S : Type 0} (table : S → Option Refusal) (r : Refusal) → TellsOfDisk r → IsFault r → TableRefuses table (fault_of_service r)
+page_free : {S : Type 0} (table : S → Option Refusal) (r : Refusal) → TellsOfDisk r → IsFault r
+    → TableRefuses table (fault_of_service r)
 page_free table (service.BadPage page) tells is = tt
 page_free table service.DiskFault tells is = absurd tells
 page_free table service.NoMemory tells is = absurd tells
 page_free table _ tells is = absurd is
 
-pub by_table : {S : Type 0} (X : Type 0) (table : S → Option Refusal) (at : S) (o : Option Refusal) → table at ≡ o → (r : Refusal) → TellsOfDisk r → Table {X = X} o (Err r)
+pub by_table : {S : Type 0} (X : Type 0) (table : S → Option Refusal) (at : S) (o : Option Refusal) → table at ≡ o
+    → (r : Refusal) → TellsOfDisk r → Table {X = X} o (Err r)
     → TableRefuses table (fault_of_service r)
 by_table X table at None none r tells is = page_free table r tells is
-by_table X table at (Some q) some r tells is = table_refuses table at r (some ∙ ap (λ (x : Refusal). Some x) (same_err {X = X} r q is))
+by_table X table at (Some q) some r tells is = table_refuses table at r
+    (some ∙ ap (λ (x : Refusal). Some x) (same_err {X = X} r q is))
 
-pub machine_refuses : {T : Type 0} (h : History) (call : Call) (reply : T → Reply) (Serves : History → Type 0) (r : Refusal) → TellsOfDisk r → AnswersByMachine sha256 h call reply (Err r) Serves → MachineRefuses h call (fault_of_service r)
+pub machine_refuses : {T : Type 0} (h : History) (call : Call) (reply : T → Reply) (Serves : History → Type 0)
+    (r : Refusal) → TellsOfDisk r → AnswersByMachine sha256 h call reply (Err r) Serves → MachineRefuses h call
+    (fault_of_service r)
 machine_refuses h call reply Serves service.DiskFault tells is = absurd tells
 machine_refuses h call reply Serves service.NoMemory tells is = absurd tells
 machine_refuses h call reply Serves service.Reopen tells is = absurd tells
@@ -137,14 +148,17 @@ module _ (X : Type 0) (Further : Refusal → Type 0) (table : (last : ℕ) → O
   fault_refuses service.NoMemory tells fault = absurd tells
   fault_refuses _ tells fault = absurd fault
 
-  pub by_table_or : (T : Type 0) (o : Option Refusal) → table last ≡ o → (r : Refusal) → TellsOfDisk r → IsByTable {X = T} (λ why. IsFault why ⊎ Further why) o (Err r) → Refuses r
+  pub by_table_or : (T : Type 0) (o : Option Refusal) → table last ≡ o → (r : Refusal) → TellsOfDisk r
+      → IsByTable {X = T} (λ why. IsFault why ⊎ Further why) o (Err r) → Refuses r
   by_table_or T None none r tells (inl fault) = fault_refuses r tells fault
   by_table_or T None none r tells (inr further) = further_refuses r none further
-  by_table_or T (Some q) some r tells is = first_refuses r (some ∙ ap (λ (x : Refusal). Some x) (same_err {X = T} r q is))
+  by_table_or T (Some q) some r tells is =
+      first_refuses r (some ∙ ap (λ (x : Refusal). Some x) (same_err {X = T} r q is))
 
 -- ---- what a command comes to
 
-module _ {X : Type 0} (Over : Served → Result X CommandFault → Type 0) (ByTable : Result X CommandFault → Type 0) (ByMachine : History → Result X CommandFault → Type 0) where
+module _ {X : Type 0} (Over : Served → Result X CommandFault → Type 0) (ByTable : Result X CommandFault → Type 0)
+    (ByMachine : History → Result X CommandFault → Type 0) where
   abbrev pub ComesBy : FoundDisk → Result X CommandFault → Type 0
   ComesBy t result = ComesOver Over ByTable ByMachine t result
 
@@ -153,14 +167,16 @@ module _ {X : Type 0} (Over : Served → Result X CommandFault → Type 0) (ByTa
 
   -- of a service that was opened
   module _ (t : FoundDisk) (root : RootRecord) (pages : Option Image) (opens : IsOpened t.found root pages) where
-    pub opened_result : (r : Result X CommandFault) → ((ps : Image) → pages ≡ Some ps → Over (Opened root ps) r) → ByTable r → ((h : History) → ReadsAsHeads t.found h → ByMachine h r) → IsOneOver t.found r
+    pub opened_result : (r : Result X CommandFault) → ((ps : Image) → pages ≡ Some ps → Over (Opened root ps) r)
+        → ByTable r → ((h : History) → ReadsAsHeads t.found h → ByMachine h r) → IsOneOver t.found r
     opened_result r is table machine = record {
       answer = λ image told. let o = opens image told in (Opened root o.0, o.1, is o.0 o.2);
       table = table;
       machine = machine;
     }
 
-    by_refusal : (r : Refusal) → CanCome r → (failed {X = X} r ≡ Err service.DiskFault → Rose t.before t.after) → (TellsOfDisk r → IsOneOver t.found (Err (fault_of_service r)))
+    by_refusal : (r : Refusal) → CanCome r → (failed {X = X} r ≡ Err service.DiskFault → Rose t.before t.after)
+        → (TellsOfDisk r → IsOneOver t.found (Err (fault_of_service r)))
         → ComesBy t (Err (fault_of_service r))
     by_refusal service.DiskFault other rose tells = rose refl
     by_refusal service.NoMemory other rose tells = tt
@@ -168,37 +184,50 @@ module _ {X : Type 0} (Over : Served → Result X CommandFault → Type 0) (ByTa
     by_refusal (service.Malformed place) other rose tells = absurd (other tt)
     by_refusal _ other rose tells = tells tt
 
-    pub opened_refusal : (r : Refusal) (came : CommandFault) → came ≡ fault_of_service r → CanCome r → (failed {X = X} r ≡ Err service.DiskFault → Rose t.before t.after)
+    pub opened_refusal : (r : Refusal) (came : CommandFault) → came ≡ fault_of_service r → CanCome r
+        → (failed {X = X} r ≡ Err service.DiskFault → Rose t.before t.after)
         → (TellsOfDisk r → IsOneOver t.found (Err (fault_of_service r))) → ComesBy t (Err came)
-    opened_refusal r came same other rose tells = subst (λ (f : CommandFault). ComesBy t (Err f)) (sym same) (by_refusal r other rose tells)
+    opened_refusal r came same other rose tells = subst (λ (f : CommandFault). ComesBy t (Err f)) (sym same)
+        (by_refusal r other rose tells)
 
   -- of a disk that isn't opened
-  module _ (told_so : (g : StoreFault) → Over (Unopened g) (Err (fault_of_store g))) (free : (cause : StoreCause) → ByTable (Err (fault.Unserved cause)))
-      (found : Option Image) (before after : ℕ) (f : StoreFault) (unopened : (image : Image) → found ≡ Some image → (f ≡ store.DiskFault) ⊎ IsNotOpenedFor image f)
+  module _ (told_so : (g : StoreFault) → Over (Unopened g) (Err (fault_of_store g))) (free : (cause : StoreCause)
+      → ByTable (Err (fault.Unserved cause)))
+      (found : Option Image) (before after : ℕ) (f : StoreFault) (unopened : (image : Image) → found ≡ Some image
+      → (f ≡ store.DiskFault) ⊎ IsNotOpenedFor image f)
       (answers : (f ≢ store.Taken) × (f ≢ store.NoMemory)) (rose : f ≡ store.DiskFault → Rose before after) where
-    why : (g : StoreFault) → g ≡ f → (g ≡ store.DiskFault → ⊥) → (image : Image) → found ≡ Some image → IsNotOpenedFor image g
+    why : (g : StoreFault) → g ≡ f → (g ≡ store.DiskFault → ⊥) → (image : Image) → found ≡ Some image
+        → IsNotOpenedFor image g
     why g same other image told =
-        ⊎_elim (λ is. absurd (other (same ∙ is))) (λ is. subst (IsNotOpenedFor image) (sym same) is) (unopened image told)
+        ⊎_elim (λ is. absurd (other (same ∙ is))) (λ is. subst (IsNotOpenedFor image) (sym same) is)
+        (unopened image told)
 
-    one_unserved : (g : StoreFault) (cause : StoreCause) → fault_of_store g ≡ fault.Unserved cause → ((image : Image) → found ≡ Some image → IsNotOpenedFor image g) → IsOneOver found (Err (fault.Unserved cause))
+    one_unserved : (g : StoreFault) (cause : StoreCause) → fault_of_store g ≡ fault.Unserved cause
+        → ((image : Image) → found ≡ Some image → IsNotOpenedFor image g) → IsOneOver found (Err (fault.Unserved cause))
     one_unserved g cause is refuses = record {
-      answer = λ image told. (Unopened g, refuses image told, subst (λ (w : CommandFault). Over (Unopened g) (Err w)) is (told_so g));
+      answer = λ image told.
+          (Unopened g, refuses image told, subst (λ (w : CommandFault). Over (Unopened g) (Err w)) is (told_so g));
       table = free cause;
-      machine = λ h reads. absurd (stands_opened sha256 reads.image h.name h g reads.stands (refuses reads.image reads.told));
+      machine = λ h reads. absurd (stands_opened sha256 reads.image h.name h g reads.stands
+          (refuses reads.image reads.told));
     }
 
-    pub unopened_comes : (came : CommandFault) → came ≡ fault_of_store f → ComesBy (found_disk found before after) (Err came)
-    unopened_comes came is = subst (λ (w : CommandFault). ComesBy (found_disk found before after) (Err w)) (sym is) (by f refl)
+    pub unopened_comes : (came : CommandFault) → came ≡ fault_of_store f → ComesBy (found_disk found before after)
+        (Err came)
+    unopened_comes came is = subst (λ (w : CommandFault). ComesBy (found_disk found before after) (Err w)) (sym is)
+        (by f refl)
       where
         by : (g : StoreFault) → g ≡ f → ComesBy (found_disk found before after) (Err (fault_of_store g))
         by store.Taken same = absurd (answers.0 (sym same))
         by store.Blank same = one_unserved store.Blank Blank refl (why store.Blank same (λ is. cc))
-        by (store.NotAStore slot) same = one_unserved (store.NotAStore slot) (NotAStore slot) refl (why (store.NotAStore slot) same (λ is. cc))
+        by (store.NotAStore slot) same = one_unserved (store.NotAStore slot) (NotAStore slot) refl
+            (why (store.NotAStore slot) same (λ is. cc))
         by store.DiskFault same = rose (sym same)
         by store.NoMemory same = absurd (answers.1 (sym same))
 
 -- the same of a command whose answer is a function of what the disk is served as
-module _ {X : Type 0} (finds : RootRecord → Image → Found (Result X Refusal)) (ByTable : Result X CommandFault → Type 0) (ByMachine : History → Result X CommandFault → Type 0) where
+module _ {X : Type 0} (finds : RootRecord → Image → Found (Result X Refusal)) (ByTable : Result X CommandFault → Type 0)
+    (ByMachine : History → Result X CommandFault → Type 0) where
   abbrev pub Comes : FoundDisk → Result X CommandFault → Type 0
   Comes t result = ComesTo finds ByTable ByMachine t result
 
@@ -207,27 +236,39 @@ module _ {X : Type 0} (finds : RootRecord → Image → Found (Result X Refusal)
 
   -- of a service that was opened, and what it found
   module _ (t : FoundDisk) (root : RootRecord) (pages : Option Image) (opens : IsOpened t.found root pages) where
-    pub done : (x : X) → ((ps : Image) → pages ≡ Some ps → finds root ps ≡ Is (Ok x)) → ByTable (Ok x) → ((h : History) → ReadsAsHeads t.found h → ByMachine h (Ok x)) → Comes t (Ok x)
-    done x is table machine = opened_result (IsTheAnswer finds) ByTable ByMachine t root pages opens (Ok x) (λ ps told. sym (ap result_of (is ps told))) table machine
+    pub done : (x : X) → ((ps : Image) → pages ≡ Some ps → finds root ps ≡ Is (Ok x)) → ByTable (Ok x)
+        → ((h : History) → ReadsAsHeads t.found h → ByMachine h (Ok x)) → Comes t (Ok x)
+    done x is table machine = opened_result (IsTheAnswer finds) ByTable ByMachine t root pages opens (Ok x)
+        (λ ps told. sym (ap result_of (is ps told))) table machine
 
-    pub refused : (r : Refusal) (came : CommandFault) → came ≡ fault_of_service r → CanCome r → (failed {X = X} r ≡ Err service.DiskFault → Rose t.before t.after)
-        → ((ps : Image) → pages ≡ Some ps → IsRefusalFound r (finds root ps)) → (TellsOfDisk r → ByTable (Err (fault_of_service r)))
-        → (TellsOfDisk r → (h : History) → ReadsAsHeads t.found h → ByMachine h (Err (fault_of_service r))) → Comes t (Err came)
+    pub refused : (r : Refusal) (came : CommandFault) → came ≡ fault_of_service r → CanCome r
+        → (failed {X = X} r ≡ Err service.DiskFault → Rose t.before t.after)
+        → ((ps : Image) → pages ≡ Some ps → IsRefusalFound r (finds root ps))
+        → (TellsOfDisk r → ByTable (Err (fault_of_service r)))
+        → (TellsOfDisk r → (h : History) → ReadsAsHeads t.found h → ByMachine h (Err (fault_of_service r)))
+        → Comes t (Err came)
     refused r came same other rose is table machine =
         opened_refusal (IsTheAnswer finds) ByTable ByMachine t root pages opens r came same other rose (λ tells.
-        opened_result (IsTheAnswer finds) ByTable ByMachine t root pages opens (Err (fault_of_service r)) (λ ps told. found_result r (finds root ps) tells (is ps told)) (table tells) (machine tells))
+        opened_result (IsTheAnswer finds) ByTable ByMachine t root pages opens (Err (fault_of_service r))
+        (λ ps told. found_result r (finds root ps) tells (is ps told)) (table tells) (machine tells))
 
-  pub unserved : (free : (cause : StoreCause) → ByTable (Err (fault.Unserved cause))) (found : Option Image) (before after : ℕ) (f : StoreFault)
-      → ((image : Image) → found ≡ Some image → (f ≡ store.DiskFault) ⊎ IsNotOpenedFor image f) → (f ≢ store.Taken) × (f ≢ store.NoMemory) → (f ≡ store.DiskFault → Rose before after)
+  pub unserved : (free : (cause : StoreCause) → ByTable (Err (fault.Unserved cause))) (found : Option Image)
+      (before after : ℕ) (f : StoreFault)
+      → ((image : Image) → found ≡ Some image → (f ≡ store.DiskFault) ⊎ IsNotOpenedFor image f) → (f ≢ store.Taken)
+      × (f ≢ store.NoMemory) → (f ≡ store.DiskFault → Rose before after)
       → (came : CommandFault) → came ≡ fault_of_store f → Comes (found_disk found before after) (Err came)
-  unserved free found before after f unopened answers rose came is = unopened_comes (IsTheAnswer finds) ByTable ByMachine (λ g. refl) free found before after f unopened answers rose came is
+  unserved free found before after f unopened answers rose came is = unopened_comes (IsTheAnswer finds) ByTable
+      ByMachine (λ g. refl) free found before after f unopened answers rose came is
 
   -- ---- one answer
 
   module _ (image : Image) (before after : ℕ) where
     pub one_answer : (one other : Result X CommandFault) → TellsContent one → TellsContent other
-        → Comes (found_disk (Some image) before after) one → Comes (found_disk (Some image) before after) other → one ≡ other
+        → Comes (found_disk (Some image) before after) one → Comes (found_disk (Some image) before after) other
+        → one ≡ other
     one_answer one other tells tells' a b =
-        let x = (told_result (λ found r. IsOne found r) (found_disk (Some image) before after) one tells a).answer image refl in
-        let y = (told_result (λ found r. IsOne found r) (found_disk (Some image) before after) other tells' b).answer image refl in
+        let x = (told_result (λ found r. IsOne found r) (found_disk (Some image) before after) one tells a).answer image
+        refl in
+        let y = (told_result (λ found r. IsOne found r) (found_disk (Some image) before after) other tells' b).answer
+        image refl in
         x.2 ∙ ap (λ (s : Served). answer_over finds s) (served_once image x.0 y.0 x.1 y.1) ∙ sym y.2

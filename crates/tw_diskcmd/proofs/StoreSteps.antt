@@ -21,16 +21,21 @@ use Rattle.tw_diskcmd.specs.Steps.{AddsFrom, AddsTo}
 
 module _ {D S : Type 0} (IsOf : S → Image → Type 0) (view : D → DiskView) where
   -- what is next by one relation is so by a wider one
-  pub adds_weaker : (Next Wider : S → S → Type 0) → ((s next : S) → Next s next → Wider s next) → (old new : D) → Adds IsOf view Next old new → Adds IsOf view Wider old new
+  pub adds_weaker : (Next Wider : S → S → Type 0) → ((s next : S) → Next s next → Wider s next) → (old new : D)
+      → Adds IsOf view Next old new → Adds IsOf view Wider old new
   adds_weaker Next Wider widen old new adds = λ s reads. let it = adds s reads in (it.0, widen s it.0 it.1, it.2)
 
-  since : (disk mid new : D) (s next : S) → LeavesOnly (view disk) (view mid) (view disk).may_leave → LeavesOnly (view mid) (view new) (OneOf IsOf s next) → LeavesOneOf IsOf view disk new s next
-  since disk mid new s next run left = both_of IsOf view disk new s next (joined IsOf view disk mid new s next run (one_or_old IsOf view mid new s next left))
+  since : (disk mid new : D) (s next : S) → LeavesOnly (view disk) (view mid) (view disk).may_leave
+      → LeavesOnly (view mid) (view new) (OneOf IsOf s next) → LeavesOneOf IsOf view disk new s next
+  since disk mid new s next run left = both_of IsOf view disk new s next (joined IsOf view disk mid new s next run
+      (one_or_old IsOf view mid new s next left))
 
   module _ {X : Type 0} (Next : S → S → Type 0) (Answers : X → S → S → Type 0) where
     -- a refusal, by what the call told of the disk
-    pub refused_adds : {E : Type 0} (disk_fault : E) (fault_of : E → CommandFault) → fault_of disk_fault ≡ DiskFault → (old new : D) (s next : S) → Next s next
-        → LeavesOnly (view old) (view new) (OneOf IsOf s next) → Reads (view new) (OneOf IsOf s next) → (e : E) (came : CommandFault) → came ≡ fault_of e → (e ≡ disk_fault) ⊎ RestsAtState IsOf view new s
+    pub refused_adds : {E : Type 0} (disk_fault : E) (fault_of : E → CommandFault) → fault_of disk_fault ≡ DiskFault
+        → (old new : D) (s next : S) → Next s next
+        → LeavesOnly (view old) (view new) (OneOf IsOf s next) → Reads (view new) (OneOf IsOf s next)
+        → (e : E) (came : CommandFault) → came ≡ fault_of e → (e ≡ disk_fault) ⊎ RestsAtState IsOf view new s
         → AddsFrom IsOf view old new Next Answers s (Err came)
     refused_adds disk_fault fault_of told_so old new s next is_next any_moment told e came is which = by came is
       where
@@ -43,19 +48,27 @@ module _ {D S : Type 0} (IsOf : S → Image → Type 0) (view : D → DiskView) 
         by _ is = tt
 
     -- from the disk that was opened to the one that was handed in
-    pub adds_on : (disk mid new : D) (came : Result X CommandFault) → LeavesOnly (view disk) (view mid) (view disk).may_leave
-        → ((s : S) → ReadsAsState IsOf (view disk).content s → AddsFrom IsOf view mid new Next Answers s came) → AddsTo IsOf view disk new Next Answers came
-    adds_on disk mid new (Ok x) run from = λ s reads. let it = from s reads in (it.0, it.1, (it.2, since disk mid new s it.0 run it.3))
-    adds_on disk mid new (Err DiskFault) run from = λ s reads. let it = from s reads in (it.0, it.1, (it.2, since disk mid new s it.0 run it.3))
+    pub adds_on : (disk mid new : D) (came : Result X CommandFault) → LeavesOnly (view disk) (view mid)
+        (view disk).may_leave
+        → ((s : S) → ReadsAsState IsOf (view disk).content s → AddsFrom IsOf view mid new Next Answers s came)
+        → AddsTo IsOf view disk new Next Answers came
+    adds_on disk mid new (Ok x) run from = λ s reads. let it = from s reads in
+        (it.0, it.1, (it.2, since disk mid new s it.0 run it.3))
+    adds_on disk mid new (Err DiskFault) run from = λ s reads. let it = from s reads in
+        (it.0, it.1, (it.2, since disk mid new s it.0 run it.3))
     adds_on disk mid new (Err (Refused refusal)) run from = λ s reads. from s reads
     adds_on disk mid new _ run from = tt
 
     -- a disk that wasn't opened
-    pub unopened_adds : ((s : S) → (next : S) × Next s next) → (disk new : D) (f : StoreFault) (came : CommandFault) → came ≡ fault_of_store f → (f ≢ store.Taken) × (f ≢ store.NoMemory)
-        → (view new).content ≡ (view disk).content → LeavesOnly (view disk) (view new) (view disk).may_leave → AddsTo IsOf view disk new Next Answers (Err came)
-    unopened_adds some disk new f came is never same run = subst (λ (c : CommandFault). AddsTo IsOf view disk new Next Answers (Err c)) (sym is) (by f never)
+    pub unopened_adds : ((s : S) → (next : S) × Next s next) → (disk new : D) (f : StoreFault) (came : CommandFault)
+        → came ≡ fault_of_store f → (f ≢ store.Taken) × (f ≢ store.NoMemory)
+        → (view new).content ≡ (view disk).content → LeavesOnly (view disk) (view new) (view disk).may_leave
+        → AddsTo IsOf view disk new Next Answers (Err came)
+    unopened_adds some disk new f came is never same run =
+        subst (λ (c : CommandFault). AddsTo IsOf view disk new Next Answers (Err c)) (sym is) (by f never)
       where
-        by : (f : StoreFault) → (f ≢ store.Taken) × (f ≢ store.NoMemory) → AddsTo IsOf view disk new Next Answers (Err (fault_of_store f))
+        by : (f : StoreFault) → (f ≢ store.Taken) × (f ≢ store.NoMemory) → AddsTo IsOf view disk new Next Answers
+            (Err (fault_of_store f))
         by store.Taken never = absurd (never.0 refl)
         by store.Blank never = tt
         by (store.NotAStore slot) never = tt
@@ -63,16 +76,22 @@ module _ {D S : Type 0} (IsOf : S → Image → Type 0) (view : D → DiskView) 
             let next = some s in (
               next.0,
               next.1,
-              (record { image = reads.image; told = same ∙ reads.told; has = inl reads.stands }, both_of IsOf view disk new s next.0 (old_or_one IsOf view disk new s next.0 run)),
+              (
+                record { image = reads.image; told = same ∙ reads.told; has = inl reads.stands },
+                both_of IsOf view disk new s next.0 (old_or_one IsOf view disk new s next.0 run),
+              ),
             )
         by store.NoMemory never = tt
 
 -- a store at rest with a record and pages is over a disk that rests with them
-pub rests_as : {D R : Type 0} {g : _} (view : D → DiskView) (kind : RecordKind R) (store : Store D g) (w : Written R) → RestsWith view kind store w → RestsAtState (IsWritten kind) view (store_disk store) w
-rests_as view kind store w rest = own_rest (IsWritten kind) view (store_disk store) w (rest_for_good view kind store w rest)
+pub rests_as : {D R : Type 0} {g : _} (view : D → DiskView) (kind : RecordKind R) (store : Store D g) (w : Written R)
+    → RestsWith view kind store w → RestsAtState (IsWritten kind) view (store_disk store) w
+rests_as view kind store w rest = own_rest (IsWritten kind) view (store_disk store) w
+    (rest_for_good view kind store w rest)
 
 -- of record and pages, by what the store committed
-module _ {D R X E : Type 0} {g : _} (view : D → DiskView) (kind : RecordKind R) (disk_fault : E) (IsNext : (w next : Written R) → Type 0) (IsAnswer : X → (w next : Written R) → Type 0)
+module _ {D R X E : Type 0} {g : _} (view : D → DiskView) (kind : RecordKind R) (disk_fault : E)
+    (IsNext : (w next : Written R) → Type 0) (IsAnswer : X → (w next : Written R) → Type 0)
     (old new : Store D g) (before after : R) (ps : Image) where
   abbrev w : Written R
   w = written_record before ps
@@ -81,14 +100,18 @@ module _ {D R X E : Type 0} {g : _} (view : D → DiskView) (kind : RecordKind R
       → AddsFrom (IsWritten kind) view (store_disk old) (store_disk new) (StaysOr IsNext) IsAnswer w (Ok x)
   answered_commits x c = (c.next, c.done.0, rests_as view kind new c.next c.done.2, c.any_moment)
 
-  pub refused_commits : (fault_of : E → CommandFault) → fault_of disk_fault ≡ DiskFault → (e : E) (came : CommandFault) → came ≡ fault_of e
-      → Commits view kind disk_fault IsNext IsAnswer old new before after (Err e) ps → AddsFrom (IsWritten kind) view (store_disk old) (store_disk new) (StaysOr IsNext) IsAnswer w (Err came)
+  pub refused_commits : (fault_of : E → CommandFault) → fault_of disk_fault ≡ DiskFault → (e : E) (came : CommandFault)
+      → came ≡ fault_of e
+      → Commits view kind disk_fault IsNext IsAnswer old new before after (Err e) ps → AddsFrom (IsWritten kind) view
+      (store_disk old) (store_disk new) (StaysOr IsNext) IsAnswer w (Err came)
   refused_commits fault_of told_so e came is c =
-      refused_adds (IsWritten kind) view (StaysOr IsNext) IsAnswer disk_fault fault_of told_so (store_disk old) (store_disk new) w c.next c.is_next c.any_moment c.told e came is
+      refused_adds (IsWritten kind) view (StaysOr IsNext) IsAnswer disk_fault fault_of told_so (store_disk old)
+      (store_disk new) w c.next c.is_next c.any_moment c.told e came is
       (⊎_elim (λ same. inl same) (λ kept. inr (rests_as view kind new w kept.0)) c.refused)
 
 -- a refusal that isn't told as a disk fault is none
-pub nothing_written : (X : Type 0) {E : Type 0} (disk_fault : E) (fault_of : E → CommandFault) → fault_of disk_fault ≡ DiskFault → (e : E) (came : CommandFault) → came ≡ fault_of e
+pub nothing_written : (X : Type 0) {E : Type 0} (disk_fault : E) (fault_of : E → CommandFault)
+    → fault_of disk_fault ≡ DiskFault → (e : E) (came : CommandFault) → came ≡ fault_of e
     → (P : Type 0) → (e ≡ disk_fault) ⊎ P → WritesNothing {X = X} (Err came) → P
 nothing_written X disk_fault fault_of told_so e came is P (inr holds) nothing = holds
 nothing_written X disk_fault fault_of told_so e came is P (inl fault) nothing =

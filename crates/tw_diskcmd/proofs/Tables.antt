@@ -4,8 +4,11 @@ use Rattle.std.specs.Prelude.{Option, Some, None, if◌then◌else◌, nat_le, n
 use Rattle.std.specs.Str.{bytes_eq}
 use Rattle.tw_base.specs.declared.kinds.limits.TheConstants.{LAST_STEP, MOST_EVENTS, MOST_STEP_BYTES}
 use Rattle.tw_answers.specs.declared.refusal.Refusal.{Refusal}
-use Rattle.tw_answers.specs.declared.refusal.Refusal.TheVariants.{NoStep, NoThread, HasThread, TooMany, TooLong, Full, ClockBack, Own}
-use Rattle.tw_answers.specs.Limits.{append_refusal, clock_refusal, events_size, first_long, full_refusal, is_in_order, length_refusal, limits_refusal, link_refusal, or_else, order_refusal, own_refusal, thread_refusal, top_refusal}
+use Rattle.tw_answers.specs.declared.refusal.Refusal.TheVariants.{NoStep, NoThread, HasThread, TooMany, TooLong, Full}
+use Rattle.tw_answers.specs.declared.refusal.Refusal.TheVariants.{ClockBack, Own}
+use Rattle.tw_answers.specs.Limits.{append_refusal, clock_refusal, events_size, first_long, full_refusal, is_in_order}
+use Rattle.tw_answers.specs.Limits.{length_refusal, limits_refusal, link_refusal, or_else, order_refusal, own_refusal}
+use Rattle.tw_answers.specs.Limits.{thread_refusal, top_refusal}
 use Rattle.tw_answers.specs.Refusals.{IsHasThread, IsNoThread, IsTooLong}
 use Rattle.tw_answers.proofs.TableAnswers.{Of}
 use Rattle.tw_diskcmd.proofs.Results.{CanCome}
@@ -27,12 +30,14 @@ clock_can (Some last) (Some given) = can_if (nat_lt given last) (Some (ClockBack
 clock_can (Some last) None = tt
 clock_can None time = tt
 
-pub append_can : (steps : ℕ) (clock : Option ℕ) (events : List (List ℕ)) (time : Option ℕ) → Of CanCome (append_refusal false steps clock events time)
+pub append_can : (steps : ℕ) (clock : Option ℕ) (events : List (List ℕ)) (time : Option ℕ)
+    → Of CanCome (append_refusal false steps clock events time)
 unfolding append_refusal limits_refusal
 append_can steps clock events time =
     can_or (full_refusal steps) _ (can_if (nat_le LAST_STEP steps) (Some Full) None (λ never. never) tt)
     (can_or (limits_refusal events) _
-    (can_if (nat_lt MOST_EVENTS (length events)) (Some (TooMany (length events))) (length_refusal (first_long events) (events_size events)) (λ never. never) (lengths_can (first_long events) (events_size events)))
+    (can_if (nat_lt MOST_EVENTS (length events)) (Some (TooMany (length events))) (length_refusal (first_long events)
+    (events_size events)) (λ never. never) (lengths_can (first_long events) (events_size events)))
     (clock_can clock time))
 
 pub order_can : (last step top : ℕ) → Of CanCome (order_refusal false last step top)
@@ -45,7 +50,8 @@ thread_can last since = can_if (nat_lt 0 last && nat_le since last) None (Some (
 
 pub link_can : (last step top : ℕ) → Of CanCome (link_refusal false last step top)
 unfolding link_refusal
-link_can last step top = can_if (nat_le step top && (nat_le 1 top && nat_le top last)) None (Some (NoStep last)) tt (λ never. never)
+link_can last step top = can_if (nat_le step top && (nat_le 1 top && nat_le top last)) None (Some (NoStep last)) tt
+    (λ never. never)
 
 pub top_can : (last top : ℕ) → Of CanCome (top_refusal false last top)
 unfolding top_refusal

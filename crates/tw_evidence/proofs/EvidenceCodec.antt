@@ -17,7 +17,8 @@ use Rattle.tw_chain.specs.declared.proof.ThreadProof.{ThreadProof}
 use Rattle.tw_chain.specs.Proofs.{kinds_codec, proof_codec, proof_layout, thread_body}
 use Rattle.tw_chain.proofs.ProofCodec.{link-lawful, proof-lawful, thread-lawful}
 use Rattle.tw_evidence.specs.declared.evidence.Evidence.{Evidence}
-use Rattle.tw_evidence.specs.Evidence.{evidence_codec, link_proof_codec, link_proof_layout, thread_proof_codec, thread_proof_layout}
+use Rattle.tw_evidence.specs.Evidence.{evidence_codec, link_proof_codec, link_proof_layout, thread_proof_codec}
+use Rattle.tw_evidence.specs.Evidence.{thread_proof_layout}
 
 pub thread_proof-lawful : Lawful thread_proof_codec
 unfolding thread_proof_codec
@@ -83,16 +84,19 @@ unfolding proof_codec kinds_codec thread_proof_codec behind by_kind variant numb
 thread-from t fits = fits.1.1
 
 -- what is written of it is a proof
-pub thread-spells : (t : ThreadProof) → thread_proof_codec.Fits t → Spells proof_layout (proof_codec.write (Archived t)) (Archived t)
+pub thread-spells : (t : ThreadProof) → thread_proof_codec.Fits t → Spells proof_layout (proof_codec.write (Archived t))
+    (Archived t)
 thread-spells t fits = proof-lawful.spells (Archived t) (thread-to t fits)
 
-pub thread-is-proof : (bytes : List ℕ) (t : ThreadProof) → Spells thread_proof_layout bytes t → Spells proof_layout bytes (Archived t)
+pub thread-is-proof : (bytes : List ℕ) (t : ThreadProof) → Spells thread_proof_layout bytes t
+    → Spells proof_layout bytes (Archived t)
 thread-is-proof bytes t s =
     let P : List ℕ → Type 0 = λ w. Spells proof_layout w (Archived t) in
     subst P (sym (written-as thread_proof_codec thread_proof-lawful bytes t s ∙ thread-written t))
     (thread-spells t (spelled-fits thread_proof_codec thread_proof-lawful bytes t s))
 
-pub proof-is-thread : (bytes : List ℕ) (t : ThreadProof) → Spells proof_layout bytes (Archived t) → Spells thread_proof_layout bytes t
+pub proof-is-thread : (bytes : List ℕ) (t : ThreadProof) → Spells proof_layout bytes (Archived t)
+    → Spells thread_proof_layout bytes t
 proof-is-thread bytes t s =
     let P : List ℕ → Type 0 = λ w. Spells thread_proof_layout w t in
     subst P (thread-written t ∙ sym (written-as proof_codec proof-lawful bytes (Archived t) s))
@@ -110,13 +114,15 @@ link-from : (l : LinkProof) → proof_codec.Fits (Linked l) → link_proof_codec
 unfolding proof_codec kinds_codec link_proof_codec behind by_kind variant number_codec
 link-from l fits = fits.1.1
 
-pub link-is-proof : (bytes : List ℕ) (l : LinkProof) → Spells link_proof_layout bytes l → Spells proof_layout bytes (Linked l)
+pub link-is-proof : (bytes : List ℕ) (l : LinkProof) → Spells link_proof_layout bytes l → Spells proof_layout bytes
+    (Linked l)
 link-is-proof bytes l s =
     let P : List ℕ → Type 0 = λ w. Spells proof_layout w (Linked l) in
     subst P (sym (written-as link_proof_codec link_proof-lawful bytes l s ∙ link-written l))
     (proof-lawful.spells (Linked l) (link-to l (spelled-fits link_proof_codec link_proof-lawful bytes l s)))
 
-pub proof-is-link : (bytes : List ℕ) (l : LinkProof) → Spells proof_layout bytes (Linked l) → Spells link_proof_layout bytes l
+pub proof-is-link : (bytes : List ℕ) (l : LinkProof) → Spells proof_layout bytes (Linked l) → Spells link_proof_layout
+    bytes l
 proof-is-link bytes l s =
     let P : List ℕ → Type 0 = λ w. Spells link_proof_layout w l in
     subst P (link-written l ∙ sym (written-as proof_codec proof-lawful bytes (Linked l) s))

@@ -29,7 +29,8 @@ use Rattle.tw_chain.proofs.PieceSizes.{path-sizes}
 use Rattle.tw_chain.proofs.ProofCodec.{proof-lawful}
 use Rattle.tw_evidence.specs.ArchiveFiles.{archive_texts}
 use Rattle.tw_evidence.specs.Facts.{conflict_of, earlier_thread, is_same_line, later}
-use Rattle.tw_evidence.specs.Verdicts.{IsLink, NoneHas, Says, held_lines, joins, leads_down, link_leads, link_proof_texts}
+use Rattle.tw_evidence.specs.Verdicts.{IsLink, NoneHas, Says, held_lines, joins, leads_down, link_leads}
+use Rattle.tw_evidence.specs.Verdicts.{link_proof_texts}
 use Rattle.tw_evidence.specs.declared.facts.Conflict.{Conflict}
 use Rattle.tw_evidence.specs.declared.facts.Facts.{Facts}
 use Rattle.tw_evidence.proofs.Conflicts.{both-none}
@@ -49,7 +50,8 @@ link-sizes bytes l spells =
 
 -- ---- which line is which
 
-either-line : (P : Thread → Thread → Type 0) (one other : Thread) → P (earlier_thread one other) (later one other) → ((a b : Thread) → P a b → P b a) → P one other
+either-line : (P : Thread → Thread → Type 0) (one other : Thread) → P (earlier_thread one other) (later one other)
+    → ((a b : Thread) → P a b → P b a) → P one other
 either-line P one other is turn = by (nat_le one.step other.step) is
   where
     by : (b : Bool) → P (if b then one else other) (if b then other else one) → P one other
@@ -67,13 +69,16 @@ module _ (dig : List ℕ → List ℕ) (family : List History) where
   abbrev Has : Thread → Type 0
   Has t = HasThread dig family t
 
-  has-lines : (one other : Thread) → Has (earlier_thread one other) → Has (later one other) → HasThreads dig family (one ∷ other ∷ [])
+  has-lines : (one other : Thread) → Has (earlier_thread one other) → Has (later one other) → HasThreads dig family
+      (one ∷ other ∷ [])
   has-lines one other low high =
-      either-line (λ a b. HasThreads dig family (a ∷ b ∷ [])) one other (low, (high, tt)) (λ a b is. (is.1.0, (is.0, tt)))
+      either-line (λ a b. HasThreads dig family (a ∷ b ∷ [])) one other (low, (high, tt))
+      (λ a b is. (is.1.0, (is.0, tt)))
 
   same_thread : (one other : Thread) → is_same_line one other ≡ true → one ≡ other
   same_thread one other is =
-      let names = and_parts (bytes_eq one.from other.from) (one.step == other.step && bytes_eq one.auth other.auth) is in
+      let names = and_parts (bytes_eq one.from other.from) (one.step == other.step && bytes_eq one.auth other.auth)
+      is in
       let rest = and_parts (one.step == other.step) (bytes_eq one.auth other.auth) names.1 in
       let from : one.from ≡ other.from = (bytes_eq-Decides one.from other.from).0 names.0 in
       let step : one.step ≡ other.step = eqb-true one.step other.step rest.0 in
@@ -81,7 +86,8 @@ module _ (dig : List ℕ → List ℕ) (family : List History) where
       λ j. record { from = from j; step = step j; auth = auth_is j }
 
   -- one line is both
-  same-lines : (one other : Thread) → is_same_line one other ≡ true → Has (later one other) → HasThreads dig family (one ∷ other ∷ [])
+  same-lines : (one other : Thread) → is_same_line one other ≡ true → Has (later one other) → HasThreads dig family
+      (one ∷ other ∷ [])
   same-lines one other is has =
       let same : one ≡ other = same_thread one other is in
       let later_is : later one other ≡ other = by (nat_le one.step other.step) in
@@ -93,56 +99,72 @@ module _ (dig : List ℕ → List ℕ) (family : List History) where
       by false = same_thread one other is
 
   -- what the link leads down to
-  module _ (size : (text : List ℕ) → length (dig text) ≡ 32) (are : (text : List ℕ) → AreBytes (dig text)) (sound : AllSound family) where
-    led : (texts : List (List ℕ)) (lower upper : Thread) (l : LinkProof) → LinkSizes l → lower.step ≤ upper.step → leads_down dig lower upper l ≡ true
-        → Within (path_texts dig l.path.links l.top l.step l.auth) texts → Has upper → OrClash dig (family_texts dig family ++ texts) (Has lower)
+  module _ (size : (text : List ℕ) → length (dig text) ≡ 32) (are : (text : List ℕ) → AreBytes (dig text))
+      (sound : AllSound family) where
+    led : (texts : List (List ℕ)) (lower upper : Thread) (l : LinkProof) → LinkSizes l → lower.step ≤ upper.step
+        → leads_down dig lower upper l ≡ true
+        → Within (path_texts dig l.path.links l.top l.step l.auth) texts → Has upper
+        → OrClash dig (family_texts dig family ++ texts) (Has lower)
     led texts lower upper l sizes order is within has =
         let one = and_parts (bytes_eq l.service lower.from) _ is in
         let two = and_parts (bytes_eq l.service upper.from) _ one.1 in
         let three = and_parts (l.step == lower.step) _ two.1 in
         let four = and_parts (l.top == upper.step) _ three.1 in
-        let five = and_parts (bytes_eq l.auth lower.auth) (climbs dig l.path.links l.top l.step l.auth (Some upper.auth)) four.1 in
+        let five = and_parts (bytes_eq l.auth lower.auth) (climbs dig l.path.links l.top l.step l.auth
+        (Some upper.auth)) four.1 in
         let low_name : l.service ≡ lower.from = (bytes_eq-Decides l.service lower.from).0 one.0 in
         let high_name : l.service ≡ upper.from = (bytes_eq-Decides l.service upper.from).0 two.0 in
         let low : l.step ≡ lower.step = eqb-true l.step lower.step three.0 in
         let high : l.top ≡ upper.step = eqb-true l.top upper.step four.0 in
         let bottom : l.auth ≡ lower.auth = (bytes_eq-Decides l.auth lower.auth).0 five.0 in
-        let climbed : Climbs dig l.path.links l.top l.step l.auth upper.auth = (climbs-is dig l.path.links l.top l.step l.auth (Some upper.auth)).0 five.1 in
+        let climbed : Climbs dig l.path.links l.top l.step l.auth upper.auth =
+        (climbs-is dig l.path.links l.top l.step l.auth (Some upper.auth)).0 five.1 in
         let h : History = has.0 in
         let path : List (List ℕ) = path_texts dig l.path.links l.top l.step l.auth in
         let all : List (List ℕ) = family_texts dig family ++ texts in
         let inside : l.top ≤ length h.steps = (let most = has.2 in omega (arith, high, most)) in
         let reaches : auth dig h l.top ≡ upper.auth = ap (auth dig h) high ∙ has.3 in
-        let name : HasHistory family lower.from h = subst (λ (n : List ℕ). HasHistory family n h) (sym high_name ∙ low_name) has.1 in
+        let name : HasHistory family lower.from h = subst (λ (n : List ℕ). HasHistory family n h)
+        (sym high_name ∙ low_name) has.1 in
         and_then dig all _ _
         (OrClash-wider dig (history_texts dig h ++ path) all (l.auth ≡ auth dig h l.step)
         (joined_within (history_texts dig h) path all
         (λ t a. Among-left t (family_texts dig family) texts (texts_within dig family upper.from h has.1 t a))
         (λ t a. Among-right t (family_texts dig family) texts (within t a)))
-        (climb-binds dig size are h l.path.links l.top l.step l.auth (sound_of family upper.from h sound has.1) sizes.auth sizes.links climbed.shape
+        (climb-binds dig size are h l.path.links l.top l.step l.auth (sound_of family upper.from h sound has.1)
+        sizes.auth sizes.links climbed.shape
         (omega (arith, order, low, high)) inside (climbed.reaches ∙ sym reaches)))
         (λ same. inl (h, name, omega (arith, order, high, inside, low), ap (auth dig h) (sym low) ∙ sym same ∙ bottom))
 
 -- ---- no sound history has the later line of two that are joined
 
-module _ (dig : List ℕ → List ℕ) (size : (text : List ℕ) → length (dig text) ≡ 32) (are : (text : List ℕ) → AreBytes (dig text)) (anchors others : List Thread)
-    (first second : List ℕ) (one other : Facts) (c : Conflict) (said : Says dig anchors first one) (also : Says dig others second other) (is : conflict_of one other ≡ Some c) where
+module _ (dig : List ℕ → List ℕ) (size : (text : List ℕ) → length (dig text) ≡ 32) (are : (text : List ℕ)
+    → AreBytes (dig text)) (anchors others : List Thread)
+    (first second : List ℕ) (one other : Facts) (c : Conflict) (said : Says dig anchors first one)
+    (also : Says dig others second other) (is : conflict_of one other ≡ Some c) where
   abbrev files_texts : Option LinkProof → List (List ℕ)
   files_texts link = archive_texts dig said.proof ++ (archive_texts dig also.proof ++ link_proof_texts dig link)
 
-  pub joined-none : (link : List ℕ) (between : Option LinkProof) → IsLink link between → joins dig one.line other.line between ≡ true
+  pub joined-none : (link : List ℕ) (between : Option LinkProof) → IsLink link between → joins dig one.line other.line
+      between ≡ true
       → NoneHas dig (later one.line other.line ∷ []) (files_texts between)
   joined-none link None is_link joined family sound has =
-      both-none dig size are anchors others first second one other c [] said also is family sound (same-lines dig family one.line other.line joined has.0)
+      both-none dig size are anchors others first second one other c [] said also is family sound
+      (same-lines dig family one.line other.line joined has.0)
   joined-none link (Some l) is_link joined family sound has =
       let path : List (List ℕ) = path_texts dig l.path.links l.top l.step l.auth in
       let texts : List (List ℕ) = files_texts (Some l) in
       and_then dig (family_texts dig family ++ texts) _ _
-      (led dig family size are sound texts (earlier_thread one.line other.line) (later one.line other.line) l (link-sizes link l is_link) (in_order one.line other.line) joined
-      (λ t a. Among-right t (archive_texts dig said.proof) (archive_texts dig also.proof ++ path) (Among-right t (archive_texts dig also.proof) path a)) has.0)
-      (λ low. both-none dig size are anchors others first second one other c path said also is family sound (has-lines dig family one.line other.line low has.0))
+      (led dig family size are sound texts (earlier_thread one.line other.line) (later one.line other.line) l
+      (link-sizes link l is_link) (in_order one.line other.line) joined
+      (λ t a. Among-right t (archive_texts dig said.proof) (archive_texts dig also.proof ++ path)
+      (Among-right t (archive_texts dig also.proof) path a)) has.0)
+      (λ low. both-none dig size are anchors others first second one other c path said also is family sound
+      (has-lines dig family one.line other.line low has.0))
 
-  pub lines-none : (is_joined : Bool) (link : List ℕ) (between : Option LinkProof) → IsLink link between → joins dig one.line other.line between ≡ is_joined
+  pub lines-none : (is_joined : Bool) (link : List ℕ) (between : Option LinkProof) → IsLink link between
+      → joins dig one.line other.line between ≡ is_joined
       → NoneHas dig (held_lines is_joined one.line other.line) (files_texts between)
   lines-none true link between is_link joined = joined-none link between is_link joined
-  lines-none false link between is_link joined = both-none dig size are anchors others first second one other c (link_proof_texts dig between) said also is
+  lines-none false link between is_link joined = both-none dig size are anchors others first second one other c
+      (link_proof_texts dig between) said also is

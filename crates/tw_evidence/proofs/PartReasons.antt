@@ -8,7 +8,8 @@ use Rattle.std.proofs.lemmas.Bool.{and_cases, false_from_ne_true, leb-false, not
 use Rattle.std.proofs.lemmas.Bool.Decides.{not_from_Decides}
 use Rattle.std.proofs.lemmas.Slice.Eq.{bytes_eq-Decides}
 use Rattle.tw_base.specs.declared.history.report.Reason.{Reason}
-use Rattle.tw_base.specs.declared.history.report.Reason.TheVariants.{Malformed, BadOrder, NotHeld, BadPath, BadOpening, BadEvent, BadTree, Carried}
+use Rattle.tw_base.specs.declared.history.report.Reason.TheVariants.{Malformed, BadOrder, NotHeld, BadPath, BadOpening}
+use Rattle.tw_base.specs.declared.history.report.Reason.TheVariants.{BadEvent, BadTree, Carried}
 use Rattle.tw_base.specs.declared.history.thread.Thread.{Thread}
 use Rattle.tw_base.specs.format.Formats.{Spells}
 use Rattle.tw_base.specs.history.Reasons.{IsNoHigher, reason_number}
@@ -31,7 +32,8 @@ use Rattle.tw_evidence.specs.declared.fork.ForkReason.TheVariants.{Malformed as 
 use Rattle.tw_evidence.specs.declared.fork.ForkVerdict.{ForkVerdict}
 use Rattle.tw_evidence.specs.declared.fork.ForkVerdict.TheVariants.{Yes, No}
 use Rattle.tw_evidence.specs.Evidence.{thread_proof_codec}
-use Rattle.tw_evidence.specs.Forks.{HasNoConflict, IsEvidenceAccepted, IsReasonTold, are_in_order, conflict_verdict, conflicts, fork_of, fork_verdict, link_climbs, lower, upper}
+use Rattle.tw_evidence.specs.Forks.{HasNoConflict, IsEvidenceAccepted, IsReasonTold, are_in_order, conflict_verdict}
+use Rattle.tw_evidence.specs.Forks.{conflicts, fork_of, fork_verdict, link_climbs, lower, upper}
 use Rattle.tw_evidence.proofs.EvidenceCodec.{thread-spells}
 use Rattle.tw_evidence.proofs.Verdicts.{conflicts-is, passing-found}
 
@@ -45,7 +47,8 @@ module _ (dig : List ℕ → List ℕ) (anchors : List Thread) (t : ThreadProof)
   -- a reason that stands in the form that isn't strict is that of a check
   against-fails : (reason : Reason) → Against reason → FailsFor reason
   against-fails (Malformed place) is = absurd is
-  against-fails (NotHeld service step) is = first-fails dig anchors false (checks (Archived t)) (record { from = service; step = step }) is
+  against-fails (NotHeld service step) is = first-fails dig anchors false (checks (Archived t))
+      (record { from = service; step = step }) is
   against-fails (Carried count) is = absurd (let no : false ≡ true = is.0 in cc)
   against-fails BadOrder is = is
   against-fails (BadPath part) is = is
@@ -56,7 +59,8 @@ module _ (dig : List ℕ → List ℕ) (anchors : List Thread) (t : ThreadProof)
   -- the reasons of a proof of kind 3: of its orders, of its anchor, of its path and of its tree proof
   abbrev Known : Reason → Type 0
   Known reason =
-      (reason ≡ BadOrder) ⊎ ((reason ≡ NotHeld (top_of t.at).from (top_of t.at).step) ⊎ ((reason ≡ BadPath 0) ⊎ (reason ≡ BadTree 0)))
+      (reason ≡ BadOrder) ⊎ ((reason ≡ NotHeld (top_of t.at).from (top_of t.at).step)
+      ⊎ ((reason ≡ BadPath 0) ⊎ (reason ≡ BadTree 0)))
 
   known : (reason : Reason) → FailsFor reason → Known reason
   known reason (inl order) = inl order.0
@@ -91,14 +95,18 @@ module _ (dig : List ℕ → List ℕ) (anchors : List Thread) (t : ThreadProof)
     same : (q : Proof) → Spells proof_layout word q → q ≡ Archived t
     same q also = one_value proof_layout word q (Archived t) also spells
 
-    against : (q : Proof) (reason : Reason) → Spells proof_layout word q → StandsAgainst dig anchors false q reason → FailsFor reason
-    against q reason also stands = against-fails reason (subst (λ q. StandsAgainst dig anchors false q reason) (same q also) stands)
+    against : (q : Proof) (reason : Reason) → Spells proof_layout word q → StandsAgainst dig anchors false q reason
+        → FailsFor reason
+    against q reason also stands = against-fails reason (subst (λ q. StandsAgainst dig anchors false q reason)
+        (same q also) stands)
 
     -- what is found is told
     pub found-verdict : (reason : Reason) → found_in dig anchors (checks (Archived t)) ≡ Some reason → IsRejected reason
     found-verdict reason some =
-        let least : IsLeast dig anchors false (checks (Archived t)) reason = found-lowest dig anchors false (checks (Archived t)) reason some in (
-          λ accepts. absurd (passing-fails dig anchors false (checks (Archived t)) reason (subst (IsAccepted dig anchors) (same accepts.0 accepts.1) accepts.2) least.fails),
+        let least : IsLeast dig anchors false (checks (Archived t)) reason = found-lowest dig anchors false
+        (checks (Archived t)) reason some in (
+          λ accepts. absurd (passing-fails dig anchors false (checks (Archived t)) reason
+              (subst (IsAccepted dig anchors) (same accepts.0 accepts.1) accepts.2) least.fails),
           record {
             stands = inr (Archived t, spells, least-stands reason least);
             lowest = λ other. elim [
@@ -110,7 +118,8 @@ module _ (dig : List ℕ → List ℕ) (anchors : List Thread) (t : ThreadProof)
 
     -- one reason of each number stands against it
     abbrev of_number : ℕ → Reason
-    of_number n = if n == 2 then BadOrder else (if n == 3 then NotHeld (top_of t.at).from (top_of t.at).step else (if n == 4 then BadPath 0 else BadTree 0))
+    of_number n = if n == 2 then BadOrder else (if n == 3 then NotHeld (top_of t.at).from (top_of t.at).step
+        else (if n == 4 then BadPath 0 else BadTree 0))
 
     known-number : (reason : Reason) → Known reason → reason ≡ of_number (reason_number reason)
     known-number reason (inl order) = rw order refl
@@ -125,7 +134,8 @@ module _ (dig : List ℕ → List ℕ) (anchors : List Thread) (t : ThreadProof)
           | inr proof ↦ known reason (against proof.0 reason proof.1 proof.2)
         ]
 
-    same-number : (one other : Reason) → IsNoHigher one other → IsNoHigher other one → reason_number one ≡ reason_number other
+    same-number : (one other : Reason) → IsNoHigher one other → IsNoHigher other one → reason_number one ≡ reason_number
+        other
     same-number one other (inl a) (inl b) = absurd (omega (arith, a, b))
     same-number one other (inl a) (inr b) = absurd (omega (arith, a, b.0))
     same-number one other (inr a) b = a.0
@@ -140,14 +150,16 @@ module _ (dig : List ℕ → List ℕ) (anchors : List Thread) (t : ThreadProof)
     verdict-found reason is =
         let cases : (found : Option Reason) → found_in dig anchors (checks (Archived t)) ≡ found → found ≡ Some reason =
         elim [
-          | None ↦ λ none. absurd (let no : false ≡ true = (is.0 (Archived t, spells, found-none dig anchors false (checks (Archived t)) none)).0 in cc)
+          | None ↦ λ none. absurd (let no : false ≡ true =
+              (is.0 (Archived t, spells, found-none dig anchors false (checks (Archived t)) none)).0 in cc)
           | Some other ↦ λ some. ap (λ (r : Reason). Some r) (told-once other reason (found-verdict other some) is)
         ]
         in cases (found_in dig anchors (checks (Archived t))) refl
 
 -- ---- the reason that is told of evidence
 
-module _ (dig : List ℕ → List ℕ) (anchors : List Thread) (e : Evidence) (first_fits : thread_proof_codec.Fits e.first) (second_fits : thread_proof_codec.Fits e.second) where
+module _ (dig : List ℕ → List ℕ) (anchors : List Thread) (e : Evidence) (first_fits : thread_proof_codec.Fits e.first)
+    (second_fits : thread_proof_codec.Fits e.second) where
   abbrev one : Option Reason
   one = found_in dig anchors (checks (Archived e.first))
 
@@ -160,17 +172,24 @@ module _ (dig : List ℕ → List ℕ) (anchors : List Thread) (e : Evidence) (f
       (if not conflict then No NoConflict else (if climbs then Yes (fork_of e) else No BadLink)))
 
   accepted : one ≡ None → two ≡ None → IsEvidenceAccepted dig anchors e
-  accepted a b = (found-none dig anchors false (checks (Archived e.first)) a, found-none dig anchors false (checks (Archived e.second)) b)
+  accepted a b = (
+    found-none dig anchors false (checks (Archived e.first)) a,
+    found-none dig anchors false (checks (Archived e.second)) b,
+  )
 
   -- where the threads don't conflict, one of the three is so
   no_conflict : conflicts e ≡ false → HasNoConflict e
   no_conflict is =
       elim (and_cases (are_in_order (lower e) (upper e)) (not (bytes_eq e.bottom (lower e).auth)) is) [
-        | inl order ↦ elim (and_cases (bytes_eq (lower e).from (upper e).from) (nat_le (lower e).step (upper e).step) order) [
-          | inl services ↦ inl (not_from_Decides (bytes_eq (lower e).from (upper e).from) (bytes_eq-Decides (lower e).from (upper e).from) services)
-          | inr steps ↦ inr (inl (leb-false (lower e).step (upper e).step steps))
-        ]
-        | inr differs ↦ inr (inr ((bytes_eq-Decides e.bottom (lower e).auth).0 (not-false (bytes_eq e.bottom (lower e).auth) differs)))
+        | inl order ↦ elim (and_cases (bytes_eq (lower e).from (upper e).from) (nat_le (lower e).step (upper e).step)
+            order) [
+              | inl services ↦ inl (not_from_Decides (bytes_eq (lower e).from (upper e).from)
+                  (bytes_eq-Decides (lower e).from (upper e).from) services)
+              | inr steps ↦ inr (inl (leb-false (lower e).step (upper e).step steps))
+            ]
+        | inr differs ↦
+            inr (inr ((bytes_eq-Decides e.bottom (lower e).auth).0 (not-false (bytes_eq e.bottom (lower e).auth)
+            differs)))
       ]
 
   -- and where they do, none
@@ -185,7 +204,8 @@ module _ (dig : List ℕ → List ℕ) (anchors : List Thread) (e : Evidence) (f
   climbs_as : Decides (link_climbs dig e) PathClimbs
   climbs_as = climbs-is dig e.link.links (upper e).step (lower e).step e.bottom (Some (upper e).auth)
 
-  told : (reason : ForkReason) (first second : Option Reason) (conflict climbs : Bool) → one ≡ first → two ≡ second → conflicts e ≡ conflict → link_climbs dig e ≡ climbs
+  told : (reason : ForkReason) (first second : Option Reason) (conflict climbs : Bool) → one ≡ first → two ≡ second
+      → conflicts e ≡ conflict → link_climbs dig e ≡ climbs
       → with_found first second conflict climbs ≡ No reason → IsReasonTold dig anchors e reason
   told reason (Some r) second conflict climbs a b c d is =
       let same : Part 1 r ≡ reason = cc in
@@ -193,13 +213,18 @@ module _ (dig : List ℕ → List ℕ) (anchors : List Thread) (e : Evidence) (f
   told reason None (Some r) conflict climbs a b c d is =
       let same : Part 2 r ≡ reason = cc in
       subst (IsReasonTold dig anchors e) same
-      (inr (refl, found-none dig anchors false (checks (Archived e.first)) a, found-verdict dig anchors e.second second_fits r b))
+      (inr (
+        refl,
+        found-none dig anchors false (checks (Archived e.first)) a,
+        found-verdict dig anchors e.second second_fits r b,
+      ))
   told reason None None false climbs a b c d is =
       let same : NoConflict ≡ reason = cc in
       subst (IsReasonTold dig anchors e) same (accepted a b, no_conflict c)
   told reason None None true false a b c d is =
       let same : BadLink ≡ reason = cc in
-      subst (IsReasonTold dig anchors e) same (accepted a b, conflict_none c, not_from_Decides (link_climbs dig e) climbs_as d)
+      subst (IsReasonTold dig anchors e) same
+      (accepted a b, conflict_none c, not_from_Decides (link_climbs dig e) climbs_as d)
   told reason None None true true a b c d is = absurd (cc)
 
   pub no-told : (reason : ForkReason) → fork_verdict dig anchors e ≡ No reason → IsReasonTold dig anchors e reason
@@ -208,23 +233,29 @@ module _ (dig : List ℕ → List ℕ) (anchors : List Thread) (e : Evidence) (f
   -- the verdict where both proofs are accepted
   both_none : IsEvidenceAccepted dig anchors e → fork_verdict dig anchors e ≡ conflict_verdict dig e
   both_none are =
-      ap (λ (o : Option Reason). with_found o two (conflicts e) (link_climbs dig e)) (passing-found dig anchors (checks (Archived e.first)) are.0)
-      ∙ ap (λ (o : Option Reason). with_found None o (conflicts e) (link_climbs dig e)) (passing-found dig anchors (checks (Archived e.second)) are.1)
+      ap (λ (o : Option Reason). with_found o two (conflicts e) (link_climbs dig e))
+      (passing-found dig anchors (checks (Archived e.first)) are.0)
+      ∙ ap (λ (o : Option Reason). with_found None o (conflicts e) (link_climbs dig e))
+      (passing-found dig anchors (checks (Archived e.second)) are.1)
 
   pub told-no : (reason : ForkReason) → IsReasonTold dig anchors e reason → fork_verdict dig anchors e ≡ No reason
   told-no (NoWord place) is = absurd is
   told-no (Part number reason) (inl is) =
-      ap (λ (o : Option Reason). with_found o two (conflicts e) (link_climbs dig e)) (verdict-found dig anchors e.first first_fits reason is.1)
+      ap (λ (o : Option Reason). with_found o two (conflicts e) (link_climbs dig e))
+      (verdict-found dig anchors e.first first_fits reason is.1)
       ∙ ap (λ (n : ℕ). No (Part n reason)) (sym is.0)
   told-no (Part number reason) (inr is) =
-      ap (λ (o : Option Reason). with_found o two (conflicts e) (link_climbs dig e)) (passing-found dig anchors (checks (Archived e.first)) is.1)
-      ∙ ap (λ (o : Option Reason). with_found None o (conflicts e) (link_climbs dig e)) (verdict-found dig anchors e.second second_fits reason is.2)
+      ap (λ (o : Option Reason). with_found o two (conflicts e) (link_climbs dig e))
+      (passing-found dig anchors (checks (Archived e.first)) is.1)
+      ∙ ap (λ (o : Option Reason). with_found None o (conflicts e) (link_climbs dig e))
+      (verdict-found dig anchors e.second second_fits reason is.2)
       ∙ ap (λ (n : ℕ). No (Part n reason)) (sym is.0)
   told-no NoConflict is =
       let none : conflicts e ≡ false = false_from_ne_true (conflicts e) (λ conflict. conflict_none conflict is.1) in
       both_none is.0 ∙ ap (λ (b : Bool). with_found None None b (link_climbs dig e)) none
   told-no BadLink is =
       let conflict : conflicts e ≡ true = true_from_ne_false (conflicts e) (λ none. is.1 (no_conflict none)) in
-      let falls : link_climbs dig e ≡ false = false_from_ne_true (link_climbs dig e) (λ climbs. is.2 (climbs_as.0 climbs)) in
+      let falls : link_climbs dig e ≡ false = false_from_ne_true (link_climbs dig e)
+      (λ climbs. is.2 (climbs_as.0 climbs)) in
       both_none is.0 ∙ ap (λ (b : Bool). with_found None None b (link_climbs dig e)) conflict
       ∙ ap (λ (b : Bool). with_found None None true b) falls

@@ -1,5 +1,6 @@
 -- What the answer of a sound history's archive says of what the history received.
-use Rattle.std.proofs.Common.{◌≡◌, ℕ, suc, zero, ◌-◌, ◌<◌, ◌≤◌, List, [], ◌∷◌, ◌++◌, length, refl, sym, ap, ◌∙◌, subst, arith, inl, inr}
+use Rattle.std.proofs.Common.{◌≡◌, ℕ, suc, zero, ◌-◌, ◌<◌, ◌≤◌, List, [], ◌∷◌, ◌++◌, length, refl, sym, ap, ◌∙◌, subst}
+use Rattle.std.proofs.Common.{arith, inl, inr}
 use Rattle.std.specs.Prelude.{Bool, true, false, Option, Some, None, IfSome, if◌then◌else◌}
 use Rattle.std.specs.Option.{option_to_list}
 use Rattle.std.specs.Str.{bytes_eq}
@@ -36,7 +37,8 @@ EntryStands h o = IfSome o (λ e. entry_at h e.archived ≡ Some e)
 -- none of the threads was received up to the step
 abbrev pub Lacks : History → Lack → Type 0
 Lacks h g =
-    (f : Entry) → In f (received h g.upto) → f.thread.from ≡ g.peer → g.above < f.thread.step → f.thread.step ≤ g.last → ⊥
+    (f : Entry) → In f (received h g.upto) → f.thread.from ≡ g.peer → g.above < f.thread.step → f.thread.step ≤ g.last
+    → ⊥
 
 abbrev pub LackStands : History → Option Lack → Type 0
 LackStands h o = IfSome o (Lacks h)
@@ -44,16 +46,19 @@ LackStands h o = IfSome o (Lacks h)
 -- ---- in which order threads of one service are received
 
 -- before the last of a list that rises those of its service have lower steps
-rises-before : (xs : List Entry) (e f : Entry) → Rises (xs ++ e ∷ []) → In f xs → f.thread.from ≡ e.thread.from → f.thread.step < e.thread.step
+rises-before : (xs : List Entry) (e f : Entry) → Rises (xs ++ e ∷ []) → In f xs → f.thread.from ≡ e.thread.from
+    → f.thread.step < e.thread.step
 rises-before [] e f rises there same = absurd there
 rises-before (x ∷ xs) e f rises (inl here) same =
     subst (λ (g : Entry). g.thread.step < e.thread.step) (sym here)
-    (Each-in (λ (g : Entry). g.thread.from ≡ x.thread.from → x.thread.step < g.thread.step) (xs ++ e ∷ []) e rises.0 (In-right e xs (e ∷ []) (inl refl))
+    (Each-in (λ (g : Entry). g.thread.from ≡ x.thread.from → x.thread.step < g.thread.step) (xs ++ e ∷ []) e rises.0
+    (In-right e xs (e ∷ []) (inl refl))
     (sym same ∙ ap (λ (g : Entry). g.thread.from) here))
 rises-before (x ∷ xs) e f rises (inr there) same = rises-before xs e f rises.1 there same
 
 module _ (h : History) (sound : IsSound h) where
-  before-lower : (n : ℕ) (e f : Entry) → entry_at h n ≡ Some e → In f (received h (n - 1)) → f.thread.from ≡ e.thread.from → f.thread.step < e.thread.step
+  before-lower : (n : ℕ) (e f : Entry) → entry_at h n ≡ Some e → In f (received h (n - 1))
+      → f.thread.from ≡ e.thread.from → f.thread.step < e.thread.step
   unfolding received
   before-lower zero e f at there same = absurd there
   before-lower (suc j) e f at there same =
@@ -81,7 +86,8 @@ module _ (h : History) (sound : IsSound h) where
     -- what was received up to an earlier step was received up to this one
     earlier-in : (j : ℕ) → j ≤ i → (f : Entry) → In f (received h j) → In f (received h i)
     earlier-in j order f there =
-        let at : IsArchived h j f = Each-in (IsArchived h j) (entries (tree h j)) f (tree-archived h j) (tree-has_received h sound j (omega (arith, order, within)) f there) in
+        let at : IsArchived h j f = Each-in (IsArchived h j) (entries (tree h j)) f (tree-archived h j)
+        (tree-has_received h sound j (omega (arith, order, within)) f there) in
         received-has h i at.0 f (omega (arith, at.1, order)) at.2
 
     -- ---- a question below a key
@@ -91,12 +97,16 @@ module _ (h : History) (sound : IsSound h) where
       below_lack above = record { peer = from; above = above; last = step - 1; upto = i }
 
       under : (f : Entry) → f.thread.from ≡ from → f.thread.step < step → KeyBelow (key_of f) (key from step)
-      under f same less = subst (λ (name : List ℕ). KeyBelow (key name f.thread.step) (key from step)) (sym same) (step-below from f.thread.step step less)
+      under f same less = subst (λ (name : List ℕ). KeyBelow (key name f.thread.step) (key from step)) (sym same)
+          (step-below from f.thread.step step less)
 
       below-stands : (o : Option Entry) → last_below archive (key from step) ≡ o
           → EntryStands h (entry_if_of from o) × Lacks h (below_lack (step_if_of from o))
-      below-stands None none =
-          (tt, λ f there name above last. none-below (key from step) archive rising none f (held f there) (under f name (omega (arith, above, last))))
+      below-stands None none = (
+        tt,
+        λ f there name above last. none-below (key from step) archive rising none f (held f there)
+            (under f name (omega (arith, above, last))),
+      )
       below-stands (Some e) some = with_name (bytes_eq e.thread.from from) refl
         where
           greatest : IsGreatestBelow archive (key from step) e
@@ -107,17 +117,21 @@ module _ (h : History) (sound : IsSound h) where
           with_name true test =
               let same : e.thread.from ≡ from = (bytes_eq-Decides e.thread.from from).0 test in (
                 in-received e greatest.has,
-                λ f there name above last. elim (greatest.greatest f (held f there) (under f name (omega (arith, above, last)))) [
-                  | inl is ↦ (let equal : f.thread.step ≡ e.thread.step = ap (λ (g : Entry). g.thread.step) is in absurd (omega (arith, above, equal)))
-                  | inr below ↦ (
-                      let less = below-step from f.thread.step e.thread.step
-                      (subst (λ (n : List ℕ). KeyBelow (key n f.thread.step) (key from e.thread.step)) name
-                      (subst (λ (n : List ℕ). KeyBelow (key_of f) (key n e.thread.step)) same below)) in absurd (omega (arith, above, less)))
-                ],
+                λ f there name above last. elim (greatest.greatest f (held f there)
+                    (under f name (omega (arith, above, last)))) [
+                      | inl is ↦ (let equal : f.thread.step ≡ e.thread.step = ap (λ (g : Entry). g.thread.step) is in
+                          absurd (omega (arith, above, equal)))
+                      | inr below ↦ (
+                          let less = below-step from f.thread.step e.thread.step
+                          (subst (λ (n : List ℕ). KeyBelow (key n f.thread.step) (key from e.thread.step)) name
+                          (subst (λ (n : List ℕ). KeyBelow (key_of f) (key n e.thread.step)) same below)) in
+                          absurd (omega (arith, above, less)))
+                    ],
               )
           with_name false test = (
             tt,
-            λ f there name above last. both_ways (bytes_eq e.thread.from from) test ((bytes_eq-Decides e.thread.from from).1
+            λ f there name above last. both_ways (bytes_eq e.thread.from from) test
+                ((bytes_eq-Decides e.thread.from from).1
                 (elim (greatest.greatest f (held f there) (under f name (omega (arith, above, last)))) [
                   | inl is ↦ ap (λ (g : Entry). g.thread.from) (sym is) ∙ name
                   | inr below ↦ between from e.thread.from f.thread.step e.thread.step step
@@ -131,18 +145,21 @@ module _ (h : History) (sound : IsSound h) where
       above_lack upto = record { peer = from; above = step; last = LAST_STEP; upto = upto }
 
       over : (f : Entry) → f.thread.from ≡ from → step < f.thread.step → KeyBelow (key from step) (key_of f)
-      over f same late = subst (λ (name : List ℕ). KeyBelow (key from step) (key name f.thread.step)) (sym same) (step-below from step f.thread.step late)
+      over f same late = subst (λ (name : List ℕ). KeyBelow (key from step) (key name f.thread.step)) (sym same)
+          (step-below from step f.thread.step late)
 
       above-stands : (o : Option Entry) → first_above archive (key from step) ≡ o
           → EntryStands h (entry_if_of from o) × Lacks h (above_lack (before_received i (entry_if_of from o)))
-      above-stands None none = (tt, λ f there name above last. none-above (key from step) archive none f (held f there) (over f name above))
+      above-stands None none =
+          (tt, λ f there name above last. none-above (key from step) archive none f (held f there) (over f name above))
       above-stands (Some e) found = with_name (bytes_eq e.thread.from from) refl
         where
           least : IsLeastAbove archive (key from step) e
           least = first-above (key from step) archive rising e found
 
           with_name : (b : Bool) → bytes_eq e.thread.from from ≡ b
-              → EntryStands h (if b then Some e else None) × Lacks h (above_lack (before_received i (if b then Some e else None)))
+              → EntryStands h (if b then Some e else None)
+              × Lacks h (above_lack (before_received i (if b then Some e else None)))
           with_name true test =
               let same : e.thread.from ≡ from = (bytes_eq-Decides e.thread.from from).0 test in
               let at : IsArchived h i e = Each-in (IsArchived h i) archive e (tree-archived h i) least.has in
@@ -152,16 +169,19 @@ module _ (h : History) (sound : IsSound h) where
                     let lower = before-lower e.archived e f (in-received e least.has) there (name ∙ sym same) in
                     let known = earlier-in (e.archived - 1) (omega (arith, own, at.1)) f there in
                     elim (least.least f (held f known) (over f name above)) [
-                      | inl is ↦ (let equal : f.thread.step ≡ e.thread.step = ap (λ (g : Entry). g.thread.step) is in absurd (omega (arith, lower, equal)))
+                      | inl is ↦ (let equal : f.thread.step ≡ e.thread.step = ap (λ (g : Entry). g.thread.step) is in
+                          absurd (omega (arith, lower, equal)))
                       | inr below ↦ (
                           let less = below-step from e.thread.step f.thread.step
                           (subst (λ (n : List ℕ). KeyBelow (key n e.thread.step) (key from f.thread.step)) same
-                          (subst (λ (n : List ℕ). KeyBelow (key_of e) (key n f.thread.step)) name below)) in absurd (omega (arith, lower, less)))
+                          (subst (λ (n : List ℕ). KeyBelow (key_of e) (key n f.thread.step)) name below)) in
+                          absurd (omega (arith, lower, less)))
                     ]),
               )
           with_name false test = (
             tt,
-            λ f there name above last. both_ways (bytes_eq e.thread.from from) test ((bytes_eq-Decides e.thread.from from).1
+            λ f there name above last. both_ways (bytes_eq e.thread.from from) test
+                ((bytes_eq-Decides e.thread.from from).1
                 (elim (least.least f (held f there) (over f name above)) [
                   | inl is ↦ ap (λ (g : Entry). g.thread.from) (sym is) ∙ name
                   | inr below ↦ between from e.thread.from step e.thread.step f.thread.step least.above
@@ -175,7 +195,8 @@ module _ (h : History) (sound : IsSound h) where
     abbrev pub Stands : Ask → Option Entry → Type 0
     Stands asked nearest = EntryStands h (asked_entry asked nearest) × LackStands h (lack_of i asked nearest)
 
-    pub answer-stands : (asked : Ask) (up : List Ancestor) → IsAnswer archive asked (shown_answer asked up) → Stands asked (nearest_in (shown_answer asked up))
+    pub answer-stands : (asked : Ask) (up : List Ancestor) → IsAnswer archive asked (shown_answer asked up)
+        → Stands asked (nearest_in (shown_answer asked up))
     answer-stands (Present e) up is = (has-received h i e is, tt)
     answer-stands (Absent k) up is = (
       tt,

@@ -42,17 +42,27 @@ above-sizes : (asked : Key) (proof : TreeProof) → gap_codec.Fits proof → Has
 above-sizes asked (trees.Present left right up) fits = gap-sizes asked (trees.Present left right up) fits
 above-sizes asked (trees.Gap up) fits = gap-sizes asked (trees.Gap up) fits
 
-thread-sizes : (p : ThreadProof) → thread_body.Fits p → ArchiveSizes (record { at = p.at; ask = ask.Present p.entry; shown = p.shown })
+thread-sizes : (p : ThreadProof) → thread_body.Fits p
+    → ArchiveSizes (record { at = p.at; ask = ask.Present p.entry; shown = p.shown })
 unfolding thread_body pair seen
 thread-sizes p fits =
     let at = (part-shape 0 p.at fits.0).1 in
-    record { part = part-sizes 0 p.at fits.0; shown = present-sizes p.entry p.shown fits.1.0 fits.1.1; small = record { step = at.step; top = at.top } }
+    record {
+      part = part-sizes 0 p.at fits.0;
+      shown = present-sizes p.entry p.shown fits.1.0 fits.1.1;
+      small = record { step = at.step; top = at.top };
+    }
 
-absence-sizes : (p : AbsenceProof) → absence_body.Fits p → ArchiveSizes (record { at = p.at; ask = ask.Absent p.key; shown = p.shown })
+absence-sizes : (p : AbsenceProof) → absence_body.Fits p
+    → ArchiveSizes (record { at = p.at; ask = ask.Absent p.key; shown = p.shown })
 unfolding absence_body pair seen
 absence-sizes p fits =
     let at = (part-shape 0 p.at fits.0).1 in
-    record { part = part-sizes 0 p.at fits.0; shown = gap-sizes p.key p.shown fits.1.1; small = record { step = at.step; top = at.top } }
+    record {
+      part = part-sizes 0 p.at fits.0;
+      shown = gap-sizes p.key p.shown fits.1.1;
+      small = record { step = at.step; top = at.top };
+    }
 
 of_some : {X : Type 0} (P : X → Type 0) (x y : X) → Some x ≡ Some y → P x → P y
 of_some P x y same p = let is : x ≡ y = cc in subst P is p
@@ -61,8 +71,11 @@ proof-sizes : (p : Proof) (a : ArchiveProof) → proof_codec.Fits p → of_proof
 unfolding proof_codec kinds_codec behind by_kind variant
 proof-sizes (Exists p) a fits is = absurd (cc)
 proof-sizes (Precedes p) a fits is = absurd (cc)
-proof-sizes (Archived p) a fits is = of_some ArchiveSizes (record { at = p.at; ask = ask.Present p.entry; shown = p.shown }) a is (thread-sizes p fits.1.1)
-proof-sizes (Absent p) a fits is = of_some ArchiveSizes (record { at = p.at; ask = ask.Absent p.key; shown = p.shown }) a is (absence-sizes p fits.1.1)
+proof-sizes (Archived p) a fits is =
+    of_some ArchiveSizes (record { at = p.at; ask = ask.Present p.entry; shown = p.shown }) a is
+    (thread-sizes p fits.1.1)
+proof-sizes (Absent p) a fits is = of_some ArchiveSizes (record { at = p.at; ask = ask.Absent p.key; shown = p.shown })
+    a is (absence-sizes p fits.1.1)
 proof-sizes (Linked p) a fits is = absurd (cc)
 
 low-sizes : (f : LowFile) (a : ArchiveProof) → LowFits f → of_low f ≡ Some a → ArchiveSizes a
@@ -91,8 +104,10 @@ high-sizes f fits = record {
 
 pub file-sizes : (bytes : List ℕ) (a : ArchiveProof) → IsFileOf bytes a → ArchiveSizes a
 file-sizes bytes a (inl (p, spells, is)) = proof-sizes p a (spelled-fits proof_codec proof-lawful bytes p spells) is
-file-sizes bytes a (inr (inl (f, spells, is))) = low-sizes f a (low-fields f (spelled-fits low_codec low-lawful bytes f spells)) is
-file-sizes bytes a (inr (inr (f, spells, is))) = subst ArchiveSizes is (high-sizes f (high-fields f (spelled-fits high_codec high-lawful bytes f spells)))
+file-sizes bytes a (inr (inl (f, spells, is))) =
+    low-sizes f a (low-fields f (spelled-fits low_codec low-lawful bytes f spells)) is
+file-sizes bytes a (inr (inr (f, spells, is))) =
+    subst ArchiveSizes is (high-sizes f (high-fields f (spelled-fits high_codec high-lawful bytes f spells)))
 
 -- the step of a low file isn't 0
 pub low-some : (bytes : List ℕ) (f : LowFile) → Spells low_layout bytes f → LowFits f
@@ -102,6 +117,7 @@ pub high-some : (bytes : List ℕ) (f : HighFile) → Spells high_layout bytes f
 high-some bytes f spells = high-fields f (spelled-fits high_codec high-lawful bytes f spells)
 
 -- the steps of what a file shows
-pub small-if : (bytes : List ℕ) (o : Option ArchiveProof) → ((a : ArchiveProof) → o ≡ Some a → IsFileOf bytes a) → IfSome o IsSmall
+pub small-if : (bytes : List ℕ) (o : Option ArchiveProof) → ((a : ArchiveProof) → o ≡ Some a → IsFileOf bytes a)
+    → IfSome o IsSmall
 small-if bytes None shown = tt
 small-if bytes (Some a) shown = (file-sizes bytes a (shown a refl)).small

@@ -21,7 +21,8 @@ use Rattle.tw_evidence.specs.declared.fork.Fork.{Fork}
 use Rattle.tw_evidence.specs.declared.fork.ForkReason.TheVariants.{Part, NoConflict, BadLink}
 use Rattle.tw_evidence.specs.declared.fork.ForkVerdict.{ForkVerdict}
 use Rattle.tw_evidence.specs.declared.fork.ForkVerdict.TheVariants.{Yes, No}
-use Rattle.tw_evidence.specs.Forks.{ShowsFork, are_in_order, conflicts, fork_of, fork_verdict, link_climbs, lower, upper}
+use Rattle.tw_evidence.specs.Forks.{ShowsFork, are_in_order, conflicts, fork_of, fork_verdict, link_climbs, lower}
+use Rattle.tw_evidence.specs.Forks.{upper}
 
 abbrev InOrder : Thread → Thread → Type 0
 InOrder one other = (one.from ≡ other.from) × (one.step ≤ other.step)
@@ -34,7 +35,8 @@ in_order-is one other =
 pub conflicts-is : (e : Evidence) → Decides (conflicts e) (InOrder (lower e) (upper e) × (e.bottom ≢ (lower e).auth))
 conflicts-is e =
     let same : Bool = bytes_eq e.bottom (lower e).auth in
-    Decides-and (are_in_order (lower e) (upper e)) (not same) (in_order-is (lower e) (upper e)) (Decides-not same (bytes_eq-Decides e.bottom (lower e).auth))
+    Decides-and (are_in_order (lower e) (upper e)) (not same) (in_order-is (lower e) (upper e))
+    (Decides-not same (bytes_eq-Decides e.bottom (lower e).auth))
 
 module _ (dig : List ℕ → List ℕ) (anchors : List Thread) where
   -- where each check passes nothing is found
@@ -43,7 +45,8 @@ module _ (dig : List ℕ → List ℕ) (anchors : List Thread) where
       let cases : (found : Option Reason) → found_in dig anchors cs ≡ found → found ≡ None =
       elim [
         | None ↦ λ none. refl
-        | Some reason ↦ λ some. absurd (passing-fails dig anchors false cs reason all (found-lowest dig anchors false cs reason some).fails)
+        | Some reason ↦ λ some. absurd (passing-fails dig anchors false cs reason all
+            (found-lowest dig anchors false cs reason some).fails)
       ]
       in cases (found_in dig anchors cs) refl
 
@@ -74,7 +77,8 @@ module _ (dig : List ℕ → List ℕ) (anchors : List Thread) where
     abbrev Yields : Fork → Type 0
     Yields f = ShowsFork dig anchors e × (f ≡ fork_of e)
 
-    from_found : (f : Fork) (first second : Option Reason) (conflict climbs : Bool) → one ≡ first → two ≡ second → conflicts e ≡ conflict → link_climbs dig e ≡ climbs
+    from_found : (f : Fork) (first second : Option Reason) (conflict climbs : Bool) → one ≡ first → two ≡ second
+        → conflicts e ≡ conflict → link_climbs dig e ≡ climbs
         → verdict_with first second conflict climbs ≡ Yes f → Yields f
     from_found f (Some reason) second conflict climbs a b c d is = absurd (cc)
     from_found f None (Some reason) conflict climbs a b c d is = absurd (cc)
@@ -92,7 +96,8 @@ module _ (dig : List ℕ → List ℕ) (anchors : List Thread) where
         let first : one ≡ None = passing-found (checks (Archived e.first)) is.first in
         let second : two ≡ None = passing-found (checks (Archived e.second)) is.second in
         let conflict : conflicts e ≡ true = (conflicts-is e).1 ((is.service, is.order), is.differs) in
-        let climbs : link_climbs dig e ≡ true = (climbs-is dig e.link.links (upper e).step (lower e).step e.bottom (Some (upper e).auth)).1 is.climbs in
+        let climbs : link_climbs dig e ≡ true = (climbs-is dig e.link.links (upper e).step (lower e).step e.bottom
+        (Some (upper e).auth)).1 is.climbs in
         ap (λ (o : Option Reason). verdict_with o two (conflicts e) (link_climbs dig e)) first
         ∙ ap (λ (o : Option Reason). verdict_with None o (conflicts e) (link_climbs dig e)) second
         ∙ ap (λ (b : Bool). verdict_with None None b (link_climbs dig e)) conflict

@@ -13,7 +13,8 @@ module _ (dig : List ℕ → List ℕ) (pages : Image) (s : SoFar) (r : StepReco
   abbrev by_content : Option Thread → Found SoFar
   by_content received =
       content_by pages r received
-      >>= (λ c. found_new_nodes dig pages s.archive.since r c >>= (λ nodes. when (may_be_told s.archive r c nodes) r.page (exported_with_step s r c nodes)))
+      >>= (λ c. found_new_nodes dig pages s.archive.since r c >>= (λ nodes. when (may_be_told s.archive r c nodes)
+      r.page (exported_with_step s r c nodes)))
 
   pub step_received : (t : Thread) → r.fields.received ≡ Some t → step_on dig pages s r ≡ received_on dig pages s r t
   unfolding step_on content_of received_on

@@ -1,5 +1,6 @@
 -- A verifier that is fed a file, piece by piece.
-use Rattle.std.proofs.Common.{◌≡◌, ℕ, ◌+◌, ◌≤◌, List, [], ◌++◌, length, take, drop, Bool, ap, sym, ◌∙◌, subst, refl, arith, inl, inr}
+use Rattle.std.proofs.Common.{◌≡◌, ℕ, ◌+◌, ◌≤◌, List, [], ◌++◌, length, take, drop, Bool, ap, sym, ◌∙◌, subst, refl}
+use Rattle.std.proofs.Common.{arith, inl, inr}
 use Rattle.std.specs.Prelude.{Option}
 use Rattle.std.proofs.lemmas.Bool.{cases_lt}
 use Rattle.std.proofs.lemmas.List.{length-append, length-take-le, take_all}
@@ -17,15 +18,18 @@ use Rattle.tw_filecmd.specs.Feeding.{IsFedFar, IsFedFront}
 use Rattle.tw_filecmd.proofs.ProofFronts.{front-size}
 
 -- the same of inputs that tell the same
-pub fed_told : (before after : Option Files) (file : List ℕ) (anchors : List Thread) (strict : Bool) (old new : Verifier Sha) (at count : ℕ)
+pub fed_told : (before after : Option Files) (file : List ℕ) (anchors : List Thread) (strict : Bool)
+    (old new : Verifier Sha) (at count : ℕ)
     → before ≡ after → (IsFedFront before file anchors strict old at → IsFedFront before file anchors strict new count)
     → IsFedFront after file anchors strict old at → IsFedFront after file anchors strict new count
 fed_told before after file anchors strict old new at count same feeds =
-    subst (λ told. IsFedFront told file anchors strict old at → IsFedFront told file anchors strict new count) same feeds
+    subst (λ told. IsFedFront told file anchors strict old at → IsFedFront told file anchors strict new count) same
+    feeds
 
 module _ (told : Option Files) (file : List ℕ) (anchors : List Thread) (strict : Bool) where
   -- no piece yet
-  pub fed_nothing : (v : Verifier Sha) → IsFed sha256 anchors strict v [] × (IsSpent v.fed → ⊥) → IsFedFront told file anchors strict v 0
+  pub fed_nothing : (v : Verifier Sha) → IsFed sha256 anchors strict v [] × (IsSpent v.fed → ⊥) → IsFedFront told file
+      anchors strict v 0
   fed_nothing v is = record { front = []; size = refl; of_file = λ bytes tells. refl; fed = is.0; unspent = is.1 }
 
   -- one piece more
@@ -47,16 +51,19 @@ module _ (told : Option Files) (file : List ℕ) (anchors : List Thread) (strict
 
   module _ (v : Verifier Sha) (count : ℕ) (front : IsFedFront told file anchors strict v count) where
     -- the file has no more
-    pub fed_all : ((bytes : List ℕ) → TellsBytes told file bytes → length bytes ≤ count) → IsFedFar told file anchors strict v
+    pub fed_all : ((bytes : List ℕ) → TellsBytes told file bytes → length bytes ≤ count) → IsFedFar told file anchors
+        strict v
     fed_all none = record {
       front = front.front;
       fed = front.fed;
       of_file = front.of_file;
-      far = λ bytes tells. inl (front.of_file bytes tells ∙ take_all (length front.front) bytes (omega (arith, none bytes tells, front.size)));
+      far = λ bytes tells. inl (front.of_file bytes tells ∙ take_all (length front.front) bytes
+          (omega (arith, none bytes tells, front.size)));
     }
 
     -- no proof goes on
-    pub fed_broken : ((pieces : List ℕ) → IsFed sha256 anchors strict v pieces → (IsSpent v.fed → ⊥) → IsFront proof_layout pieces → ⊥)
+    pub fed_broken : ((pieces : List ℕ) → IsFed sha256 anchors strict v pieces → (IsSpent v.fed → ⊥)
+        → IsFront proof_layout pieces → ⊥)
         → IsFedFar told file anchors strict v
     fed_broken broken = record {
       front = front.front;
@@ -66,7 +73,8 @@ module _ (told : Option Files) (file : List ℕ) (anchors : List Thread) (strict
     }
 
     -- a proof goes on, and so there are few bytes
-    pub fed_few : ((pieces : List ℕ) → IsFed sha256 anchors strict v pieces → (IsSpent v.fed → ⊥) → (IsFront proof_layout pieces → ⊥) → ⊥)
+    pub fed_few : ((pieces : List ℕ) → IsFed sha256 anchors strict v pieces → (IsSpent v.fed → ⊥)
+        → (IsFront proof_layout pieces → ⊥) → ⊥)
         → count ≤ 4430818
     fed_few unbroken = elim (cases_lt 4430818 count) [
       | inl more ↦

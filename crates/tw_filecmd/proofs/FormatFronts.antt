@@ -1,7 +1,9 @@
 -- First bytes at which no word of a format goes on: what comes behind them changes nothing.
-use Rattle.std.proofs.Common.{◌≡◌, ℕ, ◌+◌, ◌-◌, ◌<◌, List, [], ◌++◌, length, take, drop, ap, sym, ◌∙◌, subst, arith, append_assoc, inl, inr, ◌⊎◌}
+use Rattle.std.proofs.Common.{◌≡◌, ℕ, ◌+◌, ◌-◌, ◌<◌, List, [], ◌++◌, length, take, drop, ap, sym, ◌∙◌, subst, arith}
+use Rattle.std.proofs.Common.{append_assoc, inl, inr, ◌⊎◌}
 use Rattle.std.proofs.lemmas.Bool.{cases_lt}
-use Rattle.std.proofs.lemmas.List.{append-nil, length-append, length-take-le, take-append-drop, take-append-le, take_all}
+use Rattle.std.proofs.lemmas.List.{append-nil, length-append, length-take-le, take-append-drop, take-append-le}
+use Rattle.std.proofs.lemmas.List.{take_all}
 use Rattle.std.proofs.Math.Seq.{take-append-add}
 use Rattle.tw_base.specs.format.Formats.{Format, IsFront, IsPlace, Spells, SpellsNothing}
 
@@ -43,14 +45,17 @@ module _ {X : Type 0} (layout : Format X) where
     }
 
   -- the words of the format have fewer bytes than the limit up to which a file is read
-  module _ (limit : ℕ) (short : (word : List ℕ) (x : X) → Spells layout word x → length word < limit) (all bytes : List ℕ) (read : all ≡ take limit bytes) where
+  module _ (limit : ℕ) (short : (word : List ℕ) (x : X) → Spells layout word x → length word < limit)
+      (all bytes : List ℕ) (read : all ≡ take limit bytes) where
     -- all was read, or no word goes on at what was
     pub whole_or_broken : (all ≡ bytes) ⊎ ((IsFront layout all → ⊥) × (all ++ drop limit bytes ≡ bytes))
     whole_or_broken = elim (cases_lt limit (length bytes)) [
       | inl longer ↦
           let size : length all ≡ limit = ap length read ∙ length-take-le limit bytes (omega (arith, longer)) in
-          let broken : IsFront layout all → ⊥ = λ is. let few = short (all ++ is.0) is.1 is.2 in omega (arith, few, size, length-append all is.0) in
-          let split : all ++ drop limit bytes ≡ bytes = ap (λ first. first ++ drop limit bytes) read ∙ take-append-drop limit bytes in
+          let broken : IsFront layout all → ⊥ = λ is. let few = short (all ++ is.0) is.1 is.2 in
+          omega (arith, few, size, length-append all is.0) in
+          let split : all ++ drop limit bytes ≡ bytes = ap (λ first. first ++ drop limit bytes) read ∙ take-append-drop
+          limit bytes in
           inr (broken, split)
       | inr fits ↦ inl (read ∙ take_all limit bytes fits)
     ]
@@ -60,10 +65,12 @@ module _ {X : Type 0} (layout : Format X) where
     word_is_whole x spelled = whole_below limit all bytes read (short all x spelled)
 
     -- it is none, and so the file is none
-    pub none_is_none : (place : ℕ) → SpellsNothing layout all → IsPlace layout all place → SpellsNothing layout bytes × IsPlace layout bytes place
+    pub none_is_none : (place : ℕ) → SpellsNothing layout all → IsPlace layout all place → SpellsNothing layout bytes
+        × IsPlace layout bytes place
     none_is_none place nothing is = elim whole_or_broken [
       | inl whole ↦ subst (λ b. SpellsNothing layout b × IsPlace layout b place) whole (nothing, is)
       | inr stops ↦
           let more : List ℕ = drop limit bytes in
-          subst (λ b. SpellsNothing layout b × IsPlace layout b place) stops.1 (nothing_behind all more stops.0, place_behind all more stops.0 place is)
+          subst (λ b. SpellsNothing layout b × IsPlace layout b place) stops.1
+          (nothing_behind all more stops.0, place_behind all more stops.0 place is)
     ]

@@ -38,10 +38,12 @@ history_read = 67108865
 is_whole : (all bytes : List ℕ) → all ≡ take history_read bytes → length all ≤ MOST_HISTORY_BYTES → all ≡ bytes
 is_whole all bytes is short = whole_below history_read all bytes is (omega (arith, short))
 
-is_longer : (all bytes : List ℕ) → all ≡ take history_read bytes → MOST_HISTORY_BYTES < length all → MOST_HISTORY_BYTES < length bytes
+is_longer : (all bytes : List ℕ) → all ≡ take history_read bytes → MOST_HISTORY_BYTES < length all
+    → MOST_HISTORY_BYTES < length bytes
 is_longer all bytes is longer = omega (arith, ap length is, length-take history_read bytes, longer)
 
-module _ (a : Asked) (file all : List ℕ) (there : IsThere a.told file) (read : IsReadTo a.told file history_read all) where
+module _ (a : Asked) (file all : List ℕ) (there : IsThere a.told file) (read : IsReadTo a.told file history_read
+    all) where
   pub of_history : (P : History → Type 0) (h : History) → ReadsHistory all (Ok h) → P h → OfHistory a.told file P
   of_history P h reads holds = record {
     there = there;
@@ -51,8 +53,10 @@ module _ (a : Asked) (file all : List ℕ) (there : IsThere a.told file) (read :
         (h, record { short = same.0; spelled = same.1; sound = same.2 }, holds);
   }
 
-  of_fault : (step index : ℕ) (f : HistoryFault) → ReadsHistory all (Err f) → ShowComes a file step index (Err (fault_of_history file f))
-  of_fault step index (TooLong count) reads = (refl, there, λ bytes tells. inl (is_longer all bytes (read bytes tells) reads.0, refl))
+  of_fault : (step index : ℕ) (f : HistoryFault) → ReadsHistory all (Err f) → ShowComes a file step index
+      (Err (fault_of_history file f))
+  of_fault step index (TooLong count) reads =
+      (refl, there, λ bytes tells. inl (is_longer all bytes (read bytes tells) reads.0, refl))
   of_fault step index (Malformed place) reads = (
     refl,
     there,
@@ -73,7 +77,8 @@ module _ (a : Asked) (file all : List ℕ) (there : IsThere a.told file) (read :
       subst (λ (fault : CommandFault). ShowComes a file step index (Err fault)) (sym is) (of_fault step index f reads)
 
   -- what the history refuses, the command does
-  pub refuses_show : (step index : ℕ) (h : History) (f : ShowFault) (came : CommandFault) → ReadsHistory all (Ok h) → RefusesEvent h step index f
+  pub refuses_show : (step index : ℕ) (h : History) (f : ShowFault) (came : CommandFault) → ReadsHistory all (Ok h)
+      → RefusesEvent h step index f
       → came ≡ fault_of_show f → ShowComes a file step index (Err came)
   refuses_show step index h f came reads refuses is =
       subst (λ (e : CommandFault). ShowComes a file step index (Err e)) (sym is) (by f refuses)
@@ -85,23 +90,30 @@ module _ (a : Asked) (file all : List ℕ) (there : IsThere a.told file) (read :
 
 -- ---- the event shown
 
-module _ (h : History) (step at : ℕ) (bytes : List ℕ) (makes : MakesExistence sha256 h step at (length h.steps) bytes) where
+module _ (h : History) (step at : ℕ) (bytes : List ℕ) (makes : MakesExistence sha256 h step at (length h.steps)
+    bytes) where
   -- the step isn't above the last one, since the proof is accepted under its authenticator
-  in_order : (p : ExistenceProof) × Spells existence_layout bytes p × IsAcceptedUnder sha256 (auth sha256 h (length h.steps)) p → step ≤ length h.steps
+  in_order : (p : ExistenceProof) × Spells existence_layout bytes p × IsAcceptedUnder sha256
+      (auth sha256 h (length h.steps)) p → step ≤ length h.steps
   in_order own =
       let same : own.0 ≡ makes.0 = one_value existence_layout bytes own.0 makes.0 own.1 makes.1 in
-      let order : makes.0.at.step ≤ makes.0.at.top = subst (λ (p : ExistenceProof). p.at.step ≤ p.at.top) same own.2.order in
+      let order : makes.0.at.step ≤ makes.0.at.top = subst (λ (p : ExistenceProof). p.at.step ≤ p.at.top) same
+      own.2.order in
       omega (arith, order, makes.2.at.at_step, makes.2.at.at_top)
 
-pub shown_at : (h : History) (step index at : ℕ) → IsSound h → at ≡ min index 4294967295 → (result : Result (List ℕ) ShowFault)
+pub shown_at : (h : History) (step index at : ℕ) → IsSound h → at ≡ min index 4294967295
+    → (result : Result (List ℕ) ShowFault)
     → IfOk result (MakesExistence sha256 h step at (length h.steps))
-    → IfOk result (λ bytes. (p : ExistenceProof) × Spells existence_layout bytes p × IsAcceptedUnder sha256 (auth sha256 h (length h.steps)) p)
+    → IfOk result (λ bytes. (p : ExistenceProof) × Spells existence_layout bytes p × IsAcceptedUnder sha256
+    (auth sha256 h (length h.steps)) p)
     → IfOk result (λ bytes. ProvesEvent step index bytes h)
 shown_at h step index at sound is (Ok bytes) makes accepted =
-    let own = makes_at sha256 h step index (length h.steps) bytes sound (subst (λ i. MakesExistence sha256 h step i (length h.steps) bytes) is makes) in
+    let own = makes_at sha256 h step index (length h.steps) bytes sound
+    (subst (λ i. MakesExistence sha256 h step i (length h.steps) bytes) is makes) in
     record {
       makes = own;
       accepted = λ anchors anchor held reached.
-          Accepts-made sha256 h step index (length h.steps) bytes anchors anchor (in_order h step at bytes makes accepted) own held reached;
+          Accepts-made sha256 h step index (length h.steps) bytes anchors anchor
+          (in_order h step at bytes makes accepted) own held reached;
     }
 shown_at h step index at sound is (Err fault) makes accepted = tt

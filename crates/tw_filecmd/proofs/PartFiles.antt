@@ -1,5 +1,6 @@
 -- What was read of the files of parts, file after file.
-use Rattle.std.proofs.Common.{◌≡◌, ℕ, ◌+◌, ◌<◌, ◌≤◌, List, [], ◌∷◌, ◌++◌, length, take, ap, ◌∙◌, refl, sym, subst, arith, inl, inr}
+use Rattle.std.proofs.Common.{◌≡◌, ℕ, ◌+◌, ◌<◌, ◌≤◌, List, [], ◌∷◌, ◌++◌, length, take, ap, ◌∙◌, refl, sym, subst}
+use Rattle.std.proofs.Common.{arith, inl, inr}
 use Rattle.std.specs.Prelude.{Option, Some, None, Ok, Err, true, false, is_some}
 use Rattle.std.proofs.lemmas.List.{length-append, length-take, take-append-le, take_all}
 use Rattle.tw_base.specs.kinds.Faults.{Rose}
@@ -33,7 +34,8 @@ use Rattle.tw_filecmd.proofs.FormatFronts.{none_is_none, word_is_whole}
 module _ (told : Option Files) where
   -- one file more, which holds a proof
   pub proofs-snoc : (files : List (List ℕ)) (parts : List Proof) (file : List ℕ) (p : Proof)
-      → AreProofsOfFiles told files parts → IsProofOf told file p → AreProofsOfFiles told (files ++ file ∷ []) (parts ++ p ∷ [])
+      → AreProofsOfFiles told files parts → IsProofOf told file p → AreProofsOfFiles told (files ++ file ∷ [])
+      (parts ++ p ∷ [])
   proofs-snoc [] [] file p are is = (is, tt)
   proofs-snoc [] (q ∷ parts) file p are is = absurd are
   proofs-snoc (first ∷ files) [] file p are is = absurd are
@@ -41,17 +43,21 @@ module _ (told : Option Files) where
 
   -- one that is the first to hold none
   pub bad-snoc : (files : List (List ℕ)) (parts : List Proof) (file : List ℕ) (place : ℕ)
-      → AreProofsOfFiles told files parts → IsNoProof told file place → HasBadPartFile told (files ++ file ∷ []) file place
+      → AreProofsOfFiles told files parts → IsNoProof told file place → HasBadPartFile told (files ++ file ∷ []) file
+      place
   bad-snoc [] parts file place are none = inl (refl, none, tt)
   bad-snoc (first ∷ files) [] file place are none = absurd are
-  bad-snoc (first ∷ files) (p ∷ parts) file place are none = inr ((p, are.0), bad-snoc files parts file place are.1 none)
+  bad-snoc (first ∷ files) (p ∷ parts) file place are none =
+      inr ((p, are.0), bad-snoc files parts file place are.1 none)
 
   -- one behind it
   pub bad-more : (files : List (List ℕ)) (file named : List ℕ) (place : ℕ)
       → HasBadPartFile told files named place → IsThere told file → HasBadPartFile told (files ++ file ∷ []) named place
   bad-more [] file named place bad there = absurd bad
-  bad-more (first ∷ files) file named place (inl here) there = inl (here.0, here.1, Each-append (IsThere told) files (file ∷ []) here.2 (there, tt))
-  bad-more (first ∷ files) file named place (inr later) there = inr (later.0, bad-more files file named place later.1 there)
+  bad-more (first ∷ files) file named place (inl here) there =
+      inl (here.0, here.1, Each-append (IsThere told) files (file ∷ []) here.2 (there, tt))
+  bad-more (first ∷ files) file named place (inr later) there =
+      inr (later.0, bad-more files file named place later.1 there)
 
   module _ (file all : List ℕ) (there : IsThere told file) (read : IsReadTo told file file_limit all) where
     short : (word : List ℕ) (p : Proof) → Spells proof_layout word p → length word < file_limit
@@ -67,54 +73,71 @@ module _ (told : Option Files) where
     }
 
     -- what was read is none, and so the file is none
-    pub is_no_proof : (place : ℕ) → SpellsNothing proof_layout all → IsPlace proof_layout all place → IsNoProof told file place
+    pub is_no_proof : (place : ℕ) → SpellsNothing proof_layout all → IsPlace proof_layout all place
+        → IsNoProof told file place
     is_no_proof place nothing is = record {
       there = there;
       nothing = λ bytes tells. none_is_none proof_layout file_limit short all bytes (read bytes tells) place nothing is;
     }
 
   -- one file more, behind one that holds no proof
-  pub read-told : (files : List (List ℕ)) (kept : List Proof) (bad : Option BadInput) (file : List ℕ) → is_some bad ≡ true → IsThere told file
+  pub read-told : (files : List (List ℕ)) (kept : List Proof) (bad : Option BadInput) (file : List ℕ)
+      → is_some bad ≡ true → IsThere told file
       → ArePartsRead told files kept bad → ArePartsRead told (files ++ file ∷ []) kept bad
   read-told files kept None file is there are = cc
   read-told files kept (Some (BadByte named place)) file is there are = bad-more files file named place are there
   read-told files kept (Some (BadLine named number)) file is there are = absurd are
   read-told files kept (Some (Unsound named step rule)) file is there are = absurd are
 
-  kept-more : (files : List (List ℕ)) (kept : List Proof) (file : List ℕ) (p : Proof) → length kept < MOST_KEPT → IsProofOf told file p
+  kept-more : (files : List (List ℕ)) (kept : List Proof) (file : List ℕ) (p : Proof) → length kept < MOST_KEPT
+      → IsProofOf told file p
       → AreFirstOf told files kept → AreFirstOf told (files ++ file ∷ []) (kept ++ p ∷ [])
   kept-more files kept file p few holds are =
       let parts = are.0 in
       let short : length parts < MOST_KEPT = omega (arith, ap length are.2, length-take MOST_KEPT parts) in
       let all : take MOST_KEPT parts ≡ parts = take_all MOST_KEPT parts (omega (arith, short)) in
       let size : length (parts ++ p ∷ []) ≡ length parts + 1 = length-append parts (p ∷ []) in
-      let more : take MOST_KEPT (parts ++ p ∷ []) ≡ parts ++ p ∷ [] = take_all MOST_KEPT (parts ++ p ∷ []) (omega (arith, short, size)) in
-      (parts ++ p ∷ [], proofs-snoc files parts file p are.1 holds, ap (λ front. front ++ p ∷ []) (are.2 ∙ all) ∙ sym more)
+      let more : take MOST_KEPT (parts ++ p ∷ []) ≡ parts ++ p ∷ [] = take_all MOST_KEPT (parts ++ p ∷ [])
+      (omega (arith, short, size)) in (
+        parts ++ p ∷ [],
+        proofs-snoc files parts file p are.1 holds,
+        ap (λ front. front ++ p ∷ []) (are.2 ∙ all) ∙ sym more,
+      )
 
-  kept-full : (files : List (List ℕ)) (kept : List Proof) (file : List ℕ) (p : Proof) → MOST_KEPT ≤ length kept → IsProofOf told file p
+  kept-full : (files : List (List ℕ)) (kept : List Proof) (file : List ℕ) (p : Proof) → MOST_KEPT ≤ length kept
+      → IsProofOf told file p
       → AreFirstOf told files kept → AreFirstOf told (files ++ file ∷ []) kept
   kept-full files kept file p full holds are =
       let parts = are.0 in
-      let long : MOST_KEPT ≤ length parts = omega (arith, ap length are.2, length-take MOST_KEPT parts) in
-      (parts ++ p ∷ [], proofs-snoc files parts file p are.1 holds, are.2 ∙ sym (take-append-le MOST_KEPT parts (p ∷ []) long))
+      let long : MOST_KEPT ≤ length parts = omega (arith, ap length are.2, length-take MOST_KEPT parts) in (
+        parts ++ p ∷ [],
+        proofs-snoc files parts file p are.1 holds,
+        are.2 ∙ sym (take-append-le MOST_KEPT parts (p ∷ []) long),
+      )
 
   -- one that holds a proof, behind others that do: it is kept where there is room, and else not
-  pub read-kept : (files : List (List ℕ)) (kept : List Proof) (bad : Option BadInput) (file : List ℕ) (p : Proof) → is_some bad ≡ false
-      → length kept < MOST_KEPT → IsProofOf told file p → ArePartsRead told files kept bad → ArePartsRead told (files ++ file ∷ []) (kept ++ p ∷ []) bad
+  pub read-kept : (files : List (List ℕ)) (kept : List Proof) (bad : Option BadInput) (file : List ℕ) (p : Proof)
+      → is_some bad ≡ false
+      → length kept < MOST_KEPT → IsProofOf told file p → ArePartsRead told files kept bad
+      → ArePartsRead told (files ++ file ∷ []) (kept ++ p ∷ []) bad
   read-kept files kept None file p is few holds are = kept-more files kept file p few holds are
   read-kept files kept (Some bad) file p is few holds are = cc
 
-  pub read-full : (files : List (List ℕ)) (kept : List Proof) (bad : Option BadInput) (file : List ℕ) (p : Proof) → is_some bad ≡ false
-      → MOST_KEPT ≤ length kept → IsProofOf told file p → ArePartsRead told files kept bad → ArePartsRead told (files ++ file ∷ []) kept bad
+  pub read-full : (files : List (List ℕ)) (kept : List Proof) (bad : Option BadInput) (file : List ℕ) (p : Proof)
+      → is_some bad ≡ false
+      → MOST_KEPT ≤ length kept → IsProofOf told file p → ArePartsRead told files kept bad
+      → ArePartsRead told (files ++ file ∷ []) kept bad
   read-full files kept None file p is full holds are = kept-full files kept file p full holds are
   read-full files kept (Some bad) file p is full holds are = cc
 
   -- the first that holds none
-  pub read-none : (files : List (List ℕ)) (kept : List Proof) (bad : Option BadInput) (file : List ℕ) (place : ℕ) (came : BadInput)
+  pub read-none : (files : List (List ℕ)) (kept : List Proof) (bad : Option BadInput) (file : List ℕ) (place : ℕ)
+      (came : BadInput)
       → is_some bad ≡ false → IsNoProof told file place → came ≡ BadByte file place → ArePartsRead told files kept bad
       → ArePartsRead told (files ++ file ∷ []) kept (Some came)
   read-none files kept None file place came is none told_as are =
-      subst (λ (b : BadInput). ArePartsRead told (files ++ file ∷ []) kept (Some b)) (sym told_as) (bad-snoc files are.0 file place are.1 none)
+      subst (λ (b : BadInput). ArePartsRead told (files ++ file ∷ []) kept (Some b)) (sym told_as)
+      (bad-snoc files are.0 file place are.1 none)
   read-none files kept (Some bad) file place came is none told_as are = cc
 
 -- ---- from the files to what joining them comes to
@@ -123,11 +146,13 @@ module _ (a : Asked) where
   -- a fault of reading one of them
   pub refuses_input : (files : List (List ℕ)) (fault : ReadingFault) (came : CommandFault) → (files ≡ [] → ⊥)
       → (fault ≡ Failed → Rose a.before a.after) → came ≡ fault_of_input fault → PartsCome a files (Err came)
-  refuses_input files Failed came some rose is = subst (λ (f : CommandFault). PartsCome a files (Err f)) (sym is) (some, rose refl)
+  refuses_input files Failed came some rose is = subst (λ (f : CommandFault). PartsCome a files (Err f)) (sym is)
+      (some, rose refl)
   refuses_input files NoMemory came some rose is = subst (λ (f : CommandFault). PartsCome a files (Err f)) (sym is) tt
 
   -- one that holds no proof
-  pub refuses_part : (files : List (List ℕ)) (kept : List Proof) (bad : BadInput) → ArePartsRead a.told files kept (Some bad)
+  pub refuses_part : (files : List (List ℕ)) (kept : List Proof) (bad : BadInput) → ArePartsRead a.told files kept
+      (Some bad)
       → PartsCome a files (Err (Unreadable bad))
   refuses_part files kept (BadByte named place) read = read
   refuses_part files kept (BadLine named number) read = absurd read
@@ -141,18 +166,22 @@ module _ (a : Asked) where
   spelled_parts (file ∷ files) (p ∷ parts) are = ((are.0.bytes, are.0.spelled), spelled_parts files parts are.1)
 
   -- the bytes of the proof that they join to
-  pub joins_parts : (files : List (List ℕ)) (kept : List Proof) (p : Proof) (bytes : List ℕ) → AreFirstOf a.told files kept
+  pub joins_parts : (files : List (List ℕ)) (kept : List Proof) (p : Proof) (bytes : List ℕ) → AreFirstOf a.told files
+      kept
       → Joins kept (Ok p) → bytes ≡ proof_bytes p → JoinComes a files (Ok (Whole bytes))
   joins_parts files kept p bytes are kept_join written =
       let parts = are.0 in
       let joins : Joins parts (Ok p) = joins-front parts (Ok p) (subst (λ ps. Joins ps (Ok p)) are.2 kept_join) in
       let whole : Spells proof_layout (proof_bytes (Precedes joins.0)) (Precedes joins.0) =
       joined-spelled parts joins.0 (spelled_parts files parts are.1) joins.1 in
-      let of_p : Spells proof_layout (proof_bytes p) p = subst (λ q. Spells proof_layout (proof_bytes q) q) (sym joins.2) whole in
+      let of_p : Spells proof_layout (proof_bytes p) p = subst (λ q. Spells proof_layout (proof_bytes q) q)
+      (sym joins.2) whole in
       (parts, are.1, (p, joins, subst (λ b. Spells proof_layout b p) (sym written) of_p))
 
   -- the first of them that doesn't fit
-  pub leaves_gap : (files : List (List ℕ)) (kept : List Proof) (place : ℕ) → AreFirstOf a.told files kept → Joins kept (Err (Gap place))
+  pub leaves_gap : (files : List (List ℕ)) (kept : List Proof) (place : ℕ) → AreFirstOf a.told files kept
+      → Joins kept (Err (Gap place))
       → JoinComes a files (Ok (Unfit place))
   leaves_gap files kept place are kept_join =
-      let parts = are.0 in (parts, are.1, joins-front parts (Err (Gap place)) (subst (λ ps. Joins ps (Err (Gap place))) are.2 kept_join))
+      let parts = are.0 in
+      (parts, are.1, joins-front parts (Err (Gap place)) (subst (λ ps. Joins ps (Err (Gap place))) are.2 kept_join))

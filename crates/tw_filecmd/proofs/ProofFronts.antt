@@ -1,4 +1,5 @@
--- Of a proof file no more is read than is needed: the verdict on first bytes at which no proof goes on is that on all of them, and no
+-- Of a proof file no more is read than is needed: the verdict on first bytes at which no proof goes on is that on all
+-- of them, and no
 -- front of a proof is longer than a limit.
 use Rattle.std.proofs.Common.{ℕ, ◌≤◌, List, ◌++◌, length, Bool, sym, subst, arith, inl, inr}
 use Rattle.std.proofs.lemmas.List.{length-append}
@@ -19,7 +20,8 @@ front-size front is = let all = proof-size (front ++ is.0) is.1 is.2 in omega (a
 
 module _ (front more : List ℕ) (broken : IsFront proof_layout front → ⊥) where
   module _ (dig : List ℕ → List ℕ) (anchors : List Thread) (strict : Bool) where
-    pub verdict_behind : (verdict : Verdict) → IsVerdict dig anchors strict front verdict → IsVerdict dig anchors strict (front ++ more) verdict
+    pub verdict_behind : (verdict : Verdict) → IsVerdict dig anchors strict front verdict → IsVerdict dig anchors strict
+        (front ++ more) verdict
     verdict_behind (Yes report) is = absurd (nothing_here proof_layout front more broken is.0.0 is.0.1)
     verdict_behind (No reason) is = by is.1.stands
       where
@@ -30,6 +32,7 @@ module _ (front more : List ℕ) (broken : IsFront proof_layout front → ⊥) w
             (place_behind proof_layout front more broken none.1.0 none.1.1))
         by (inr proof) = absurd (nothing_here proof_layout front more broken proof.0 proof.1)
 
-    pub binds_behind : (verdict : Verdict) → BindsHistories dig anchors front verdict → BindsHistories dig anchors (front ++ more) verdict
+    pub binds_behind : (verdict : Verdict) → BindsHistories dig anchors front verdict → BindsHistories dig anchors
+        (front ++ more) verdict
     binds_behind (Yes report) binds = λ p spelled. absurd (nothing_behind proof_layout front more broken p spelled)
     binds_behind (No reason) binds = tt

@@ -1,5 +1,6 @@
 -- What the calls of a follower answer.
-use Rattle.std.proofs.Common.{◌≡◌, ◌≢◌, ℕ, ◌≤◌, List, Bool, true, false, length, refl, ap, sym, ◌∙◌, subst, arith, inl, inr, ◌⊎◌, ⊎_elim}
+use Rattle.std.proofs.Common.{◌≡◌, ◌≢◌, ℕ, ◌≤◌, List, Bool, true, false, length, refl, ap, sym, ◌∙◌, subst, arith, inl}
+use Rattle.std.proofs.Common.{inr, ◌⊎◌, ⊎_elim}
 use Rattle.std.specs.Prelude.{◌↔◌, IfErr, IfOk, IsTrue, MatchResult, OnOk, Result, Ok, Err, Some}
 use Rattle.tw_base.specs.declared.history.thread.Thread.{Thread}
 use Rattle.tw_base.specs.history.Auth.{auth}
@@ -34,7 +35,8 @@ use Rattle.tw_pages.proofs.Staged.{leaves_before, reads_before}
 use Rattle.tw_pages.proofs.Written.{still_rests, told_list}
 use Rattle.tw_follow.proofs.Following.{read_leaves, rest_head, same_leaves, still_keeps}
 use Rattle.tw_follow.proofs.Moved.{none_leaves, none_reads}
-use Rattle.tw_follow.proofs.Offering.{IsJudged, IsMoved, judges-once, judges-table, moved-is, one-message, own-judged, sort_of}
+use Rattle.tw_follow.proofs.Offering.{IsJudged, IsMoved, judges-once, judges-table, moved-is, one-message, own-judged}
+use Rattle.tw_follow.proofs.Offering.{sort_of}
 
 -- ---- refusals
 
@@ -71,31 +73,46 @@ shared_fault r s = absurd s
 no_fall : (n : ℕ) → n ≤ n
 no_fall n = omega arith
 
-module _ {D H : Type 0} {g : _} {k : _} (view : D → DiskView) (only_now : (d : D) (c : Image) → (view d).left_since (view d).moment c → (view d).may_leave c) (dig : List ℕ → List ℕ) where
+module _ {D H : Type 0} {g : _} {k : _} (view : D → DiskView) (only_now : (d : D) (c : Image)
+    → (view d).left_since (view d).moment c → (view d).may_leave c) (dig : List ℕ → List ℕ) where
   -- ---- a call that makes nothing
 
   module _ (f : Follower D H g k) where
-    still : (kept : Kept) → Follows dig view f kept → LeavesOnly (view (disk_of f)) (view (disk_of f)) (λ i. StandsFor dig i kept)
-    still kept follows = read_leaves view only_now dig f.recorded.store f.recorded.store f.recorded.root kept (is_same_itself view f.recorded.store) follows
+    still : (kept : Kept) → Follows dig view f kept → LeavesOnly (view (disk_of f)) (view (disk_of f))
+        (λ i. StandsFor dig i kept)
+    still kept follows = read_leaves view only_now dig f.recorded.store f.recorded.store f.recorded.root kept
+        (is_same_itself view f.recorded.store) follows
 
-    still_one_of : (kept next : Kept) → Follows dig view f kept → LeavesOnly (view (disk_of f)) (view (disk_of f)) (StandsForOneOf dig kept next)
-    still_one_of kept next follows = none_leaves view only_now dig f.recorded.store f.recorded.store f.recorded.root kept next (is_same_itself view f.recorded.store) follows
+    still_one_of : (kept next : Kept) → Follows dig view f kept → LeavesOnly (view (disk_of f)) (view (disk_of f))
+        (StandsForOneOf dig kept next)
+    still_one_of kept next follows = none_leaves view only_now dig f.recorded.store f.recorded.store f.recorded.root
+        kept next (is_same_itself view f.recorded.store) follows
 
     reads : (kept next : Kept) → Follows dig view f kept → Reads (view (disk_of f)) (StandsForOneOf dig kept next)
-    reads kept next follows = none_reads view only_now dig f.recorded.store f.recorded.store f.recorded.root kept next (is_same_itself view f.recorded.store) follows
+    reads kept next follows = none_reads view only_now dig f.recorded.store f.recorded.store f.recorded.root kept next
+        (is_same_itself view f.recorded.store) follows
 
     -- whatever its pages keep, it opens as before
-    as_before : (ps : Image) → IsOver dig view f ps → LeavesOnly (view (disk_of f)) (view (disk_of f)) (IsWritten (root_kind dig) (written_record (record_of f) ps))
-    as_before ps over = same_leaves view only_now dig f.recorded.store f.recorded.store f.recorded.root ps (is_same_itself view f.recorded.store) over
+    as_before : (ps : Image) → IsOver dig view f ps → LeavesOnly (view (disk_of f)) (view (disk_of f))
+        (IsWritten (root_kind dig) (written_record (record_of f) ps))
+    as_before ps over = same_leaves view only_now dig f.recorded.store f.recorded.store f.recorded.root ps
+        (is_same_itself view f.recorded.store) over
 
-    either_before : (ps : Image) → IsOver dig view f ps → LeavesOnly (view (disk_of f)) (view (disk_of f)) (IsOneOf (root_kind dig) (written_record (record_of f) ps) (written_record (record_of f) ps))
-    either_before ps over = leaves_before view only_now (root_kind dig) f.recorded.store f.recorded.store (written_record f.recorded.root ps) (written_record f.recorded.root ps) (is_same_itself view f.recorded.store) over
+    either_before : (ps : Image) → IsOver dig view f ps → LeavesOnly (view (disk_of f)) (view (disk_of f))
+        (IsOneOf (root_kind dig) (written_record (record_of f) ps) (written_record (record_of f) ps))
+    either_before ps over = leaves_before view only_now (root_kind dig) f.recorded.store f.recorded.store
+        (written_record f.recorded.root ps) (written_record f.recorded.root ps) (is_same_itself view f.recorded.store)
+        over
 
-    reads_either : (ps : Image) → IsOver dig view f ps → Reads (view (disk_of f)) (IsOneOf (root_kind dig) (written_record (record_of f) ps) (written_record (record_of f) ps))
-    reads_either ps over = reads_before view only_now (root_kind dig) f.recorded.store f.recorded.store (written_record f.recorded.root ps) (written_record f.recorded.root ps) (is_same_itself view f.recorded.store) over
+    reads_either : (ps : Image) → IsOver dig view f ps → Reads (view (disk_of f))
+        (IsOneOf (root_kind dig) (written_record (record_of f) ps) (written_record (record_of f) ps))
+    reads_either ps over = reads_before view only_now (root_kind dig) f.recorded.store f.recorded.store
+        (written_record f.recorded.root ps) (written_record f.recorded.root ps) (is_same_itself view f.recorded.store)
+        over
 
     -- a refused offer
-    pub refused_offer : (bytes : List ℕ) (r : FollowRefusal) → AnswersOffer dig (has_failed f) (head_of f) bytes (Err r) → r ≢ DiskFault → Offers dig view bytes f f (Err r)
+    pub refused_offer : (bytes : List ℕ) (r : FollowRefusal) → AnswersOffer dig (has_failed f) (head_of f) bytes (Err r)
+        → r ≢ DiskFault → Offers dig view bytes f f (Err r)
     refused_offer bytes r table other = record {
       table = table;
       steps = λ kept follows. record {
@@ -118,15 +135,20 @@ module _ {D H : Type 0} {g : _} {k : _} (view : D → DiskView) (only_now : (d :
       same = tt;
       kept = refl;
       unwritten = inr (is_same_itself view f.recorded.store);
-      broken = (λ failed. inl failed, λ either. ⊎_elim (λ failed. failed) (λ e. absurd (other (same_refusal Thread r DiskFault e))) either);
+      broken = (
+        λ failed. inl failed,
+        λ either. ⊎_elim (λ failed. failed) (λ e. absurd (other (same_refusal Thread r DiskFault e))) either,
+      );
       fault = λ e. absurd (other (same_refusal Thread r DiskFault e));
       later = no_fall ((view (disk_of f)).faults);
     }
 
     -- an offer of the head itself
-    pub known_offer : (bytes : List ℕ) → has_failed f ≡ false → JudgesOffer dig (head_of f) bytes (Ok Known) → Offers dig view bytes f f (Ok (head_of f))
+    pub known_offer : (bytes : List ℕ) → has_failed f ≡ false → JudgesOffer dig (head_of f) bytes (Ok Known)
+        → Offers dig view bytes f f (Ok (head_of f))
     known_offer bytes whole judges = record {
-      table = subst (λ (b : Bool). AnswersOffer dig b (head_of f) bytes (Ok (head_of f))) (sym whole) (Known, judges, refl);
+      table = subst (λ (b : Bool). AnswersOffer dig b (head_of f) bytes (Ok (head_of f))) (sym whole)
+          (Known, judges, refl);
       steps = λ kept follows.
           let is = rest_head view only_now dig f.recorded.store f.recorded.root kept follows in
           record {
@@ -134,7 +156,10 @@ module _ {D H : Type 0} {g : _} {k : _} (view : D → DiskView) (only_now : (d :
             goes = inl (tt, refl);
             any_moment = still_one_of kept kept follows;
             told = reads kept kept follows;
-            done = (inl ((subst (λ (t : Thread). JudgesOffer dig t bytes (Ok Known)) (sym is) judges, sym is), refl), follows);
+            done = (
+              inl ((subst (λ (t : Thread). JudgesOffer dig t bytes (Ok Known)) (sym is) judges, sym is), refl),
+              follows,
+            );
             refused = tt;
           };
       written = λ ps over. record {
@@ -149,7 +174,10 @@ module _ {D H : Type 0} {g : _} {k : _} (view : D → DiskView) (only_now : (d :
       same = λ e. (refl, is_same_itself view f.recorded.store);
       kept = tt;
       unwritten = tt;
-      broken = (λ failed. inl failed, λ either. ⊎_elim (λ failed. failed) (λ e. absurd (never_ok Thread (head_of f) DiskFault e)) either);
+      broken = (
+        λ failed. inl failed,
+        λ either. ⊎_elim (λ failed. failed) (λ e. absurd (never_ok Thread (head_of f) DiskFault e)) either,
+      );
       fault = λ e. absurd (never_ok Thread (head_of f) DiskFault e);
       later = no_fall ((view (disk_of f)).faults);
     }
@@ -165,7 +193,11 @@ module _ {D H : Type 0} {g : _} {k : _} (view : D → DiskView) (only_now : (d :
       still = λ kept follows. (follows, still kept follows);
       unwritten = is_same_itself view f.recorded.store;
       record_ = refl;
-      broken = (λ is. inl is, λ either. ⊎_elim (λ is. is) (λ e. absurd (reopen_is_none (same_refusal (List Thread) Reopen DiskFault e))) either);
+      broken = (
+        λ is. inl is,
+        λ either. ⊎_elim (λ is. is) (λ e. absurd (reopen_is_none (same_refusal (List Thread) Reopen DiskFault e)))
+            either,
+      );
       fault = λ e. absurd (reopen_is_none (same_refusal (List Thread) Reopen DiskFault e));
       later = no_fall ((view (disk_of f)).faults);
     }
@@ -175,15 +207,21 @@ module _ {D H : Type 0} {g : _} {k : _} (view : D → DiskView) (only_now : (d :
 
   -- ---- a call that moves the head
 
-  module _ (old new : Follower D H g k) (bytes : List ℕ) (head : Thread) (whole : has_failed old ≡ false) (judges : JudgesOffer dig (head_of old) bytes (Ok (Moves head)))
-      (any_moment : (kept : Kept) → Follows dig view old kept → LeavesOnly (view (disk_of old)) (view (disk_of new)) (StandsForOneOf dig kept (with_head kept head)))
-      (told : (kept : Kept) → Follows dig view old kept → Reads (view (disk_of new)) (StandsForOneOf dig kept (with_head kept head)))
+  module _ (old new : Follower D H g k) (bytes : List ℕ) (head : Thread) (whole : has_failed old ≡ false)
+      (judges : JudgesOffer dig (head_of old) bytes (Ok (Moves head)))
+      (any_moment : (kept : Kept) → Follows dig view old kept → LeavesOnly (view (disk_of old)) (view (disk_of new))
+      (StandsForOneOf dig kept (with_head kept head)))
+      (told : (kept : Kept) → Follows dig view old kept → Reads (view (disk_of new))
+      (StandsForOneOf dig kept (with_head kept head)))
       (later : (view (disk_of old)).faults ≤ (view (disk_of new)).faults) where
     -- what is written, whatever the pages keep
     abbrev pub IsWrittenBy : (Done : Written RootRecord → Type 0) → Type 0
     IsWrittenBy Done = (ps : Image) → IsOver dig view old ps
-        → LeavesOnly (view (disk_of old)) (view (disk_of new)) (IsOneOf (root_kind dig) (written_record (record_of old) ps) (moved_to (written_record (record_of old) ps) head))
-        × Reads (view (disk_of new)) (IsOneOf (root_kind dig) (written_record (record_of old) ps) (moved_to (written_record (record_of old) ps) head))
+        → LeavesOnly (view (disk_of old)) (view (disk_of new))
+        (IsOneOf (root_kind dig) (written_record (record_of old) ps) (moved_to (written_record (record_of old) ps)
+        head))
+        × Reads (view (disk_of new)) (IsOneOf (root_kind dig) (written_record (record_of old) ps)
+        (moved_to (written_record (record_of old) ps) head))
         × Done (moved_to (written_record (record_of old) ps) head)
 
     is : IsMoved dig (head_of old) judges.0 head
@@ -194,15 +232,19 @@ module _ {D H : Type 0} {g : _} {k : _} (view : D → DiskView) (only_now : (d :
         let same = rest_head view only_now dig old.recorded.store old.recorded.root kept follows in
         record {
           spelled = judges.1;
-          moves = ap (λ (t : Thread). judged_offer dig t judges.0) same ∙ judges.2 ∙ ap (λ (t : Thread). Ok (Moves t)) is.thread_is;
+          moves = ap (λ (t : Thread). judged_offer dig t judges.0) same ∙ judges.2 ∙ ap (λ (t : Thread). Ok (Moves t))
+              is.thread_is;
           adds = ap (λ (t : Thread). with_head kept t) is.thread_is;
         }
 
-    pub moved_offer : (thread : Thread) → (thread ≡ head) × (head_of new ≡ head) → ((kept : Kept) → Follows dig view old kept → Follows dig view new (with_head kept head))
+    pub moved_offer : (thread : Thread) → (thread ≡ head) × (head_of new ≡ head)
+        → ((kept : Kept) → Follows dig view old kept → Follows dig view new (with_head kept head))
         → (IsTrue (has_failed new) ↔ (◌≡◌ {A = Result Thread FollowRefusal} (Ok thread) (Err DiskFault)))
-        → IsWrittenBy (λ w. (record_of new ≡ w.root) × RestsWith view (root_kind dig) new.recorded.store w) → Offers dig view bytes old new (Ok thread)
+        → IsWrittenBy (λ w. (record_of new ≡ w.root) × RestsWith view (root_kind dig) new.recorded.store w)
+        → Offers dig view bytes old new (Ok thread)
     moved_offer thread heads done broken writes = record {
-      table = subst (λ (b : Bool). AnswersOffer dig b (head_of old) bytes (Ok thread)) (sym whole) (Moves head, judges, heads.0);
+      table = subst (λ (b : Bool). AnswersOffer dig b (head_of old) bytes (Ok thread)) (sym whole)
+          (Moves head, judges, heads.0);
       steps = λ kept follows. record {
         next = with_head kept head;
         goes = inr (judges.0, by kept follows);
@@ -225,7 +267,11 @@ module _ {D H : Type 0} {g : _} {k : _} (view : D → DiskView) (only_now : (d :
       same = λ e. absurd (later_differs (ap (λ (t : Thread). t.step) (sym (heads.0 ∙ is.thread_is) ∙ e)));
       kept = tt;
       unwritten = tt;
-      broken = (λ failed. absurd (never_ok Thread thread DiskFault (broken.0 failed)), λ either. ⊎_elim (λ failed. absurd (not_both (has_failed old) whole failed)) (λ e. absurd (never_ok Thread thread DiskFault e)) either);
+      broken = (
+        λ failed. absurd (never_ok Thread thread DiskFault (broken.0 failed)),
+        λ either. ⊎_elim (λ failed. absurd (not_both (has_failed old) whole failed))
+            (λ e. absurd (never_ok Thread thread DiskFault e)) either,
+      );
       fault = λ e. absurd (never_ok Thread thread DiskFault e);
       later = later;
     }
@@ -233,9 +279,11 @@ module _ {D H : Type 0} {g : _} {k : _} (view : D → DiskView) (only_now : (d :
         later_differs : judges.0.thread.step ≡ (head_of old).step → ⊥
         later_differs e = omega (arith, is.above, e)
 
-    pub stopped_offer : (r : FollowRefusal) → (r ≡ DiskFault) ⊎ (r ≡ NoMemory) → (record_of new ≡ record_of old) × ((r ≡ DiskFault) ⊎ HasSameDisk view old new)
+    pub stopped_offer : (r : FollowRefusal) → (r ≡ DiskFault) ⊎ (r ≡ NoMemory) → (record_of new ≡ record_of old)
+        × ((r ≡ DiskFault) ⊎ HasSameDisk view old new)
         → (IsTrue (has_failed new) ↔ (◌≡◌ {A = Result Thread FollowRefusal} (Err r) (Err DiskFault)))
-        → (◌≡◌ {A = Result Thread FollowRefusal} (Err r) (Err DiskFault) → Rose (view (disk_of old)).faults (view (disk_of new)).faults)
+        → (◌≡◌ {A = Result Thread FollowRefusal} (Err r) (Err DiskFault) → Rose (view (disk_of old)).faults
+        (view (disk_of new)).faults)
         → IsWrittenBy (λ w. Unit {0}) → Offers dig view bytes old new (Err r)
     stopped_offer r which kept_is broken fault writes = record {
       table = subst (λ (b : Bool). AnswersOffer dig b (head_of old) bytes (Err r)) (sym whole) (answers r which);
@@ -246,7 +294,8 @@ module _ {D H : Type 0} {g : _} {k : _} (view : D → DiskView) (only_now : (d :
         told = told kept follows;
         done = tt;
         refused = ⊎_elim (λ e. inl e) (λ same. inr (
-          subst (λ (x : RootRecord). ServesState (root_kind dig) KeepsList view new.recorded.store x kept) (sym kept_is.0)
+          subst (λ (x : RootRecord). ServesState (root_kind dig) KeepsList view new.recorded.store x kept)
+              (sym kept_is.0)
               (still_keeps view only_now dig old.recorded.store new.recorded.store old.recorded.root kept same follows),
           read_leaves view only_now dig old.recorded.store new.recorded.store old.recorded.root kept same follows,
         )) kept_is.1;
@@ -260,7 +309,8 @@ module _ {D H : Type 0} {g : _} {k : _} (view : D → DiskView) (only_now : (d :
             told = it.1;
             done = tt;
             refused = ⊎_elim (λ e. inl e) (λ same. inr (
-              still_rests view (root_kind dig) old.recorded.store new.recorded.store (written_record old.recorded.root ps) same over,
+              still_rests view (root_kind dig) old.recorded.store new.recorded.store
+                  (written_record old.recorded.root ps) same over,
               same_leaves view only_now dig old.recorded.store new.recorded.store old.recorded.root ps same over,
             )) kept_is.1;
           };
@@ -268,35 +318,51 @@ module _ {D H : Type 0} {g : _} {k : _} (view : D → DiskView) (only_now : (d :
       same = tt;
       kept = kept_is.0;
       unwritten = kept_is.1;
-      broken = (λ failed. inr (broken.0 failed), λ either. ⊎_elim (λ failed. absurd (not_both (has_failed old) whole failed)) broken.1 either);
+      broken = (
+        λ failed. inr (broken.0 failed),
+        λ either. ⊎_elim (λ failed. absurd (not_both (has_failed old) whole failed)) broken.1 either,
+      );
       fault = fault;
       later = later;
     }
       where
-        answers : (q : FollowRefusal) → (q ≡ DiskFault) ⊎ (q ≡ NoMemory) → AnswersOffer dig false (head_of old) bytes (Err q)
-        answers q (inl e) = subst (λ (x : FollowRefusal). AnswersOffer dig false (head_of old) bytes (Err x)) (sym e) (head, judges)
+        answers : (q : FollowRefusal) → (q ≡ DiskFault) ⊎ (q ≡ NoMemory) → AnswersOffer dig false (head_of old) bytes
+            (Err q)
+        answers q (inl e) = subst (λ (x : FollowRefusal). AnswersOffer dig false (head_of old) bytes (Err x)) (sym e)
+            (head, judges)
         answers q (inr e) = subst (λ (x : FollowRefusal). AnswersOffer dig false (head_of old) bytes (Err x)) (sym e) tt
 
-    pub moves_answer : (result : Result Thread FollowRefusal) → IfOk result (λ thread. (thread ≡ head) × (head_of new ≡ head)) → IfErr result (λ r. (r ≡ DiskFault) ⊎ (r ≡ NoMemory))
+    pub moves_answer : (result : Result Thread FollowRefusal)
+        → IfOk result (λ thread. (thread ≡ head) × (head_of new ≡ head))
+        → IfErr result (λ r. (r ≡ DiskFault) ⊎ (r ≡ NoMemory))
         → IfOk result (λ _. (kept : Kept) → Follows dig view old kept → Follows dig view new (with_head kept head))
         → IfErr result (λ r. (record_of new ≡ record_of old) × ((r ≡ DiskFault) ⊎ HasSameDisk view old new))
-        → (IsTrue (has_failed new) ↔ (result ≡ Err DiskFault)) → (result ≡ Err DiskFault → Rose (view (disk_of old)).faults (view (disk_of new)).faults)
-        → IsWrittenBy (λ w. OnOk result ((record_of new ≡ w.root) × RestsWith view (root_kind dig) new.recorded.store w)) → Offers dig view bytes old new result
-    moves_answer (Ok thread) heads answers done kept_is broken fault writes = moved_offer thread heads done broken writes
-    moves_answer (Err r) heads answers done kept_is broken fault writes = stopped_offer r answers kept_is broken fault writes
+        → (IsTrue (has_failed new) ↔ (result ≡ Err DiskFault))
+        → (result ≡ Err DiskFault → Rose (view (disk_of old)).faults (view (disk_of new)).faults)
+        → IsWrittenBy (λ w. OnOk result ((record_of new ≡ w.root) × RestsWith view (root_kind dig) new.recorded.store
+        w)) → Offers dig view bytes old new result
+    moves_answer (Ok thread) heads answers done kept_is broken fault writes = moved_offer thread heads done broken
+        writes
+    moves_answer (Err r) heads answers done kept_is broken fault writes = stopped_offer r answers kept_is broken fault
+        writes
 
   -- ---- telling the heads
 
-  module _ (old new : Follower D H g k) (whole : has_failed old ≡ false) (same : IsSameStore view old.recorded.store new.recorded.store) (count : store_count new.recorded.store ≡ store_count old.recorded.store)
-      (record_is : record_of new ≡ record_of old) (later : (view (disk_of old)).faults ≤ (view (disk_of new)).faults) where
-    kept_on : (kept : Kept) → Follows dig view old kept → Follows dig view new kept × LeavesOnly (view (disk_of old)) (view (disk_of new)) (λ i. StandsFor dig i kept)
+  module _ (old new : Follower D H g k) (whole : has_failed old ≡ false) (same : IsSameStore view old.recorded.store
+      new.recorded.store) (count : store_count new.recorded.store ≡ store_count old.recorded.store)
+      (record_is : record_of new ≡ record_of old)
+      (later : (view (disk_of old)).faults ≤ (view (disk_of new)).faults) where
+    kept_on : (kept : Kept) → Follows dig view old kept → Follows dig view new kept × LeavesOnly (view (disk_of old))
+        (view (disk_of new)) (λ i. StandsFor dig i kept)
     kept_on kept follows = (
       subst (λ (x : RootRecord). ServesState (root_kind dig) KeepsList view new.recorded.store x kept) (sym record_is)
           (still_keeps view only_now dig old.recorded.store new.recorded.store old.recorded.root kept same follows),
       read_leaves view only_now dig old.recorded.store new.recorded.store old.recorded.root kept same follows,
     )
 
-    pub told_heads : (heads : List Thread) → ((ps : Image) → pages_of view old ≡ Some ps → AnswersAs follower_refusals (λ (hs : List Thread). hs) (Ok heads) (found_heads ps (record_of old))) → RiseTo (head_of old) heads → has_failed new ≡ has_failed old
+    pub told_heads : (heads : List Thread) → ((ps : Image) → pages_of view old ≡ Some ps → AnswersAs follower_refusals
+        (λ (hs : List Thread). hs) (Ok heads) (found_heads ps (record_of old))) → RiseTo (head_of old) heads
+        → has_failed new ≡ has_failed old
         → TellsHeads dig view old new (Ok heads)
     told_heads heads answer rises failed = record {
       reopen = (λ e. absurd (never_ok (List Thread) heads Reopen e), λ is. absurd (not_both (has_failed old) whole is));
@@ -304,19 +370,31 @@ module _ {D H : Type 0} {g : _} {k : _} (view : D → DiskView) (only_now : (d :
       answer = λ _. answer;
       rises = rises;
       heads = λ kept follows.
-          same_found heads kept.heads (sym (answer follows.pages (told_list view (root_kind dig) old.recorded.store (written_record old.recorded.root follows.pages) follows.rests old.clean)) ∙ follows.keeps.found);
+          same_found heads kept.heads
+          (sym (answer follows.pages (told_list view (root_kind dig) old.recorded.store
+          (written_record old.recorded.root follows.pages) follows.rests old.clean)) ∙ follows.keeps.found);
       still = kept_on;
       unwritten = same;
       record_ = record_is;
-      broken = (λ is. inl (subst (λ (b : Bool). IsTrue b) failed is), λ either. ⊎_elim (λ is. subst (λ (b : Bool). IsTrue b) (sym failed) is) (λ e. absurd (never_ok (List Thread) heads DiskFault e)) either);
+      broken = (
+        λ is. inl (subst (λ (b : Bool). IsTrue b) failed is),
+        λ either. ⊎_elim (λ is. subst (λ (b : Bool). IsTrue b) (sym failed) is)
+            (λ e. absurd (never_ok (List Thread) heads DiskFault e)) either,
+      );
       fault = λ e. absurd (never_ok (List Thread) heads DiskFault e);
       later = later;
     }
 
-    pub untold_heads : (r : FollowRefusal) → ((ps : Image) → pages_of view old ≡ Some ps → AnswersAs follower_refusals (λ (hs : List Thread). hs) (Err r) (found_heads ps (record_of old))) → IsShared (follower_refusals r)
-        → (IsTrue (has_failed new) ↔ (r ≡ DiskFault)) → (is_of_disk (follower_refusals r) ≡ true → Rose (view (disk_of old)).faults (view (disk_of new)).faults) → TellsHeads dig view old new (Err r)
+    pub untold_heads : (r : FollowRefusal) → ((ps : Image) → pages_of view old ≡ Some ps → AnswersAs follower_refusals
+        (λ (hs : List Thread). hs) (Err r) (found_heads ps (record_of old))) → IsShared (follower_refusals r)
+        → (IsTrue (has_failed new) ↔ (r ≡ DiskFault)) → (is_of_disk (follower_refusals r) ≡ true
+        → Rose (view (disk_of old)).faults (view (disk_of new)).faults) → TellsHeads dig view old new (Err r)
     untold_heads r answer shared broken rose = record {
-      reopen = (λ e. absurd (subst (λ (x : FollowRefusal). IsShared (follower_refusals x)) (same_refusal (List Thread) r Reopen e) shared), λ is. absurd (not_both (has_failed old) whole is));
+      reopen = (
+        λ e. absurd (subst (λ (x : FollowRefusal). IsShared (follower_refusals x))
+            (same_refusal (List Thread) r Reopen e) shared),
+        λ is. absurd (not_both (has_failed old) whole is),
+      );
       faults = inr (shared_fault r shared);
       answer = λ _. answer;
       rises = tt;
@@ -324,15 +402,22 @@ module _ {D H : Type 0} {g : _} {k : _} (view : D → DiskView) (only_now : (d :
       still = kept_on;
       unwritten = same;
       record_ = record_is;
-      broken = (λ is. inr (ap (λ (x : FollowRefusal). Err x) (broken.0 is)), λ either. ⊎_elim (λ is. absurd (not_both (has_failed old) whole is)) (λ e. broken.1 (same_refusal (List Thread) r DiskFault e)) either);
-      fault = λ e. rose (ap (λ (x : FollowRefusal). is_of_disk (follower_refusals x)) (same_refusal (List Thread) r DiskFault e));
+      broken = (
+        λ is. inr (ap (λ (x : FollowRefusal). Err x) (broken.0 is)),
+        λ either. ⊎_elim (λ is. absurd (not_both (has_failed old) whole is))
+            (λ e. broken.1 (same_refusal (List Thread) r DiskFault e)) either,
+      );
+      fault = λ e. rose (ap (λ (x : FollowRefusal). is_of_disk (follower_refusals x))
+          (same_refusal (List Thread) r DiskFault e));
       later = later;
     }
 
 -- ---- the message of a history that has the head
 
-module _ (dig : List ℕ → List ℕ) (h : History) (head : Thread) (bytes : List ℕ) (name : h.name ≡ head.from) (has : HasHead dig h head) (makes : MakesMessage dig h head.step bytes) where
-  own : (offered : Offered) × (judged_offer dig head makes.0 ≡ Ok offered) × (answer_to head offered ≡ thread_at_step dig h (length h.steps))
+module _ (dig : List ℕ → List ℕ) (h : History) (head : Thread) (bytes : List ℕ) (name : h.name ≡ head.from)
+    (has : HasHead dig h head) (makes : MakesMessage dig h head.step bytes) where
+  own : (offered : Offered) × (judged_offer dig head makes.0 ≡ Ok offered)
+      × (answer_to head offered ≡ thread_at_step dig h (length h.steps))
   own = own-judged dig h head makes.0 name has makes.2
 
   offered_in : Offered → Result Offered FollowRefusal → Offered
@@ -347,26 +432,33 @@ module _ (dig : List ℕ → List ℕ) (h : History) (head : Thread) (bytes : Li
   none_wanted offered e = cc
 
   -- what is answered to it is the history's last thread
-  pub own-answer : (offered : Offered) → JudgesOffer dig head bytes (Ok offered) → answer_to head offered ≡ thread_at_step dig h (length h.steps)
+  pub own-answer : (offered : Offered) → JudgesOffer dig head bytes (Ok offered) → answer_to head offered
+      ≡ thread_at_step dig h (length h.steps)
   own-answer offered j =
-      let same = same_offered offered own.0 (judges-once dig head bytes (Ok offered) (Ok own.0) j (judges-table dig head bytes (Ok own.0) makes.0 makes.1 own.1) (none_wanted offered) (none_wanted own.0)) in
+      let same = same_offered offered own.0 (judges-once dig head bytes (Ok offered) (Ok own.0) j
+      (judges-table dig head bytes (Ok own.0) makes.0 makes.1 own.1) (none_wanted offered) (none_wanted own.0)) in
       ap (answer_to head) same ∙ own.2
 
   -- it is refused for want of memory alone
   pub own-refused : (r : FollowRefusal) → JudgesOffer dig head bytes (Err r) → r ≡ NoMemory
   own-refused r j = by (sort_of dig head bytes (Err r) j)
     where
-      by : (◌≡◌ {A = Result Offered FollowRefusal} (Err r) (Err NoMemory)) ⊎ IsJudged dig head bytes (Err r) → r ≡ NoMemory
+      by : (◌≡◌ {A = Result Offered FollowRefusal} (Err r) (Err NoMemory)) ⊎ IsJudged dig head bytes (Err r)
+          → r ≡ NoMemory
       by (inl e) = same_refusal Offered r NoMemory e
       by (inr (inl a)) = absurd (a.2 makes.0 makes.1)
-      by (inr (inr b)) = absurd (let never : ◌≡◌ {A = Result Offered FollowRefusal} (Ok own.0) (Err r) = sym own.1 ∙ ap (judged_offer dig head) (one-message bytes makes.0 b.0 makes.1 b.1) ∙ b.2 in never_ok Offered own.0 r never)
+      by (inr (inr b)) = absurd (let never : ◌≡◌ {A = Result Offered FollowRefusal} (Ok own.0) (Err r) = sym own.1
+          ∙ ap (judged_offer dig head) (one-message bytes makes.0 b.0 makes.1 b.1) ∙ b.2 in never_ok Offered own.0 r
+          never)
 
-  pub own-told : (thread : Thread) → thread ≡ thread_at_step dig h (length h.steps) → (thread.step ≡ length h.steps) × (thread.auth ≡ auth dig h (length h.steps))
+  pub own-told : (thread : Thread) → thread ≡ thread_at_step dig h (length h.steps) → (thread.step ≡ length h.steps)
+      × (thread.auth ≡ auth dig h (length h.steps))
   own-told thread e = (ap (λ (t : Thread). t.step) e, ap (λ (t : Thread). t.auth) e)
 
   -- whatever a follower answers to it by its table
   pub own-by : (is_broken : Bool) (result : Result Thread FollowRefusal) → AnswersOffer dig is_broken head bytes result
-      → MatchResult result (λ thread. (thread.step ≡ length h.steps) × (thread.auth ≡ auth dig h (length h.steps))) (λ r. (r ≡ Reopen) ⊎ (r ≡ DiskFault) ⊎ (r ≡ NoMemory))
+      → MatchResult result (λ thread. (thread.step ≡ length h.steps) × (thread.auth ≡ auth dig h (length h.steps)))
+      (λ r. (r ≡ Reopen) ⊎ (r ≡ DiskFault) ⊎ (r ≡ NoMemory))
   own-by true (Ok thread) is = absurd (never_ok Thread thread Reopen is)
   own-by true (Err r) is = inl (same_refusal Thread r Reopen is)
   own-by false (Ok thread) (offered, judges, is) = own-told thread (is ∙ own-answer offered judges)

@@ -24,7 +24,8 @@ head-lawful = search lawful depth 20
 
 -- ---- root records
 
-pub root-fits : (r : RootRecord) → IsName r.head.from → r.head.step ≤ LAST_STEP → HasBytes 32 r.head.auth → r.page < 2 ^ 64 → root_codec.Fits r
+pub root-fits : (r : RootRecord) → IsName r.head.from → r.head.step ≤ LAST_STEP → HasBytes 32 r.head.auth
+    → r.page < 2 ^ 64 → root_codec.Fits r
 unfolding root_codec seen pair name_codec number_codec bytes_codec
 root-fits r name short auth page = (name, ((omega arith, short), (auth, (omega arith, omega (arith, page)))))
 
@@ -55,7 +56,8 @@ module _ (r : RootRecord) (fits : root_codec.Fits r) where
       )
 
 -- bytes are one root record at most
-pub root-once : (bytes : List ℕ) (r other : RootRecord) → bytes ≡ root_bytes r → root_codec.Fits r → bytes ≡ root_bytes other → root_codec.Fits other → r ≡ other
+pub root-once : (bytes : List ℕ) (r other : RootRecord) → bytes ≡ root_bytes r → root_codec.Fits r
+    → bytes ≡ root_bytes other → root_codec.Fits other → r ≡ other
 root-once bytes r other is fits also others = word-once root_codec root-lawful bytes r other is fits also others
 
 -- ---- head pages

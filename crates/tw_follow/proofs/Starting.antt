@@ -11,13 +11,16 @@ use Rattle.tw_follow.specs.Stands.{KeepsList}
 use Rattle.tw_follow.proofs.Lists.{found-none}
 use Rattle.tw_follow.proofs.Spelling.{root-fits}
 
-module _ (dig : List ℕ → List ℕ) (size : (text : List ℕ) → IsDigest (dig text)) (r : RootRecord) (is_name : IsName r.head.from) (first : r.head.step ≡ 0) (no_page : r.page ≡ 0) (label : r.head.auth ≡ dig (genesis_text r.head.from)) where
+module _ (dig : List ℕ → List ℕ) (size : (text : List ℕ) → IsDigest (dig text)) (r : RootRecord)
+    (is_name : IsName r.head.from) (first : r.head.step ≡ 0) (no_page : r.page ≡ 0)
+    (label : r.head.auth ≡ dig (genesis_text r.head.from)) where
   pub keeps_none : (pages : Image) → KeepsList pages r (no_heads r.head.from)
   keeps_none pages = record { named = refl; found = found-none pages r first }
 
   pub may_none : (generation : ℕ) → generation ≤ 1 → IsAllowed dig 4 generation r
   may_none generation low = record {
-    spelled = root-fits r is_name (omega (arith, first)) (subst IsDigest (sym label) (size (genesis_text r.head.from))) (omega (arith, no_page));
+    spelled = root-fits r is_name (omega (arith, first)) (subst IsDigest (sym label) (size (genesis_text r.head.from)))
+        (omega (arith, no_page));
     fits = record {
       page = (λ _. no_page, λ _. first);
       begun = λ _. label;

@@ -14,6 +14,7 @@ pub after-more : (x n : ℕ) → after_draws x (n + 1) ≡ next_state (after_dra
 unfolding after_draws
 after-more x n = ap (after_draws x) (add-one n)
 
-pub drawn-more : (x n : ℕ) → drawn_events x (n + 1) ≡ drawn_events x n ++ drawn_event (drawn (next_state (after_draws x n))) ∷ []
+pub drawn-more : (x n : ℕ) → drawn_events x (n + 1) ≡ drawn_events x n ++ drawn_event
+    (drawn (next_state (after_draws x n))) ∷ []
 unfolding drawn_events after_draws
 drawn-more x n = ap (drawn_events x) (add-one n)

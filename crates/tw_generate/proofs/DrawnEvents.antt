@@ -37,16 +37,21 @@ drawn-fit x (suc n) =
     let last : List ℕ = drawn_event (drawn (after_draws x (suc n))) in
     record {
       count = length-append (drawn_events x n) (last ∷ []) ∙ omega (arith, rest.count);
-      sizes = Each-append _ (drawn_events x n) (last ∷ []) rest.sizes (omega (arith, event-length (drawn (after_draws x (suc n)))), tt);
+      sizes = Each-append _ (drawn_events x n) (last ∷ []) rest.sizes
+          (omega (arith, event-length (drawn (after_draws x (suc n)))), tt);
       bytes = Each-append _ (drawn_events x n) (last ∷ []) rest.bytes (event-bytes (drawn (after_draws x (suc n))), tt);
-      sum = sum_by-append size (drawn_events x n) (last ∷ []) ∙ omega (arith, rest.sum, event-length (drawn (after_draws x (suc n))));
+      sum = sum_by-append size (drawn_events x n) (last ∷ [])
+          ∙ omega (arith, rest.sum, event-length (drawn (after_draws x (suc n))));
     }
 
 pub step-may : (x : ℕ) → MayRecord (step_events x)
 step-may x =
     let fits = drawn-fit (next_state x) (drawn_count x) in
     let few : drawn_count x ≤ 4 = omega arith in
-    record { are = record { count = omega (arith, fits.count, few); sizes = fits.sizes; bytes = fits.bytes }; fit = omega (arith, fits.sum, few) }
+    record {
+      are = record { count = omega (arith, fits.count, few); sizes = fits.sizes; bytes = fits.bytes };
+      fit = omega (arith, fits.sum, few);
+    }
 
 -- a step has an event
 pub step-some : (x : ℕ) → 0 < length (step_events x)
@@ -54,6 +59,10 @@ step-some x = let fits = drawn-fit (next_state x) (drawn_count x) in omega (arit
 
 pub end-may : MayRecord end_event
 end-may = record {
-  are = record { count = omega arith; sizes = (omega arith, tt); bytes = ((omega arith, (omega arith, (omega arith, tt))), tt) };
+  are = record {
+    count = omega arith;
+    sizes = (omega arith, tt);
+    bytes = ((omega arith, (omega arith, (omega arith, tt))), tt);
+  };
   fit = omega arith;
 }

@@ -16,7 +16,8 @@ has-step h events = omega (arith, length_push h.steps (event_step (root_of (step
 
 module _ (dig : List ℕ → List ℕ) (number rounds : ℕ) (t : Trio) (led : IsLedTo dig number rounds t) where
   -- after the rounds, and then the end
-  pub parts : (u : Trio) × LeadTo dig (rounds_of number rounds) no_steps u × LeadTo dig (all_append end_event end_event end_event) u t
+  pub parts : (u : Trio) × LeadTo dig (rounds_of number rounds) no_steps u × LeadTo dig
+      (all_append end_event end_event end_event) u t
   parts = lead-split dig (rounds_of number rounds) (all_append end_event end_event end_event) no_steps t led.1
 
   pub ended : t ≡ with_steps dig parts.0 end_event end_event end_event
@@ -33,4 +34,5 @@ module _ (dig : List ℕ → List ℕ) (number rounds : ℕ) (t : Trio) (led : I
 
   -- from 50 rounds on
   pub all-heard : 50 ≤ rounds → HaveHeard dig t
-  all-heard enough = lead-heard dig (all_append end_event end_event end_event) parts.0 t parts.2 (rounds-heard dig number rounds parts.0 enough parts.1)
+  all-heard enough = lead-heard dig (all_append end_event end_event end_event) parts.0 t parts.2
+      (rounds-heard dig number rounds parts.0 enough parts.1)

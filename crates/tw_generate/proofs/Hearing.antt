@@ -1,5 +1,6 @@
 -- What beta has heard of alpha, and gamma of beta, from the first messages on.
-use Rattle.std.proofs.Common.{◌≡◌, ℕ, suc, zero, ◌+◌, ◌-◌, ◌≤◌, ◌<◌, List, [], ◌∷◌, length, refl, ap, sym, ◌∙◌, subst, arith}
+use Rattle.std.proofs.Common.{◌≡◌, ℕ, suc, zero, ◌+◌, ◌-◌, ◌≤◌, ◌<◌, List, [], ◌∷◌, length, refl, ap, sym, ◌∙◌, subst}
+use Rattle.std.proofs.Common.{arith}
 use Rattle.std.specs.Prelude.{Option, Some, None}
 use Rattle.tw_base.specs.declared.history.thread.Entry.{Entry}
 use Rattle.tw_base.specs.declared.history.thread.Thread.{Thread}
@@ -16,7 +17,8 @@ use Rattle.tw_service.specs.declared.receiving.Reception.TheVariants.{Archive, K
 use Rattle.tw_service.proofs.ReceivingLaws.{own-receipt}
 use Rattle.tw_tmap.specs.Bounds.{first_from}
 use Rattle.tw_generate.specs.Draws.{after_step, step_events}
-use Rattle.tw_generate.specs.Schedules.{ScheduledAct, Hears, IsDone, LeadTo, Trio, Who, after_rounds, no_steps, round_of_acts, rounds_of, trio_history, with_history}
+use Rattle.tw_generate.specs.Schedules.{ScheduledAct, Hears, IsDone, LeadTo, Trio, Who, after_rounds, no_steps}
+use Rattle.tw_generate.specs.Schedules.{round_of_acts, rounds_of, trio_history, with_history}
 use Rattle.tw_generate.specs.Schedules.ScheduledAct.{Appends, Tells}
 use Rattle.tw_generate.specs.Schedules.Who.{Alpha, Beta, Gamma}
 use Rattle.tw_generate.specs.Summing.{last, received_by}
@@ -28,13 +30,17 @@ use Rattle.tw_generate.proofs.Onward.{GoesOn, entry_of, none-above}
 module _ (dig : List ℕ → List ℕ) where
   -- ---- a message that is answered
 
-  receipt-thread : (h : History) (m : Message) (r : Receipt) (next : History) (x : Reception) → RepliesTo dig h m None (OfReceipt r) next x → r.thread ≡ m.thread
+  receipt-thread : (h : History) (m : Message) (r : Receipt) (next : History) (x : Reception) → RepliesTo dig h m None
+      (OfReceipt r) next x → r.thread ≡ m.thread
   receipt-thread h m r next (Refuse refusal) reply = (let bad : OfReceipt r ≡ Refused refusal = reply.1 in cc)
-  receipt-thread h m r next (Known archived) reply = let same : r ≡ receipt_by dig h archived m.thread = cc (reply.1) in ap (λ (x : Receipt). x.thread) same
-  receipt-thread h m r next Archive reply = let same : r ≡ receipt_by dig next (suc (length h.steps)) m.thread = cc (reply.2) in ap (λ (x : Receipt). x.thread) same
+  receipt-thread h m r next (Known archived) reply = let same : r ≡ receipt_by dig h archived m.thread = cc (reply.1) in
+      ap (λ (x : Receipt). x.thread) same
+  receipt-thread h m r next Archive reply = let same : r ≡ receipt_by dig next (suc (length h.steps)) m.thread =
+      cc (reply.2) in ap (λ (x : Receipt). x.thread) same
 
   -- its thread is among those that were received then
-  told-there : (a b next : History) → Hears dig a b next → (e : Entry) × In e (received_by next) × (e.thread ≡ thread_at_step dig a (last a)) × (0 < last a)
+  told-there : (a b next : History) → Hears dig a b next → (e : Entry) × In e (received_by next)
+      × (e.thread ≡ thread_at_step dig a (last a)) × (0 < last a)
   told-there a b next hears =
       let m : Message = hears.message in
       let r : Receipt = hears.receipt in
@@ -60,19 +66,32 @@ module _ (dig : List ℕ → List ℕ) where
     pub of_beta : Entry
     pub is_of_beta : first_from t.beta.name first.of_alpha.archived (received_by t.gamma) ≡ Some of_beta
 
-  goes-first : (from next_from : List ℕ) (least : ℕ) (h next : History) (e : Entry) → next_from ≡ from → GoesOn dig h next → first_from from least (received_by h) ≡ Some e
+  goes-first : (from next_from : List ℕ) (least : ℕ) (h next : History) (e : Entry) → next_from ≡ from
+      → GoesOn dig h next → first_from from least (received_by h) ≡ Some e
       → first_from next_from least (received_by next) ≡ Some e
   goes-first from next_from least h next e name on is =
-      ap (λ n. first_from n least (received_by next)) name ∙ ap (first_from from least) on.heard ∙ first-stays from least (received_by h) on.more e is
+      ap (λ n. first_from n least (received_by next)) name ∙ ap (first_from from least) on.heard ∙ first-stays from
+      least (received_by h) on.more e is
 
-  put-first : (who : Who) (t : Trio) (h : History) → GoesOn dig (trio_history who t) h → HasFirst t → HasFirst (with_history who h t)
-  put-first Alpha t h on f = record { of_alpha = f.of_alpha; is_of_alpha = ap (λ n. first_from n 1 (received_by t.beta)) on.name ∙ f.is_of_alpha }
-  put-first Beta t h on f = record { of_alpha = f.of_alpha; is_of_alpha = goes-first t.alpha.name t.alpha.name 1 t.beta h f.of_alpha refl on f.is_of_alpha }
+  put-first : (who : Who) (t : Trio) (h : History) → GoesOn dig (trio_history who t) h → HasFirst t
+      → HasFirst (with_history who h t)
+  put-first Alpha t h on f =
+      record {
+        of_alpha = f.of_alpha;
+        is_of_alpha = ap (λ n. first_from n 1 (received_by t.beta)) on.name ∙ f.is_of_alpha;
+      }
+  put-first Beta t h on f =
+      record {
+        of_alpha = f.of_alpha;
+        is_of_alpha = goes-first t.alpha.name t.alpha.name 1 t.beta h f.of_alpha refl on f.is_of_alpha;
+      }
   put-first Gamma t h on f = record { of_alpha = f.of_alpha; is_of_alpha = f.is_of_alpha }
 
-  put-heard : (who : Who) (t : Trio) (h : History) → GoesOn dig (trio_history who t) h → HaveHeard t → HaveHeard (with_history who h t)
+  put-heard : (who : Who) (t : Trio) (h : History) → GoesOn dig (trio_history who t) h → HaveHeard t
+      → HaveHeard (with_history who h t)
   unfolding put-first
-  put-heard Alpha t h on f = record { first = put-first Alpha t h on f.first; of_beta = f.of_beta; is_of_beta = f.is_of_beta }
+  put-heard Alpha t h on f =
+      record { first = put-first Alpha t h on f.first; of_beta = f.of_beta; is_of_beta = f.is_of_beta }
   put-heard Beta t h on f = record {
     first = put-first Beta t h on f.first;
     of_beta = f.of_beta;
@@ -85,10 +104,12 @@ module _ (dig : List ℕ → List ℕ) where
   }
 
   done-first : (act : ScheduledAct) (t next : Trio) → IsDone dig act t next → HasFirst t → HasFirst next
-  done-first act t next done f = let m = done-moves dig act t next done in subst HasFirst (sym m.is) (put-first m.who t m.history m.on f)
+  done-first act t next done f = let m = done-moves dig act t next done in subst HasFirst (sym m.is)
+      (put-first m.who t m.history m.on f)
 
   done-heard : (act : ScheduledAct) (t next : Trio) → IsDone dig act t next → HaveHeard t → HaveHeard next
-  done-heard act t next done f = let m = done-moves dig act t next done in subst HaveHeard (sym m.is) (put-heard m.who t m.history m.on f)
+  done-heard act t next done f = let m = done-moves dig act t next done in subst HaveHeard (sym m.is)
+      (put-heard m.who t m.history m.on f)
 
   pub lead-heard : (acts : List ScheduledAct) (t end : Trio) → LeadTo dig acts t end → HaveHeard t → HaveHeard end
   unfolding LeadTo
@@ -100,20 +121,29 @@ module _ (dig : List ℕ → List ℕ) where
   first-heard : (t next : Trio) → IsDone dig (Tells Alpha Beta) t next → HasFirst next
   first-heard t next done =
       let there = told-there t.alpha t.beta done.0 done.1 in
-      let found = first-there t.alpha.name 1 (received_by done.0) there.0 there.1 (ap (λ (x : Thread). x.from) there.2) (omega (arith, ap (λ (x : Thread). x.step) there.2, there.3)) in
+      let found = first-there t.alpha.name 1 (received_by done.0) there.0 there.1 (ap (λ (x : Thread). x.from) there.2)
+      (omega (arith, ap (λ (x : Thread). x.step) there.2, there.3)) in
       subst HasFirst (sym done.2) (record { of_alpha = found.0; is_of_alpha = found.1 })
 
   second-heard : (t next : Trio) → HasFirst t → IsDone dig (Tells Beta Gamma) t next → HaveHeard next
   second-heard t next f done =
       let there = told-there t.beta t.gamma done.0 done.1 in
-      let before = received-at t.beta (last t.beta) f.of_alpha (first-is t.alpha.name 1 (received_by t.beta) f.of_alpha f.is_of_alpha).0 in
-      let found = first-there t.beta.name f.of_alpha.archived (received_by done.0) there.0 there.1 (ap (λ (x : Thread). x.from) there.2)
+      let before = received-at t.beta (last t.beta) f.of_alpha (first-is t.alpha.name 1 (received_by t.beta) f.of_alpha
+      f.is_of_alpha).0 in
+      let found = first-there t.beta.name f.of_alpha.archived (received_by done.0) there.0 there.1
+      (ap (λ (x : Thread). x.from) there.2)
       (omega (arith, ap (λ (x : Thread). x.step) there.2, before.1)) in
-      subst HaveHeard (sym done.2) (record { first = record { of_alpha = f.of_alpha; is_of_alpha = f.is_of_alpha }; of_beta = found.0; is_of_beta = found.1 })
+      subst HaveHeard (sym done.2)
+      (record {
+        first = record { of_alpha = f.of_alpha; is_of_alpha = f.is_of_alpha };
+        of_beta = found.0;
+        is_of_beta = found.1;
+      })
 
   -- the messages of a round
   told-heard : (a b c : List (List ℕ)) (t end : Trio)
-      → LeadTo dig (Appends Alpha a ∷ Appends Beta b ∷ Appends Gamma c ∷ Tells Alpha Beta ∷ Tells Alpha Gamma ∷ Tells Beta Alpha ∷ Tells Beta Gamma ∷ Tells Gamma Alpha ∷ Tells Gamma Beta ∷ []) t end
+      → LeadTo dig (Appends Alpha a ∷ Appends Beta b ∷ Appends Gamma c ∷ Tells Alpha Beta ∷ Tells Alpha Gamma ∷ Tells
+      Beta Alpha ∷ Tells Beta Gamma ∷ Tells Gamma Alpha ∷ Tells Gamma Beta ∷ []) t end
       → HaveHeard end
   unfolding LeadTo
   told-heard a b c t end lead =
@@ -122,14 +152,18 @@ module _ (dig : List ℕ → List ℕ) where
       let three = two.2 in
       let four = three.2 in
       let first = first-heard lead.2.2.0 one.0 one.1 in
-      let before : HasFirst three.0 = done-first (Tells Beta Alpha) two.0 three.0 three.1 (done-first (Tells Alpha Gamma) one.0 two.0 two.1 first) in
-      lead-heard (Tells Gamma Alpha ∷ Tells Gamma Beta ∷ []) four.0 end four.2 (second-heard three.0 four.0 before four.1)
+      let before : HasFirst three.0 = done-first (Tells Beta Alpha) two.0 three.0 three.1
+      (done-first (Tells Alpha Gamma) one.0 two.0 two.1 first) in
+      lead-heard (Tells Gamma Alpha ∷ Tells Gamma Beta ∷ []) four.0 end four.2
+      (second-heard three.0 four.0 before four.1)
 
   rounds-first : (number : ℕ) (t : Trio) → LeadTo dig (rounds_of number 50) no_steps t → HaveHeard t
   rounds-first number t lead =
       let x : ℕ = after_rounds number 49 in
-      let parts = lead-split dig (rounds_of number 49) (round_of_acts x 50) no_steps t (subst (λ acts. LeadTo dig acts no_steps t) (rounds-more number 49) lead) in
-      told-heard (step_events x) (step_events (after_step x)) (step_events (after_step (after_step x))) parts.0 t parts.2
+      let parts = lead-split dig (rounds_of number 49) (round_of_acts x 50) no_steps t
+      (subst (λ acts. LeadTo dig acts no_steps t) (rounds-more number 49) lead) in
+      told-heard (step_events x) (step_events (after_step x)) (step_events (after_step (after_step x))) parts.0 t
+      parts.2
 
   rounds-later : (number d : ℕ) (t : Trio) → LeadTo dig (rounds_of number (50 + d)) no_steps t → HaveHeard t
   rounds-later number zero t lead = rounds-first number t lead
@@ -141,4 +175,5 @@ module _ (dig : List ℕ → List ℕ) where
       lead-heard more parts.0 t parts.2 (rounds-later number d parts.0 parts.1)
 
   pub rounds-heard : (number n : ℕ) (t : Trio) → 50 ≤ n → LeadTo dig (rounds_of number n) no_steps t → HaveHeard t
-  rounds-heard number n t enough lead = rounds-later number (n - 50) t (subst (λ m. LeadTo dig (rounds_of number m) no_steps t) (omega arith) lead)
+  rounds-heard number n t enough lead = rounds-later number (n - 50) t
+      (subst (λ m. LeadTo dig (rounds_of number m) no_steps t) (omega arith) lead)

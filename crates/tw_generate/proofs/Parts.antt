@@ -27,7 +27,9 @@ module _ (dig : List ℕ → List ℕ) where
   pub made-of : (h : History) (q : Question) (bytes : List ℕ) → IsQuestionAnswered dig h q bytes → Makes dig h q bytes
   made-of h q bytes is = by (history_refusal h q) is.1
     where
-      by : (o : Option Refusal) → MatchOption o ((made : List ℕ) × Makes dig h q made × (◌≡◌ {A = Reply} (OfBytes bytes) (OfBytes made))) (λ refusal. ◌≡◌ {A = Reply} (OfBytes bytes) (Refused refusal))
+      by : (o : Option Refusal) → MatchOption o ((made : List ℕ) × Makes dig h q made
+          × (◌≡◌ {A = Reply} (OfBytes bytes) (OfBytes made))) (λ refusal. ◌≡◌ {A = Reply} (OfBytes bytes)
+          (Refused refusal))
           → Makes dig h q bytes
       by None is = let same : is.0 ≡ bytes = cc (is.2) in subst (Makes dig h q) same is.1
       by (Some refusal) is = cc
@@ -35,19 +37,22 @@ module _ (dig : List ℕ → List ℕ) where
   -- ---- one part
 
   module _ (once : IsUnambiguous proof_codec) (h : History) (step top : ℕ) (part : Proof) where
-    pub event-part : (index : ℕ) → IsPartAsked dig h (ask.Event step index (Some top)) part → (p : ExistenceProof) × (part ≡ Exists p) × IsExistenceOf dig h step index top p
+    pub event-part : (index : ℕ) → IsPartAsked dig h (ask.Event step index (Some top)) part → (p : ExistenceProof)
+        × (part ≡ Exists p) × IsExistenceOf dig h step index top p
     unfolding Makes
     event-part index is =
         let made = made-of h (ask.Event step index (Some top)) is.0 is.1 in
         (made.0, once.one_value is.0 part (Exists made.0) is.2 (from_existence is.0 made.0 made.1), made.2)
 
-    pub thread-part : (key : Key) → IsPartAsked dig h (ask.Thread step key (Some top)) part → (p : ThreadProof) × (part ≡ Archived p) × IsThreadProofOf dig h step top p × (key_of p.entry ≡ key)
+    pub thread-part : (key : Key) → IsPartAsked dig h (ask.Thread step key (Some top)) part → (p : ThreadProof)
+        × (part ≡ Archived p) × IsThreadProofOf dig h step top p × (key_of p.entry ≡ key)
     unfolding Makes
     thread-part key is =
         let made = made-of h (ask.Thread step key (Some top)) is.0 is.1 in
         (made.0, once.one_value is.0 part (Archived made.0) is.2 made.1, made.2, made.3)
 
-    pub link-part : IsPartAsked dig h (ask.Link step (Some top)) part → (p : LinkProof) × (part ≡ Linked p) × IsLinkProofOf dig h step top p
+    pub link-part : IsPartAsked dig h (ask.Link step (Some top)) part → (p : LinkProof) × (part ≡ Linked p)
+        × IsLinkProofOf dig h step top p
     unfolding Makes
     link-part is =
         let made = made-of h (ask.Link step (Some top)) is.0 is.1 in

@@ -22,7 +22,8 @@ pub second-case : (b : Bool) (P Q : Type 0) → b ≡ false → Q → MatchBool 
 second-case b P Q is q = subst (λ t. MatchBool t P Q) (sym is) q
 
 -- a disk that stands for the history of its service
-pub held : {D H : Type 0} {g : _} {k : _} (dig : List ℕ → List ℕ) (view : D → DiskView) (s : Service D H g k) (d : DiskView) (h : History)
+pub held : {D H : Type 0} {g : _} {k : _} (dig : List ℕ → List ℕ) (view : D → DiskView) (s : Service D H g k)
+    (d : DiskView) (h : History)
     → Serves dig view s h → IsAtRest d (λ image. StandsFor dig image (name_of s) h) → IsHeld dig d h
 held dig view s d h serves rest = record {
   image = rest.image;

@@ -10,7 +10,8 @@ use Rattle.tw_history.specs.declared.fault.HistoryFault.{HistoryFault}
 use Rattle.tw_history.specs.declared.fault.HistoryFault.TheVariants.{Malformed, NoMemory, TooLong, Unsound}
 use Rattle.tw_history.specs.Refusals.{ReadsHistory, TellsRule}
 
-pub judged_read : (whole : List ℕ) (h : History) (r : Result History HistoryFault) → length whole ≤ MOST_HISTORY_BYTES → Spells history_layout whole h
+pub judged_read : (whole : List ℕ) (h : History) (r : Result History HistoryFault) → length whole ≤ MOST_HISTORY_BYTES
+    → Spells history_layout whole h
     → MatchResult r (λ found. (found ≡ h) × IsSound h) (TellsRule h) → ReadsHistory whole r
 judged_read whole h (Ok found) short spelled judged =
     let P : History → Type 0 = λ x. Spells history_layout whole x × IsSound x in

@@ -9,7 +9,8 @@ use Rattle.tw_base.proofs.lemmas.kinds.Levels.{divides-less, top_level-divides, 
 greatest_rest : (i d : ℕ) → 0 < d → suc i % d ≡ 0 → suc (i % d) ≡ d
 greatest_rest i d some divides =
     elim (cases_lt (suc (i % d)) d) [
-      | inl less ↦ (let more : suc i % d ≡ suc (i % d) = suc-mod i d ∙ mod-eq_of_lt less in absurd (omega (arith, divides, more)))
+      | inl less ↦ (let more : suc i % d ≡ suc (i % d) = suc-mod i d ∙ mod-eq_of_lt less in
+          absurd (omega (arith, divides, more)))
       | inr past ↦ omega (arith, past, mod-lt i some)
     ]
 
@@ -28,7 +29,8 @@ some_power level = one-le-pow level 2 (lit< tt)
 
 module _ (i level : ℕ) (small : suc i < 2 ^ 64) where
   divides-to : level ≤ top_level (suc i) → suc i % 2 ^ level ≡ 0
-  divides-to within = divides-less (suc i) (top_level (suc i)) level within (top_level-divides (suc i) (omega arith) small)
+  divides-to within = divides-less (suc i) (top_level (suc i)) level within (top_level-divides (suc i) (omega arith)
+      small)
 
   -- the link of the next step leads to the last step so far
   pub last-reached : level ≤ top_level (suc i) → i - i % 2 ^ level ≡ suc i - 2 ^ level
@@ -41,5 +43,6 @@ module _ (i level : ℕ) (small : suc i < 2 ^ 64) where
   -- and at the others the last one stays
   pub last-kept : top_level (suc i) < level → suc i - suc i % 2 ^ level ≡ i - i % 2 ^ level
   last-kept above =
-      let not : suc i % 2 ^ level ≢ 0 = λ divides. absurd (let within : level ≤ top_level (suc i) = top_level-greatest (suc i) level (omega arith) small divides in omega (arith, above, within)) in
+      let not : suc i % 2 ^ level ≢ 0 = λ divides. absurd (let within : level ≤ top_level (suc i) =
+      top_level-greatest (suc i) level (omega arith) small divides in omega (arith, above, within)) in
       omega (arith, next_rest i (2 ^ level) (some_power level) not)

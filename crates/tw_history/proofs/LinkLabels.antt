@@ -11,23 +11,27 @@ module _ (dig : List ℕ → List ℕ) (datum : List ℕ) (earlier : List (List 
   labels_below count = map dig (link_texts dig datum earlier step count)
 
   pub length-labels_below : (count : ℕ) → length (labels_below count) ≡ count
-  length-labels_below count = length-map (link_texts dig datum earlier step count) dig ∙ length-link_texts dig datum earlier step count
+  length-labels_below count = length-map (link_texts dig datum earlier step count) dig ∙ length-link_texts dig datum
+      earlier step count
 
   pub labels_below-none : labels_below 0 ≡ []
   unfolding link_texts
   labels_below-none = refl
 
   pub labels_below-more : (level : ℕ)
-      → labels_below (level + 1) ≡ labels_below level ++ dig (link_text step level datum (get_or earlier (step - 2 ^ level) [])) ∷ []
+      → labels_below (level + 1) ≡ labels_below level ++ dig
+      (link_text step level datum (get_or earlier (step - 2 ^ level) [])) ∷ []
   unfolding link_texts
   labels_below-more level =
-      ap labels_below (add-one level) ∙ map_push dig (link_texts dig datum earlier step level) (link_text step level datum (get_or earlier (step - 2 ^ level) []))
+      ap labels_below (add-one level) ∙ map_push dig (link_texts dig datum earlier step level)
+      (link_text step level datum (get_or earlier (step - 2 ^ level) []))
 
   pub link_texts-none : [] ≡ link_texts dig datum earlier step 0
   unfolding link_texts
   link_texts-none = refl
 
   pub link_texts-more : (level : ℕ)
-      → link_texts dig datum earlier step level ++ link_text step level datum (get_or earlier (step - 2 ^ level) []) ∷ [] ≡ link_texts dig datum earlier step (level + 1)
+      → link_texts dig datum earlier step level ++ link_text step level datum (get_or earlier (step - 2 ^ level) [])
+      ∷ [] ≡ link_texts dig datum earlier step (level + 1)
   unfolding link_texts
   link_texts-more level = ap (link_texts dig datum earlier step) (sym (add-one level))

@@ -1,5 +1,6 @@
 -- How the trees of new nodes come one by one, and what is kept of them.
-use Rattle.std.proofs.Common.{◌≡◌, ◌↔◌, ℕ, suc, zero, ◌+◌, ◌<◌, ◌≤◌, List, [], ◌∷◌, ◌++◌, length, get_or, map, refl, ap, sym, subst, ◌∙◌, Option, Some, None, IsTrue, drop, add-one}
+use Rattle.std.proofs.Common.{◌≡◌, ◌↔◌, ℕ, suc, zero, ◌+◌, ◌<◌, ◌≤◌, List, [], ◌∷◌, ◌++◌, length, get_or, map, refl, ap}
+use Rattle.std.proofs.Common.{sym, subst, ◌∙◌, Option, Some, None, IsTrue, drop, add-one}
 use Rattle.std.specs.Prelude.{if◌then◌else◌, is_some, option_map, IsSome}
 use Rattle.std.proofs.lemmas.Bool.{le-leb, lt-leb}
 use Rattle.std.proofs.lemmas.List.{append-nil, append_assoc, get_or-map, length-map, length_push, map-append}
@@ -34,31 +35,40 @@ pub record Planted (h : History) (i : ℕ) (summaries : List Summary) (rest : Li
 abbrev pub Received : History → Tree → Type 0
 Received h t = AreReceived h (entries t)
 
-branch-received : (h : History) (i k : ℕ) (o : Option Entry) (l r : Tree) → entry_to h i k ≡ o → Received h l → Received h r → Received h (branch o l r)
+branch-received : (h : History) (i k : ℕ) (o : Option Entry) (l r : Tree) → entry_to h i k ≡ o → Received h l
+    → Received h r → Received h (branch o l r)
 branch-received h i k None l r at left right = tt
 branch-received h i k (Some e) l r at left right =
     let there = (entry_to-at h i k e at).1 in
-    let here : entry_at h e.archived ≡ Some e = subst (λ n. entry_at h n ≡ Some e) (entry_at-parts h k e there).0 there in
+    let here : entry_at h e.archived ≡ Some e = subst (λ n. entry_at h n ≡ Some e) (entry_at-parts h k e there).0
+    there in
     Each-append _ (entries l) (e ∷ entries r) left (here, right)
 
-planted-received : (h : History) (i : ℕ) (trees : List Tree) (ns : List Node) → Each (Received h) trees → Each (Received h) (planted (entry_to h i) trees ns)
+planted-received : (h : History) (i : ℕ) (trees : List Tree) (ns : List Node) → Each (Received h) trees
+    → Each (Received h) (planted (entry_to h i) trees ns)
 unfolding planted
 planted-received h i trees [] all = tt
 planted-received h i trees (n ∷ ns) all =
-    let here = branch-received h i n.entry (entry_to h i n.entry) _ _ refl (Each-get_or (Received h) trees n.left Empty tt all) (Each-get_or (Received h) trees n.right Empty tt all) in
-    (here, planted-received h i (trees ++ branch (entry_to h i n.entry) (get_or trees n.left Empty) (get_or trees n.right Empty) ∷ []) ns (Each-append (Received h) trees _ all (here, tt)))
+    let here = branch-received h i n.entry (entry_to h i n.entry) _ _ refl (Each-get_or (Received h) trees n.left Empty
+    tt all) (Each-get_or (Received h) trees n.right Empty tt all) in (
+      here,
+      planted-received h i (trees ++ branch (entry_to h i n.entry) (get_or trees n.left Empty)
+          (get_or trees n.right Empty) ∷ []) ns (Each-append (Received h) trees _ all (here, tt)),
+    )
 
 pub forest-received : (h : History) (i : ℕ) → Each (Received h) (forest h i)
 unfolding forest
 forest-received h zero = (tt, tt)
-forest-received h (suc i) = Each-append (Received h) (forest h i) _ (forest-received h i) (planted-received h (suc i) (forest h i) _ (forest-received h i))
+forest-received h (suc i) = Each-append (Received h) (forest h i) _ (forest-received h i)
+    (planted-received h (suc i) (forest h i) _ (forest-received h i))
 
 pub forest-next : (h : History) (i : ℕ) → forest h (suc i) ≡ forest h i ++ new_trees h i
 unfolding forest
 forest-next h i = refl
 
 -- before the first of the new nodes
-pub planted-first : (h : History) (i : ℕ) (summaries : List Summary) (nodes : List Node) → fresh_of (step_at h (suc i)) ≡ nodes → summaries ≡ map summary_of (forest h i)
+pub planted-first : (h : History) (i : ℕ) (summaries : List Summary) (nodes : List Node) → fresh_of (step_at h (suc i))
+    ≡ nodes → summaries ≡ map summary_of (forest h i)
     → Each Rises (forest h i) → NodesFit h (suc i) (length (forest h i)) nodes → Planted h i summaries nodes
 planted-first h i summaries nodes fresh kept rise fit = record {
   trees = forest h i;
@@ -69,13 +79,17 @@ planted-first h i summaries nodes fresh kept rise fit = record {
 }
 
 -- after the last
-pub planted-last : (h : History) (i : ℕ) (summaries : List Summary) → Planted h i summaries [] → (summaries ≡ map summary_of (forest h (suc i))) × Each Rises (new_trees h i)
+pub planted-last : (h : History) (i : ℕ) (summaries : List Summary) → Planted h i summaries []
+    → (summaries ≡ map summary_of (forest h (suc i))) × Each Rises (new_trees h i)
 unfolding planted
 planted-last h i summaries p =
-    let all : p.trees ≡ forest h (suc i) = sym (append-nil p.trees) ∙ p.ahead in
-    (p.kept ∙ ap (map summary_of) all, (Each-parts Rises (forest h i) (new_trees h i) (subst (Each Rises) (all ∙ forest-next h i) p.rise)).1)
+    let all : p.trees ≡ forest h (suc i) = sym (append-nil p.trees) ∙ p.ahead in (
+      p.kept ∙ ap (map summary_of) all,
+      (Each-parts Rises (forest h i) (new_trees h i) (subst (Each Rises) (all ∙ forest-next h i) p.rise)).1,
+    )
 
-module _ (h : History) (i : ℕ) (summaries : List Summary) (n : Node) (ns : List Node) (p : Planted h i summaries (n ∷ ns)) where
+module _ (h : History) (i : ℕ) (summaries : List Summary) (n : Node) (ns : List Node)
+    (p : Planted h i summaries (n ∷ ns)) where
   abbrev pub left_of : Tree
   left_of = get_or p.trees n.left Empty
 
@@ -83,10 +97,12 @@ module _ (h : History) (i : ℕ) (summaries : List Summary) (n : Node) (ns : Lis
   right_of = get_or p.trees n.right Empty
 
   received-so_far : Each (Received h) p.trees
-  received-so_far = (Each-parts (Received h) p.trees _ (subst (Each (Received h)) (sym p.ahead) (forest-received h (suc i)))).0
+  received-so_far =
+      (Each-parts (Received h) p.trees _ (subst (Each (Received h)) (sym p.ahead) (forest-received h (suc i)))).0
 
   -- what is kept of a node so far is the summary of its tree
-  pub summary-of_node : (k : ℕ) (d : Summary) → k < length p.trees → get_or summaries k d ≡ summary_of (get_or p.trees k Empty)
+  pub summary-of_node : (k : ℕ) (d : Summary) → k < length p.trees → get_or summaries k d ≡ summary_of
+      (get_or p.trees k Empty)
   summary-of_node k d within = ap (λ xs. get_or xs k d) p.kept ∙ get_or-map summary_of p.trees k Empty d within
 
   pub received-of_node : (k : ℕ) → Received h (get_or p.trees k Empty)
@@ -99,35 +115,44 @@ module _ (h : History) (i : ℕ) (summaries : List Summary) (n : Node) (ns : Lis
   within-summaries k within = subst (λ m. k < m) (sym (ap length p.kept ∙ length-map p.trees summary_of)) within
 
   planted-more : (e : Entry) → entry_to h (suc i) n.entry ≡ Some e
-      → planted (entry_to h (suc i)) p.trees (n ∷ ns) ≡ Branch left_of e right_of ∷ planted (entry_to h (suc i)) (p.trees ++ Branch left_of e right_of ∷ []) ns
+      → planted (entry_to h (suc i)) p.trees (n ∷ ns) ≡ Branch left_of e right_of ∷ planted (entry_to h (suc i))
+      (p.trees ++ Branch left_of e right_of ∷ []) ns
   unfolding planted
-  planted-more e at = ap (λ (o : Option Entry). branch o left_of right_of ∷ planted (entry_to h (suc i)) (p.trees ++ branch o left_of right_of ∷ []) ns) at
+  planted-more e at = ap (λ (o : Option Entry). branch o left_of right_of ∷ planted (entry_to h (suc i))
+      (p.trees ++ branch o left_of right_of ∷ []) ns) at
 
   -- with one more tree that rises
-  pub planted-next : (e : Entry) (s : Summary) → entry_to h (suc i) n.entry ≡ Some e → s ≡ summary_of (Branch left_of e right_of) → Rises (Branch left_of e right_of)
+  pub planted-next : (e : Entry) (s : Summary) → entry_to h (suc i) n.entry ≡ Some e
+      → s ≡ summary_of (Branch left_of e right_of) → Rises (Branch left_of e right_of)
       → Planted h i (summaries ++ s ∷ []) ns
   planted-next e s at is rises =
       let t : Tree = Branch left_of e right_of in
       record {
         trees = p.trees ++ t ∷ [];
-        kept = ap (λ xs. xs ++ s ∷ []) p.kept ∙ ap (λ (x : Summary). map summary_of p.trees ++ x ∷ []) is ∙ sym (map-append summary_of p.trees (t ∷ []));
+        kept = ap (λ xs. xs ++ s ∷ []) p.kept ∙ ap (λ (x : Summary). map summary_of p.trees ++ x ∷ []) is
+            ∙ sym (map-append summary_of p.trees (t ∷ []));
         rise = Each-append Rises p.trees (t ∷ []) p.rise (rises, tt);
-        ahead = append_assoc p.trees (t ∷ []) (planted (entry_to h (suc i)) (p.trees ++ t ∷ []) ns) ∙ ap (λ xs. p.trees ++ xs) (sym (planted-more e at)) ∙ p.ahead;
+        ahead = append_assoc p.trees (t ∷ []) (planted (entry_to h (suc i)) (p.trees ++ t ∷ []) ns)
+            ∙ ap (λ xs. p.trees ++ xs) (sym (planted-more e at)) ∙ p.ahead;
         fit = subst (λ m. NodesFit h (suc i) m ns) (sym (length_push p.trees t ∙ add-one (length p.trees))) p.fit.1;
       }
 
   -- a tree that doesn't rise is one of the step's new trees
-  pub planted-breaks : (e : Entry) → entry_to h (suc i) n.entry ≡ Some e → Each Rises (forest h i) → (Rises (Branch left_of e right_of) → ⊥) → Each Rises (new_trees h i) → ⊥
+  pub planted-breaks : (e : Entry) → entry_to h (suc i) n.entry ≡ Some e → Each Rises (forest h i)
+      → (Rises (Branch left_of e right_of) → ⊥) → Each Rises (new_trees h i) → ⊥
   planted-breaks e at before falls all =
-      let every : Each Rises (forest h (suc i)) = subst (Each Rises) (sym (forest-next h i)) (Each-append Rises (forest h i) (new_trees h i) before all) in
+      let every : Each Rises (forest h (suc i)) = subst (Each Rises) (sym (forest-next h i))
+      (Each-append Rises (forest h i) (new_trees h i) before all) in
       let ahead = (Each-parts Rises p.trees _ (subst (Each Rises) (sym p.ahead) every)).1 in
       falls (subst (Each Rises) (planted-more e at) ahead).0
 
   -- the entry of the node
-  pub entry-of_node : (e : Entry) × (entry_to h (suc i) n.entry ≡ Some e) × (entry_at h n.entry ≡ Some e) × (n.entry ≡ e.archived)
+  pub entry-of_node : (e : Entry) × (entry_to h (suc i) n.entry ≡ Some e) × (entry_at h n.entry ≡ Some e)
+      × (n.entry ≡ e.archived)
   entry-of_node = by (entry_to h (suc i) n.entry) refl p.fit.0.2
     where
-      by : (o : Option Entry) → entry_to h (suc i) n.entry ≡ o → IsSome o → (e : Entry) × (entry_to h (suc i) n.entry ≡ Some e) × (entry_at h n.entry ≡ Some e) × (n.entry ≡ e.archived)
+      by : (o : Option Entry) → entry_to h (suc i) n.entry ≡ o → IsSome o → (e : Entry)
+          × (entry_to h (suc i) n.entry ≡ Some e) × (entry_at h n.entry ≡ Some e) × (n.entry ≡ e.archived)
       by None at some = cc
       by (Some e) at some =
           let there = (entry_to-at h (suc i) n.entry e at).1 in (e, at, there, (entry_at-parts h n.entry e there).0)
@@ -146,5 +171,7 @@ some_key None key is = ((λ yes. cc), (λ some. cc))
 some_key (Some e) key is = ((λ _. refl), (λ _. ap is_some is))
 
 -- the nodes that are left, by their index
-pub nodes_left : (nodes : List NodeOfTable) (k : ℕ) (d : NodeOfTable) → k < length nodes → map node_of (drop k nodes) ≡ node_of (get_or nodes k d) ∷ map node_of (drop (k + 1) nodes)
-nodes_left nodes k d within = ap (map node_of) (drop-cons nodes k d within) ∙ ap (λ m. node_of (get_or nodes k d) ∷ map node_of (drop m nodes)) (sym (add-one k))
+pub nodes_left : (nodes : List NodeOfTable) (k : ℕ) (d : NodeOfTable) → k < length nodes → map node_of (drop k nodes)
+    ≡ node_of (get_or nodes k d) ∷ map node_of (drop (k + 1) nodes)
+nodes_left nodes k d within = ap (map node_of) (drop-cons nodes k d within)
+    ∙ ap (λ m. node_of (get_or nodes k d) ∷ map node_of (drop m nodes)) (sym (add-one k))

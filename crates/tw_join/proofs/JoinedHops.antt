@@ -28,29 +28,37 @@ pub last-thread : (start : Thread) (joints : List Joint) (before : Option Openin
     → last_hop_thread start (hops_before joints before hops).1 ≡ last_hop_thread (come_to start joints) hops
 last-thread start [] before hops = refl
 last-thread start (joint ∷ []) before hops = refl
-last-thread start (joint ∷ more ∷ joints) before hops = last-thread start (more ∷ joints) (Some joint.thread.at.opening) (hop_of joint before ∷ hops)
+last-thread start (joint ∷ more ∷ joints) before hops = last-thread start (more ∷ joints) (Some joint.thread.at.opening)
+    (hop_of joint before ∷ hops)
 
-pub last-step : (step : ℕ) (t : Thread) (hops : List HopPart) → t.step ≡ step → last_step step hops ≡ (last_hop_thread t hops).step
+pub last-step : (step : ℕ) (t : Thread) (hops : List HopPart) → t.step ≡ step
+    → last_step step hops ≡ (last_hop_thread t hops).step
 last-step step t [] is = sym is
 last-step step t (hop ∷ hops) is = last-step hop.entry.thread.step hop.entry.thread hops refl
 
-pub hops-count : (joints : List Joint) (before : Option Opening) (hops : List HopPart) → length (hops_before joints before hops).1 ≡ length joints + length hops
+pub hops-count : (joints : List Joint) (before : Option Opening) (hops : List HopPart)
+    → length (hops_before joints before hops).1 ≡ length joints + length hops
 hops-count [] before hops = omega arith
-hops-count (joint ∷ joints) before hops = omega (arith, hops-count joints (Some joint.thread.at.opening) (hop_of joint before ∷ hops))
+hops-count (joint ∷ joints) before hops =
+    omega (arith, hops-count joints (Some joint.thread.at.opening) (hop_of joint before ∷ hops))
 
 module _ (P : Proof → Type 0) where
-  pub joints-few : (second : ExistenceProof) (joints : List Joint) → JointsFit P second joints → length joints ≤ MOST_HOPS
+  pub joints-few : (second : ExistenceProof) (joints : List Joint) → JointsFit P second joints
+      → length joints ≤ MOST_HOPS
   joints-few second [] fits = omega arith
   joints-few second (joint ∷ joints) fits = omega (arith, fits.1)
 
   -- they lead to the second event's service as the parts show
-  told : (second : ExistenceProof) (joints : List Joint) (before : Option Opening) (hops : List HopPart) → JointsFit P second joints
-      → hops_to second.at.service (hops_before joints before hops).1 ≡ hops_to (wanted second joints).from hops ++ joint_hops joints
+  told : (second : ExistenceProof) (joints : List Joint) (before : Option Opening) (hops : List HopPart)
+      → JointsFit P second joints
+      → hops_to second.at.service (hops_before joints before hops).1 ≡ hops_to (wanted second joints).from hops
+      ++ joint_hops joints
   told second [] before hops fits = sym (append-nil (hops_to second.at.service hops))
   told second (joint ∷ joints) before hops fits =
       let hop : HopPart = hop_of joint before in
       told second joints (Some joint.thread.at.opening) (hop ∷ hops) fits.2
-      ∙ append_assoc (hops_to joint.thread.entry.thread.from hops) (hop_from (wanted second joints).from hop ∷ []) (joint_hops joints)
+      ∙ append_assoc (hops_to joint.thread.entry.thread.from hops) (hop_from (wanted second joints).from hop ∷ [])
+      (joint_hops joints)
       ∙ ap (λ by. hops_to joint.thread.entry.thread.from hops ++ (hop_from by hop ∷ joint_hops joints)) fits.0.service
 
 pub each-unit : (parts : List Proof) → Each (λ part. Unit {0}) parts
@@ -58,7 +66,8 @@ each-unit [] = tt
 each-unit (part ∷ parts) = (tt, each-unit parts)
 
 -- the hops of the report are those that the parts show, turned around
-pub joined-hops : (parts : List Proof) (p : PrecedenceProof) → joined_proof Nothing 1 parts ≡ Ok p → (report_of (Precedes p)).hops ≡ reverse (shown_hops parts)
+pub joined-hops : (parts : List Proof) (p : PrecedenceProof) → joined_proof Nothing 1 parts ≡ Ok p
+    → (report_of (Precedes p)).hops ≡ reverse (shown_hops parts)
 joined-hops parts p is =
     let had = joined-fits (λ part. Unit {0}) parts p (each-unit parts) is in
     ap (λ (q : PrecedenceProof). hops_of (Precedes q)) had.is
@@ -66,7 +75,8 @@ joined-hops parts p is =
     ∙ had.shown ∙ append-nil (reverse (shown_hops parts))
 
 -- at most 64
-pub joined-few : (parts : List Proof) (p : PrecedenceProof) → joined_proof Nothing 1 parts ≡ Ok p → length p.hops ≤ MOST_HOPS
+pub joined-few : (parts : List Proof) (p : PrecedenceProof) → joined_proof Nothing 1 parts ≡ Ok p
+    → length p.hops ≤ MOST_HOPS
 joined-few parts p is =
     let had = joined-fits (λ part. Unit {0}) parts p (each-unit parts) is in
     omega (

@@ -3,7 +3,8 @@ use Rattle.std.proofs.Common.{◌≡◌, ℕ, suc, ◌-◌, ◌≤◌, List, [],
 use Rattle.std.specs.Prelude.{Option, Some, None, IfSome, Ok, nat_lt}
 use Rattle.std.proofs.lemmas.Bool.{lt-ltb}
 use Rattle.tw_base.specs.declared.kinds.limits.TheConstants.{LAST_STEP}
-use Rattle.tw_base.specs.format.Codecs.{behind, by_kind, each, nothing, number_codec, optional, pair, present, seen, variant}
+use Rattle.tw_base.specs.format.Codecs.{behind, by_kind, each, nothing, number_codec, optional, pair, present, seen}
+use Rattle.tw_base.specs.format.Codecs.{variant}
 use Rattle.tw_base.specs.declared.history.thread.Key.{Key}
 use Rattle.tw_base.specs.declared.history.thread.Thread.{Thread}
 use Rattle.tw_base.specs.history.EntryCodec.{entry_codec}
@@ -26,7 +27,8 @@ use Rattle.tw_chain.specs.declared.proof.ThreadProof.{ThreadProof}
 use Rattle.tw_chain.specs.Checks.{start_of}
 use Rattle.tw_join.specs.Joining.{Joint, hop_of, hops_before, joined_of, joined_proof, wanted}
 use Rattle.tw_join.specs.Joining.Taken.{Nothing}
-use Rattle.tw_chain.specs.Proofs.{behind_codec, hop_codec, hops_codec, kinds_codec, last_step, link_body, precedence_body, proof_bytes, proof_codec, proof_layout, tail_codec, thread_body}
+use Rattle.tw_chain.specs.Proofs.{behind_codec, hop_codec, hops_codec, kinds_codec, last_step, link_body}
+use Rattle.tw_chain.specs.Proofs.{precedence_body, proof_bytes, proof_codec, proof_layout, tail_codec, thread_body}
 use Rattle.tw_chain.proofs.ChainShapes.{HopsFit}
 use Rattle.tw_join.proofs.JoinedHops.{come_to, hops-count, joints-few, last-step, last-thread}
 use Rattle.tw_join.proofs.JoinedParts.{JointFits, JointsFit, LinkFits, WholeFits, joined-fits}
@@ -79,21 +81,25 @@ no-path : (step : ℕ) → (path_codec 0 step).Fits []
 unfolding path_codec each greedy_steps steps_within
 no-path step = refl
 
-opened : (more step : ℕ) (o : Opening) → (opening_codec 0 step).Fits o → (optional (nat_lt 0 (suc more)) (opening_codec 0 step)).Fits (Some o)
+opened : (more step : ℕ) (o : Opening) → (opening_codec 0 step).Fits o
+    → (optional (nat_lt 0 (suc more)) (opening_codec 0 step)).Fits (Some o)
 unfolding present
 opened more step o fits =
     subst (λ b. (optional b (opening_codec 0 step)).Fits (Some o)) (sym (lt-ltb 0 (suc more) (omega arith))) fits
 
 -- the bind of a hop, and the path from it: those of its link, or none
-bind-fits : (t : ThreadProof) (link : Option LinkProof) (behind : Option Opening) → IfSome link (LinkFits FitsPart t.entry.thread)
+bind-fits : (t : ThreadProof) (link : Option LinkProof) (behind : Option Opening)
+    → IfSome link (LinkFits FitsPart t.entry.thread)
     → let hop : HopPart = hop_of (record { thread = t; link = link }) behind in
     (hop.bind ≤ LAST_STEP) × (path_codec hop.bind t.entry.thread.step).Fits hop.link.links
 bind-fits t None behind fits = (omega arith, no-path t.entry.thread.step)
 bind-fits t (Some l) behind fits =
-    let parts = link-parts l fits.part in (parts.top, subst (λ s. (path_codec l.top s).Fits l.path.links) (sym fits.step) parts.path)
+    let parts = link-parts l fits.part in
+    (parts.top, subst (λ s. (path_codec l.top s).Fits l.path.links) (sym fits.step) parts.path)
 
 hop-fits : (more : ℕ) (key : Key) (joint : Joint) (behind : Option Opening) → JointFits FitsPart key joint
-    → (optional (nat_lt 0 more) (opening_codec 0 joint.thread.entry.thread.step)).Fits behind → (hop_codec more).Fits (hop_of joint behind)
+    → (optional (nat_lt 0 more) (opening_codec 0 joint.thread.entry.thread.step)).Fits behind → (hop_codec more).Fits
+    (hop_of joint behind)
 unfolding hop_codec seen pair number_codec
 hop-fits more key joint behind fits opens =
     let parts = thread-parts joint.thread fits.part in
@@ -103,17 +109,23 @@ hop-fits more key joint behind fits opens =
 -- ---- all hops, and the opening before them
 
 abbrev HopsOpen : (step : ℕ) → Option Opening × List HopPart → Type 0
-HopsOpen step all = (optional (nat_lt 0 (length all.1)) (opening_codec 0 step)).Fits all.0 × HopsFit (length all.1) all.1
+HopsOpen step all = (optional (nat_lt 0 (length all.1)) (opening_codec 0 step)).Fits all.0 × HopsFit (length all.1)
+    all.1
 
-hops-fit : (second : ExistenceProof) (joints : List Joint) (before : Option Opening) (hops : List HopPart) → JointsFit FitsPart second joints
-    → HopsOpen (wanted second joints).step (before, hops) → HopsOpen (second.at.step - 1) (hops_before joints before hops)
+hops-fit : (second : ExistenceProof) (joints : List Joint) (before : Option Opening) (hops : List HopPart)
+    → JointsFit FitsPart second joints
+    → HopsOpen (wanted second joints).step (before, hops) → HopsOpen (second.at.step - 1)
+    (hops_before joints before hops)
 hops-fit second [] before hops fits begun = begun
 hops-fit second (joint ∷ joints) before hops fits begun =
     let opening : Opening = joint.thread.at.opening in
     let at = at-parts 0 joint.thread.at (thread-parts joint.thread fits.0.part).at in
-    let here : (opening_codec 0 (wanted second joints).step).Fits opening = subst (λ s. (opening_codec 0 s).Fits opening) (sym fits.0.step) at.opening in
-    hops-fit second joints (Some opening) (hop_of joint before ∷ hops) fits.2
-    (opened (length hops) (wanted second joints).step opening here, (hop-fits (length hops) (wanted second joints) joint before fits.0 begun.0, begun.1))
+    let here : (opening_codec 0 (wanted second joints).step).Fits opening =
+    subst (λ s. (opening_codec 0 s).Fits opening) (sym fits.0.step) at.opening in
+    hops-fit second joints (Some opening) (hop_of joint before ∷ hops) fits.2 (
+      opened (length hops) (wanted second joints).step opening here,
+      (hop-fits (length hops) (wanted second joints) joint before fits.0 begun.0, begun.1),
+    )
 
 none-open : (step : ℕ) → HopsOpen step (None, [])
 unfolding nothing
@@ -125,20 +137,26 @@ wanted-step : (second : ExistenceProof) (joints : List Joint) (first : Existence
     → last_step (second.at.step - 1) (joined_of second joints first).hops ≡ (wanted second joints).step
 wanted-step second joints first =
     let p : PrecedenceProof = joined_of second joints first in
-    last-step (second.at.step - 1) (start_of p) p.hops refl ∙ ap (λ (t : Thread). t.step) (last-thread (start_of p) joints None []) ∙ by joints
+    last-step (second.at.step - 1) (start_of p) p.hops refl ∙ ap (λ (t : Thread). t.step)
+    (last-thread (start_of p) joints None []) ∙ by joints
   where
-    by : (some : List Joint) → (come_to (start_of (joined_of second joints first)) some).step ≡ (wanted second some).step
+    by : (some : List Joint) → (come_to (start_of (joined_of second joints first)) some).step
+        ≡ (wanted second some).step
     by [] = refl
     by (joint ∷ more) = refl
 
 tail-fits : (upper : ℕ) (first : ExistenceProof) → upper ≡ first.at.top → ExistenceFits first
-    → (tail_codec upper).Fits (record { step = first.at.step; path = first.at.path; opening = first.at.opening; event = first.event })
+    → (tail_codec upper).Fits
+    (record { step = first.at.step; path = first.at.path; opening = first.at.opening; event = first.event })
 unfolding tail_codec seen pair number_codec
 tail-fits upper first is fits =
-    let at = at-parts 1 first.at fits.at in
-    ((at.from_1, at.step), (subst (λ t. (path_codec t first.at.step).Fits first.at.path.links) (sym is) at.path, (at.opening, fits.event)))
+    let at = at-parts 1 first.at fits.at in (
+      (at.from_1, at.step),
+      (subst (λ t. (path_codec t first.at.step).Fits first.at.path.links) (sym is) at.path, (at.opening, fits.event)),
+    )
 
-pub whole-fits : (second : ExistenceProof) (joints : List Joint) (first : ExistenceProof) → WholeFits FitsPart second joints first
+pub whole-fits : (second : ExistenceProof) (joints : List Joint) (first : ExistenceProof) → WholeFits FitsPart second
+    joints first
     → proof_codec.Fits (Precedes (joined_of second joints first))
 unfolding proof_codec kinds_codec precedence_body hops_codec behind_codec behind by_kind variant seen pair number_codec each
 whole-fits second joints first fits =
@@ -146,14 +164,26 @@ whole-fits second joints first fits =
     let begun = hops-fit second joints None [] fits.joints_fit (none-open (wanted second joints).step) in
     let few = joints-few FitsPart second joints fits.joints_fit in
     let head = existence-parts second fits.second_part in
-    let tail = tail-fits (last_step (second.at.step - 1) p.hops) first (wanted-step second joints first ∙ fits.top) (existence-parts first fits.first_part) in
-    ((lit≤ tt, lit≤ tt), (refl, ((omega arith, omega (arith, few, hops-count joints None [])), (head.at, (head.event, (begun.0, (begun.1, tail)))))))
+    let tail = tail-fits (last_step (second.at.step - 1) p.hops) first (wanted-step second joints first ∙ fits.top)
+    (existence-parts first fits.first_part) in (
+      (lit≤ tt, lit≤ tt),
+      (
+        refl,
+        (
+          (omega arith, omega (arith, few, hops-count joints None [])),
+          (head.at, (head.event, (begun.0, (begun.1, tail)))),
+        ),
+      ),
+    )
 
 -- what is written of it spells it
-pub joined-spelled : (parts : List Proof) (p : PrecedenceProof) → Each (λ part. (bytes : List ℕ) × Spells proof_layout bytes part) parts
+pub joined-spelled : (parts : List Proof) (p : PrecedenceProof)
+    → Each (λ part. (bytes : List ℕ) × Spells proof_layout bytes part) parts
     → joined_proof Nothing 1 parts ≡ Ok p → Spells proof_layout (proof_bytes (Precedes p)) (Precedes p)
 joined-spelled parts p all is =
-    let each_fits : Each FitsPart parts = Each-map (λ part. (bytes : List ℕ) × Spells proof_layout bytes part) FitsPart parts
+    let each_fits : Each FitsPart parts = Each-map (λ part. (bytes : List ℕ) × Spells proof_layout bytes part) FitsPart
+    parts
     (λ part spelled. spelled-fits proof_codec proof-lawful spelled.0 part spelled.1) all in
     let had = joined-fits FitsPart parts p each_fits is in
-    proof-lawful.spells (Precedes p) (subst (λ (q : PrecedenceProof). FitsPart (Precedes q)) (sym had.is) (whole-fits had.second had.joints had.first had.fits))
+    proof-lawful.spells (Precedes p) (subst (λ (q : PrecedenceProof). FitsPart (Precedes q)) (sym had.is)
+    (whole-fits had.second had.joints had.first had.fits))

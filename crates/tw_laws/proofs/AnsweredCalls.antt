@@ -1,7 +1,8 @@
 -- From what each call of a service ensures to a call of a run.
 use Rattle.std.proofs.Common.{◌≡◌, ◌⊎◌, ◌∙◌, ℕ, List, arith, ap, refl, sym, subst, inl, inr, ⊎_elim, Bool, true, false}
 use Rattle.std.proofs.lemmas.Bool.{cases_eq}
-use Rattle.std.specs.Prelude.{◌↔◌, IsTrue, Result, Ok, Err, IsErr, IfErr, IfOk, IsErrAnd, OnErr, MatchOption, MatchResult, Option, Some, slice_index}
+use Rattle.std.specs.Prelude.{◌↔◌, IsTrue, Result, Ok, Err, IsErr, IfErr, IfOk, IsErrAnd, OnErr, MatchOption}
+use Rattle.std.specs.Prelude.{MatchResult, Option, Some, slice_index}
 use Rattle.tw_base.specs.history.History.{History}
 use Rattle.tw_disk.specs.Disk.{DiskView, LeavesOnly}
 use Rattle.tw_disk.specs.Image.{Image, page_at}
@@ -23,7 +24,8 @@ use Rattle.tw_service.specs.Machine.Reply.{OfReceipt}
 use Rattle.tw_service.specs.Receiving.{RefusesNoMessage}
 use Rattle.tw_service.specs.Serves.{HasSameDisk, Serves, disk_of, has_failed, head_of, name_of, record_of}
 use Rattle.tw_service.specs.Stands.{StandsFor, StandsForOneOf}
-use Rattle.tw_answers.specs.Limits.{append_refusal, broken_refusal, link_refusal, order_refusal, own_refusal, thread_refusal, top_refusal}
+use Rattle.tw_answers.specs.Limits.{append_refusal, broken_refusal, link_refusal, order_refusal, own_refusal}
+use Rattle.tw_answers.specs.Limits.{thread_refusal, top_refusal}
 use Rattle.tw_base.specs.declared.history.question.Question.{Question}
 use Rattle.tw_base.specs.declared.history.question.Question.TheVariants as ask
 use Rattle.tw_service.specs.Questions.{question_refusal}
@@ -38,7 +40,8 @@ module _ {X : Type 0} (answer : Result X Refusal) (Else : Type 0) where
   abbrev Says : Option Refusal → Type 0
   Says table = MatchOption table Else (λ refusal. answer ≡ Err refusal)
 
-  pub append_reopens : (broken : Bool) (steps : ℕ) (clock : Option ℕ) (events : List (List ℕ)) (time : Option ℕ) → Says (append_refusal broken steps clock events time) → IsTrue broken → answer ≡ Err Reopen
+  pub append_reopens : (broken : Bool) (steps : ℕ) (clock : Option ℕ) (events : List (List ℕ)) (time : Option ℕ)
+      → Says (append_refusal broken steps clock events time) → IsTrue broken → answer ≡ Err Reopen
   unfolding append_refusal
   append_reopens true steps clock events time says failed = says
   append_reopens false steps clock events time says failed = absurd cc
@@ -47,32 +50,38 @@ module _ {X : Type 0} (answer : Result X Refusal) (Else : Type 0) where
   broken_reopens true says failed = says
   broken_reopens false says failed = absurd cc
 
-  pub thread_reopens : (broken : Bool) (last since : ℕ) → Says (thread_refusal broken last since) → IsTrue broken → answer ≡ Err Reopen
+  pub thread_reopens : (broken : Bool) (last since : ℕ) → Says (thread_refusal broken last since) → IsTrue broken
+      → answer ≡ Err Reopen
   unfolding thread_refusal
   thread_reopens true last since says failed = says
   thread_reopens false last since says failed = absurd cc
 
-  pub link_reopens : (broken : Bool) (last step top : ℕ) → Says (link_refusal broken last step top) → IsTrue broken → answer ≡ Err Reopen
+  pub link_reopens : (broken : Bool) (last step top : ℕ) → Says (link_refusal broken last step top) → IsTrue broken
+      → answer ≡ Err Reopen
   unfolding link_refusal
   link_reopens true last step top says failed = says
   link_reopens false last step top says failed = absurd cc
 
-  pub order_reopens : (broken : Bool) (last step top : ℕ) → Says (order_refusal broken last step top) → IsTrue broken → answer ≡ Err Reopen
+  pub order_reopens : (broken : Bool) (last step top : ℕ) → Says (order_refusal broken last step top) → IsTrue broken
+      → answer ≡ Err Reopen
   unfolding order_refusal
   order_reopens true last step top says failed = says
   order_reopens false last step top says failed = absurd cc
 
-  pub top_reopens : (broken : Bool) (last top : ℕ) → Says (top_refusal broken last top) → IsTrue broken → answer ≡ Err Reopen
+  pub top_reopens : (broken : Bool) (last top : ℕ) → Says (top_refusal broken last top) → IsTrue broken
+      → answer ≡ Err Reopen
   unfolding top_refusal
   top_reopens true last top says failed = says
   top_reopens false last top says failed = absurd cc
 
-  pub own_reopens : (broken : Bool) (own from : List ℕ) → Says (own_refusal broken own from) → IsTrue broken → answer ≡ Err Reopen
+  pub own_reopens : (broken : Bool) (own from : List ℕ) → Says (own_refusal broken own from) → IsTrue broken
+      → answer ≡ Err Reopen
   unfolding own_refusal
   own_reopens true own from says failed = says
   own_reopens false own from says failed = absurd cc
 
-  pub question_reopens : (broken : Bool) (last : ℕ) (q : Question) → Says (question_refusal broken last q) → IsTrue broken → answer ≡ Err Reopen
+  pub question_reopens : (broken : Bool) (last : ℕ) (q : Question) → Says (question_refusal broken last q)
+      → IsTrue broken → answer ≡ Err Reopen
   unfolding question_refusal
   question_reopens broken last (ask.Event step index top) = order_reopens broken last step (top_or_last top last)
   question_reopens broken last (ask.Thread step key top) = order_reopens broken last step (top_or_last top last)
@@ -100,48 +109,75 @@ opened_taken o c opens = (
   omega (arith, opens.stands.room),
   elim (cases_eq o.slot 0) [
     | inl first ↦ inl (ap (λ (k : ℕ). slice_index (page_at c k) 0) (sym first) ∙ opens.stands.gate)
-    | inr other ↦ (let second : 1 ≡ o.slot = omega (arith, opens.stands.which, other) in inr (ap (λ (k : ℕ). slice_index (page_at c k) 0) second ∙ opens.stands.gate))
+    | inr other ↦ (let second : 1 ≡ o.slot = omega (arith, opens.stands.which, other) in
+        inr (ap (λ (k : ℕ). slice_index (page_at c k) 0) second ∙ opens.stands.gate))
   ],
 )
 
 module _ {D H : Type 0} {g : _} {k : _} (dig : List ℕ → List ℕ) (view : D → DiskView) (disk : D) where
   pub opened : (result : Result (Service D H g k) (D × StoreFault))
-      → ((c : Image) (of : List ℕ) (h : History) → (view disk).content ≡ Some c → StandsFor dig c of h → MatchResult result (λ s. Serves dig view s h) (λ e. e.1 ≡ DiskFailed))
-      → MatchResult result (λ s. (view (disk_of s)).content ≡ (view disk).content) (λ e. (view e.0).content ≡ (view disk).content)
+      → ((c : Image) (of : List ℕ) (h : History) → (view disk).content ≡ Some c → StandsFor dig c of h
+      → MatchResult result (λ s. Serves dig view s h) (λ e. e.1 ≡ DiskFailed))
+      → MatchResult result (λ s. (view (disk_of s)).content ≡ (view disk).content)
+      (λ e. (view e.0).content ≡ (view disk).content)
       → IfOk result (λ s. LeavesOnly (view disk) (view (disk_of s)) (view disk).may_leave)
       → IfErr result (λ e. LeavesOnly (view disk) (view e.0) (view disk).may_leave)
       → MatchResult result (λ s. IsServiceOpened dig view disk s) (λ e. StaysAs view disk e.0)
-  opened (Ok s) served unchanged since left = record { serves = λ image of h told stands. served image of h told stands; any_moment = since }
+  opened (Ok s) served unchanged since left =
+      record { serves = λ image of h told stands. served image of h told stands; any_moment = since }
   opened (Err e) served unchanged since left = (unchanged, left)
 
   -- making a service on a disk that reads as a history
-  pub spared : (result : Result (Service D H g k) (D × StoreFault)) (image : Image) (of : List ℕ) (h : History) → (view disk).content ≡ Some image → StandsFor dig image of h
+  pub spared : (result : Result (Service D H g k) (D × StoreFault)) (image : Image) (of : List ℕ) (h : History)
+      → (view disk).content ≡ Some image → StandsFor dig image of h
       → (IsTaken image → IsErrAnd result (λ e. (e.1 ≡ Taken) ⊎ (e.1 ≡ DiskFailed)))
-      → (IsTaken image → IfErr result (λ e. ((view e.0).content ≡ Some image) × LeavesOnly (view disk) (view e.0) (view disk).may_leave))
+      → (IsTaken image → IfErr result (λ e. ((view e.0).content ≡ Some image) × LeavesOnly (view disk) (view e.0)
+      (view disk).may_leave))
       → IsErrAnd result (λ e. StaysAs view disk e.0)
-  spared (Ok s) image of h told stands exact held = absurd (exact (opened_taken stands.stands.is.opening image stands.stands.is.opens))
-  spared (Err e) image of h told stands exact held = let left = held (opened_taken stands.stands.is.opening image stands.stands.is.opens) in (left.0 ∙ sym told, left.1)
+  spared (Ok s) image of h told stands exact held =
+      absurd (exact (opened_taken stands.stands.is.opening image stands.stands.is.opens))
+  spared (Err e) image of h told stands exact held = let left =
+      held (opened_taken stands.stands.is.opening image stands.stands.is.opens) in (left.0 ∙ sym told, left.1)
 
 -- ---- calls
 
-module _ {D H : Type 0} {g : _} {k : _} (dig : List ℕ → List ℕ) (view : D → DiskView) {T : Type 0} (call : Call) (reply : T → Reply) (old new : Service D H g k) where
+module _ {D H : Type 0} {g : _} {k : _} (dig : List ℕ → List ℕ) (view : D → DiskView) {T : Type 0} (call : Call)
+    (reply : T → Reply) (old new : Service D H g k) where
   abbrev fails : (X : Type 0) → Refusal → Result X Refusal
   fails X why = Err why
 
   -- ---- answers, as replies
 
-  answers_as : (h : History) (r : Refusal) → AnswersByMachine dig h call reply (Err r) (Serves dig view new) → AnswersByMachine dig h call (λ (x : Reply). x) (Err r) (Serves dig view new)
+  answers_as : (h : History) (r : Refusal) → AnswersByMachine dig h call reply (Err r) (Serves dig view new)
+      → AnswersByMachine dig h call (λ (x : Reply). x) (Err r) (Serves dig view new)
   answers_as h DiskFault a = a
   answers_as h NoMemory a = a
   answers_as h (BadPage page) a = a
   answers_as h Reopen a = a
   answers_as h _ a = a
 
-  steps_as : (result : Result T Refusal) (h : History) → CallSteps dig view call reply old new result h → CallSteps dig view call (λ (x : Reply). x) old new (replied reply result) h
+  steps_as : (result : Result T Refusal) (h : History) → CallSteps dig view call reply old new result h
+      → CallSteps dig view call (λ (x : Reply). x) old new (replied reply result) h
   steps_as (Ok x) h s =
-      record { next = s.next; is_next = s.is_next; any_moment = s.any_moment; told = s.told; done = s.done; refused = tt; machine = λ whole. tt }
+      record {
+        next = s.next;
+        is_next = s.is_next;
+        any_moment = s.any_moment;
+        told = s.told;
+        done = s.done;
+        refused = tt;
+        machine = λ whole. tt;
+      }
   steps_as (Err r) h s =
-      record { next = s.next; is_next = s.is_next; any_moment = s.any_moment; told = s.told; done = tt; refused = s.refused; machine = λ whole. answers_as h r (s.machine whole) }
+      record {
+        next = s.next;
+        is_next = s.is_next;
+        any_moment = s.any_moment;
+        told = s.told;
+        done = tt;
+        refused = s.refused;
+        machine = λ whole. answers_as h r (s.machine whole);
+      }
 
   abbrev Remembers : Result T Refusal → Type 0
   Remembers result = IsTrue (has_failed new) ↔ (IsTrue (has_failed old) ⊎ (result ≡ Err DiskFault))
@@ -154,13 +190,18 @@ module _ {D H : Type 0} {g : _} {k : _} (dig : List ℕ → List ℕ) (view : D 
 
   -- ---- a call that may add a step
 
-  pub adds : (kind : (x : T) → IsReplyTo call (reply x)) (result : Result T Refusal) → ((h : History) → Serves dig view old h → CallSteps dig view call reply old new result h)
-      → (IsTrue (has_failed old) → result ≡ Err Reopen) → Remembers result → Keeps result → LeavesUnwritten result → IsCallAnswered dig view call (replied reply result) old new
+  pub adds : (kind : (x : T) → IsReplyTo call (reply x)) (result : Result T Refusal)
+      → ((h : History) → Serves dig view old h → CallSteps dig view call reply old new result h)
+      → (IsTrue (has_failed old) → result ≡ Err Reopen) → Remembers result → Keeps result → LeavesUnwritten result
+      → IsCallAnswered dig view call (replied reply result) old new
   adds kind (Ok x) steps reopen broken kept unwritten = record {
     kind = kind x;
     steps = λ h served. steps_as (Ok x) h (steps h served);
     reopen = λ failed. let no = reopen failed in absurd cc;
-    broken = ((λ failed. ⊎_elim (λ was. inl was) (λ is. absurd cc) (broken.0 failed)), (λ either. ⊎_elim (λ was. broken.1 (inl was)) (λ is. absurd cc) either));
+    broken = (
+      (λ failed. ⊎_elim (λ was. inl was) (λ is. absurd cc) (broken.0 failed)),
+      (λ either. ⊎_elim (λ was. broken.1 (inl was)) (λ is. absurd cc) either),
+    );
     kept = tt;
     unwritten = tt;
   }
@@ -168,7 +209,10 @@ module _ {D H : Type 0} {g : _} {k : _} (dig : List ℕ → List ℕ) (view : D 
     kind = tt;
     steps = λ h served. steps_as (Err r) h (steps h served);
     reopen = λ failed. to_reply (reopen failed);
-    broken = ((λ failed. ⊎_elim (λ was. inl was) (λ is. inr (to_reply is)) (broken.0 failed)), (λ either. ⊎_elim (λ was. broken.1 (inl was)) (λ is. broken.1 (inr (of_reply is))) either));
+    broken = (
+      (λ failed. ⊎_elim (λ was. inl was) (λ is. inr (to_reply is)) (broken.0 failed)),
+      (λ either. ⊎_elim (λ was. broken.1 (inl was)) (λ is. broken.1 (inr (of_reply is))) either),
+    );
     kept = kept;
     unwritten = unwritten;
   }
@@ -182,20 +226,25 @@ module _ {D H : Type 0} {g : _} {k : _} (dig : List ℕ → List ℕ) (view : D 
   -- ---- a call that only reads
 
   module _ (only_now : (d : D) (c : Image) → (view d).left_since (view d).moment c → (view d).may_leave c)
-      (stays : (h : History) → NextOf dig call h h) (only : (h next : History) (r : Reply) → IsStepOf dig h call r next → next ≡ h) where
+      (stays : (h : History) → NextOf dig call h h) (only : (h next : History) (r : Reply) → IsStepOf dig h call r next
+      → next ≡ h) where
     abbrev Serves_on : Type 0
-    Serves_on = (h : History) → Serves dig view old h → Serves dig view new h × LeavesOnly (view (disk_of old)) (view (disk_of new)) (λ i. StandsFor dig i (name_of old) h)
+    Serves_on = (h : History) → Serves dig view old h → Serves dig view new h × LeavesOnly (view (disk_of old))
+        (view (disk_of new)) (λ i. StandsFor dig i (name_of old) h)
 
     abbrev Is_step : Result T Refusal → Type 0
-    Is_step result = has_failed old ≡ false → (h : History) → Serves dig view old h → AnswersByMachine dig h call reply result (Serves dig view new)
+    Is_step result = has_failed old ≡ false → (h : History) → Serves dig view old h → AnswersByMachine dig h call reply
+        result (Serves dig view new)
 
-    answered : (b : Bool) → has_failed old ≡ b → (x : T) → (IsTrue (has_failed old) → Ok x ≡ Err Reopen) → Is_step (Ok x) → (h : History) → Serves dig view old h → IsStepOf dig h call (reply x) h
+    answered : (b : Bool) → has_failed old ≡ b → (x : T) → (IsTrue (has_failed old) → Ok x ≡ Err Reopen)
+        → Is_step (Ok x) → (h : History) → Serves dig view old h → IsStepOf dig h call (reply x) h
     answered true is x reopen machine h served = let no = reopen (subst (λ b. IsTrue b) (sym is) refl) in absurd cc
     answered false is x reopen machine h served =
         let a = machine is h served in
         subst (λ (n : History). IsStepOf dig h call (reply x) n) (only h a.0 (reply x) a.1) a.1
 
-    read_steps : (result : Result T Refusal) → (IsTrue (has_failed old) → result ≡ Err Reopen) → Is_step result → Serves_on → record_of new ≡ record_of old
+    read_steps : (result : Result T Refusal) → (IsTrue (has_failed old) → result ≡ Err Reopen) → Is_step result
+        → Serves_on → record_of new ≡ record_of old
         → (h : History) → Serves dig view old h → CallSteps dig view call reply old new result h
     read_steps (Ok x) reopen machine same kept h served =
         let on = same h served in
@@ -203,8 +252,13 @@ module _ {D H : Type 0} {g : _} {k : _} (dig : List ℕ → List ℕ) (view : D 
         record {
           next = h;
           is_next = stays h;
-          any_moment = leaves_weaker (view (disk_of old)) (view (disk_of new)) (λ i. StandsFor dig i (name_of old) h) (StandsForOneOf dig (name_of old) h h) (λ c s. inl s) on.1;
-          told = record { image = rest.image; told = rest.told; has = inl (subst (λ (r : RootRecord). StandsFor dig rest.image r.name h) kept rest.has) };
+          any_moment = leaves_weaker (view (disk_of old)) (view (disk_of new)) (λ i. StandsFor dig i (name_of old) h)
+              (StandsForOneOf dig (name_of old) h h) (λ c s. inl s) on.1;
+          told = record {
+            image = rest.image;
+            told = rest.told;
+            has = inl (subst (λ (r : RootRecord). StandsFor dig rest.image r.name h) kept rest.has);
+          };
           done = (answered (has_failed old) refl x reopen machine h served, on.0);
           refused = tt;
           machine = λ whole. tt;
@@ -215,8 +269,13 @@ module _ {D H : Type 0} {g : _} {k : _} (dig : List ℕ → List ℕ) (view : D 
         record {
           next = h;
           is_next = stays h;
-          any_moment = leaves_weaker (view (disk_of old)) (view (disk_of new)) (λ i. StandsFor dig i (name_of old) h) (StandsForOneOf dig (name_of old) h h) (λ c s. inl s) on.1;
-          told = record { image = rest.image; told = rest.told; has = inl (subst (λ (r : RootRecord). StandsFor dig rest.image r.name h) kept rest.has) };
+          any_moment = leaves_weaker (view (disk_of old)) (view (disk_of new)) (λ i. StandsFor dig i (name_of old) h)
+              (StandsForOneOf dig (name_of old) h h) (λ c s. inl s) on.1;
+          told = record {
+            image = rest.image;
+            told = rest.told;
+            has = inl (subst (λ (r : RootRecord). StandsFor dig rest.image r.name h) kept rest.has);
+          };
           done = tt;
           refused = inr on;
           machine = λ whole. machine whole h served;
@@ -230,10 +289,13 @@ module _ {D H : Type 0} {g : _} {k : _} (dig : List ℕ → List ℕ) (view : D 
     unwritten_by (Ok x) same = tt
     unwritten_by (Err r) same = inr same
 
-    pub reads : (kind : (x : T) → IsReplyTo call (reply x)) (result : Result T Refusal) → (IsTrue (has_failed old) → result ≡ Err Reopen) → Is_step result → Serves_on → record_of new ≡ record_of old → HasSameDisk view old new → Remembers result
+    pub reads : (kind : (x : T) → IsReplyTo call (reply x)) (result : Result T Refusal) → (IsTrue (has_failed old)
+        → result ≡ Err Reopen) → Is_step result → Serves_on → record_of new ≡ record_of old → HasSameDisk view old new
+        → Remembers result
         → IsCallAnswered dig view call (replied reply result) old new
     reads kind result reopen machine same kept unwritten broken =
-        adds kind result (read_steps result reopen machine same kept) reopen broken (kept_by result kept) (unwritten_by result unwritten)
+        adds kind result (read_steps result reopen machine same kept) reopen broken (kept_by result kept)
+        (unwritten_by result unwritten)
 
 -- ---- receiving
 
@@ -242,15 +304,22 @@ is_refused (Ok receipt) refusal is = absurd cc
 is_refused (Err r) refusal is = refl
 
 -- bytes that are no message are refused
-pub refuses_bytes : (broken : Bool) (bytes : List ℕ) (result : Result Receipt Refusal) → RefusesNoMessage broken bytes result → IsErr result
+pub refuses_bytes : (broken : Bool) (bytes : List ℕ) (result : Result Receipt Refusal) → RefusesNoMessage broken bytes
+    result → IsErr result
 refuses_bytes true bytes result is = is_refused result Reopen is
 refuses_bytes false bytes result (inl is) = is_refused result NoMemory is
 refuses_bytes false bytes result (inr is) = is_refused result (Malformed is.0) is.1
 
-module _ {D H : Type 0} {g : _} {k : _} (dig : List ℕ → List ℕ) (view : D → DiskView) (m : Message) (time : Option ℕ) (old new : Service D H g k) where
-  received_kept : (result : Result Receipt Refusal) → OnErr result (record_of new ≡ record_of old) → OnErr result ((head_of new ≡ head_of old) × (name_of new ≡ name_of old))
-  received_kept result kept = weaker result _ _ (λ same. (ap (λ (r : RootRecord). r.head) same, ap (λ (r : RootRecord). r.name) same)) kept
+module _ {D H : Type 0} {g : _} {k : _} (dig : List ℕ → List ℕ) (view : D → DiskView) (m : Message) (time : Option ℕ)
+    (old new : Service D H g k) where
+  received_kept : (result : Result Receipt Refusal) → OnErr result (record_of new ≡ record_of old)
+      → OnErr result ((head_of new ≡ head_of old) × (name_of new ≡ name_of old))
+  received_kept result kept =
+      weaker result _ _ (λ same. (ap (λ (r : RootRecord). r.head) same, ap (λ (r : RootRecord). r.name) same)) kept
 
-  pub received : (result : Result Receipt Refusal) → Receives dig view m time old new result → IsCallAnswered dig view (Receive m time) (replied (λ (r : Receipt). OfReceipt r) result) old new
+  pub received : (result : Result Receipt Refusal) → Receives dig view m time old new result → IsCallAnswered dig view
+      (Receive m time) (replied (λ (r : Receipt). OfReceipt r) result) old new
   received result a =
-      adds dig view (Receive m time) (λ (r : Receipt). OfReceipt r) old new (λ r. tt) result a.steps (own_reopens result _ (has_failed old) (name_of old) m.thread.from a.table) a.broken (received_kept result a.kept) a.unwritten
+      adds dig view (Receive m time) (λ (r : Receipt). OfReceipt r) old new (λ r. tt) result a.steps
+      (own_reopens result _ (has_failed old) (name_of old) m.thread.from a.table) a.broken (received_kept result a.kept)
+      a.unwritten

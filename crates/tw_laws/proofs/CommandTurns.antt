@@ -1,4 +1,5 @@
--- What each command leaves of a disk whose images go on from one history, and that it publishes a thread of the history that is then there.
+-- What each command leaves of a disk whose images go on from one history, and that it publishes a thread of the history
+-- that is then there.
 use Rattle.std.proofs.Common.{◌≡◌, ◌∙◌, ℕ, List, ap, sym, subst, ⊎_elim}
 use Rattle.std.specs.Prelude.{Option, Some, Result, Ok, Err}
 use Rattle.sha2.specs.Sha256.{sha256}
@@ -21,7 +22,8 @@ use Rattle.tw_pages.specs.Disks.{AddsSafe, OneOf}
 use Rattle.tw_pages.proofs.AtRest.{untouched_left}
 use Rattle.tw_diskcmd.specs.Comes.{FoundDisk}
 use Rattle.tw_diskcmd.specs.Files.{IsMessageIn}
-use Rattle.tw_diskcmd.specs.Disks.{IsImageOfHeads, IsLeft, NextBy, ReadLeavesHistory, ReadsAsHeads, RestsAtHeads, StandsAtHistory}
+use Rattle.tw_diskcmd.specs.Disks.{IsImageOfHeads, IsLeft, NextBy, ReadLeavesHistory, ReadsAsHeads, RestsAtHeads}
+use Rattle.tw_diskcmd.specs.Disks.{StandsAtHistory}
 use Rattle.tw_diskcmd.specs.Making.{InitComes, InitLeaves}
 use Rattle.tw_diskcmd.specs.Receiving.{ReceiveComes, ReceiveLeaves, ReceiveSafe}
 use Rattle.tw_diskcmd.proofs.AtRest.{own_name, stands_taken}
@@ -49,9 +51,11 @@ pub made_undone : (t : Thread) (f : CommandFault) → Made t ≡ Undone f → �
 made_undone t f is = cc
 
 -- what the answer of a history to a question publishes
-answer_told : (t : FoundDisk) (h : History) (reads : ReadsAsHeads t.found h) (q : Question) (bytes : List ℕ) (u : Thread) → AskComes t q (Ok bytes) → IsInAnswer sha256 q bytes u → IsThreadOf sha256 h u
+answer_told : (t : FoundDisk) (h : History) (reads : ReadsAsHeads t.found h) (q : Question) (bytes : List ℕ)
+    (u : Thread) → AskComes t q (Ok bytes) → IsInAnswer sha256 q bytes u → IsThreadOf sha256 h u
 unfolding AskComes
-answer_told t h reads q bytes u comes told = told_own sha256 h reads.stands.stands.keeps.sound (Ask q) (OfBytes bytes) h tt (comes.machine h reads).machine u told
+answer_told t h reads q bytes u comes told = told_own sha256 h reads.stands.stands.keeps.sound (Ask q) (OfBytes bytes) h
+    tt (comes.machine h reads).machine u told
 
 module _ {D : Type 0} (view : D → DiskView) (name : List ℕ)
     (only_now : (d : D) (image : Image) → (view d).left_since (view d).moment image → (view d).may_leave image)
@@ -60,17 +64,20 @@ module _ {D : Type 0} (view : D → DiskView) (name : List ℕ)
   pub stands_wavers : (d : D) (c : History) → c.name ≡ name → StandsAtHistory view d c → Wavers sha256 view name d c
   stands_wavers d c named is =
       let own : (i : Image) → (view d).may_leave i → GoesOnFrom sha256 view name c i =
-      λ i left. (c, subst (λ (n : List ℕ). StandsFor sha256 i n c) named (is.each i left), same_has sha256 view name c) in
+      λ i left. (c, subst (λ (n : List ℕ). StandsFor sha256 i n c) named (is.each i left), same_has sha256 view name c)
+      in
       (record { image = is.image; told = is.told; has = own is.image (as_it_reads d is.image is.told) }, own)
 
   module _ (o : Outside D) where
-    -- what a run leaves: a disk whose images go on from a history that goes on from this one, and has all that the run publishes; and at any
+    -- what a run leaves: a disk whose images go on from a history that goes on from this one, and has all that the run
+    -- publishes; and at any
     -- moment images that go on from this one
     pub record Behind (h : History) (Tells : Thread → Type 0) : Type 0 where
       pub now : History
       pub keeps : Has sha256 view name h now
       pub settled : Wavers sha256 view name o.disk.after now
-      pub any_moment : (c : Image) → (view o.disk.after).left_since (view o.disk.before).moment c → GoesOnFrom sha256 view name h c
+      pub any_moment : (c : Image) → (view o.disk.after).left_since (view o.disk.before).moment c
+          → GoesOnFrom sha256 view name h c
       pub tells : (t : Thread) → Tells t → IsThreadOf sha256 now t
 
     module _ (h : History) (waver : Wavers sha256 view name o.disk.before h) where
@@ -86,9 +93,14 @@ module _ {D : Type 0} (view : D → DiskView) (name : List ℕ)
       named = waver.0.has.1.named
 
       abbrev reads : ReadsAsHeads (view o.disk.before).content read
-      reads = record { image = waver.0.image; told = waver.0.told; stands = own_name name read waver.0.image waver.0.has.1 }
+      reads = record {
+        image = waver.0.image;
+        told = waver.0.told;
+        stands = own_name name read waver.0.image waver.0.has.1;
+      }
 
-      one_goes : (call : Call) (next : History) → NextOf sha256 call read next → (c : Image) → OneOf IsImageOfHeads read next c → GoesOnFrom sha256 view name h c
+      one_goes : (call : Call) (next : History) → NextOf sha256 call read next → (c : Image) → OneOf IsImageOfHeads read
+          next c → GoesOnFrom sha256 view name h c
       one_goes call next is_next c one = ⊎_elim
           (λ stands. (read, subst (λ (n : List ℕ). StandsFor sha256 c n read) named stands, read_has))
           (λ stands. (
@@ -101,17 +113,22 @@ module _ {D : Type 0} (view : D → DiskView) (name : List ℕ)
       -- ---- what is left
 
       -- nothing was written, and nothing is published
-      pub left_behind : (Tells : Thread → Type 0) → IsLeft view o.disk.before o.disk.after → ((t : Thread) → Tells t → ⊥) → Behind h Tells
+      pub left_behind : (Tells : Thread → Type 0) → IsLeft view o.disk.before o.disk.after
+          → ((t : Thread) → Tells t → ⊥) → Behind h Tells
       left_behind Tells left none = record {
         now = h;
         keeps = same_has sha256 view name h;
-        settled = (record { image = waver.0.image; told = left.0 ∙ waver.0.told; has = waver.0.has }, λ c may. waver.1 c (left.1.now c may));
+        settled = (
+          record { image = waver.0.image; told = left.0 ∙ waver.0.told; has = waver.0.has },
+          λ c may. waver.1 c (left.1.now c may),
+        );
         any_moment = λ c since. waver.1 c (left.1.each c since);
         tells = λ t told. absurd (none t told);
       }
 
       -- nothing was written, and the disk became stable
-      settled_behind : (Tells : Thread → Type 0) → IsLeft view o.disk.before o.disk.after → RestsAtHeads view o.disk.after read → ((t : Thread) → Tells t → IsThreadOf sha256 read t) → Behind h Tells
+      settled_behind : (Tells : Thread → Type 0) → IsLeft view o.disk.before o.disk.after
+          → RestsAtHeads view o.disk.after read → ((t : Thread) → Tells t → IsThreadOf sha256 read t) → Behind h Tells
       settled_behind Tells left rests own = record {
         now = read;
         keeps = read_has;
@@ -122,32 +139,55 @@ module _ {D : Type 0} (view : D → DiskView) (name : List ℕ)
 
       -- ---- a step that may be added
 
-      module _ {X : Type 0} (In : X → Type 0) (call : X → Call) (safe : AddsSafe IsImageOfHeads view In (λ x. NextBy (call x)) o.disk.before o.disk.after) where
-        adds_moment : (c : Image) → (view o.disk.after).left_since (view o.disk.before).moment c → GoesOnFrom sha256 view name h c
+      module _ {X : Type 0} (In : X → Type 0) (call : X → Call)
+          (safe : AddsSafe IsImageOfHeads view In (λ x. NextBy (call x)) o.disk.before o.disk.after) where
+        adds_moment : (c : Image) → (view o.disk.after).left_since (view o.disk.before).moment c
+            → GoesOnFrom sha256 view name h c
         adds_moment c since = ⊎_elim
             (λ kept. waver.1 c (kept.0.each c since))
-            (λ added. ⊎_elim (λ was. waver.1 c was) (λ one. one_goes (call added.0) added.2 added.3 c one) (added.4.each c since))
+            (λ added. ⊎_elim (λ was. waver.1 c was) (λ one. one_goes (call added.0) added.2 added.3 c one)
+            (added.4.each c since))
             ((safe read).0 reads)
 
         adds_wavers : Wavers sha256 view name o.disk.after h
         adds_wavers = ⊎_elim
             (λ kept. (
-              record { image = kept.1.image; told = kept.1.told; has = (read, subst (λ (n : List ℕ). StandsFor sha256 kept.1.image n read) named kept.1.stands, read_has) },
+              record {
+                image = kept.1.image;
+                told = kept.1.told;
+                has = (
+                  read,
+                  subst (λ (n : List ℕ). StandsFor sha256 kept.1.image n read) named kept.1.stands,
+                  read_has,
+                );
+              },
               λ c may. waver.1 c (kept.0.now c may),
             ))
             (λ added. (
-              record { image = added.5.image; told = added.5.told; has = one_goes (call added.0) added.2 added.3 added.5.image added.5.has },
-              λ c may. ⊎_elim (λ was. waver.1 c was) (λ one. one_goes (call added.0) added.2 added.3 c one) (added.4.now c may),
+              record {
+                image = added.5.image;
+                told = added.5.told;
+                has = one_goes (call added.0) added.2 added.3 added.5.image added.5.has;
+              },
+              λ c may. ⊎_elim (λ was. waver.1 c was) (λ one. one_goes (call added.0) added.2 added.3 c one)
+                  (added.4.now c may),
             ))
             ((safe read).0 reads)
 
         -- it may have been, and nothing is published
         adds_behind : (Tells : Thread → Type 0) → ((t : Thread) → Tells t → ⊥) → Behind h Tells
         adds_behind Tells none =
-            record { now = h; keeps = same_has sha256 view name h; settled = adds_wavers; any_moment = adds_moment; tells = λ t told. absurd (none t told) }
+            record {
+              now = h;
+              keeps = same_has sha256 view name h;
+              settled = adds_wavers;
+              any_moment = adds_moment;
+              tells = λ t told. absurd (none t told);
+            }
 
         -- it was
-        added_behind : (Tells : Thread → Type 0) (by : Call) (next : History) → NextOf sha256 by read next → RestsAtHeads view o.disk.after next → ((t : Thread) → Tells t → IsThreadOf sha256 next t) → Behind h Tells
+        added_behind : (Tells : Thread → Type 0) (by : Call) (next : History) → NextOf sha256 by read next
+            → RestsAtHeads view o.disk.after next → ((t : Thread) → Tells t → IsThreadOf sha256 next t) → Behind h Tells
         added_behind Tells by next is_next rests own = record {
           now = next;
           keeps = λ t has. next_has sha256 by read next is_next t (read_has t has);
@@ -165,17 +205,21 @@ module _ {D : Type 0} (view : D → DiskView) (name : List ℕ)
       By c outcome = Behind h (IsOutBy c outcome)
 
       -- one that asks a question
-      asked : (q : Question) (outcome : Outcome) → (asking view o (Some q)).does outcome → Behind h (IsOutByAnswer q outcome)
+      asked : (q : Question) (outcome : Outcome) → (asking view o (Some q)).does outcome
+          → Behind h (IsOutByAnswer q outcome)
       asked q outcome came = of_result came.0 came.1 came.2
         where
-          of_result : (r : Result (List ℕ) CommandFault) → AskComes (found_around view o) q r × ReadLeavesHistory view o.disk.before o.disk.after r → outcome ≡ outcome_by Written r
+          of_result : (r : Result (List ℕ) CommandFault) → AskComes (found_around view o) q r × ReadLeavesHistory view
+              o.disk.before o.disk.after r → outcome ≡ outcome_by Written r
               → Behind h (IsOutByAnswer q outcome)
           of_result (Ok bytes) may is =
               subst (λ (x : Outcome). Behind h (IsOutByAnswer q x)) (sym is)
-              (settled_behind (IsOutByAnswer q (Written bytes)) may.1.0 (may.1.1.0 read reads) (λ t told. answer_told (found_around view o) read reads q bytes t may.0 told))
+              (settled_behind (IsOutByAnswer q (Written bytes)) may.1.0 (may.1.1.0 read reads)
+              (λ t told. answer_told (found_around view o) read reads q bytes t may.0 told))
           of_result (Err f) may is =
               subst (λ (x : Outcome). Behind h (IsOutByAnswer q x)) (sym is)
-              (left_behind (IsOutByAnswer q (Undone f)) ((asking_is_safe view o.disk.before o.disk.after {X = List ℕ}).safe (Err f) may.1).0 (λ t told. told))
+              (left_behind (IsOutByAnswer q (Undone f))
+              ((asking_is_safe view o.disk.before o.disk.after {X = List ℕ}).safe (Err f) may.1).0 (λ t told. told))
 
       taken : IsTaken waver.0.image
       taken = stands_taken read waver.0.image reads.stands
@@ -184,55 +228,71 @@ module _ {D : Type 0} (view : D → DiskView) (name : List ℕ)
       making of outcome came = of_result came.0 came.1 came.2
         where
           left : IsLeft view o.disk.before o.disk.after
-          left = ((rows view only_now as_it_reads o (command.Init of)).safe outcome came).2 waver.0.image waver.0.told taken
+          left = ((rows view only_now as_it_reads o (command.Init of)).safe outcome came).2 waver.0.image waver.0.told
+              taken
 
-          of_result : (r : Result Thread CommandFault) → InitComes (found_around view o) of r × InitLeaves view o.disk.before o.disk.after of r → outcome ≡ outcome_by Made r → By (command.Init of) outcome
+          of_result : (r : Result Thread CommandFault) → InitComes (found_around view o) of r × InitLeaves view
+              o.disk.before o.disk.after of r → outcome ≡ outcome_by Made r → By (command.Init of) outcome
           of_result (Ok thread) may is = absurd (may.0.free waver.0.image waver.0.told taken)
-          of_result (Err f) may is = subst (λ (x : Outcome). By (command.Init of) x) (sym is) (left_behind (IsOutBy (command.Init of) (Undone f)) left (λ t told. told))
+          of_result (Err f) may is = subst (λ (x : Outcome). By (command.Init of) x) (sym is)
+              (left_behind (IsOutBy (command.Init of) (Undone f)) left (λ t told. told))
 
-      appending : (file : List ℕ) (time : Option ℕ) (outcome : Outcome) → Does (command.Append file time) outcome → By (command.Append file time) outcome
+      appending : (file : List ℕ) (time : Option ℕ) (outcome : Outcome) → Does (command.Append file time) outcome
+          → By (command.Append file time) outcome
       appending file time outcome came = of_result came.0 came.1 came.2
         where
           safe : AppendSafe view o.disk.before o.disk.after o.inputs.told file time
           safe = (rows view only_now as_it_reads o (command.Append file time)).safe outcome came
 
-          of_result : (r : Result Thread CommandFault) → AppendComes o.inputs (found_around view o) file time r × AppendLeaves view o.disk.before o.disk.after o.inputs.told file time r
+          of_result : (r : Result Thread CommandFault) → AppendComes o.inputs (found_around view o) file time r
+              × AppendLeaves view o.disk.before o.disk.after o.inputs.told file time r
               → outcome ≡ outcome_by Made r → By (command.Append file time) outcome
           of_result (Ok thread) may is =
               let events = may.1.0.0 in
               let step = may.1.0.2.0.machine read reads in
               let added = may.1.0.2.1 read reads in
-              let last : thread ≡ last_thread sha256 added.0 = step.0 ∙ ap (λ (n : History). last_thread sha256 n) (sym added.1.0) in
+              let last : thread ≡ last_thread sha256 added.0 = step.0 ∙ ap (λ (n : History). last_thread sha256 n)
+              (sym added.1.0) in
               subst (λ (x : Outcome). By (command.Append file time) x) (sym is)
-              (added_behind (AreEventsOf o.inputs.told file) (λ events. Appending events time) safe.1 (IsOutBy (command.Append file time) (Made thread)) (Appending events time) added.0 added.1.0 added.2.0
-              (λ t told. subst (λ (u : Thread). IsThreadOf sha256 added.0 u) (sym (told ∙ last)) (last_own sha256 added.0)))
+              (added_behind (AreEventsOf o.inputs.told file) (λ events. Appending events time) safe.1
+              (IsOutBy (command.Append file time) (Made thread)) (Appending events time) added.0 added.1.0 added.2.0
+              (λ t told. subst (λ (u : Thread). IsThreadOf sha256 added.0 u) (sym (told ∙ last))
+              (last_own sha256 added.0)))
           of_result (Err f) may is =
               subst (λ (x : Outcome). By (command.Append file time) x) (sym is)
-              (adds_behind (AreEventsOf o.inputs.told file) (λ events. Appending events time) safe.1 (IsOutBy (command.Append file time) (Undone f)) (λ t told. told))
+              (adds_behind (AreEventsOf o.inputs.told file) (λ events. Appending events time) safe.1
+              (IsOutBy (command.Append file time) (Undone f)) (λ t told. told))
 
-      receiving : (file : List ℕ) (time : Option ℕ) (outcome : Outcome) → Does (command.Receive file time) outcome → By (command.Receive file time) outcome
+      receiving : (file : List ℕ) (time : Option ℕ) (outcome : Outcome) → Does (command.Receive file time) outcome
+          → By (command.Receive file time) outcome
       receiving file time outcome came = of_result came.0 came.1 came.2
         where
           safe : ReceiveSafe view o.disk.before o.disk.after o.inputs.told file time
           safe = (rows view only_now as_it_reads o (command.Receive file time)).safe outcome came
 
-          of_result : (r : Result Receipt CommandFault) → ReceiveComes o.inputs (found_around view o) file time r × ReceiveLeaves view o.disk.before o.disk.after o.inputs.told file time r
+          of_result : (r : Result Receipt CommandFault) → ReceiveComes o.inputs (found_around view o) file time r
+              × ReceiveLeaves view o.disk.before o.disk.after o.inputs.told file time r
               → outcome ≡ outcome_by Received r → By (command.Receive file time) outcome
           of_result (Ok receipt) may is =
               let m = may.1.0.0 in
               let added = may.1.0.2.1 read reads in
               subst (λ (x : Outcome). By (command.Receive file time) x) (sym is)
-              (added_behind (IsMessageIn o.inputs.told file) (λ m. Receiving m time) safe.1 (IsOutBy (command.Receive file time) (Received receipt)) (Receiving m time) added.0 added.1.0 added.2.0
-              (λ t told. told_own sha256 read reads.stands.stands.keeps.sound (Receiving m time) (OfReceipt receipt) added.0 tt added.1.1 t told))
+              (added_behind (IsMessageIn o.inputs.told file) (λ m. Receiving m time) safe.1
+              (IsOutBy (command.Receive file time) (Received receipt)) (Receiving m time) added.0 added.1.0 added.2.0
+              (λ t told. told_own sha256 read reads.stands.stands.keeps.sound (Receiving m time) (OfReceipt receipt)
+              added.0 tt added.1.1 t told))
           of_result (Err f) may is =
               subst (λ (x : Outcome). By (command.Receive file time) x) (sym is)
-              (adds_behind (IsMessageIn o.inputs.told file) (λ m. Receiving m time) safe.1 (IsOutBy (command.Receive file time) (Undone f)) (λ t told. told))
+              (adds_behind (IsMessageIn o.inputs.told file) (λ m. Receiving m time) safe.1
+              (IsOutBy (command.Receive file time) (Undone f)) (λ t told. told))
 
       -- a follower's command over a service's disk
-      offering : (file : List ℕ) (outcome : Outcome) → Does (command.Offer file) outcome → IsLeft view o.disk.before o.disk.after
+      offering : (file : List ℕ) (outcome : Outcome) → Does (command.Offer file) outcome → IsLeft view o.disk.before
+          o.disk.after
       offering file outcome came =
           let closed = stands_closed waver.0.image name read waver.0.has.1 in
-          ((rows view only_now as_it_reads o (command.Offer file)).safe outcome came).0 waver.0.image closed.0 waver.0.told closed.1
+          ((rows view only_now as_it_reads o (command.Offer file)).safe outcome came).0 waver.0.image closed.0
+          waver.0.told closed.1
 
       -- what each command leaves
       pub leaves : (c : Command) (outcome : Outcome) → Does c outcome → By c outcome
@@ -241,16 +301,23 @@ module _ {D : Type 0} (view : D → DiskView) (name : List ℕ)
       leaves (command.Receive file time) outcome came = receiving file time outcome came
       leaves (command.Thread since) outcome came = asked (ask.ThreadOut since) outcome came
       leaves (command.ProveEvent step index top) outcome came = asked (ask.Event step index top) outcome came
-      leaves (command.ProveThread step peer k top) outcome came = asked (ask.Thread step (record { from = peer; step = k }) top) outcome came
-      leaves (command.ProveAbsent step peer k top) outcome came = asked (ask.Absent step (record { from = peer; step = k }) top) outcome came
+      leaves (command.ProveThread step peer k top) outcome came =
+          asked (ask.Thread step (record { from = peer; step = k }) top) outcome came
+      leaves (command.ProveAbsent step peer k top) outcome came =
+          asked (ask.Absent step (record { from = peer; step = k }) top) outcome came
       leaves (command.ProveLink step top) outcome came = asked (ask.Link step top) outcome came
       leaves (command.MapLow step peer top) outcome came = asked (ask.Low step peer top) outcome came
       leaves (command.MapHigh step peer top) outcome came = asked (ask.High step peer top) outcome came
       leaves command.Export outcome came = asked ask.Export outcome came
       leaves (command.Watch of) outcome came =
-          left_behind (IsOutBy (command.Watch of) outcome) (((rows view only_now as_it_reads o (command.Watch of)).safe outcome came).2 waver.0.image waver.0.told taken) (λ t told. told)
-      leaves (command.Offer file) outcome came = left_behind (IsOutBy (command.Offer file) outcome) (offering file outcome came) (λ t told. told)
+          left_behind (IsOutBy (command.Watch of) outcome)
+          (((rows view only_now as_it_reads o (command.Watch of)).safe outcome came).2 waver.0.image waver.0.told taken)
+          (λ t told. told)
+      leaves (command.Offer file) outcome came = left_behind (IsOutBy (command.Offer file) outcome)
+          (offering file outcome came) (λ t told. told)
       leaves command.Heads outcome came =
-          left_behind (IsOutBy command.Heads outcome) ((rows view only_now as_it_reads o command.Heads).safe outcome came).0 (λ t told. told)
+          left_behind (IsOutBy command.Heads outcome) ((rows view only_now as_it_reads o command.Heads).safe outcome
+          came).0 (λ t told. told)
       leaves c outcome came =
-          left_behind (IsOutBy c outcome) (untouched_left view o.disk.before o.disk.after only_now ((rows view only_now as_it_reads o c).safe outcome came).0) (λ t told. told)
+          left_behind (IsOutBy c outcome) (untouched_left view o.disk.before o.disk.after only_now
+          ((rows view only_now as_it_reads o c).safe outcome came).0) (λ t told. told)

@@ -1,5 +1,6 @@
 -- What a service publishes is of its history.
-use Rattle.std.proofs.Common.{◌≡◌, ℕ, suc, zero, ◌-◌, ◌<◌, ◌≤◌, List, [], ◌∷◌, length, refl, ap, sym, ◌∙◌, subst, arith, inl, inr, ⊎_elim, Bool, true, false}
+use Rattle.std.proofs.Common.{◌≡◌, ℕ, suc, zero, ◌-◌, ◌<◌, ◌≤◌, List, [], ◌∷◌, length, refl, ap, sym, ◌∙◌, subst, arith}
+use Rattle.std.proofs.Common.{inl, inr, ⊎_elim, Bool, true, false}
 use Rattle.std.specs.Option.{option_map_or}
 use Rattle.std.specs.Prelude.{◌&&◌, if◌then◌else◌, nat_le, MatchOption, Option, Some, None}
 use Rattle.std.proofs.lemmas.Bool.{leb-true}
@@ -38,7 +39,8 @@ use Rattle.tw_tmap.specs.declared.map_file.LowPart.{LowPart}
 use Rattle.tw_tmap.specs.Checking.{low_ask, low_file_part}
 use Rattle.tw_tmap.specs.MapFiles.{high_codec, low_codec}
 use Rattle.tw_tmap.proofs.MapCodec.{high-lawful, low-lawful}
-use Rattle.tw_service.specs.Machine.{Call, IsStepOf, Makes, MakesAbsence, MakesLink, MakesThread, NextOf, Reply, append_table, last_thread}
+use Rattle.tw_service.specs.Machine.{Call, IsStepOf, Makes, MakesAbsence, MakesLink, MakesThread, NextOf, Reply}
+use Rattle.tw_service.specs.Machine.{append_table, last_thread}
 use Rattle.tw_service.specs.Exporting.{is_short, told_size}
 use Rattle.tw_base.specs.declared.history.question.Question.{Question}
 use Rattle.tw_base.specs.declared.history.question.Question.TheVariants as ask
@@ -48,7 +50,8 @@ use Rattle.tw_service.specs.Machine.Call.{Append, Ask, Receive, CountSteps, Tell
 use Rattle.tw_service.specs.Machine.Reply.{OfBytes, OfThread, OfReceipt, Refused}
 use Rattle.tw_service.proofs.ReceivingLaws.{own-receipt}
 use Rattle.tw_service.proofs.ShortFiles.{reads-back}
-use Rattle.tw_laws.specs.Published.{IsInAnswer, IsInFile, IsInHigh, IsInLow, IsInProof, IsReplyTo, IsThreadOf, Publishes, PublishesBy, high_threads, low_threads, own_threads, thread_before}
+use Rattle.tw_laws.specs.Published.{IsInAnswer, IsInFile, IsInHigh, IsInLow, IsInProof, IsReplyTo, IsThreadOf}
+use Rattle.tw_laws.specs.Published.{Publishes, PublishesBy, high_threads, low_threads, own_threads, thread_before}
 
 -- ---- tables that don't refuse
 
@@ -67,20 +70,24 @@ both false b is = absurd cc
 order_within : (last step top : ℕ) → order_refusal false last step top ≡ None → step ≤ last
 unfolding order_refusal
 order_within last step top none =
-    let outer = both (nat_le 1 step && nat_le step top) (nat_le top last) (passes (is_in_order last step top) (NoStep last) none) in
+    let outer = both (nat_le 1 step && nat_le step top) (nat_le top last)
+    (passes (is_in_order last step top) (NoStep last) none) in
     let inner = both (nat_le 1 step) (nat_le step top) outer.0 in
     omega (arith, leb-true step top inner.1, leb-true top last outer.1)
 
 link_within : (last step top : ℕ) → link_refusal false last step top ≡ None → step ≤ last
 unfolding link_refusal
 link_within last step top none =
-    let outer = both (nat_le step top) (nat_le 1 top && nat_le top last) (passes (nat_le step top && (nat_le 1 top && nat_le top last)) (NoStep last) none) in
+    let outer = both (nat_le step top) (nat_le 1 top && nat_le top last)
+    (passes (nat_le step top && (nat_le 1 top && nat_le top last)) (NoStep last) none) in
     let inner = both (nat_le 1 top) (nat_le top last) outer.1 in
     omega (arith, leb-true step top outer.0, leb-true top last inner.1)
 
 top_within : (last top : ℕ) → top_refusal false last top ≡ None → top ≤ last
 unfolding top_refusal
-top_within last top none = leb-true top last (both (nat_le 1 top) (nat_le top last) (passes (nat_le 1 top && nat_le top last) (NoStep last) none)).1
+top_within last top none =
+    leb-true top last (both (nat_le 1 top) (nat_le top last) (passes (nat_le 1 top && nat_le top last) (NoStep last)
+    none)).1
 
 module _ (dig : List ℕ → List ℕ) where
   -- ---- threads of a history
@@ -91,7 +98,11 @@ module _ (dig : List ℕ → List ℕ) where
   -- one more step keeps them
   pub own_plus : (h : History) (s : Step) (t : Thread) → IsThreadOf dig h t → IsThreadOf dig (plus h s) t
   own_plus h s t own =
-      record { from = own.from; within = omega (arith, own.within, length_push h.steps s); auth = own.auth ∙ sym (auth-plus h s dig t.step own.within) }
+      record {
+        from = own.from;
+        within = omega (arith, own.within, length_push h.steps s);
+        auth = own.auth ∙ sym (auth-plus h s dig t.step own.within);
+      }
 
   -- two of one step are one
   pub own_once : (h : History) (t u : Thread) → IsThreadOf dig h t → IsThreadOf dig h u → t.step ≡ u.step → t ≡ u
@@ -102,7 +113,8 @@ module _ (dig : List ℕ → List ℕ) where
 
   -- ---- proofs
 
-  before_own : (h : History) (step top : ℕ) (p : Part) → IsPartOfHistory dig h step top p → step ≤ length h.steps → IsThreadOf dig h (thread_before p)
+  before_own : (h : History) (step top : ℕ) (p : Part) → IsPartOfHistory dig h step top p → step ≤ length h.steps
+      → IsThreadOf dig h (thread_before p)
   before_own h step top p part within = record {
     from = part.service;
     within = omega (arith, part.at_step, within);
@@ -110,16 +122,20 @@ module _ (dig : List ℕ → List ℕ) where
   }
 
   -- the only thread of a proof that bytes spell
-  only_thread : (bytes : List ℕ) (p q : Proof) (t u : Thread) → Spells proof_layout bytes p → Spells proof_layout bytes q → In t (own_threads p) → own_threads q ≡ u ∷ [] → t ≡ u
+  only_thread : (bytes : List ℕ) (p q : Proof) (t u : Thread) → Spells proof_layout bytes p → Spells proof_layout bytes
+      q → In t (own_threads p) → own_threads q ≡ u ∷ [] → t ≡ u
   only_thread bytes p q t u spelled made there is =
       let same : p ≡ q = (unambiguous proof_codec proof-lawful).one_value bytes p q spelled made in
-      let in_one : In t (u ∷ []) = subst (λ (us : List Thread). In t us) (ap (λ (x : Proof). own_threads x) same ∙ is) there in
+      let in_one : In t (u ∷ []) = subst (λ (us : List Thread). In t us) (ap (λ (x : Proof). own_threads x) same ∙ is)
+      there in
       ⊎_elim (λ e. e) (λ no. absurd no) in_one
 
-  event_own : (h : History) (step index top : ℕ) (bytes : List ℕ) → step ≤ length h.steps → MakesExistence dig h step index top bytes
+  event_own : (h : History) (step index top : ℕ) (bytes : List ℕ) → step ≤ length h.steps → MakesExistence dig h step
+      index top bytes
       → (t : Thread) → IsInProof bytes t → IsThreadOf dig h t
   event_own h step index top bytes order makes t told =
-      let is = only_thread bytes told.0 (Exists makes.0) t (thread_before makes.0.at) told.1 (from_existence bytes makes.0 makes.1) told.2 refl in
+      let is = only_thread bytes told.0 (Exists makes.0) t (thread_before makes.0.at) told.1
+      (from_existence bytes makes.0 makes.1) told.2 refl in
       subst (λ (u : Thread). IsThreadOf dig h u) (sym is) (before_own h step top makes.0.at makes.2.at order)
 
   link_own : (h : History) (step top : ℕ) (bytes : List ℕ) → step ≤ length h.steps → MakesLink dig h step top bytes
@@ -131,16 +147,19 @@ module _ (dig : List ℕ → List ℕ) where
         within = omega (arith, makes.2.at_step, order);
         auth = makes.2.given ∙ ap (λ (i : ℕ). auth dig h i) (sym makes.2.at_step);
       } in
-      let is = only_thread bytes told.0 (Linked p) t (record { from = p.service; step = p.step; auth = p.auth }) told.1 makes.1 told.2 refl in
+      let is = only_thread bytes told.0 (Linked p) t (record { from = p.service; step = p.step; auth = p.auth }) told.1
+      makes.1 told.2 refl in
       subst (λ (u : Thread). IsThreadOf dig h u) (sym is) own
 
-  thread_own : (h : History) (step : ℕ) (key : Key) (top : ℕ) (bytes : List ℕ) → step ≤ length h.steps → MakesThread dig h step key top bytes
+  thread_own : (h : History) (step : ℕ) (key : Key) (top : ℕ) (bytes : List ℕ) → step ≤ length h.steps
+      → MakesThread dig h step key top bytes
       → (t : Thread) → IsInProof bytes t → IsThreadOf dig h t
   thread_own h step key top bytes order makes t told =
       let is = only_thread bytes told.0 (Archived makes.0) t (thread_before makes.0.at) told.1 makes.1 told.2 refl in
       subst (λ (u : Thread). IsThreadOf dig h u) (sym is) (before_own h step top makes.0.at makes.2.at order)
 
-  absence_own : (h : History) (step : ℕ) (key : Key) (top : ℕ) (bytes : List ℕ) → step ≤ length h.steps → MakesAbsence dig h step key top bytes
+  absence_own : (h : History) (step : ℕ) (key : Key) (top : ℕ) (bytes : List ℕ) → step ≤ length h.steps
+      → MakesAbsence dig h step key top bytes
       → (t : Thread) → IsInProof bytes t → IsThreadOf dig h t
   absence_own h step key top bytes order makes t told =
       let is = only_thread bytes told.0 (Absent makes.0) t (thread_before makes.0.at) told.1 makes.1 told.2 refl in
@@ -149,26 +168,31 @@ module _ (dig : List ℕ → List ℕ) where
   -- ---- map files
 
   shown_own : (h : History) (step top : ℕ) (f : LowFile) (t : Thread) → step ≤ length h.steps → (o : Option LowPart)
-      → MatchOption o (step ≡ 1) (λ p. (1 < step) × IsPartOfHistory dig h (step - 1) top (low_file_part f p) × (p.shown ≡ proof_of dig (tree h (step - 1)) (low_ask f)))
+      → MatchOption o (step ≡ 1) (λ p. (1 < step) × IsPartOfHistory dig h (step - 1) top (low_file_part f p)
+      × (p.shown ≡ proof_of dig (tree h (step - 1)) (low_ask f)))
       → In t (option_map_or (λ p. thread_before (low_file_part f p) ∷ []) o []) → IsThreadOf dig h t
   shown_own h step top f t within None is there = absurd there
   shown_own h step top f t within (Some p) is there =
       let one = ⊎_elim (λ e. e) (λ no_other. absurd no_other) there in
-      subst (λ (u : Thread). IsThreadOf dig h u) (sym one) (before_own h (step - 1) top (low_file_part f p) is.1 (omega (arith, within)))
+      subst (λ (u : Thread). IsThreadOf dig h u) (sym one) (before_own h (step - 1) top (low_file_part f p) is.1
+      (omega (arith, within)))
 
-  low_own : (h : History) (step : ℕ) (peer : List ℕ) (top : ℕ) (bytes : List ℕ) → step ≤ length h.steps → MakesLow dig h step peer top bytes
+  low_own : (h : History) (step : ℕ) (peer : List ℕ) (top : ℕ) (bytes : List ℕ) → step ≤ length h.steps
+      → MakesLow dig h step peer top bytes
       → (t : Thread) → IsInLow bytes t → IsThreadOf dig h t
   low_own h step peer top bytes order makes t told =
       let same = (unambiguous low_codec low-lawful).one_value bytes told.0 makes.0 told.1 makes.1 in
       let there = subst (λ (f : LowFile). In t (low_threads f)) same told.2 in
       shown_own h step top makes.0 t order makes.0.shown makes.2.shown there
 
-  high_own : (h : History) (step : ℕ) (peer : List ℕ) (top : ℕ) (bytes : List ℕ) → top ≤ length h.steps → MakesHigh dig h step peer top bytes
+  high_own : (h : History) (step : ℕ) (peer : List ℕ) (top : ℕ) (bytes : List ℕ) → top ≤ length h.steps
+      → MakesHigh dig h step peer top bytes
       → (t : Thread) → IsInHigh bytes t → IsThreadOf dig h t
   high_own h step peer top bytes order makes t told =
       let f = makes.0 in
       let same = (unambiguous high_codec high-lawful).one_value bytes told.0 f told.1 makes.1 in
-      let one = ⊎_elim (λ e. e) (λ no_other. absurd no_other) (subst (λ (x : HighFile). In t (high_threads x)) same told.2) in
+      let one = ⊎_elim (λ e. e) (λ no_other. absurd no_other) (subst (λ (x : HighFile). In t (high_threads x)) same
+      told.2) in
       let own : IsThreadOf dig h (record { from = f.service; step = f.top - 1; auth = f.opening.prev }) = record {
         from = makes.2.of_peer;
         within = omega (arith, makes.2.at_top, order);
@@ -187,86 +211,113 @@ module _ (dig : List ℕ → List ℕ) where
       (slice_get_cases h.steps i).1
 
   -- a receipt that is answered is by a step of the next history
-  receipt_own : (h next : History) (m : Message) (time : Option ℕ) (reply : Reply) → IsReplyTo (Receive m time) reply → IsStepOf dig h (Receive m time) reply next
+  receipt_own : (h next : History) (m : Message) (time : Option ℕ) (reply : Reply) → IsReplyTo (Receive m time) reply
+      → IsStepOf dig h (Receive m time) reply next
       → (t : Thread) → Publishes reply t → IsThreadOf dig next t
   receipt_own h next m time (OfReceipt r) kind is t told =
       let own = own-receipt dig h m time next r is in
       let within = received_within next r.by.step r.thread own.received in
-      let by : IsThreadOf dig next (thread_at_step dig next r.by.step) = record { from = refl; within = within; auth = refl } in
+      let by : IsThreadOf dig next (thread_at_step dig next r.by.step) =
+      record { from = refl; within = within; auth = refl } in
       subst (λ (u : Thread). IsThreadOf dig next u) (sym (told ∙ own.by)) by
   receipt_own h next m time _ kind is t told = absurd kind
 
   -- ---- replies
 
-  by_append : (h next : History) (events : List (List ℕ)) (time : Option ℕ) (table : Option Refusal) (reply : Reply) (t : Thread)
-      → MatchOption table (NextOf dig (Append events time) h next × (reply ≡ OfThread (last_thread dig next))) (λ refusal. (next ≡ h) × (reply ≡ Refused refusal))
+  by_append : (h next : History) (events : List (List ℕ)) (time : Option ℕ) (table : Option Refusal) (reply : Reply)
+      (t : Thread)
+      → MatchOption table (NextOf dig (Append events time) h next × (reply ≡ OfThread (last_thread dig next)))
+      (λ refusal. (next ≡ h) × (reply ≡ Refused refusal))
       → Publishes reply t → IsThreadOf dig next t
   by_append h next events time None reply t done told =
       let is : t ≡ last_thread dig next = subst (λ (r : Reply). Publishes r t) done.1 told in
       subst (λ (u : Thread). IsThreadOf dig next u) (sym is) (last_own next)
-  by_append h next events time (Some refusal) reply t done told = absurd (subst (λ (r : Reply). Publishes r t) done.1 told)
+  by_append h next events time (Some refusal) reply t done told =
+      absurd (subst (λ (r : Reply). Publishes r t) done.1 told)
 
   -- a history's file is that of no other one
-  pub file_own : (h : History) (bytes : List ℕ) (t : Thread) → Spells history_layout bytes h → IsInFile dig bytes t → IsThreadOf dig h t
-  file_own h bytes t spelled told = subst (λ (x : History). IsThreadOf dig x t) ((unambiguous history_codec history-lawful).one_value bytes told.0 h told.1 spelled) told.2
+  pub file_own : (h : History) (bytes : List ℕ) (t : Thread) → Spells history_layout bytes h → IsInFile dig bytes t
+      → IsThreadOf dig h t
+  file_own h bytes t spelled told = subst (λ (x : History). IsThreadOf dig x t)
+      ((unambiguous history_codec history-lawful).one_value bytes told.0 h told.1 spelled) told.2
 
-  message_own : (h : History) (since : ℕ) (bytes : List ℕ) → Makes dig h (ask.ThreadOut since) bytes → (t : Thread) → IsInAnswer dig (ask.ThreadOut since) bytes t → IsThreadOf dig h t
+  message_own : (h : History) (since : ℕ) (bytes : List ℕ) → Makes dig h (ask.ThreadOut since) bytes → (t : Thread)
+      → IsInAnswer dig (ask.ThreadOut since) bytes t → IsThreadOf dig h t
   unfolding Makes
   message_own h since bytes makes t told =
       let same = (unambiguous message_codec message-lawful).one_value bytes told.0 makes.0 told.1 makes.1 in
-      let is : t ≡ thread_at_step dig h (length h.steps) = told.2 ∙ ap (λ (m : Message). m.thread) same ∙ makes.2.thread in
+      let is : t ≡ thread_at_step dig h (length h.steps) = told.2 ∙ ap (λ (m : Message). m.thread) same
+      ∙ makes.2.thread in
       subst (λ (u : Thread). IsThreadOf dig h u) (sym is) (record { from = refl; within = omega arith; auth = refl })
 
   -- the threads that stand in an answer
-  answer_own : (h : History) → IsSound h → (q : Question) → history_refusal h q ≡ None → (bytes : List ℕ) → Makes dig h q bytes → (t : Thread) → IsInAnswer dig q bytes t → IsThreadOf dig h t
+  answer_own : (h : History) → IsSound h → (q : Question) → history_refusal h q ≡ None → (bytes : List ℕ)
+      → Makes dig h q bytes → (t : Thread) → IsInAnswer dig q bytes t → IsThreadOf dig h t
   unfolding question_refusal pages_refusal Makes
   answer_own h sound (ask.Event step index top) none bytes makes t told =
       let n = length h.steps in
-      event_own h step index (top_or_last top n) bytes (order_within n step (top_or_last top n) (none_first (order_refusal false n step (top_or_last top n)) _ none)) makes t told
+      event_own h step index (top_or_last top n) bytes (order_within n step (top_or_last top n)
+      (none_first (order_refusal false n step (top_or_last top n)) _ none)) makes t told
   answer_own h sound (ask.Thread step key top) none bytes makes t told =
       let n = length h.steps in
-      thread_own h step key (top_or_last top n) bytes (order_within n step (top_or_last top n) (none_first (order_refusal false n step (top_or_last top n)) _ none)) makes t told
+      thread_own h step key (top_or_last top n) bytes (order_within n step (top_or_last top n)
+      (none_first (order_refusal false n step (top_or_last top n)) _ none)) makes t told
   answer_own h sound (ask.Absent step key top) none bytes makes t told =
       let n = length h.steps in
-      absence_own h step key (top_or_last top n) bytes (order_within n step (top_or_last top n) (none_first (order_refusal false n step (top_or_last top n)) _ none)) makes t told
+      absence_own h step key (top_or_last top n) bytes (order_within n step (top_or_last top n)
+      (none_first (order_refusal false n step (top_or_last top n)) _ none)) makes t told
   answer_own h sound (ask.Link step top) none bytes makes t told =
       let n = length h.steps in
-      link_own h step (top_or_last top n) bytes (link_within n step (top_or_last top n) (none_first (link_refusal false n step (top_or_last top n)) _ none)) makes t told
+      link_own h step (top_or_last top n) bytes (link_within n step (top_or_last top n)
+      (none_first (link_refusal false n step (top_or_last top n)) _ none)) makes t told
   answer_own h sound (ask.Low step peer top) none bytes makes t told =
       let n = length h.steps in
-      low_own h step peer (top_or_last top n) bytes (order_within n step (top_or_last top n) (none_first (order_refusal false n step (top_or_last top n)) _ none)) makes t told
+      low_own h step peer (top_or_last top n) bytes (order_within n step (top_or_last top n)
+      (none_first (order_refusal false n step (top_or_last top n)) _ none)) makes t told
   answer_own h sound (ask.High step peer top) none bytes makes t told =
       let n = length h.steps in
-      high_own h step peer (top_or_last top n) bytes (top_within n (top_or_last top n) (none_first (top_refusal false n (top_or_last top n)) _ none)) makes t told
+      high_own h step peer (top_or_last top n) bytes
+      (top_within n (top_or_last top n) (none_first (top_refusal false n (top_or_last top n)) _ none)) makes t told
   answer_own h sound (ask.ThreadOut since) none bytes makes t told = message_own h since bytes makes t told
   answer_own h sound ask.Export none bytes makes t told =
       let file = reads-back h sound (passes (is_short h) (TooLong (told_size h)) none) in
       file_own h bytes t (subst (λ (bs : List ℕ). Spells history_layout bs h) (sym makes) file.1) told
 
-  by_answer : (h : History) → IsSound h → (q : Question) (o : Option Refusal) → history_refusal h q ≡ o → (reply : Reply) (t : Thread)
-      → MatchOption o ((bytes : List ℕ) × Makes dig h q bytes × (reply ≡ OfBytes bytes)) (λ refusal. reply ≡ Refused refusal) → PublishesBy dig (Ask q) reply t → IsThreadOf dig h t
-  by_answer h sound q None none reply t made told = answer_own h sound q none made.0 made.1 t (subst (λ (r : Reply). PublishesBy dig (Ask q) r t) made.2 told)
-  by_answer h sound q (Some refusal) is reply t made told = absurd (subst (λ (r : Reply). PublishesBy dig (Ask q) r t) made told)
+  by_answer : (h : History) → IsSound h → (q : Question) (o : Option Refusal) → history_refusal h q ≡ o
+      → (reply : Reply) (t : Thread)
+      → MatchOption o ((bytes : List ℕ) × Makes dig h q bytes × (reply ≡ OfBytes bytes))
+      (λ refusal. reply ≡ Refused refusal) → PublishesBy dig (Ask q) reply t → IsThreadOf dig h t
+  by_answer h sound q None none reply t made told = answer_own h sound q none made.0 made.1 t
+      (subst (λ (r : Reply). PublishesBy dig (Ask q) r t) made.2 told)
+  by_answer h sound q (Some refusal) is reply t made told =
+      absurd (subst (λ (r : Reply). PublishesBy dig (Ask q) r t) made told)
 
   -- what a step of the machine publishes is of the history behind it
-  pub told_own : (h : History) → IsSound h → (call : Call) (reply : Reply) (next : History) → IsReplyTo call reply → IsStepOf dig h call reply next → (t : Thread) → PublishesBy dig call reply t → IsThreadOf dig next t
-  told_own h sound (Append events time) reply next kind is t told = by_append h next events time (append_table h events time) reply t is told
+  pub told_own : (h : History) → IsSound h → (call : Call) (reply : Reply) (next : History) → IsReplyTo call reply
+      → IsStepOf dig h call reply next → (t : Thread) → PublishesBy dig call reply t → IsThreadOf dig next t
+  told_own h sound (Append events time) reply next kind is t told = by_append h next events time
+      (append_table h events time) reply t is told
   told_own h sound (Receive m time) reply next kind is t told = receipt_own h next m time reply kind is t told
   told_own h sound (Ask q) reply next kind is t told =
-      subst (λ (n : History). IsThreadOf dig n t) (sym is.0) (by_answer h sound q (history_refusal h q) refl reply t is.1 told)
+      subst (λ (n : History). IsThreadOf dig n t) (sym is.0) (by_answer h sound q (history_refusal h q) refl reply t
+      is.1 told)
   told_own h sound CountSteps reply next kind is t told = absurd (subst (λ (r : Reply). Publishes r t) is.1 told)
   told_own h sound TellHead reply next kind is t told =
       let one : t ≡ last_thread dig h = subst (λ (r : Reply). Publishes r t) is.1 told in
-      subst (λ (n : History). IsThreadOf dig n t) (sym is.0) (subst (λ (u : Thread). IsThreadOf dig h u) (sym one) (last_own h))
+      subst (λ (n : History). IsThreadOf dig n t) (sym is.0) (subst (λ (u : Thread). IsThreadOf dig h u) (sym one)
+      (last_own h))
   told_own h sound TellName reply next kind is t told = absurd (subst (λ (r : Reply). Publishes r t) is.1 told)
 
   -- ---- the next history
 
   -- it has the threads of the one before
-  pub next_has : (call : Call) (h next : History) → NextOf dig call h next → (t : Thread) → IsThreadOf dig h t → IsThreadOf dig next t
-  next_has (Append events time) h next is t own = subst (λ (n : History). IsThreadOf dig n t) (sym is) (own_plus h _ t own)
+  pub next_has : (call : Call) (h next : History) → NextOf dig call h next → (t : Thread) → IsThreadOf dig h t
+      → IsThreadOf dig next t
+  next_has (Append events time) h next is t own = subst (λ (n : History). IsThreadOf dig n t) (sym is)
+      (own_plus h _ t own)
   next_has (Receive m time) h next (inl is) t own = subst (λ (n : History). IsThreadOf dig n t) (sym is) own
-  next_has (Receive m time) h next (inr is) t own = subst (λ (n : History). IsThreadOf dig n t) (sym is.1.1) (own_plus h is.1.0 t own)
+  next_has (Receive m time) h next (inr is) t own = subst (λ (n : History). IsThreadOf dig n t) (sym is.1.1)
+      (own_plus h is.1.0 t own)
   next_has (Ask q) h next is t own = subst (λ (n : History). IsThreadOf dig n t) (sym is) own
   next_has CountSteps h next is t own = subst (λ (n : History). IsThreadOf dig n t) (sym is) own
   next_has TellHead h next is t own = subst (λ (n : History). IsThreadOf dig n t) (sym is) own

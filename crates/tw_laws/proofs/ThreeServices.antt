@@ -46,7 +46,8 @@ named Alpha t names = names.alpha
 named Beta t names = names.beta
 named Gamma t names = names.gamma
 
-pub names-put : (who : Who) (t : Trio) (h : History) → h.name ≡ who_name who → AreNamed t → AreNamed (with_history who h t)
+pub names-put : (who : Who) (t : Trio) (h : History) → h.name ≡ who_name who → AreNamed t
+    → AreNamed (with_history who h t)
 names-put Alpha t h is names = record { alpha = is; beta = names.beta; gamma = names.gamma }
 names-put Beta t h is names = record { alpha = names.alpha; beta = is; gamma = names.gamma }
 names-put Gamma t h is names = record { alpha = names.alpha; beta = names.beta; gamma = is }
@@ -74,18 +75,24 @@ module _ (t : Trio) (b : Births) (names : AreNamed t) where
   -- and goes on with a history of its name
   module _ (h : History) (births : List ℕ) where
     abbrev puts : (m : Member) (rest : List Member) (one other : List ℕ) → List Member
-    puts m rest one other = if bytes_eq one other then serving h births ∷ rest else m ∷ put_member rest (serving h births)
+    puts m rest one other = if bytes_eq one other then serving h births ∷ rest else m ∷ put_member rest
+        (serving h births)
 
     put-first : (m : Member) (rest : List Member) (one other : List ℕ) → m.history.name ≡ one → h.name ≡ other
         → put_member (m ∷ rest) (serving h births) ≡ puts m rest one other
     put-first m rest one other is own = ap (λ n. puts m rest n h.name) is ∙ ap (puts m rest one) own
 
-    pub put : (who : Who) → h.name ≡ who_name who → put_member (members_of t b) (serving h births) ≡ members_of (with_history who h t) (with_births who births b)
-    put Alpha own = put-first (one_of Alpha t b) (one_of Beta t b ∷ one_of Gamma t b ∷ []) alpha_name alpha_name names.alpha own
+    pub put : (who : Who) → h.name ≡ who_name who → put_member (members_of t b) (serving h births) ≡ members_of
+        (with_history who h t) (with_births who births b)
+    put Alpha own = put-first (one_of Alpha t b) (one_of Beta t b ∷ one_of Gamma t b ∷ []) alpha_name alpha_name
+        names.alpha own
     put Beta own =
         put-first (one_of Alpha t b) (one_of Beta t b ∷ one_of Gamma t b ∷ []) alpha_name beta_name names.alpha own
-        ∙ ap (λ (ms : List Member). one_of Alpha t b ∷ ms) (put-first (one_of Beta t b) (one_of Gamma t b ∷ []) beta_name beta_name names.beta own)
+        ∙ ap (λ (ms : List Member). one_of Alpha t b ∷ ms) (put-first (one_of Beta t b) (one_of Gamma t b ∷ [])
+        beta_name beta_name names.beta own)
     put Gamma own =
         put-first (one_of Alpha t b) (one_of Beta t b ∷ one_of Gamma t b ∷ []) alpha_name gamma_name names.alpha own
-        ∙ ap (λ (ms : List Member). one_of Alpha t b ∷ ms) (put-first (one_of Beta t b) (one_of Gamma t b ∷ []) beta_name gamma_name names.beta own)
-        ∙ ap (λ (ms : List Member). one_of Alpha t b ∷ one_of Beta t b ∷ ms) (put-first (one_of Gamma t b) [] gamma_name gamma_name names.gamma own)
+        ∙ ap (λ (ms : List Member). one_of Alpha t b ∷ ms) (put-first (one_of Beta t b) (one_of Gamma t b ∷ [])
+        beta_name gamma_name names.beta own)
+        ∙ ap (λ (ms : List Member). one_of Alpha t b ∷ one_of Beta t b ∷ ms) (put-first (one_of Gamma t b) [] gamma_name
+        gamma_name names.gamma own)

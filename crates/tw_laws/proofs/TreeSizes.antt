@@ -13,9 +13,16 @@ use Rattle.tw_treeproof.proofs.OwnProofs.{at-ancestors}
 use Rattle.tw_laws.specs.TreeSizes.{HasFewAbove}
 
 module _ (dig : List ℕ → List ℕ) (ps : Image) where
-  pub few-above : (root : Root) (t : Tree) (ask : Ask) → StandsForTree dig ps root t → HasFewAbove dig ps root.page t ask
+  pub few-above : (root : Root) (t : Tree) (ask : Ask) → StandsForTree dig ps root t → HasFewAbove dig ps root.page t
+      ask
   few-above root t ask stands =
       let w = root-way dig ps ask root t stands in
       let same = w.up ∙ sym (at-ancestors dig (place_of_ask ask t) (way_up dig ask t)) in
       let few = subst (λ (xs : List Ancestor). length xs ≤ 9 * w.levels) same w.few in
-      record { levels = w.levels; there = w.levels_is; few = few; most = (let low = levels-few dig ps root.page w.levels w.levels_is in omega (arith, few, low)); many = w.many }
+      record {
+        levels = w.levels;
+        there = w.levels_is;
+        few = few;
+        most = (let low = levels-few dig ps root.page w.levels w.levels_is in omega (arith, few, low));
+        many = w.many;
+      }

@@ -1,4 +1,5 @@
--- No second authenticator over turns on one disk: behind each of them all images go on from one history, of which all is that is published.
+-- No second authenticator over turns on one disk: behind each of them all images go on from one history, of which all
+-- is that is published.
 use Rattle.std.proofs.Common.{◌≡◌, ◌⊎◌, ◌∙◌, ℕ, List, [], ◌∷◌, refl, ap, sym, subst, ⊎_elim}
 use Rattle.std.specs.Prelude.{Option, Some, None, Result, Ok, Err, MatchOption}
 use Rattle.sha2.specs.Sha256.{sha256}
@@ -25,7 +26,8 @@ use Rattle.tw_laws.specs.Runs.ServiceState.{Closed}
 use Rattle.tw_laws.proofs.Threads.{last_own}
 use Rattle.tw_laws.proofs.Wavering.{GoesOnFrom, Has, Wavers, ends, holds, one_for, same_has, wavers_at}
 use Rattle.tw_laws.specs.Publishing.{IsOutBy}
-use Rattle.tw_laws.specs.Turns.{AreTurnsFrom, HasOne, IsMadeFirst, IsMaking, IsOut, IsOutIn, IsRunOn, LeadsTo, StartsAs, Turn, TurnBehind, last_disk}
+use Rattle.tw_laws.specs.Turns.{AreTurnsFrom, HasOne, IsMadeFirst, IsMaking, IsOut, IsOutIn, IsRunOn, LeadsTo, StartsAs}
+use Rattle.tw_laws.specs.Turns.{Turn, TurnBehind, last_disk}
 use Rattle.tw_laws.specs.Turns.Turn.{Runs, StopsBefore, Serves}
 use Rattle.tw_laws.proofs.CommandTurns.{Behind, leaves, left_behind, same_made, made_undone, stands_wavers}
 
@@ -34,23 +36,31 @@ module _ {D : Type 0} (view : D → DiskView) (name : List ℕ)
     (as_it_reads : (d : D) (image : Image) → (view d).content ≡ Some image → (view d).may_leave image) where
   -- ---- a run of the program
 
-  module _ (words : List (List ℕ)) (o : Outside D) (outcome : Outcome) (h : History) (waver : Wavers sha256 view name o.disk.before h) where
+  module _ (words : List (List ℕ)) (o : Outside D) (outcome : Outcome) (h : History)
+      (waver : Wavers sha256 view name o.disk.before h) where
     -- what words come to, of a command or of no form
-    behind : (asked : Option Command) → MatchOption asked (HaveNoForm words outcome × IsDiskUntouched view o) (λ command. (work view o command).does outcome)
+    behind : (asked : Option Command) → MatchOption asked (HaveNoForm words outcome × IsDiskUntouched view o)
+        (λ command. (work view o command).does outcome)
         → Behind view name only_now as_it_reads o h (λ t. MatchOption asked ⊥ (λ command. IsOutBy command outcome t))
     behind None came =
-        left_behind view name only_now as_it_reads o h waver (λ t. ⊥) (untouched_left view o.disk.before o.disk.after only_now came.1) (λ t told. told)
+        left_behind view name only_now as_it_reads o h waver (λ t. ⊥) (untouched_left view o.disk.before o.disk.after
+        only_now came.1) (λ t told. told)
     behind (Some command) came = leaves view name only_now as_it_reads o h waver command outcome came
 
-  of_run : (disk : D) (a : Around D) (status : ℕ) (outcome : Outcome) (h : History) → Wavers sha256 view name disk h → IsRunOn view disk a status outcome
-      → Behind view name only_now as_it_reads a.outside h (λ t. MatchOption (command_of a.words) ⊥ (λ command. IsOutBy command outcome t))
+  of_run : (disk : D) (a : Around D) (status : ℕ) (outcome : Outcome) (h : History) → Wavers sha256 view name disk h
+      → IsRunOn view disk a status outcome
+      → Behind view name only_now as_it_reads a.outside h (λ t. MatchOption (command_of a.words) ⊥
+      (λ command. IsOutBy command outcome t))
   of_run disk a status outcome h waver run =
-      behind a.words a.outside outcome h (subst (λ (d : D). Wavers sha256 view name d h) (sym run.on) waver) (command_of a.words) run.ends.has
+      behind a.words a.outside outcome h (subst (λ (d : D). Wavers sha256 view name d h) (sym run.on) waver)
+      (command_of a.words) run.ends.has
 
   -- the disk that is there behind a run, or what a crash then left
-  left_on : (after left : D) (now : History) → Wavers sha256 view name after now → (left ≡ after) ⊎ HoldsImagesOnly view (view after).may_leave left → Wavers sha256 view name left now
+  left_on : (after left : D) (now : History) → Wavers sha256 view name after now → (left ≡ after) ⊎ HoldsImagesOnly view
+      (view after).may_leave left → Wavers sha256 view name left now
   left_on after left now waver is =
-      ⊎_elim (λ same. subst (λ (d : D). Wavers sha256 view name d now) (sym same) waver) (λ only. holds sha256 view name left (view after).may_leave now waver.1 only) is
+      ⊎_elim (λ same. subst (λ (d : D). Wavers sha256 view name d now) (sym same) waver)
+      (λ only. holds sha256 view name left (view after).may_leave now waver.1 only) is
 
   -- ---- a turn
 
@@ -61,24 +71,38 @@ module _ {D : Type 0} (view : D → DiskView) (name : List ℕ)
       is : Wavers sha256 view name left now
       tells : (t : Thread) → IsOutIn turn disk t → IsThreadOf sha256 now t
 
-    goes : (turn : Turn D (Service D H g k)) (disk left : D) (h : History) → Wavers sha256 view name disk h → LeadsTo view turn disk left → Goes turn disk left h
+    goes : (turn : Turn D (Service D H g k)) (disk left : D) (h : History) → Wavers sha256 view name disk h
+        → LeadsTo view turn disk left → Goes turn disk left h
     goes (Runs a status outcome) disk left h waver leads =
         let b = of_run disk a status outcome h waver leads.0 in
-        record { now = b.now; keeps = b.keeps; is = left_on a.outside.disk.after left b.now b.settled leads.1; tells = b.tells }
+        record {
+          now = b.now;
+          keeps = b.keeps;
+          is = left_on a.outside.disk.after left b.now b.settled leads.1;
+          tells = b.tells;
+        }
     goes (StopsBefore a status outcome) disk left h waver leads =
         let b = of_run disk a status outcome h waver leads.0 in
-        let moments : (c : Image) → (view a.outside.disk.after).left_since (view disk).moment c → GoesOnFrom sha256 view name h c =
-        λ c since. b.any_moment c (subst (λ (d : D). (view a.outside.disk.after).left_since (view d).moment c) (sym leads.0.on) since) in
+        let moments : (c : Image) → (view a.outside.disk.after).left_since (view disk).moment c → GoesOnFrom sha256 view
+        name h c =
+        λ c since. b.any_moment c (subst (λ (d : D). (view a.outside.disk.after).left_since (view d).moment c)
+        (sym leads.0.on) since) in
         record {
           now = h;
           keeps = same_has sha256 view name h;
-          is = holds sha256 view name left ((view a.outside.disk.after).left_since (view disk).moment) h moments leads.1;
+          is = holds sha256 view name left ((view a.outside.disk.after).left_since (view disk).moment) h moments
+              leads.1;
           tells = λ t told. absurd told;
         }
     goes (Serves run) disk left h waver leads =
         let end = ends sha256 view name only_now (Closed disk) run h waver leads.0 in
         let at = wavers_at sha256 view name only_now (end_of_run (Closed disk) run) end.now end.is in
-        record { now = end.now; keeps = end.keeps; is = subst (λ (d : D). Wavers sha256 view name d end.now) (sym leads.1) at; tells = end.tells }
+        record {
+          now = end.now;
+          keeps = end.keeps;
+          is = subst (λ (d : D). Wavers sha256 view name d end.now) (sym leads.1) at;
+          tells = end.tells;
+        }
 
     -- ---- turns
 
@@ -88,7 +112,8 @@ module _ {D : Type 0} (view : D → DiskView) (name : List ℕ)
       is : Wavers sha256 view name (last_disk disk moves) now
       tells : (t : Thread) → IsOut disk moves t → IsThreadOf sha256 now t
 
-    and_then : (disk : D) (x : TurnBehind D (Service D H g k)) (moves : List (TurnBehind D (Service D H g k))) (h : History) → (first : Goes x.turn disk x.left h) → Ends x.left moves first.now → Ends disk (x ∷ moves) h
+    and_then : (disk : D) (x : TurnBehind D (Service D H g k)) (moves : List (TurnBehind D (Service D H g k)))
+        (h : History) → (first : Goes x.turn disk x.left h) → Ends x.left moves first.now → Ends disk (x ∷ moves) h
     and_then disk x moves h first rest = record {
       now = rest.now;
       keeps = λ t own. rest.keeps t (first.keeps t own);
@@ -96,23 +121,29 @@ module _ {D : Type 0} (view : D → DiskView) (name : List ℕ)
       tells = λ t told. ⊎_elim (λ by. rest.keeps t (first.tells t by)) (λ later. rest.tells t later) told;
     }
 
-    all_turns : (disk : D) (moves : List (TurnBehind D (Service D H g k))) (h : History) → Wavers sha256 view name disk h → AreTurnsFrom view disk moves → Ends disk moves h
-    all_turns disk [] h waver turns = record { now = h; keeps = same_has sha256 view name h; is = waver; tells = λ t told. absurd told }
+    all_turns : (disk : D) (moves : List (TurnBehind D (Service D H g k))) (h : History) → Wavers sha256 view name disk
+        h → AreTurnsFrom view disk moves → Ends disk moves h
+    all_turns disk [] h waver turns =
+        record { now = h; keeps = same_has sha256 view name h; is = waver; tells = λ t told. absurd told }
     all_turns disk (x ∷ moves) h waver turns =
         let first = goes x.turn disk x.left h waver turns.0 in
         and_then disk x moves h first (all_turns x.left moves first.now first.is turns.1)
 
     -- ---- a list that begins with the making of a service
 
-    made : (turn : Turn D (Service D H g k)) (disk left : D) (image : Image) → (view disk).content ≡ Some image → IsMaking view name turn → LeadsTo view turn disk left → Goes turn disk left (no_history name)
+    made : (turn : Turn D (Service D H g k)) (disk left : D) (image : Image) → (view disk).content ≡ Some image
+        → IsMaking view name turn → LeadsTo view turn disk left → Goes turn disk left (no_history name)
     made (Runs a status (Made thread)) disk left image told is leads = of_result does.0 does.1 does.2
       where
-        does : IsOutcomeOf Made (λ r. InitComes (found_around view a.outside) name r × InitLeaves view a.outside.disk.before a.outside.disk.after name r) (Made thread)
+        does : IsOutcomeOf Made (λ r. InitComes (found_around view a.outside) name r × InitLeaves view
+            a.outside.disk.before a.outside.disk.after name r) (Made thread)
         does =
-            subst (λ (asked : Option Command). MatchOption asked (HaveNoForm a.words (Made thread) × IsDiskUntouched view a.outside) (λ command. (work view a.outside command).does (Made thread)))
+            subst (λ (asked : Option Command). MatchOption asked (HaveNoForm a.words (Made thread) × IsDiskUntouched
+            view a.outside) (λ command. (work view a.outside command).does (Made thread)))
             is leads.0.ends.has
 
-        of_result : (r : Result Thread CommandFault) → InitComes (found_around view a.outside) name r × InitLeaves view a.outside.disk.before a.outside.disk.after name r
+        of_result : (r : Result Thread CommandFault) → InitComes (found_around view a.outside) name r × InitLeaves view
+            a.outside.disk.before a.outside.disk.after name r
             → Made thread ≡ outcome_by Made r → Goes (Runs a status (Made thread)) disk left (no_history name)
         of_result (Ok first) may same =
             let rests = may.1.0.1 image (ap (λ (d : D). (view d).content) leads.0.on ∙ told) in
@@ -120,10 +151,13 @@ module _ {D : Type 0} (view : D → DiskView) (name : List ℕ)
             record {
               now = no_history name;
               keeps = same_has sha256 view name (no_history name);
-              is = left_on a.outside.disk.after left (no_history name) (stands_wavers view name only_now as_it_reads a.outside.disk.after (no_history name) refl rests.stands) leads.1;
+              is = left_on a.outside.disk.after left (no_history name) (stands_wavers view name only_now as_it_reads
+                  a.outside.disk.after (no_history name) refl rests.stands) leads.1;
               tells = λ t published.
-                  let told : t ≡ thread = subst (λ (asked : Option Command). MatchOption asked ⊥ (λ command. IsOutBy command (Made thread) t)) is published in
-                  subst (λ (u : Thread). IsThreadOf sha256 (no_history name) u) (sym (told ∙ line)) (last_own sha256 (no_history name));
+                  let told : t ≡ thread = subst (λ (asked : Option Command). MatchOption asked ⊥
+                  (λ command. IsOutBy command (Made thread) t)) is published in
+                  subst (λ (u : Thread). IsThreadOf sha256 (no_history name) u) (sym (told ∙ line))
+                  (last_own sha256 (no_history name));
             }
         of_result (Err f) may same = absurd (made_undone thread f same)
     made _ disk left image told is leads = absurd is
@@ -132,9 +166,11 @@ module _ {D : Type 0} (view : D → DiskView) (name : List ℕ)
 
     by_end : (disk : D) (moves : List (TurnBehind D (Service D H g k))) (first : History) → Ends disk moves first
         → HasOneAuthenticator sha256 view name first (IsOut disk moves) (last_disk disk moves)
-    by_end disk moves first end = one_for sha256 view name first (IsOut disk moves) (last_disk disk moves) end.now end.is end.keeps end.tells
+    by_end disk moves first end = one_for sha256 view name first (IsOut disk moves) (last_disk disk moves) end.now
+        end.is end.keeps end.tells
 
-    from_making : (disk : D) (moves : List (TurnBehind D (Service D H g k))) (image : Image) → (view disk).content ≡ Some image → IsMadeFirst view name moves → AreTurnsFrom view disk moves
+    from_making : (disk : D) (moves : List (TurnBehind D (Service D H g k))) (image : Image)
+        → (view disk).content ≡ Some image → IsMadeFirst view name moves → AreTurnsFrom view disk moves
         → Ends disk moves (no_history name)
     from_making disk [] image told is turns = absurd is
     from_making disk (x ∷ moves) image told is turns =
@@ -144,11 +180,14 @@ module _ {D : Type 0} (view : D → DiskView) (name : List ℕ)
 module _ {D H : Type 0} {g : _} {k : _} (view : D → DiskView)
     (only_now : (d : D) (image : Image) → (view d).left_since (view d).moment image → (view d).may_leave image)
     (as_it_reads : (d : D) (image : Image) → (view d).content ≡ Some image → (view d).may_leave image) where
-  pub one_authenticator : (disk : D) (first : History) (moves : List (TurnBehind D (Service D H g k))) → StartsAs view first disk moves → AreTurnsFrom view disk moves → HasOne view first disk moves
+  pub one_authenticator : (disk : D) (first : History) (moves : List (TurnBehind D (Service D H g k)))
+      → StartsAs view first disk moves → AreTurnsFrom view disk moves → HasOne view first disk moves
   one_authenticator disk first moves starts turns =
       let name = first.name in
       let ends : Ends view name only_now as_it_reads disk moves first = ⊎_elim
-      (λ stands. all_turns view name only_now as_it_reads disk moves first (stands_wavers view name only_now as_it_reads disk first refl stands) turns)
-      (λ making. subst (λ (h : History). Ends view name only_now as_it_reads disk moves h) (sym making.2) (from_making view name only_now as_it_reads disk moves making.0 making.1 making.3 turns))
+      (λ stands. all_turns view name only_now as_it_reads disk moves first (stands_wavers view name only_now as_it_reads
+      disk first refl stands) turns)
+      (λ making. subst (λ (h : History). Ends view name only_now as_it_reads disk moves h) (sym making.2)
+      (from_making view name only_now as_it_reads disk moves making.0 making.1 making.3 turns))
       starts in
       by_end view name only_now as_it_reads disk moves first ends

@@ -1,5 +1,6 @@
 -- The lines of a file, one by one.
-use Rattle.std.proofs.Common.{◌≡◌, ℕ, zero, suc, eqb, false, ◌+◌, ◌<◌, ◌≤◌, List, [], ◌∷◌, length, take, refl, ap, ◌∙◌, sym, arith, inl, inr, not}
+use Rattle.std.proofs.Common.{◌≡◌, ℕ, zero, suc, eqb, false, ◌+◌, ◌<◌, ◌≤◌, List, [], ◌∷◌, length, take, refl, ap, ◌∙◌}
+use Rattle.std.proofs.Common.{sym, arith, inl, inr, not}
 use Rattle.std.specs.List.{slice_split, before_first, after_first, position_or_len}
 use Rattle.std.proofs.Math.ListN.{drop_of_length-le}
 use Rattle.std.proofs.Math.Seq.{take-length}
@@ -8,7 +9,8 @@ use Rattle.std.proofs.lemmas.List.Splits.{slice_split_first, slice_split_none, l
 use Rattle.std.proofs.lemmas.List.Sums.{prefix_len-le-length, fails_before_first}
 use Rattle.tw_msg.specs.AnchorsFile.{lines, lines_of_parts, is_line_feed}
 
-lines_of_parts-cons : (line : List ℕ) (parts : List (List ℕ)) → 0 < length parts → lines_of_parts (line ∷ parts) ≡ line ∷ lines_of_parts parts
+lines_of_parts-cons : (line : List ℕ) (parts : List (List ℕ)) → 0 < length parts → lines_of_parts (line ∷ parts) ≡ line
+    ∷ lines_of_parts parts
 lines_of_parts-cons line [] some = absurd (omega arith)
 lines_of_parts-cons line (next ∷ more) some = refl
 
@@ -29,7 +31,8 @@ lines-first bytes some = elim (cases_lt (position_or_len is_line_feed bytes) (le
       let place : position_or_len is_line_feed bytes ≡ length bytes =
       omega (arith, above, prefix_len-le-length (λ b. not (is_line_feed b)) bytes) in
       let none : slice_split is_line_feed bytes ≡ bytes ∷ [] =
-      slice_split_none is_line_feed bytes (λ k d within. fails_before_first is_line_feed bytes k d (omega (arith, place, within))) in
+      slice_split_none is_line_feed bytes (λ k d within. fails_before_first is_line_feed bytes k d
+      (omega (arith, place, within))) in
       let all : before_first is_line_feed bytes ≡ bytes = ap (λ n. take n bytes) place ∙ take-length bytes in
       let past : length bytes ≤ position_or_len is_line_feed bytes + 1 = omega (arith, place) in
       let nothing : after_first is_line_feed bytes ≡ [] = drop_of_length-le bytes past in

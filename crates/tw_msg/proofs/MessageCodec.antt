@@ -1,6 +1,7 @@
 -- The codec of messages is lawful; which messages fit it, and the size of their bytes.
 use Rattle.std.proofs.Common.{ℕ, List, [], ◌∷◌, refl, arith}
-use Rattle.tw_base.specs.format.Codecs.{EachFits, behind, bytes_codec, each, labels_codec, many, number_codec, pair, seen}
+use Rattle.tw_base.specs.format.Codecs.{EachFits, behind, bytes_codec, each, labels_codec, many, number_codec, pair}
+use Rattle.tw_base.specs.format.Codecs.{seen}
 use Rattle.tw_base.specs.history.HistoryCodec.{thread_codec}
 use Rattle.tw_base.specs.history.Limits.{IsThread}
 use Rattle.tw_base.specs.kinds.Lists.{Each}
@@ -20,9 +21,11 @@ use Rattle.tw_msg.proofs.ThreadBytes.{thread-fits, thread-size, thread-within}
 pub message-lawful : Lawful message_codec
 unfolding message_codec
 message-lawful =
-    lawful-seen _ _ _ (λ t. refl) (λ m. refl) (lawful-behind _ _ (lawful-pair thread_codec _ thread-lawful (λ thread fits.
+    lawful-seen _ _ _ (λ t. refl) (λ m. refl)
+    (lawful-behind _ _ (lawful-pair thread_codec _ thread-lawful (λ thread fits.
     let is = thread-within thread fits in
-    lawful-pair (number_codec 8 0 thread.step) _ (lawful-number 8 0 thread.step (omega arith) (omega (arith, is.2))) (λ since _. path-lawful thread.step since))))
+    lawful-pair (number_codec 8 0 thread.step) _ (lawful-number 8 0 thread.step (omega arith) (omega (arith, is.2)))
+    (λ since _. path-lawful thread.step since))))
 
 -- the digests of links that fit are 32 bytes, and such links fit
 links-sizes : (steps : List ℕ) (links : List Link) → EachFits link_bytes link_codec steps links → HasLinkSizes links
@@ -47,8 +50,13 @@ message-within m fits =
 
 pub message-fits : (m : Message) → IsLinked m → IsThread m.thread → HasLinkSizes m.link.links → message_codec.Fits m
 unfolding message_codec seen behind pair number_codec path_codec each
-message-fits m linked thread sizes =
-    (thread-fits m.thread thread, ((omega arith, linked.since), path-fits m.link.links m.thread.step m.since (links-fit m.link.links sizes) linked.link))
+message-fits m linked thread sizes = (
+  thread-fits m.thread thread,
+  (
+    (omega arith, linked.since),
+    path-fits m.link.links m.thread.step m.since (links-fit m.link.links sizes) linked.link,
+  ),
+)
 
 thread-most : AtMost thread_codec 56
 thread-most t fits = omega (arith, thread-size t fits)
@@ -58,4 +66,5 @@ unfolding message_codec
 message-most =
     at_most-seen _ _ _ 53828 (at_most-behind _ _ 53824 (at_most-pair _ _ 56 53768 thread-most (λ thread fits.
     let is = thread-within thread fits in
-    at_most-pair _ _ 8 53760 (at_most-number 8 0 thread.step) (λ since _. path-most thread.step since (omega (arith, is.2))))))
+    at_most-pair _ _ 8 53760 (at_most-number 8 0 thread.step)
+    (λ since _. path-most thread.step since (omega (arith, is.2))))))

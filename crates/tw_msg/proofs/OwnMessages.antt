@@ -1,5 +1,7 @@
--- The message that a history has of its last step: there is one, it climbs, and it is spelled. The receipt of a step likewise.
-use Rattle.std.proofs.Common.{◌≡◌, ℕ, suc, zero, ◌<◌, ◌≤◌, ◌^◌, List, [], ◌∷◌, length, refl, subst, sym, ap, ◌∙◌, lit<, arith}
+-- The message that a history has of its last step: there is one, it climbs, and it is spelled. The receipt of a step
+-- likewise.
+use Rattle.std.proofs.Common.{◌≡◌, ℕ, suc, zero, ◌<◌, ◌≤◌, ◌^◌, List, [], ◌∷◌, length, refl, subst, sym, ap, ◌∙◌, lit<}
+use Rattle.std.proofs.Common.{arith}
 use Rattle.std.specs.Prelude.{Bool, true, false, Some, nat_le, remove}
 use Rattle.std.proofs.lemmas.Bool.{leb-false, leb-true}
 use Rattle.std.proofs.Math.Nat.{one-le-pow}
@@ -41,17 +43,21 @@ module _ (dig : List ℕ → List ℕ) (h : History) where
   path-within zero from to few order = ([], omega (arith, few))
   path-within (suc most) from to few order =
       let some : 1 ≤ 2 ^ hop_level from to = one-le-pow (hop_level from to) 2 (lit< tt) in
-      by (nat_le from to) refl (λ below. path-within most (hop from to) to (omega (arith, few, below, some)) (hop-below from to below))
+      by (nat_le from to) refl (λ below. path-within most (hop from to) to (omega (arith, few, below, some))
+      (hop-below from to below))
     where
       by : (end : Bool) → nat_le from to ≡ end → (to < from → HasPath (hop from to) to) → HasPath from to
       by true is onward = ([], leb-true from to is)
       by false is onward =
           let below : to < from = leb-false from to is in
           let rest = onward below in
-          let link : Link = record { datum = dig (datum_text_at dig h from); others = remove (labels_at dig h from) (hop_level from to) } in
+          let link : Link =
+          record { datum = dig (datum_text_at dig h from); others = remove (labels_at dig h from) (hop_level from to) }
+          in
           (link ∷ rest.0, (below, refl, refl, rest.1))
 
-  path-one : (links other : List Link) (from to : ℕ) → IsPathOf dig h links from to → IsPathOf dig h other from to → links ≡ other
+  path-one : (links other : List Link) (from to : ℕ) → IsPathOf dig h links from to → IsPathOf dig h other from to
+      → links ≡ other
   path-one [] [] from to is also = refl
   path-one [] (l ∷ other) from to is also = absurd (omega (arith, is, also.0))
   path-one (k ∷ links) [] from to is also = absurd (omega (arith, is.0, also))
@@ -61,7 +67,8 @@ module _ (dig : List ℕ → List ℕ) (h : History) where
       let rest = path-one links other (hop from to) to is.3 also.3 in
       (λ i. record { datum = datum i; others = others i } ∷ rest i)
 
-  pub message-there : (since : ℕ) → 0 < length h.steps → since ≤ length h.steps → (m : Message) × IsMessageOf dig h since m
+  pub message-there : (since : ℕ) → 0 < length h.steps → since ≤ length h.steps → (m : Message) × IsMessageOf dig h
+      since m
   message-there since some order =
       let path = path-within (length h.steps) (length h.steps) since (omega arith) order in (
         record { thread = thread_at_step dig h (length h.steps); since = since; link = record { links = path.0 } },
@@ -84,11 +91,14 @@ module _ (dig : List ℕ → List ℕ) (h : History) where
     pub leads-own : Leads dig (auth dig h since) m
     leads-own =
         let path = path-of dig h m.link.links (length h.steps) since is.earlier is.link in
-        let made : Climbs dig m.link.links (length h.steps) since (auth dig h since) (auth dig h (length h.steps)) = record { shape = path.0; reaches = path.1 } in
-        subst (λ (lower : ℕ). Climbs dig m.link.links m.thread.step lower (auth dig h since) m.thread.auth) (sym is.at_since)
+        let made : Climbs dig m.link.links (length h.steps) since (auth dig h since) (auth dig h (length h.steps)) =
+        record { shape = path.0; reaches = path.1 } in
+        subst (λ (lower : ℕ). Climbs dig m.link.links m.thread.step lower (auth dig h since) m.thread.auth)
+        (sym is.at_since)
         (subst (λ (t : Thread). Climbs dig m.link.links t.step since (auth dig h since) t.auth) (sym is.thread) made)
 
-  module _ (size : (text : List ℕ) → length (dig text) ≡ 32) (are : (text : List ℕ) → AreBytes (dig text)) (sound : IsSound h) where
+  module _ (size : (text : List ℕ) → length (dig text) ≡ 32) (are : (text : List ℕ) → AreBytes (dig text))
+      (sound : IsSound h) where
     step-thread : (step : ℕ) → 0 < step → step ≤ length h.steps → IsThread (thread_at_step dig h step)
     step-thread step some has =
         let digest = auth-digest dig size are h step in
@@ -107,18 +117,22 @@ module _ (dig : List ℕ → List ℕ) (h : History) where
       ),
     )
 
-    pub message-spelled : (since : ℕ) (m : Message) → IsMessageOf dig h since m → Spells message_layout (message_bytes m) m
+    pub message-spelled : (since : ℕ) (m : Message) → IsMessageOf dig h since m → Spells message_layout
+        (message_bytes m) m
     message-spelled since m is = message-lawful.spells m (own-fits since m is)
 
     -- ---- receipts
 
-    pub receipt-spelled : (step : ℕ) (r : Receipt) → IsReceiptOf dig h step r → Spells receipt_layout (receipt_bytes r) r
+    pub receipt-spelled : (step : ℕ) (r : Receipt) → IsReceiptOf dig h step r → Spells receipt_layout
+        (receipt_bytes r) r
     receipt-spelled step r is =
         let got = received-sound h sound step r.thread is.received in
         receipt-lawful.spells r (receipt-fits r (subst IsThread (sym is.by) (step-thread step got.1 got.2)) got.0)
 
-  pub receipt-there : (step : ℕ) (t : Thread) → thread_of (step_at h step) ≡ Some t → (r : Receipt) × IsReceiptOf dig h step r
-  receipt-there step t had = (record { by = thread_at_step dig h step; thread = t }, record { by = refl; received = had })
+  pub receipt-there : (step : ℕ) (t : Thread) → thread_of (step_at h step) ≡ Some t → (r : Receipt) × IsReceiptOf dig h
+      step r
+  receipt-there step t had =
+      (record { by = thread_at_step dig h step; thread = t }, record { by = refl; received = had })
 
   pub receipt-one : (step : ℕ) (r s : Receipt) → IsReceiptOf dig h step r → IsReceiptOf dig h step s → r ≡ s
   receipt-one step r s is also =

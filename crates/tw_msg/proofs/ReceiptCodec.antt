@@ -27,4 +27,10 @@ unfolding receipt_codec seen behind pair
 receipt-size r fits =
     let by = thread_codec.write r.by in
     let thread = thread_codec.write r.thread in
-    omega (arith, thread-size r.by fits.0, thread-size r.thread fits.1, length-append receipt_magic (by ++ thread), length-append by thread)
+    omega (
+      arith,
+      thread-size r.by fits.0,
+      thread-size r.thread fits.1,
+      length-append receipt_magic (by ++ thread),
+      length-append by thread,
+    )

@@ -21,4 +21,11 @@ thread-fits t is = (is.0, ((omega (arith, is.1), is.2), (is.3, is.4)))
 pub thread-size : (t : Thread) → thread_codec.Fits t → length (thread_codec.write t) ≡ 56
 unfolding thread_codec seen pair name_codec number_codec bytes_codec
 thread-size t fits =
-    omega (arith, IsName-size t.from fits.0, length-number_bytes 8 t.step, fits.1.1.0, length-append t.from (number_bytes 8 t.step ++ t.auth), length-append (number_bytes 8 t.step) t.auth)
+    omega (
+      arith,
+      IsName-size t.from fits.0,
+      length-number_bytes 8 t.step,
+      fits.1.1.0,
+      length-append t.from (number_bytes 8 t.step ++ t.auth),
+      length-append (number_bytes 8 t.step) t.auth,
+    )

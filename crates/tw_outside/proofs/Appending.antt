@@ -24,10 +24,12 @@ AppendsPart-append old between new first second one part = record {
 
 -- one piece more of a text
 pub Appends-more : (old between new : Option (List ℕ)) (text : List ℕ) (written n : ℕ)
-    → Appends old between (take written text) → Appends between new (take n (drop written text)) → Appends old new (take (written + n) text)
+    → Appends old between (take written text) → Appends between new (take n (drop written text))
+    → Appends old new (take (written + n) text)
 Appends-more old between new text written n first then taken is =
     then (taken ++ take written text) (first taken is)
-    ∙ ap (λ (bytes : List ℕ). Some bytes) (append_assoc taken (take written text) (take n (drop written text)) ∙ ap (λ more. taken ++ more) (sym (take-add written n text)))
+    ∙ ap (λ (bytes : List ℕ). Some bytes) (append_assoc taken (take written text) (take n (drop written text))
+    ∙ ap (λ more. taken ++ more) (sym (take-add written n text)))
 
 -- a piece that wasn't taken
 pub Appends-kept : (old between new : Option (List ℕ)) (text : List ℕ) (written : ℕ)

@@ -1,5 +1,6 @@
 -- The first bytes of a file, and one piece more.
-use Rattle.std.proofs.Common.{nat_lt, false, ◌≡◌, ℕ, ◌+◌, ◌-◌, ◌<◌, ◌≤◌, List, ◌++◌, length, take, take-add, drop, ap, sym, ◌∙◌, inl, inr, arith}
+use Rattle.std.proofs.Common.{nat_lt, false, ◌≡◌, ℕ, ◌+◌, ◌-◌, ◌<◌, ◌≤◌, List, ◌++◌, length, take, take-add, drop, ap}
+use Rattle.std.proofs.Common.{sym, ◌∙◌, inl, inr, arith}
 use Rattle.std.proofs.lemmas.List.{length-append, length-drop, length-take, length-take-le, take_all}
 use Rattle.std.proofs.lemmas.Bool.{cases_lt}
 use Rattle.std.proofs.lemmas.Bool.Decides.{nat_tests}
@@ -15,12 +16,20 @@ front_grows bytes front piece more n is fits came grown =
     ∙ sym (take-add (length front) n bytes) ∙ ap (λ k. take k bytes) (sym size)
 
 -- no more bytes come than there are from that place on
-pub Came-length : (bytes : List ℕ) (at : ℕ) (piece : List ℕ) (n : ℕ) → Came bytes at piece n → n ≤ length piece → n ≤ length bytes - at
+pub Came-length : (bytes : List ℕ) (at : ℕ) (piece : List ℕ) (n : ℕ) → Came bytes at piece n → n ≤ length piece
+    → n ≤ length bytes - at
 Came-length bytes at piece n came fits =
-    omega (arith, length-take-le n piece fits, ap length came.given, length-take n (drop at bytes), length-drop at bytes)
+    omega (
+      arith,
+      length-take-le n piece fits,
+      ap length came.given,
+      length-take n (drop at bytes),
+      length-drop at bytes,
+    )
 
 -- first bytes as many as the limit
-pub front_at_limit : (bytes front : List ℕ) (limit : ℕ) → front ≡ take (length front) bytes → length front ≡ limit → front ≡ take limit bytes
+pub front_at_limit : (bytes front : List ℕ) (limit : ℕ) → front ≡ take (length front) bytes → length front ≡ limit
+    → front ≡ take limit bytes
 front_at_limit bytes front limit is full = is ∙ ap (λ k. take k bytes) full
 
 -- a count below the limit or at it, which isn't below it

@@ -14,7 +14,8 @@ bytes_of-empty name = get-empty (slice_cmp nat_cmp) name
 
 -- the file that was put has its bytes, and the others keep theirs
 pub bytes_of-insert : (files : Files) (put : List ℕ) (bytes name : List ℕ)
-    → file_bytes (Some (insert files put bytes)) name ≡ cond (bytes_eq name put) (Some bytes) (file_bytes (Some files) name)
+    → file_bytes (Some (insert files put bytes)) name ≡ cond (bytes_eq name put) (Some bytes)
+    (file_bytes (Some files) name)
 bytes_of-insert files put bytes name =
     get-insert nat_list_cmp_total files put bytes name
     ∙ ap (λ (b : Bool). cond b (Some bytes) (file_bytes (Some files) name)) (is_eq-slice_cmp name put)

@@ -11,10 +11,13 @@ use Rattle.std.proofs.lemmas.Map.Text.{is_eq-slice_cmp}
 pub find-here : (name : List ℕ) (file : List ℕ × List ℕ) (files : List (List ℕ × List ℕ)) → true ≡ bytes_eq name file.0
     → find (slice_cmp nat_cmp) name (file ∷ files) ≡ Some file.1
 find-here name file files same =
-    ap (λ (b : Bool). cond b (Some file.1) (find (slice_cmp nat_cmp) name files)) (is_eq-slice_cmp name file.0 ∙ sym same)
+    ap (λ (b : Bool). cond b (Some file.1) (find (slice_cmp nat_cmp) name files)) (is_eq-slice_cmp name file.0
+    ∙ sym same)
 
 -- the first file has another name
-pub find-later : (name : List ℕ) (file : List ℕ × List ℕ) (files : List (List ℕ × List ℕ)) → false ≡ bytes_eq name file.0
+pub find-later : (name : List ℕ) (file : List ℕ × List ℕ) (files : List (List ℕ × List ℕ)) → false ≡ bytes_eq name
+    file.0
     → find (slice_cmp nat_cmp) name (file ∷ files) ≡ find (slice_cmp nat_cmp) name files
 find-later name file files other =
-    ap (λ (b : Bool). cond b (Some file.1) (find (slice_cmp nat_cmp) name files)) (is_eq-slice_cmp name file.0 ∙ sym other)
+    ap (λ (b : Bool). cond b (Some file.1) (find (slice_cmp nat_cmp) name files)) (is_eq-slice_cmp name file.0
+    ∙ sym other)

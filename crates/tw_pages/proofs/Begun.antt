@@ -11,14 +11,16 @@ use Rattle.tw_pages.specs.declared.store.Store.{Store}
 use Rattle.tw_pages.specs.Records.{HasRoot, IsBlankOrNew, IsWritten, RecordKind, Written, written_record}
 use Rattle.tw_pages.specs.Rests.{HasPages, RestsWith}
 
-module _ {R : Type 0} (kind : RecordKind R) (r : R) (first : kind.May 4 1 r) (second : kind.May 4 0 r) (root : List ℕ) (root_is : root ≡ kind.bytes r) where
+module _ {R : Type 0} (kind : RecordKind R) (r : R) (first : kind.May 4 1 r) (second : kind.May 4 0 r) (root : List ℕ)
+    (root_is : root ≡ kind.bytes r) where
   one_root : HasRoot kind (first_opening root) r
   one_root = record { spelled = root_is; may = first }
 
   two_root : HasRoot kind (second_opening root) r
   two_root = record { spelled = root_is; may = second }
 
-  pub rests_new : {D : Type 0} {g : _} (view : D → DiskView) (store : Store D g) → IsAtRest (view (store_disk store)) (λ i. IsKept store i × (opening_of store i ≡ first_opening root))
+  pub rests_new : {D : Type 0} {g : _} (view : D → DiskView) (store : Store D g) → IsAtRest (view (store_disk store))
+      (λ i. IsKept store i × (opening_of store i ≡ first_opening root))
       → RestsWith view kind store (written_record r [])
   rests_new view store rest =
       let o = sym rest.has.1 in
@@ -39,9 +41,17 @@ module _ {R : Type 0} (kind : RecordKind R) (r : R) (first : kind.May 4 1 r) (se
       (λ one. record { opening = first_opening root; opens = one; has = one_root; pages_are = refl })
       (λ two. record { opening = second_opening root; opens = two; has = two_root; pages_are = refl }) opens)) made
 
-  pub leaves_new : (old new : DiskView) → LeavesOnly old new (λ i. old.may_leave i ⊎ IsBlankOrRoot root i) → LeavesOnly old new (λ i. old.may_leave i ⊎ IsBlankOrNew kind r i)
-  leaves_new old new run = leaves_weaker old new (λ i. old.may_leave i ⊎ IsBlankOrRoot root i) (λ i. old.may_leave i ⊎ IsBlankOrNew kind r i)
+  pub leaves_new : (old new : DiskView) → LeavesOnly old new (λ i. old.may_leave i ⊎ IsBlankOrRoot root i)
+      → LeavesOnly old new (λ i. old.may_leave i ⊎ IsBlankOrNew kind r i)
+  leaves_new old new run = leaves_weaker old new (λ i. old.may_leave i ⊎ IsBlankOrRoot root i)
+      (λ i. old.may_leave i ⊎ IsBlankOrNew kind r i)
       (λ i either. ⊎_elim (λ was. inl was) (λ made. inr (begun i made)) either) run
 
-  pub tells_new : (old new : DiskView) → Reads new (λ i. old.may_leave i ⊎ IsBlankOrRoot root i) → Reads new (λ i. old.may_leave i ⊎ IsBlankOrNew kind r i)
-  tells_new old new tells = record { image = tells.image; told = tells.told; has = ⊎_elim (λ was. inl was) (λ made. inr (begun tells.image made)) tells.has }
+  pub tells_new : (old new : DiskView) → Reads new (λ i. old.may_leave i ⊎ IsBlankOrRoot root i)
+      → Reads new (λ i. old.may_leave i ⊎ IsBlankOrNew kind r i)
+  tells_new old new tells =
+      record {
+        image = tells.image;
+        told = tells.told;
+        has = ⊎_elim (λ was. inl was) (λ made. inr (begun tells.image made)) tells.has;
+      }

@@ -1,5 +1,6 @@
 -- An image that opens isn't refused, and one that is refused is refused for one reason.
-use Rattle.std.proofs.Common.{Bool, true, false, ◌≡◌, inl, inr, ⊎_elim, ℕ, ◌+◌, ◌<◌, length, get_or, sym, ◌∙◌, ap, subst, refl, arith}
+use Rattle.std.proofs.Common.{Bool, true, false, ◌≡◌, inl, inr, ⊎_elim, ℕ, ◌+◌, ◌<◌, length, get_or, sym, ◌∙◌, ap}
+use Rattle.std.proofs.Common.{subst, refl, arith}
 use Rattle.std.proofs.lemmas.Bool.{cases_eq}
 use Rattle.tw_disk.specs.Image.{Image, page_at}
 use Rattle.tw_pages.specs.Store.{Opening, OpensAs, IsBody, used_of, spare_of}
@@ -19,12 +20,14 @@ module _ (o : Opening) (c : Image) (opens : OpensAs o c) where
   -- the body behind an open gate
   body_behind : (slot : ℕ) → slot < 2 → BreaksSlot (length c) slot c → ⊥
   body_behind slot l broken = elim (cases_eq slot o.slot) [
-    | inl is ↦ (let P : ℕ → Type 0 = λ k. IsBody (length c) (page_at c (2 + k)) o.generation (used_of o) o.root in broken.no_body _ _ _ (subst P (sym is) opens.stands.body))
+    | inl is ↦ (let P : ℕ → Type 0 = λ k. IsBody (length c) (page_at c (2 + k)) o.generation (used_of o) o.root in
+        broken.no_body _ _ _ (subst P (sym is) opens.stands.body))
     | inr ne ↦
         let s : slot ≡ spare_of o = omega (arith, l, low, ne) in
         ⊎_elim
         (λ closed. closed (ap (λ (k : ℕ). get_or (page_at c k) 0 0) (sym s) ∙ broken.gate))
-        (λ older. let P : ℕ → Type 0 = λ k. IsBody (length c) (page_at c (2 + k)) older.generation older.used older.root in broken.no_body _ _ _ (subst P (sym s) older.body)) opens.counts
+        (λ older. let P : ℕ → Type 0 = λ k. IsBody (length c) (page_at c (2 + k)) older.generation older.used
+        older.root in broken.no_body _ _ _ (subst P (sym s) older.body)) opens.counts
   ]
 
   both_open : HasOneGeneration c → ⊥
@@ -62,7 +65,8 @@ module _ (o : Opening) (c : Image) (opens : OpensAs o c) where
   -- an image that opens is never refused
   pub not_refused : (fault : StoreFault) → IsRefusedFor c fault → ⊥
   not_refused Blank refused = not_blank refused
-  not_refused (NotAStore slot) refused = ⊎_elim (λ first. body_behind 0 (omega arith) first.1) (λ second. ⊎_elim (λ broken. body_behind 1 (omega arith) broken) both_open second.2) refused.1
+  not_refused (NotAStore slot) refused = ⊎_elim (λ first. body_behind 0 (omega arith) first.1)
+      (λ second. ⊎_elim (λ broken. body_behind 1 (omega arith) broken) both_open second.2) refused.1
   not_refused Taken refused = refused
   not_refused DiskFault refused = refused
   not_refused NoMemory refused = refused
@@ -70,7 +74,11 @@ module _ (o : Opening) (c : Image) (opens : OpensAs o c) where
 module _ (c : Image) where
   -- where a slot fails, a gate reads open on at least four pages
   fails_taken : (slot : ℕ) → IsRefusedFor c (NotAStore slot) → IsTaken c
-  fails_taken slot refused = (refused.0, ⊎_elim (λ first. inl first.1.gate) (λ second. ⊎_elim (λ broken. inr broken.gate) (λ one. inl one.gate_first) second.2) refused.1)
+  fails_taken slot refused = (
+    refused.0,
+    ⊎_elim (λ first. inl first.1.gate) (λ second. ⊎_elim (λ broken. inr broken.gate) (λ one. inl one.gate_first)
+        second.2) refused.1,
+  )
 
   -- what is taken isn't blank
   pub taken_blank : IsTaken c → IsBlank c → ⊥

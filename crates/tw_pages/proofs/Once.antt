@@ -7,9 +7,11 @@ use Rattle.tw_pages.specs.Store.{Opening, StandsInImage, OpensAs, IsBody, body_c
 use Rattle.tw_pages.proofs.Bodies.{body-lawful}
 use Rattle.tw_pages.proofs.Openings.{pages_of}
 
-module _ (count : ℕ) (page : List ℕ) (generation used : ℕ) (root : List ℕ) (generation' used' : ℕ) (root' : List ℕ) (is : IsBody count page generation used root) (is' : IsBody count page generation' used' root') where
+module _ (count : ℕ) (page : List ℕ) (generation used : ℕ) (root : List ℕ) (generation' used' : ℕ) (root' : List ℕ)
+    (is : IsBody count page generation used root) (is' : IsBody count page generation' used' root') where
   same_body : ◌≡◌ {A = ℕ × (ℕ × List ℕ)} (generation, (used, root)) (generation', (used', root'))
-  same_body = page-once body_codec body-lawful page (generation, (used, root)) (generation', (used', root')) is.is is'.is
+  same_body = page-once body_codec body-lawful page (generation, (used, root)) (generation', (used', root')) is.is
+      is'.is
 
   pub same_generation : generation ≡ generation'
   same_generation = ap (λ b. b.0) same_body
@@ -24,11 +26,13 @@ module _ (o p : Opening) (c : Image) (opens : OpensAs o c) (opens' : OpensAs p c
   in_one_slot : o.slot ≡ p.slot → o ≡ p
   in_one_slot is =
       let there : IsBody (length c) (page_at c (2 + o.slot)) p.generation (used_of p) p.root =
-      let P : ℕ → Type 0 = λ k. IsBody (length c) (page_at c (2 + k)) p.generation (used_of p) p.root in subst P (sym is) opens'.stands.body in
+      let P : ℕ → Type 0 = λ k. IsBody (length c) (page_at c (2 + k)) p.generation (used_of p) p.root in
+      subst P (sym is) opens'.stands.body in
       let here = opens.stands.body in
       let used = same_used _ _ _ _ _ _ _ _ here there in
       let size : length o.pages ≡ length p.pages = omega arith in
-      let pages = sym (pages_of o c opens.stands) ∙ ap (λ (n : ℕ). take n (drop 4 c)) size ∙ pages_of p c opens'.stands in
+      let pages = sym (pages_of o c opens.stands) ∙ ap (λ (n : ℕ). take n (drop 4 c)) size ∙ pages_of p c
+      opens'.stands in
       let generation = same_generation _ _ _ _ _ _ _ _ here there in
       let root = same_root _ _ _ _ _ _ _ _ here there in
       λ i. record { root = root i; generation = generation i; slot = is i; pages = pages i }
@@ -38,7 +42,8 @@ module _ (o p : Opening) (c : Image) (opens : OpensAs o c) (opens' : OpensAs p c
     | inl closed ↦ absurd (closed (ap (λ (k : ℕ). get_or (page_at c k) 0 0) (sym other) ∙ stands.gate))
     | inr older ↦
         let there : IsBody (length c) (page_at c (2 + spare_of q)) r.generation (used_of r) r.root =
-        let P : ℕ → Type 0 = λ k. IsBody (length c) (page_at c (2 + k)) r.generation (used_of r) r.root in subst P other stands.body in
+        let P : ℕ → Type 0 = λ k. IsBody (length c) (page_at c (2 + k)) r.generation (used_of r) r.root in
+        subst P other stands.body in
         let same = same_generation _ _ _ _ _ _ _ _ there older.body in
         let lower = older.lower in
         omega arith

@@ -17,8 +17,10 @@ use Rattle.tw_pages.proofs.StillKept.{kept_opens}
 use Rattle.tw_pages.specs.Records.{HasRoot, IsNotOpenedFor, IsOnce, IsWritten, RecordKind, Written, written_record}
 use Rattle.tw_pages.specs.Rests.{HasPages, RestsWith}
 
-module _ {D R : Type 0} {g : _} (view : D → DiskView) (kind : RecordKind R) (store : Store D g) (c : Image) (at : IsAtRest (view (store_disk store)) (λ i. (i ≡ c) × IsKept store i))
-    (root : List ℕ) (root_is : root ≡ store_root store) (used : ℕ) (counted : used ≡ used_of (opening_of store c)) (generation : ℕ) (generation_is : generation ≡ store.generation) where
+module _ {D R : Type 0} {g : _} (view : D → DiskView) (kind : RecordKind R) (store : Store D g) (c : Image)
+    (at : IsAtRest (view (store_disk store)) (λ i. (i ≡ c) × IsKept store i))
+    (root : List ℕ) (root_is : root ≡ store_root store) (used : ℕ) (counted : used ≡ used_of (opening_of store c))
+    (generation : ℕ) (generation_is : generation ≡ store.generation) where
   abbrev here : Opening
   here = opening_of store c
 
@@ -35,25 +37,37 @@ module _ {D R : Type 0} {g : _} (view : D → DiskView) (kind : RecordKind R) (s
   stable = record { image = at.image; told = at.told; only = at.only; has = at.has.0 }
 
   rests_at : (w : Written R) → HasPages kind store w c → RestsWith view kind store w
-  rests_at w has = record { image = at.image; told = at.told; only = at.only; has = subst (λ (i : Image). HasPages kind store w i) (sym at.has.0) has }
+  rests_at w has =
+      record {
+        image = at.image;
+        told = at.told;
+        only = at.only;
+        has = subst (λ (i : Image). HasPages kind store w i) (sym at.has.0) has;
+      }
 
   -- ---- the root record is none
 
   module _ (none : (r : R) → root ≡ kind.bytes r → kind.May used generation r → ⊥) where
     no_root : (r : R) → HasRoot kind here r → ⊥
-    no_root r has = none r (root_is ∙ has.spelled) (subst (λ n. kind.May n generation r) (sym counted) (subst (λ n. kind.May (used_of here) n r) (sym generation_is) has.may))
+    no_root r has = none r (root_is ∙ has.spelled) (subst (λ n. kind.May n generation r) (sym counted)
+        (subst (λ n. kind.May (used_of here) n r) (sym generation_is) has.may))
 
     pub refused : IsNotOpenedFor kind c (NotAStore (store_slot store))
     refused = inr (here, opens, no_root, refl)
 
     pub none_written : (w : Written R) → IsWritten kind w c → ⊥
-    none_written w is = no_root w.root (subst (λ o. HasRoot kind o w.root) (opens_once is.opening here c is.opens opens) is.has)
+    none_written w is = no_root w.root (subst (λ o. HasRoot kind o w.root) (opens_once is.opening here c is.opens opens)
+        is.has)
 
   -- ---- the root record is this one
 
   module _ (r : R) (is : root ≡ kind.bytes r) (may : kind.May used generation r) where
     has_root : HasRoot kind here r
-    has_root = record { spelled = sym root_is ∙ is; may = subst (λ n. kind.May n store.generation r) counted (subst (λ n. kind.May used n r) generation_is may) }
+    has_root =
+        record {
+          spelled = sym root_is ∙ is;
+          may = subst (λ n. kind.May n store.generation r) counted (subst (λ n. kind.May used n r) generation_is may);
+        }
 
     pub opens_with : IsWritten kind (written_record r here.pages) c
     opens_with = record { opening = here; opens = opens; has = has_root; pages_are = refl }

@@ -16,18 +16,30 @@ module _ {D : Type 0} {g : _} (view : D → DiskView) where
 
   -- it opens as the same store
   pub same_opens : (old new : Store D g) → IsSameStore view old new → (c : Image) → opening_of new c ≡ opening_of old c
-  same_opens old new same c = λ i. record { root = same.root i; generation = same.generation i; slot = same.slot i; pages = take (same.used i - 4) (drop 4 c) }
+  same_opens old new same c =
+      λ i. record {
+        root = same.root i;
+        generation = same.generation i;
+        slot = same.slot i;
+        pages = take (same.used i - 4) (drop 4 c);
+      }
 
   -- and it is still there for good
-  pub same_rests : (old new : Store D g) → IsSameStore view old new → IsAtRest (view old.disk) (IsKept old) → IsAtRest (view new.disk) (IsKept new)
+  pub same_rests : (old new : Store D g) → IsSameStore view old new → IsAtRest (view old.disk) (IsKept old)
+      → IsAtRest (view new.disk) (IsKept new)
   same_rests old new same rest = record {
     image = rest.image;
     told = same.disk.content ∙ rest.told;
     only = λ c left. rest.only c ((same.disk.images c).0 left);
-    has = subst (λ (b : Bool). IsAbove b (opening_of new rest.image) rest.image) (sym same.spare) (subst (λ (o : Opening). IsAbove old.is_spare_open o rest.image) (sym (same_opens old new same rest.image)) rest.has);
+    has = subst (λ (b : Bool). IsAbove b (opening_of new rest.image) rest.image) (sym same.spare)
+        (subst (λ (o : Opening). IsAbove old.is_spare_open o rest.image) (sym (same_opens old new same rest.image))
+        rest.has);
   }
 
   -- a crash meanwhile leaves only what it might have left before
-  pub same_leaves : ((d : D) (c : Image) → (view d).left_since (view d).moment c → (view d).may_leave c) → (old new : Store D g) (P : Image → Type 0) → IsSameStore view old new → ((c : Image) → (view old.disk).may_leave c → P c)
+  pub same_leaves : ((d : D) (c : Image) → (view d).left_since (view d).moment c → (view d).may_leave c)
+      → (old new : Store D g) (P : Image → Type 0) → IsSameStore view old new
+      → ((c : Image) → (view old.disk).may_leave c → P c)
       → LeavesOnly (view old.disk) (view new.disk) P
-  same_leaves only_now old new P same was = disk_leaves (view old.disk) (view new.disk) P (only_now old.disk) same.disk was
+  same_leaves only_now old new P same was = disk_leaves (view old.disk) (view new.disk) P (only_now old.disk) same.disk
+      was

@@ -10,4 +10,5 @@ told_on old mid new first second = λ c told. let there = first c told in second
 -- what each image that a crash now may leave has, the content has too
 pub told_reads : (disk : DiskView) (P : Image → Type 0) → ((c : Image) → disk.content ≡ Some c → disk.may_leave c)
     → (d : Image) × (disk.content ≡ Some d) → ((c : Image) → disk.may_leave c → P c) → Reads disk P
-told_reads disk P as_it_reads there now = record { image = there.0; told = there.1; has = now there.0 (as_it_reads there.0 there.1) }
+told_reads disk P as_it_reads there now =
+    record { image = there.0; told = there.1; has = now there.0 (as_it_reads there.0 there.1) }

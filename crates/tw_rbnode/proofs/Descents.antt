@@ -1,5 +1,6 @@
 -- One node down from the root of a tree in slots.
-use Rattle.std.proofs.Common.{◌≡◌, ◌≢◌, ℕ, ◌+◌, ◌<◌, ◌≤◌, Bool, true, false, Option, Some, refl, sym, ap, ◌∙◌, ◌⊎◌, inl, inr, arith}
+use Rattle.std.proofs.Common.{◌≡◌, ◌≢◌, ℕ, ◌+◌, ◌<◌, ◌≤◌, Bool, true, false, Option, Some, refl, sym, ap, ◌∙◌, ◌⊎◌, inl}
+use Rattle.std.proofs.Common.{inr, arith}
 use Rattle.std.specs.Prelude.{◌==◌, nat_lt}
 use Rattle.std.proofs.lemmas.Option.{same_Some}
 use Rattle.tw_rbnode.specs.declared.links.Link.{Link}
@@ -17,7 +18,8 @@ pub record Parts (f : ℕ → Option Link) (low : ℕ) (t : Shape) (at : ℕ) (n
   pub left_tree : IsTree f low left node.left
   pub right_tree : IsTree f at right node.right
 
-pub parts : (f : ℕ → Option Link) (low : ℕ) (t : Shape) (at : ℕ) (node : Link) → IsTree f low t at → at ≢ 0 → f at ≡ Some node → Parts f low t at node
+pub parts : (f : ℕ → Option Link) (low : ℕ) (t : Shape) (at : ℕ) (node : Link) → IsTree f low t at → at ≢ 0
+    → f at ≡ Some node → Parts f low t at node
 parts f low Empty at node tree some e = absurd (some tree.top_is)
 parts f low (Node red l r) at node tree some e = record {
   red = red;
@@ -39,7 +41,8 @@ pub has_node : (f : ℕ → Option Link) (low : ℕ) (t : Shape) (at : ℕ) → 
 has_node f low Empty at tree some none = absurd (omega arith)
 has_node f low (Node red l r) at tree some none = let e : at ≡ low + size l + 1 = tree.top_is in omega arith
 
-pub within : (f : ℕ → Option Link) (low : ℕ) (t : Shape) (at : ℕ) → IsTree f low t at → at ≢ 0 → (low < at) × (at ≤ low + size t)
+pub within : (f : ℕ → Option Link) (low : ℕ) (t : Shape) (at : ℕ) → IsTree f low t at → at ≢ 0 → (low < at)
+    × (at ≤ low + size t)
 within f low Empty at tree some = absurd (some tree.top_is)
 within f low (Node red l r) at tree some = let e : at ≡ low + size l + 1 = tree.top_is in (omega arith, omega arith)
 
@@ -56,7 +59,8 @@ module _ (slot n : ℕ) where
   pub not_before : n ≤ slot → nat_lt slot n ≡ false
   not_before e = grind arith
 
-pub below-reads : (f : ℕ → Option Link) (slot base : ℕ) (t : Shape) (node : Link) → At f base t → base < slot → slot ≤ base + size t → f slot ≡ Some node → (node.left, node.right) ≡ below_at slot base t
+pub below-reads : (f : ℕ → Option Link) (slot base : ℕ) (t : Shape) (node : Link) → At f base t → base < slot
+    → slot ≤ base + size t → f slot ≡ Some node → (node.left, node.right) ≡ below_at slot base t
 unfolding below_at
 below-reads f slot base Empty node at low high e = absurd (omega arith)
 below-reads f slot base (Node red l r) node at low high e =
@@ -64,12 +68,16 @@ below-reads f slot base (Node red l r) node at low high e =
     let cases : (slot ≡ base + size l + 1) ⊎ (slot < base + size l + 1) ⊎ (base + size l + 1 < slot) = grind arith in
     elim cases [
       | inl h ↦
-          let x : link red (slot_of base l) (slot_of (base + size l + 1) r) ≡ node = same_Some _ _ (sym at.0 ∙ ap f (sym h) ∙ e) in
+          let x : link red (slot_of base l) (slot_of (base + size l + 1) r) ≡ node =
+          same_Some _ _ (sym at.0 ∙ ap f (sym h) ∙ e) in
           rw (same slot (base + size l + 1) h) (λ k. ((sym x k).left, (sym x k).right))
       | inr two ↦ elim two [
         | inl h ↦
-            rw (other slot (base + size l + 1) (omega (arith, h))) (rw (before slot (base + size l + 1) h) (below-reads f slot base l node at.1 low (omega (arith, h)) e))
+            rw (other slot (base + size l + 1) (omega (arith, h)))
+            (rw (before slot (base + size l + 1) h) (below-reads f slot base l node at.1 low (omega (arith, h)) e))
         | inr h ↦
-            rw (other slot (base + size l + 1) (omega (arith, h))) (rw (not_before slot (base + size l + 1) (omega (arith, h))) (below-reads f slot (base + size l + 1) r node at.2 h (omega (arith, high)) e))
+            rw (other slot (base + size l + 1) (omega (arith, h)))
+            (rw (not_before slot (base + size l + 1) (omega (arith, h))) (below-reads f slot (base + size l + 1) r node
+            at.2 h (omega (arith, high)) e))
       ]
     ]

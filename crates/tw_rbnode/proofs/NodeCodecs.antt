@@ -2,9 +2,11 @@
 use Rattle.std.proofs.Common.{◌≡◌, ℕ, suc, zero, ◌≤◌, Bool, length, arith}
 use Rattle.std.specs.Prelude.{◌==◌, if◌then◌else◌}
 use Rattle.tw_base.specs.format.Codecs.{many, nothing, number_codec, pair}
-use Rattle.tw_base.proofs.lemmas.format.CodecLaws.{Lawful, lawful, lawful-by_kind, lawful-many, lawful-nothing, lawful-number, lawful-pair}
+use Rattle.tw_base.proofs.lemmas.format.CodecLaws.{Lawful, lawful, lawful-by_kind, lawful-many, lawful-nothing}
+use Rattle.tw_base.proofs.lemmas.format.CodecLaws.{lawful-number, lawful-pair}
 use Rattle.tw_base.proofs.lemmas.history.EntryCodecLaws.{entry-lawful}
-use Rattle.tw_rbnode.specs.NodeBytes.{Held, child_codec, colour_codec, counted_codec, held_codec, page_node_codec, slot_codec}
+use Rattle.tw_rbnode.specs.NodeBytes.{Held, child_codec, colour_codec, counted_codec, held_codec, page_node_codec}
+use Rattle.tw_rbnode.specs.NodeBytes.{slot_codec}
 
 colour-kind : (n : ℕ) (red : Bool) → n ≤ 1 → (n == 1) ≡ red → (if red then 1 else 0) ≡ n
 colour-kind zero red few is = grind arith
@@ -13,7 +15,8 @@ colour-kind (suc (suc n)) red few is = absurd (omega arith)
 
 pub colour-lawful : Lawful colour_codec
 unfolding colour_codec number_codec nothing
-colour-lawful = lawful-by_kind (λ (red : Bool). if red then 1 else 0) (number_codec 1 0 1) (λ n. nothing (n == 1)) (search lawful) (λ n _. lawful-nothing (n == 1)) (λ n red fits is. colour-kind n red fits.1 is)
+colour-lawful = lawful-by_kind (λ (red : Bool). if red then 1 else 0) (number_codec 1 0 1) (λ n. nothing (n == 1))
+    (search lawful) (λ n _. lawful-nothing (n == 1)) (λ n red fits is. colour-kind n red fits.1 is)
 
 pub slot-lawful : Lawful slot_codec
 unfolding slot_codec
@@ -25,7 +28,9 @@ child-lawful = search lawful depth 20
 
 pub held-lawful : (n : ℕ) → 1 ≤ n → n ≤ 24 → Lawful (held_codec n)
 held-lawful n some few =
-    lawful-pair _ _ (lawful-number 1 1 n some (omega arith)) (λ top _. lawful-pair _ _ (lawful-many slot_codec slot-lawful n) (λ slots _. lawful-many child_codec child-lawful (suc n)))
+    lawful-pair _ _ (lawful-number 1 1 n some (omega arith))
+    (λ top _. lawful-pair _ _ (lawful-many slot_codec slot-lawful n) (λ slots _. lawful-many child_codec child-lawful
+    (suc n)))
 
 pub held-count : (n : ℕ) (h : Held) → (held_codec n).Fits h → length h.1.0 ≡ n
 unfolding pair many
@@ -33,7 +38,8 @@ held-count n h fits = fits.1.0.0
 
 pub counted-lawful : Lawful counted_codec
 unfolding number_codec
-counted-lawful = lawful-by_kind (λ (h : Held). length h.1.0) (number_codec 1 1 24) held_codec (search lawful) (λ n fits. held-lawful n fits.0 fits.1) (λ n h _ fits. held-count n h fits)
+counted-lawful = lawful-by_kind (λ (h : Held). length h.1.0) (number_codec 1 1 24) held_codec (search lawful)
+    (λ n fits. held-lawful n fits.0 fits.1) (λ n h _ fits. held-count n h fits)
 
 pub node-lawful : Lawful page_node_codec
 unfolding page_node_codec

@@ -1,6 +1,8 @@
 -- Whether the fields of bytes are a tree page's is decided by its test.
-use Rattle.std.proofs.Common.{◌≡◌, ℕ, suc, zero, ◌+◌, List, [], ◌∷◌, length, Bool, true, false, refl, ap, sym, ◌∙◌, subst, arith, slice_get}
-use Rattle.std.specs.Prelude.{Decides, ◌==◌, ◌&&◌, ◌||◌, bytes_eq, is_some, map, nat_lt, not, Option, Some, None, MatchOption, if◌then◌else◌}
+use Rattle.std.proofs.Common.{◌≡◌, ℕ, suc, zero, ◌+◌, List, [], ◌∷◌, length, Bool, true, false, refl, ap, sym, ◌∙◌}
+use Rattle.std.proofs.Common.{subst, arith, slice_get}
+use Rattle.std.specs.Prelude.{Decides, ◌==◌, ◌&&◌, ◌||◌, bytes_eq, is_some, map, nat_lt, not, Option, Some, None}
+use Rattle.std.specs.Prelude.{MatchOption, if◌then◌else◌}
 use Rattle.std.specs.Bool.{beq}
 use Rattle.std.specs.Cmp.Lexicographic.{pointwise}
 use Rattle.std.specs.declared.cmp.Ordering.{Ordering}
@@ -23,13 +25,16 @@ use Rattle.tw_rbnode.specs.NodeBytes.{Held, LiesBelow, MayStand, fields_of, link
 use Rattle.tw_rbnode.specs.Page.{TreePage, shape_of}
 use Rattle.tw_rbnode.specs.Shape.{Shape, Empty, Node, IsEven, IsRedBlack, is_red, size}
 use Rattle.tw_rbnode.specs.Slots.{IsTree, link, slot_of}
-use Rattle.tw_rbnode.specs.Tests.{all_are, are_children, are_links_of, are_rising, height_in, height_over, is_child, is_link, is_red_black, may_stand, page_of}
-use Rattle.tw_rbnode.proofs.HeldPages.{Each-apart, Each-both, map-each, map-size, node-fitting, slots-entries, slots-links, slots-whole}
+use Rattle.tw_rbnode.specs.Tests.{all_are, are_children, are_links_of, are_rising, height_in, height_over, is_child}
+use Rattle.tw_rbnode.specs.Tests.{is_link, is_red_black, may_stand, page_of}
+use Rattle.tw_rbnode.proofs.HeldPages.{Each-apart, Each-both, map-each, map-size, node-fitting, slots-entries}
+use Rattle.tw_rbnode.proofs.HeldPages.{slots-links, slots-whole}
 use Rattle.tw_rbnode.proofs.Heights.{even_unique}
 use Rattle.tw_rbnode.proofs.LinkLists.{links-at, links-size}
 use Rattle.tw_rbnode.proofs.Pages.{tree_of_tree}
 
-all-decides : {X : Type 0} (test : X → Bool) (P : X → Type 0) → ((x : X) → Decides (test x) (P x)) → (xs : List X) → Decides (all_are test xs) (Each P xs)
+all-decides : {X : Type 0} (test : X → Bool) (P : X → Type 0) → ((x : X) → Decides (test x) (P x)) → (xs : List X)
+    → Decides (all_are test xs) (Each P xs)
 all-decides test P each [] = (λ _. tt, λ _. refl)
 all-decides test P each (x ∷ xs) = Decides-and (test x) (all_are test xs) (each x) (all-decides test P each xs)
 
@@ -56,7 +61,8 @@ links-decides xs ys = slice_eq-Decides link-decides xs ys (pointwise is_link xs 
 abbrev HasHeight : Shape → Option ℕ → Type 0
 HasHeight t o = MatchOption o ((h : ℕ) → IsEven h t → ⊥) (λ h. IsEven h t)
 
-height-red : (l r : Shape) → is_red l ≡ false → is_red r ≡ false → (x y : Option ℕ) → HasHeight l x → HasHeight r y → HasHeight (Node true l r) (height_over true x y)
+height-red : (l r : Shape) → is_red l ≡ false → is_red r ≡ false → (x y : Option ℕ) → HasHeight l x → HasHeight r y
+    → HasHeight (Node true l r) (height_over true x y)
 height-red l r black other None y one two = λ h even. one h even.2
 height-red l r black other (Some a) None one two = λ h even. two h even.3
 height-red l r black other (Some a) (Some b) one two = by (a == b) refl
@@ -65,7 +71,8 @@ height-red l r black other (Some a) (Some b) one two = by (a == b) refl
     by true e = (black, other, one, subst (λ (n : ℕ). IsEven n r) (sym (eqb-true a b e)) two)
     by false e = λ h even. eqb-false a b e (even_unique a h l one even.2 ∙ even_unique h b r even.3 two)
 
-height-black : (l r : Shape) (x y : Option ℕ) → HasHeight l x → HasHeight r y → HasHeight (Node false l r) (height_over false x y)
+height-black : (l r : Shape) (x y : Option ℕ) → HasHeight l x → HasHeight r y → HasHeight (Node false l r)
+    (height_over false x y)
 height-black l r None y one two = λ h even. one even.0 even.2
 height-black l r (Some a) None one two = λ h even. two even.0 even.3
 height-black l r (Some a) (Some b) one two = by (a == b) refl
@@ -79,7 +86,8 @@ height-told Empty = refl
 height-told (Node false l r) = height-black l r (height_in l) (height_in r) (height-told l) (height-told r)
 height-told (Node true l r) = by (height-told l) (height-told r) (is_red l) (is_red r) refl refl
   where
-    by : HasHeight l (height_in l) → HasHeight r (height_in r) → (a b : Bool) → is_red l ≡ a → is_red r ≡ b → HasHeight (Node true l r) (if a || b then None else height_over true (height_in l) (height_in r))
+    by : HasHeight l (height_in l) → HasHeight r (height_in r) → (a b : Bool) → is_red l ≡ a → is_red r ≡ b
+        → HasHeight (Node true l r) (if a || b then None else height_over true (height_in l) (height_in r))
     by one two true b e f = λ h even. (let both : true ≡ false = sym e ∙ even.0 in cc)
     by one two false true e f = λ h even. (let both : true ≡ false = sym f ∙ even.1 in cc)
     by one two false false e f = height-red l r e f (height_in l) (height_in r) one two
@@ -103,18 +111,22 @@ rising-decides : (es : List Entry) → Decides (are_rising es) (IsRising es)
 rising-decides [] = (λ _. tt, λ _. refl)
 rising-decides (e ∷ es) =
     Decides-and (all_are (λ (f : Entry). is_lt (key_cmp (key_of e) (key_of f))) es) (are_rising es)
-    (all-decides (λ (f : Entry). is_lt (key_cmp (key_of e) (key_of f))) (λ (f : Entry). KeyBelow (key_of e) (key_of f)) (λ f. less (key_cmp (key_of e) (key_of f))) es) (rising-decides es)
+    (all-decides (λ (f : Entry). is_lt (key_cmp (key_of e) (key_of f))) (λ (f : Entry). KeyBelow (key_of e) (key_of f))
+    (λ f. less (key_cmp (key_of e) (key_of f))) es) (rising-decides es)
   where
     less : (o : Ordering) → Decides (is_lt o) (o ≡ Less)
     less Less = (λ _. refl, λ _. refl)
     less Equal = (λ e. cc, λ e. cc)
     less Greater = (λ e. cc, λ e. cc)
 
-child-decides : (dig : List ℕ → List ℕ) (page level : ℕ) (c : Child) → Decides (is_child dig page level c) (IsChildAt dig level c × LiesBelow page level c)
+child-decides : (dig : List ℕ → List ℕ) (page level : ℕ) (c : Child) → Decides (is_child dig page level c)
+    (IsChildAt dig level c × LiesBelow page level c)
 child-decides dig page zero c =
     Decides-like (is_child dig page zero c) (λ h. ((h.0, h.1), tt)) (λ h. (h.0.0, h.0.1))
-    (Decides-and (c.page == 0) (bytes_eq c.label (dig empty_tree_text)) (Decides-eqb c.page 0) (bytes_eq-Decides c.label (dig empty_tree_text)))
-child-decides dig page (suc level) c = Decides-and (nat_lt 0 c.page) (nat_lt c.page page) (Decides-ltb 0 c.page) (Decides-ltb c.page page)
+    (Decides-and (c.page == 0) (bytes_eq c.label (dig empty_tree_text)) (Decides-eqb c.page 0)
+    (bytes_eq-Decides c.label (dig empty_tree_text)))
+child-decides dig page (suc level) c = Decides-and (nat_lt 0 c.page) (nat_lt c.page page) (Decides-ltb 0 c.page)
+    (Decides-ltb c.page page)
 
 -- ---- all of it
 
@@ -123,26 +135,35 @@ module _ (dig : List ℕ → List ℕ) (page : ℕ) where
   abbrev Passes : ℕ × Held → Type 0
   Passes f =
       ((f.1.0 ≡ slot_of 0 (page_of f).shape) × (map (λ (s : Slot). s.link) f.1.1.0 ≡ links_of 0 (page_of f).shape))
-      × (IsRedBlack (page_of f).shape × (IsRising (page_of f).entries × Each (λ c. IsChildAt dig f.0 c × LiesBelow page f.0 c) f.1.1.1))
+      × (IsRedBlack (page_of f).shape
+      × (IsRising (page_of f).entries × Each (λ c. IsChildAt dig f.0 c × LiesBelow page f.0 c) f.1.1.1))
 
   passes : (f : ℕ × Held) → Decides (may_stand dig page f) (Passes f)
   unfolding may_stand
   passes f =
-      Decides-and (are_links_of (page_of f).shape f.1) (is_red_black (page_of f).shape && (are_rising (page_of f).entries && are_children dig page f.0 f.1.1.1))
-      (Decides-and (f.1.0 == slot_of 0 (page_of f).shape) (pointwise is_link (map (λ (s : Slot). s.link) f.1.1.0) (links_of 0 (page_of f).shape))
-      (Decides-eqb f.1.0 (slot_of 0 (page_of f).shape)) (links-decides (map (λ (s : Slot). s.link) f.1.1.0) (links_of 0 (page_of f).shape)))
-      (Decides-and (is_red_black (page_of f).shape) (are_rising (page_of f).entries && are_children dig page f.0 f.1.1.1) (red_black-decides (page_of f).shape)
-      (Decides-and (are_rising (page_of f).entries) (are_children dig page f.0 f.1.1.1) (rising-decides (page_of f).entries)
-      (all-decides (is_child dig page f.0) (λ c. IsChildAt dig f.0 c × LiesBelow page f.0 c) (child-decides dig page f.0) f.1.1.1)))
+      Decides-and (are_links_of (page_of f).shape f.1)
+      (is_red_black (page_of f).shape && (are_rising (page_of f).entries && are_children dig page f.0 f.1.1.1))
+      (Decides-and (f.1.0 == slot_of 0 (page_of f).shape) (pointwise is_link (map (λ (s : Slot). s.link) f.1.1.0)
+      (links_of 0 (page_of f).shape))
+      (Decides-eqb f.1.0 (slot_of 0 (page_of f).shape)) (links-decides (map (λ (s : Slot). s.link) f.1.1.0)
+      (links_of 0 (page_of f).shape)))
+      (Decides-and (is_red_black (page_of f).shape) (are_rising (page_of f).entries && are_children dig page f.0
+      f.1.1.1) (red_black-decides (page_of f).shape)
+      (Decides-and (are_rising (page_of f).entries) (are_children dig page f.0 f.1.1.1)
+      (rising-decides (page_of f).entries)
+      (all-decides (is_child dig page f.0) (λ c. IsChildAt dig f.0 c × LiesBelow page f.0 c)
+      (child-decides dig page f.0) f.1.1.1)))
 
   -- fields that pass are those of their page, and it may stand there
-  pub passed-stands : (f : ℕ × Held) → page_node_codec.Fits f → may_stand dig page f ≡ true → MayStand dig page (page_of f) × (fields_of (page_of f) ≡ f)
+  pub passed-stands : (f : ℕ × Held) → page_node_codec.Fits f → may_stand dig page f ≡ true
+      → MayStand dig page (page_of f) × (fields_of (page_of f) ≡ f)
   passed-stands f fits sure =
       let fitting = node-fitting f.0 f.1 fits in
       let test = (passes f).0 sure in
       let parts = Each-apart (IsChildAt dig f.0) (LiesBelow page f.0) f.1.1.1 test.1.1.1 in
       let slots : List Slot = f.1.1.0 in
-      let entries_count : length (map (λ (s : Slot). s.entry) slots) ≡ length slots = map-size (λ (s : Slot). s.entry) slots in
+      let entries_count : length (map (λ (s : Slot). s.entry) slots) ≡ length slots = map-size (λ (s : Slot). s.entry)
+      slots in
       let sized : size (page_of f).shape ≡ length slots =
       sym (links-size 0 (page_of f).shape) ∙ ap length (sym test.0.1) ∙ map-size (λ (s : Slot). s.link) slots in (
         record {
@@ -159,30 +180,50 @@ module _ (dig : List ℕ → List ℕ) (page : ℕ) where
           children = parts.0;
           below = parts.1;
         },
-        (λ i. (f.0, (sym test.0.0 i, ((ap (λ (xs : List Link). slots_with xs (map (λ (s : Slot). s.entry) slots)) (sym test.0.1) ∙ slots-whole slots) i, f.1.1.1)))),
+        (λ i. (
+          f.0,
+          (
+            sym test.0.0 i,
+            (
+              (ap (λ (xs : List Link). slots_with xs (map (λ (s : Slot). s.entry) slots)) (sym test.0.1) ∙ slots-whole
+                  slots) i,
+              f.1.1.1,
+            ),
+          ),
+        )),
       )
 
   -- a page that may stand there is that of its own fields, and they pass
-  pub stands-passed : (p : TreePage) → MayStand dig page p → (page_of (fields_of p) ≡ p) × (may_stand dig page (fields_of p) ≡ true)
+  pub stands-passed : (p : TreePage) → MayStand dig page p → (page_of (fields_of p) ≡ p)
+      × (may_stand dig page (fields_of p) ≡ true)
   stands-passed p stands =
       let node = stands.node in
       let count : length (links_of 0 p.shape) ≡ length p.entries = links-size 0 p.shape ∙ node.sized in
-      let links : map (λ (s : Slot). s.link) (slots_with (links_of 0 p.shape) p.entries) ≡ links_of 0 p.shape = slots-links (links_of 0 p.shape) p.entries count in
-      let f : ℕ → Option Link = slice_get (link false 0 0 ∷ map (λ (s : Slot). s.link) (slots_with (links_of 0 p.shape) p.entries)) in
+      let links : map (λ (s : Slot). s.link) (slots_with (links_of 0 p.shape) p.entries) ≡ links_of 0 p.shape =
+      slots-links (links_of 0 p.shape) p.entries count in
+      let f : ℕ → Option Link =
+      slice_get (link false 0 0 ∷ map (λ (s : Slot). s.link) (slots_with (links_of 0 p.shape) p.entries)) in
       let tree : IsTree f 0 p.shape (slot_of 0 p.shape) = record {
         blank = refl;
         top_is = refl;
-        at = links-at f 0 p.shape (λ k l. ap (λ (ys : List Link). slice_get ys k) (sym links) ∙ ap f (let s : suc k ≡ 0 + k + 1 = omega arith in s));
+        at = links-at f 0 p.shape (λ k l. ap (λ (ys : List Link). slice_get ys k) (sym links)
+            ∙ ap f (let s : suc k ≡ 0 + k + 1 = omega arith in s));
       } in
-      let shape : shape_of 25 f (slot_of 0 p.shape) ≡ p.shape = tree_of_tree f p.shape (slot_of 0 p.shape) tree (omega (arith, node.sized, node.most)) in
-      let entries : map (λ (s : Slot). s.entry) (slots_with (links_of 0 p.shape) p.entries) ≡ p.entries = slots-entries (links_of 0 p.shape) p.entries count in
-      let same : page_of (fields_of p) ≡ p = λ i. record { level = p.level; shape = shape i; entries = entries i; children = p.children } in (
+      let shape : shape_of 25 f (slot_of 0 p.shape) ≡ p.shape = tree_of_tree f p.shape (slot_of 0 p.shape) tree
+      (omega (arith, node.sized, node.most)) in
+      let entries : map (λ (s : Slot). s.entry) (slots_with (links_of 0 p.shape) p.entries) ≡ p.entries =
+      slots-entries (links_of 0 p.shape) p.entries count in
+      let same : page_of (fields_of p) ≡ p =
+      λ i. record { level = p.level; shape = shape i; entries = entries i; children = p.children } in (
         same,
         (passes (fields_of p)).1 (
           (ap (slot_of 0) (sym shape), links ∙ ap (links_of 0) (sym shape)),
           (
             subst IsRedBlack (sym shape) node.lawful,
-            (subst IsRising (sym entries) node.rising, Each-both (IsChildAt dig p.level) (LiesBelow page p.level) p.children stands.children stands.below),
+            (
+              subst IsRising (sym entries) node.rising,
+              Each-both (IsChildAt dig p.level) (LiesBelow page p.level) p.children stands.children stands.below,
+            ),
           ),
         ),
       )

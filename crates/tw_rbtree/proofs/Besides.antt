@@ -1,5 +1,6 @@
 -- What is found over any pages: an entry of the asked key, or one on the asked side of it.
-use Rattle.std.proofs.Common.{◌≡◌, ℕ, suc, zero, ◌+◌, ◌*◌, List, [], ◌∷◌, ◌++◌, Bool, true, false, refl, sym, subst, slice_get}
+use Rattle.std.proofs.Common.{◌≡◌, ℕ, suc, zero, ◌+◌, ◌*◌, List, [], ◌∷◌, ◌++◌, Bool, true, false, refl, sym, subst}
+use Rattle.std.proofs.Common.{slice_get}
 use Rattle.std.specs.Prelude.{Option, Some, None, IfSome, not, ◌==◌, nat_lt, if◌then◌else◌}
 use Rattle.tw_base.specs.declared.history.thread.Entry.{Entry}
 use Rattle.tw_base.specs.declared.history.thread.Key.{Key}
@@ -29,15 +30,19 @@ use Rattle.tw_treeproof.specs.Ways.{has_asked_key, is_left}
 use Rattle.tw_rbtree.specs.Beside.{AreBeside, IsHigh, IsLow, IsMet, IsSoughtBy}
 use Rattle.tw_rbtree.specs.Ways.{seek}
 
-pub seek-beside : (ask : Ask) (base : ℕ) (low high : Option Entry) (es : List Entry) → AreBeside ask low high → Each IsEntryInRange es → IsSoughtBy ask (seek ask base low high es)
+pub seek-beside : (ask : Ask) (base : ℕ) (low high : Option Entry) (es : List Entry) → AreBeside ask low high
+    → Each IsEntryInRange es → IsSoughtBy ask (seek ask base low high es)
 unfolding seek
 seek-beside ask base low high [] beside ranges = (tt, beside)
 seek-beside ask base low high (e ∷ es) beside ranges =
-    by (has_asked_key ask e) (is_left ask e) refl refl (λ right. seek-beside ask (base + 1) (Some e) high es ((right, ranges.0), beside.1) ranges.1)
+    by (has_asked_key ask e) (is_left ask e) refl refl (λ right. seek-beside ask (base + 1) (Some e) high es
+    ((right, ranges.0), beside.1) ranges.1)
   where
-    by : (meets left : Bool) → has_asked_key ask e ≡ meets → is_left ask e ≡ left → (is_left ask e ≡ false → IsSoughtBy ask (seek ask (base + 1) (Some e) high es))
+    by : (meets left : Bool) → has_asked_key ask e ≡ meets → is_left ask e ≡ left
+        → (is_left ask e ≡ false → IsSoughtBy ask (seek ask (base + 1) (Some e) high es))
         → IsSoughtBy ask (if meets then record { at = At (base + 1); low = low; met = Some e; high = high }
-        else (if left then record { at = Between base; low = low; met = None; high = Some e } else seek ask (base + 1) (Some e) high es))
+        else (if left then record { at = Between base; low = low; met = None; high = Some e } else seek ask (base + 1)
+        (Some e) high es))
     by true left m l rest = ((m, ranges.0), beside)
     by false true m l rest = (tt, (beside.0, (l, ranges.0)))
     by false false m l rest = rest l
@@ -51,7 +56,8 @@ key-is a b is = by (slice_cmp nat_cmp a.from b.from) refl is
     steps Equal e sure = e
     steps Greater e sure = cc
 
-    by : (o : Ordering) → slice_cmp nat_cmp a.from b.from ≡ o → is_eq (ordering_then o (nat_cmp a.step b.step)) ≡ true → a ≡ b
+    by : (o : Ordering) → slice_cmp nat_cmp a.from b.from ≡ o → is_eq (ordering_then o (nat_cmp a.step b.step)) ≡ true
+        → a ≡ b
     by Less names sure = cc
     by Equal names sure =
         let from = slice_cmp-IsAntisymmetric nat_cmp-IsAntisymmetric a.from b.from names in
@@ -59,11 +65,13 @@ key-is a b is = by (slice_cmp nat_cmp a.from b.from) refl is
         λ i. record { from = from i; step = step i }
     by Greater names sure = cc
 
-pub met-has : (key : Key) (o : Option Entry) → IfSome o (IsMet (Absent key)) → IfSome o (λ e. (key_of e ≡ key) × IsEntryInRange e)
+pub met-has : (key : Key) (o : Option Entry) → IfSome o (IsMet (Absent key))
+    → IfSome o (λ e. (key_of e ≡ key) × IsEntryInRange e)
 met-has key None is = tt
 met-has key (Some e) is = (sym (key-is key (key_of e) is.0), is.1)
 
-pub low-below : (key : Key) (o : Option Entry) → IfSome o (IsLow (Below key)) → IfSome o (λ e. KeyBelow (key_of e) key × IsEntryInRange e)
+pub low-below : (key : Key) (o : Option Entry) → IfSome o (IsLow (Below key))
+    → IfSome o (λ e. KeyBelow (key_of e) key × IsEntryInRange e)
 low-below key None is = tt
 low-below key (Some e) is = (below-lt (key_of e) key (turned _ is.0), is.1)
   where
@@ -71,7 +79,8 @@ low-below key (Some e) is = (below-lt (key_of e) key (turned _ is.0), is.1)
     turned true e = refl
     turned false e = cc
 
-pub high-above : (key : Key) (o : Option Entry) → IfSome o (IsHigh (Above key)) → IfSome o (λ e. KeyBelow key (key_of e) × IsEntryInRange e)
+pub high-above : (key : Key) (o : Option Entry) → IfSome o (IsHigh (Above key))
+    → IfSome o (λ e. KeyBelow key (key_of e) × IsEntryInRange e)
 high-above key None is = tt
 high-above key (Some e) is = (below-lt key (key_of e) is.0, is.1)
 
@@ -83,31 +92,43 @@ get-range (e ∷ es) zero ranges = ranges.0
 get-range (e ∷ es) (suc k) ranges = get-range es k ranges.1
 
 module _ (dig : List ℕ → List ℕ) where
-  one-range : (o : Option Entry) (other : List ℕ) → IfSome o IsEntryInRange → Each IsAncestorInRange (node_above dig o other)
+  one-range : (o : Option Entry) (other : List ℕ) → IfSome o IsEntryInRange → Each IsAncestorInRange
+      (node_above dig o other)
   one-range None other is = tt
   one-range (Some e) other is = (is, tt)
 
-  above-ranges : (es : List Entry) (labels : List (List ℕ)) (mark base : ℕ) (s : Shape) → Each IsEntryInRange es → Each IsAncestorInRange (above_at dig es labels mark base s)
+  above-ranges : (es : List Entry) (labels : List (List ℕ)) (mark base : ℕ) (s : Shape) → Each IsEntryInRange es
+      → Each IsAncestorInRange (above_at dig es labels mark base s)
   unfolding above_at
   above-ranges es labels mark base Empty ranges = tt
   above-ranges es labels mark base (Node red l r) ranges =
-      by (mark == 2 * (base + size l + 1)) (nat_lt mark (2 * (base + size l + 1))) (above-ranges es labels mark base l ranges) (above-ranges es labels mark (base + size l + 1) r ranges)
+      by (mark == 2 * (base + size l + 1)) (nat_lt mark (2 * (base + size l + 1)))
+      (above-ranges es labels mark base l ranges) (above-ranges es labels mark (base + size l + 1) r ranges)
     where
-      by : (here left : Bool) → Each IsAncestorInRange (above_at dig es labels mark base l) → Each IsAncestorInRange (above_at dig es labels mark (base + size l + 1) r)
-          → Each IsAncestorInRange (if here then [] else (if left then above_at dig es labels mark base l ++ node_above dig (slice_get es (base + size l)) (label_at dig es labels (base + size l + 1) r)
-          else above_at dig es labels mark (base + size l + 1) r ++ node_above dig (slice_get es (base + size l)) (label_at dig es labels base l)))
+      by : (here left : Bool) → Each IsAncestorInRange (above_at dig es labels mark base l) → Each IsAncestorInRange
+          (above_at dig es labels mark (base + size l + 1) r)
+          → Each IsAncestorInRange (if here then [] else (if left then above_at dig es labels mark base l ++ node_above
+          dig (slice_get es (base + size l)) (label_at dig es labels (base + size l + 1) r)
+          else above_at dig es labels mark (base + size l + 1) r ++ node_above dig (slice_get es (base + size l))
+          (label_at dig es labels base l)))
       by true left one two = tt
-      by false true one two = Each-append IsAncestorInRange (above_at dig es labels mark base l) _ one (one-range (slice_get es (base + size l)) _ (get-range es (base + size l) ranges))
-      by false false one two = Each-append IsAncestorInRange (above_at dig es labels mark (base + size l + 1) r) _ two (one-range (slice_get es (base + size l)) _ (get-range es (base + size l) ranges))
+      by false true one two = Each-append IsAncestorInRange (above_at dig es labels mark base l) _ one
+          (one-range (slice_get es (base + size l)) _ (get-range es (base + size l) ranges))
+      by false false one two = Each-append IsAncestorInRange (above_at dig es labels mark (base + size l + 1) r) _ two
+          (one-range (slice_get es (base + size l)) _ (get-range es (base + size l) ranges))
 
   pub nodes-ranges : (p : TreePage) (at : Spot) → IsNode p → Each IsAncestorInRange (nodes_above dig p at)
   nodes-ranges p at node = above-ranges p.entries (labels_of p.children) (mark_of at) 0 p.shape node.ranges
 
-pub more-ranges : (dig : List ℕ → List ℕ) (p : TreePage) (at : Spot) (old new : TreeProof) → IsNode p → new ≡ with_above old (nodes_above dig p at) → Each IsAncestorInRange (ancestors_of old) → Each IsAncestorInRange (ancestors_of new)
-more-ranges dig p at old new node is ranges = subst (λ (x : TreeProof). Each IsAncestorInRange (ancestors_of x)) (sym is) (by old ranges)
+pub more-ranges : (dig : List ℕ → List ℕ) (p : TreePage) (at : Spot) (old new : TreeProof) → IsNode p → new ≡ with_above
+    old (nodes_above dig p at) → Each IsAncestorInRange (ancestors_of old) → Each IsAncestorInRange (ancestors_of new)
+more-ranges dig p at old new node is ranges = subst (λ (x : TreeProof). Each IsAncestorInRange (ancestors_of x))
+    (sym is) (by old ranges)
   where
-    by : (x : TreeProof) → Each IsAncestorInRange (ancestors_of x) → Each IsAncestorInRange (ancestors_of (with_above x (nodes_above dig p at)))
-    by (OfEntry left right up) all = Each-append IsAncestorInRange up (nodes_above dig p at) all (nodes-ranges dig p at node)
+    by : (x : TreeProof) → Each IsAncestorInRange (ancestors_of x) → Each IsAncestorInRange
+        (ancestors_of (with_above x (nodes_above dig p at)))
+    by (OfEntry left right up) all = Each-append IsAncestorInRange up (nodes_above dig p at) all
+        (nodes-ranges dig p at node)
     by (Gap up) all = Each-append IsAncestorInRange up (nodes_above dig p at) all (nodes-ranges dig p at node)
 
 pub ruleset ranges_above = (more-ranges)

@@ -31,21 +31,28 @@ module _ (dig : List ℕ → List ℕ) (ps : Image) (root : Root) (key : Key) wh
   unfolding found_insert
   insert-empty none = is_on (way dig ps (Absent key) root) of_way [] (way-empty dig ps (Absent key) root none)
 
-  pub insert-root : (root.page ≡ 0 → ⊥) → found_insert dig ps root key ≡ (node_in dig ps root.page >>= (λ p. grows_from dig ps key p.level None None p >>= top_of root p))
+  pub insert-root : (root.page ≡ 0 → ⊥) → found_insert dig ps root key
+      ≡ (node_in dig ps root.page >>= (λ p. grows_from dig ps key p.level None None p >>= top_of root p))
   unfolding found_insert grows_from
   insert-root some =
       ap (λ (w : Found (List Stop)). w >>= of_way) (way-root dig ps (Absent key) root some)
       ∙ in_turn (node_in dig ps root.page) (λ p. way_from dig ps (Absent key) p.level None None p) of_way
-      ∙ on_each (node_in dig ps root.page) (λ p. way_from dig ps (Absent key) p.level None None p >>= of_way) (λ p. (way_from dig ps (Absent key) p.level None None p >>= (λ stops. Is (grows_of stops))) >>= top_of root p) by_page
+      ∙ on_each (node_in dig ps root.page) (λ p. way_from dig ps (Absent key) p.level None None p >>= of_way)
+      (λ p. (way_from dig ps (Absent key) p.level None None p >>= (λ stops. Is (grows_of stops))) >>= top_of root p)
+      by_page
     where
-      met : (p : TreePage) (stops : List Stop) (o : Option Entry) → insert_at root o (all_full stops && (p.level == TOP_LEVEL)) ≡ top_of root p (grows_if o (all_full stops))
+      met : (p : TreePage) (stops : List Stop) (o : Option Entry)
+          → insert_at root o (all_full stops && (p.level == TOP_LEVEL)) ≡ top_of root p (grows_if o (all_full stops))
       met p stops None = refl
       met p stops (Some e) = refl
 
-      by_page : (p : TreePage) → (way_from dig ps (Absent key) p.level None None p >>= of_way) ≡ ((way_from dig ps (Absent key) p.level None None p >>= (λ stops. Is (grows_of stops))) >>= top_of root p)
+      by_page : (p : TreePage) → (way_from dig ps (Absent key) p.level None None p >>= of_way)
+          ≡ ((way_from dig ps (Absent key) p.level None None p >>= (λ stops. Is (grows_of stops))) >>= top_of root p)
       by_page p =
           on_way dig ps (Absent key) of_way (λ stops. top_of root p (grows_of stops)) p.level None None p
-          (λ stops. met p (here dig ps (Absent key) None None p ∷ stops) (end_of_way nowhere (here dig ps (Absent key) None None p ∷ stops)).met)
-          ∙ sym (in_turn (way_from dig ps (Absent key) p.level None None p) (λ stops. Is (grows_of stops)) (top_of root p))
+          (λ stops. met p (here dig ps (Absent key) None None p ∷ stops)
+          (end_of_way nowhere (here dig ps (Absent key) None None p ∷ stops)).met)
+          ∙ sym (in_turn (way_from dig ps (Absent key) p.level None None p) (λ stops. Is (grows_of stops))
+          (top_of root p))
 
 pub ruleset insert_roots = (insert-empty, insert-root)

@@ -35,16 +35,23 @@ module _ (name : List ℕ) (top : ℕ) where
     where
       over : slice_cmp nat_cmp a.from b.from ≡ Less → ⊥
       over is =
-          let back : slice_cmp nat_cmp b.from name ≡ Greater = ap (slice_cmp nat_cmp b.from) (sym same) ∙ nat_list_cmp_total.antisymm b.from a.from ∙ ap ordering_reverse is in
-          let never : Greater ≡ Less = sym (ap (λ (o : Ordering). ordering_then o (nat_cmp b.step top)) back) ∙ under in cc
+          let back : slice_cmp nat_cmp b.from name ≡ Greater = ap (slice_cmp nat_cmp b.from) (sym same)
+          ∙ nat_list_cmp_total.antisymm b.from a.from ∙ ap ordering_reverse is in
+          let never : Greater ≡ Less = sym (ap (λ (o : Ordering). ordering_then o (nat_cmp b.step top)) back) ∙ under in
+          cc
 
-      by : (o : Ordering) → slice_cmp nat_cmp a.from b.from ≡ o → ordering_then o (nat_cmp a.step b.step) ≡ Less → (b.from ≡ name) × (a.step < b.step)
+      by : (o : Ordering) → slice_cmp nat_cmp a.from b.from ≡ o → ordering_then o (nat_cmp a.step b.step) ≡ Less
+          → (b.from ≡ name) × (a.step < b.step)
       by Less is steps = absurd (over is)
-      by Equal is steps = (sym (slice_cmp-IsAntisymmetric nat_cmp-IsAntisymmetric a.from b.from is) ∙ same, ranked a.step b.step Less (sym steps))
+      by Equal is steps = (
+        sym (slice_cmp-IsAntisymmetric nat_cmp-IsAntisymmetric a.from b.from is) ∙ same,
+        ranked a.step b.step Less (sym steps),
+      )
       by Greater is steps = cc
 
   abbrev pub IsLatest : List Entry → Entry → Type 0
-  IsLatest es e = (last : Entry) × (last_below es top_key ≡ Some last) × In last es × (last.thread.from ≡ name) × ((e ≡ last) ⊎ (e.thread.step < last.thread.step))
+  IsLatest es e = (last : Entry) × (last_below es top_key ≡ Some last) × In last es × (last.thread.from ≡ name)
+      × ((e ≡ last) ⊎ (e.thread.step < last.thread.step))
 
   module _ (es : List Entry) (rising : IsRising es) (e : Entry) (there : In e es) (same : e.thread.from ≡ name) where
     one_found : KeyBelow (key_of e) top_key → (o : Option Entry) → last_below es top_key ≡ o → IsLatest es e
@@ -53,12 +60,15 @@ module _ (name : List ℕ) (top : ℕ) where
         let found = last-below top_key es rising last is in
         elim (found.greatest e there below) [
           | inl one ↦ (last, is, found.has, ap (λ (x : Entry). x.thread.from) (sym one) ∙ same, inl one)
-          | inr less ↦ let b = between (key_of e) (key_of last) same less found.below in (last, is, found.has, b.0, inr b.1)
+          | inr less ↦ let b = between (key_of e) (key_of last) same less found.below in
+              (last, is, found.has, b.0, inr b.1)
         ]
 
     pub has-latest : e.thread.step < top → IsLatest es e
     has-latest less = one_found (under-top e same less) (last_below es top_key) refl
 
-pub latest : (es : List Entry) → IsRising es → Each IsEntryInRange es → (name : List ℕ) (e : Entry) → In e es → e.thread.from ≡ name → IsLatest name (2 ^ 40) es e
+pub latest : (es : List Entry) → IsRising es → Each IsEntryInRange es → (name : List ℕ) (e : Entry) → In e es
+    → e.thread.from ≡ name → IsLatest name (2 ^ 40) es e
 latest es rising ranges name e there same =
-    let range = Each-in IsEntryInRange es e ranges there in has-latest name (2 ^ 40) es rising e there same (omega (arith, range.0.1))
+    let range = Each-in IsEntryInRange es e ranges there in has-latest name (2 ^ 40) es rising e there same
+    (omega (arith, range.0.1))

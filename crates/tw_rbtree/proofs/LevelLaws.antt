@@ -11,7 +11,8 @@ use Rattle.tw_rbtree.proofs.Markings.{from_both}
 use Rattle.tw_rbtree.proofs.PageLaws.{is-root}
 
 module _ (dig : List ℕ → List ℕ) (ps : Image) where
-  level-page : (page levels : ℕ) → (node_in dig ps page >>= (λ (p : TreePage). Is (p.level + 1))) ≡ Is levels → levels ≤ 11
+  level-page : (page levels : ℕ) → (node_in dig ps page >>= (λ (p : TreePage). Is (p.level + 1))) ≡ Is levels
+      → levels ≤ 11
   level-page page levels found =
       let both = from_both (node_in dig ps page) (λ (p : TreePage). Is (p.level + 1)) levels found in
       let low = (is-root dig ps page both.0 both.1).may_stand.node.level in
@@ -24,6 +25,10 @@ module _ (dig : List ℕ → List ℕ) (ps : Image) where
     where
       by : (none : Bool) → (page == 0) ≡ none → levels ≤ 11
       by true e =
-          let is = same_found 0 levels (sym (ap (λ (b : Bool). if b then Is 0 else (node_in dig ps page >>= (λ (p : TreePage). Is (p.level + 1)))) e) ∙ found) in
+          let is = same_found 0 levels
+          (sym (ap (λ (b : Bool). if b then Is 0 else (node_in dig ps page >>= (λ (p : TreePage). Is (p.level + 1)))) e)
+          ∙ found) in
           omega (arith, is)
-      by false e = level-page page levels (sym (ap (λ (b : Bool). if b then Is 0 else (node_in dig ps page >>= (λ (p : TreePage). Is (p.level + 1)))) e) ∙ found)
+      by false e = level-page page levels
+          (sym (ap (λ (b : Bool). if b then Is 0 else (node_in dig ps page >>= (λ (p : TreePage). Is (p.level + 1)))) e)
+          ∙ found)

@@ -1,5 +1,6 @@
 -- Listed nodes stand in postorder.
-use Rattle.std.proofs.Common.{◌≡◌, ℕ, suc, zero, ◌+◌, ◌-◌, ◌≤◌, List, [], ◌∷◌, ◌++◌, length, Bool, true, false, refl, ap, sym, ◌∙◌, subst, arith, slice_get, append_assoc, append-nil, length-append}
+use Rattle.std.proofs.Common.{◌≡◌, ℕ, suc, zero, ◌+◌, ◌-◌, ◌≤◌, List, [], ◌∷◌, ◌++◌, length, Bool, true, false, refl}
+use Rattle.std.proofs.Common.{ap, sym, ◌∙◌, subst, arith, slice_get, append_assoc, append-nil, length-append}
 use Rattle.std.specs.Prelude.{Option, Some, None, if◌then◌else◌}
 use Rattle.tw_base.specs.declared.history.root.Root.{Root}
 use Rattle.tw_base.specs.declared.history.thread.Entry.{Entry}
@@ -29,7 +30,8 @@ record Grows (nodes : List NewNode) (before : ℕ) (all : Listed) : Type 0 where
   pub are : all.nodes ≡ nodes ++ postorder tree
   pub side_is : all.side ≡ side_of before tree
 
-turned : (nodes : List NewNode) (before : ℕ) (one all : Listed) → one ≡ all → Grows nodes before one → Grows nodes before all
+turned : (nodes : List NewNode) (before : ℕ) (one all : Listed) → one ≡ all → Grows nodes before one
+    → Grows nodes before all
 turned nodes before one all same = subst (Grows nodes before) same
 
 no-tree : (nodes : List NewNode) (before : ℕ) → Grows nodes before (record { nodes = nodes; side = NoSide })
@@ -39,8 +41,10 @@ old-tree : (nodes : List NewNode) (before page : ℕ) → Grows nodes before (re
 old-tree nodes before page = record { tree = OldTree page; names = tt; are = sym (append-nil nodes); side_is = refl }
 
 -- a node behind those of its sides
-between : (nodes : List NewNode) (before page : ℕ) (e : Entry) (left right : Listed) → length nodes ≡ before → (one : Grows nodes before left)
-    → Grows left.nodes (before + length (postorder one.tree)) right → Grows nodes before (node_behind (Some e) page left.side right)
+between : (nodes : List NewNode) (before page : ℕ) (e : Entry) (left right : Listed) → length nodes ≡ before
+    → (one : Grows nodes before left)
+    → Grows left.nodes (before + length (postorder one.tree)) right
+    → Grows nodes before (node_behind (Some e) page left.side right)
 between nodes before page e left right count one two =
     let n : NewNode = record { left = left.side; entry = e; right = right.side; page = page } in
     let l : List NewNode = postorder one.tree in
@@ -50,63 +54,93 @@ between nodes before page e left right count one two =
     ∙ append_assoc (nodes ++ l) r (n ∷ []) ∙ append_assoc nodes l (r ++ n ∷ []) in
     let size : length right.nodes + 1 ≡ before + length (l ++ (r ++ n ∷ [])) =
     omega (arith, count, length-append right.nodes (n ∷ []), ap length all, length-append nodes (l ++ (r ++ n ∷ []))) in
-    record { tree = Between one.tree n two.tree; names = (one.side_is, two.side_is, one.names, two.names); are = all; side_is = ap New size }
+    record {
+      tree = Between one.tree n two.tree;
+      names = (one.side_is, two.side_is, one.names, two.names);
+      are = all;
+      side_is = ap New size;
+    }
 
-after : (nodes : List NewNode) (before : ℕ) (left : Listed) → length nodes ≡ before → (one : Grows nodes before left) → length left.nodes ≡ before + length (postorder one.tree)
+after : (nodes : List NewNode) (before : ℕ) (left : Listed) → length nodes ≡ before → (one : Grows nodes before left)
+    → length left.nodes ≡ before + length (postorder one.tree)
 after nodes before left count one = omega (arith, count, ap length one.are, length-append nodes (postorder one.tree))
 
 module _ (child : ListsAt) (es : List Entry)
-    (grows : (low high : Option Entry) (place : ℕ) (nodes : List NewNode) (before : ℕ) (all : Listed) → place ≤ length es → length nodes ≡ before → child low high place nodes ≡ Is all → Grows nodes before all) where
-  shape-grows : (page : ℕ) (low high : Option Entry) (base : ℕ) (s : Shape) (nodes : List NewNode) (before : ℕ) (all : Listed) → base + size s ≤ length es → length nodes ≡ before
+    (grows : (low high : Option Entry) (place : ℕ) (nodes : List NewNode) (before : ℕ) (all : Listed)
+    → place ≤ length es → length nodes ≡ before → child low high place nodes ≡ Is all → Grows nodes before all) where
+  shape-grows : (page : ℕ) (low high : Option Entry) (base : ℕ) (s : Shape) (nodes : List NewNode) (before : ℕ)
+      (all : Listed) → base + size s ≤ length es → length nodes ≡ before
       → listed_at child es page low high base s nodes ≡ Is all → Grows nodes before all
-  shape-grows page low high base Empty nodes before all room count found = grows low high base nodes before all (omega (arith, room)) count (sym (listed-empty child es page low high base nodes Empty refl) ∙ found)
+  shape-grows page low high base Empty nodes before all room count found = grows low high base nodes before all
+      (omega (arith, room)) count (sym (listed-empty child es page low high base nodes Empty refl) ∙ found)
   shape-grows page low high base (Node red l r) nodes before all room count found =
       let here = get-some es [] es (base + size l) (omega (arith, room)) in
       let e : Entry = here.0 in
-      let there : slice_get es (base + size l + 1 - 1) ≡ Some e = ap (slice_get es) (let n : base + size l + 1 - 1 ≡ base + size l = omega arith in n) ∙ here.1 in
-      let whole = sym (listed-node child es page low high base nodes red l r (base + size l + 1) e refl there (Node red l r) refl) ∙ found in
-      let left = from_both (listed_at child es 0 low (Some e) base l nodes) (λ (left : Listed). listed_at child es 0 (Some e) high (base + size l + 1) r left.nodes >>= (λ (right : Listed). Is (node_behind (Some e) page left.side right))) all whole in
-      let right = from_both (listed_at child es 0 (Some e) high (base + size l + 1) r left.0.nodes) (λ (right : Listed). Is (node_behind (Some e) page left.0.side right)) all left.2 in
+      let there : slice_get es (base + size l + 1 - 1) ≡ Some e =
+      ap (slice_get es) (let n : base + size l + 1 - 1 ≡ base + size l = omega arith in n) ∙ here.1 in
+      let whole = sym (listed-node child es page low high base nodes red l r (base + size l + 1) e refl there
+      (Node red l r) refl) ∙ found in
+      let left = from_both (listed_at child es 0 low (Some e) base l nodes) (λ (left : Listed). listed_at child es 0
+      (Some e) high (base + size l + 1) r left.nodes
+      >>= (λ (right : Listed). Is (node_behind (Some e) page left.side right))) all whole in
+      let right = from_both (listed_at child es 0 (Some e) high (base + size l + 1) r left.0.nodes)
+      (λ (right : Listed). Is (node_behind (Some e) page left.0.side right)) all left.2 in
       let one = shape-grows 0 low (Some e) base l nodes before left.0 (omega (arith, room)) count left.1 in
-      let two = shape-grows 0 (Some e) high (base + size l + 1) r left.0.nodes (before + length (postorder one.tree)) right.0 (omega (arith, room)) (after nodes before left.0 count one) right.1 in
-      turned nodes before (node_behind (Some e) page left.0.side right.0) all (same_found (node_behind (Some e) page left.0.side right.0) all right.2)
+      let two = shape-grows 0 (Some e) high (base + size l + 1) r left.0.nodes (before + length (postorder one.tree))
+      right.0 (omega (arith, room)) (after nodes before left.0 count one) right.1 in
+      turned nodes before (node_behind (Some e) page left.0.side right.0) all
+      (same_found (node_behind (Some e) page left.0.side right.0) all right.2)
       (between nodes before page e left.0 right.0 count one two)
 
 module _ (dig : List ℕ → List ℕ) (ps : Image) (since : ℕ) where
   -- an older page is named, and the nodes of another one are listed
-  by_age : (level : ℕ) (p : TreePage) (low high : Option Entry) (place : ℕ) (nodes : List NewNode) (before : ℕ) (all : Listed) (old : Bool)
-      → (if old then Is (record { nodes = nodes; side = Old (child_page p place) }) else (child_in dig ps level low high (child_page p place) >>= below_found dig ps since p low high place nodes level)) ≡ Is all
-      → ((q : TreePage) → child_in dig ps level low high (child_page p place) ≡ Is q → below_found dig ps since p low high place nodes level q ≡ Is all → Grows nodes before all) → Grows nodes before all
+  by_age : (level : ℕ) (p : TreePage) (low high : Option Entry) (place : ℕ) (nodes : List NewNode) (before : ℕ)
+      (all : Listed) (old : Bool)
+      → (if old then Is (record { nodes = nodes; side = Old (child_page p place) })
+      else (child_in dig ps level low high (child_page p place) >>= below_found dig ps since p low high place nodes
+      level)) ≡ Is all
+      → ((q : TreePage) → child_in dig ps level low high (child_page p place) ≡ Is q → below_found dig ps since p low
+      high place nodes level q ≡ Is all → Grows nodes before all) → Grows nodes before all
   by_age level p low high place nodes before all true found on =
       let named : Listed = record { nodes = nodes; side = Old (child_page p place) } in
       turned nodes before named all (same_found named all found) (old-tree nodes before (child_page p place))
   by_age level p low high place nodes before all false found on =
-      let both = from_both (child_in dig ps level low high (child_page p place)) (below_found dig ps since p low high place nodes level) all found in on both.0 both.1 both.2
+      let both = from_both (child_in dig ps level low high (child_page p place))
+      (below_found dig ps since p low high place nodes level) all found in on both.0 both.1 both.2
 
-  child-grows : (level : ℕ) (p : TreePage) (low high : Option Entry) (place : ℕ) (nodes : List NewNode) (before : ℕ) (all : Listed) → place ≤ length p.entries → length nodes ≡ before
+  child-grows : (level : ℕ) (p : TreePage) (low high : Option Entry) (place : ℕ) (nodes : List NewNode) (before : ℕ)
+      (all : Listed) → place ≤ length p.entries → length nodes ≡ before
       → child_listed dig ps since level p low high place nodes ≡ Is all → Grows nodes before all
   unfolding child_listed
   child-grows zero p low high place nodes before all room count found =
-      let none : Listed = record { nodes = nodes; side = NoSide } in turned nodes before none all (same_found none all found) (no-tree nodes before)
+      let none : Listed = record { nodes = nodes; side = NoSide } in turned nodes before none all
+      (same_found none all found) (no-tree nodes before)
   child-grows (suc level) p low high place nodes before all room count found =
       by_age level p low high place nodes before all _ found (λ q read rest.
-      let sized = (is-root dig ps (child_page p place) q (child-page dig ps level low high (child_page p place) q read)).may_stand.node.sized in
-      shape-grows (child_listed dig ps since level q) q.entries (child-grows level q) (child_page p place) low high 0 q.shape nodes before all (omega (arith, sized)) count rest)
+      let sized = (is-root dig ps (child_page p place) q (child-page dig ps level low high (child_page p place) q
+      read)).may_stand.node.sized in
+      shape-grows (child_listed dig ps since level q) q.entries (child-grows level q) (child_page p place) low high 0
+      q.shape nodes before all (omega (arith, sized)) count rest)
 
   -- whatever the pages keep
-  pub root-grows : (root : Root) (nodes : List NewNode) → listed dig ps since root ≡ Is nodes → (tree : ListedTree) × NamesSides 0 tree × (postorder tree ≡ nodes)
+  pub root-grows : (root : Root) (nodes : List NewNode) → listed dig ps since root ≡ Is nodes → (tree : ListedTree)
+      × NamesSides 0 tree × (postorder tree ≡ nodes)
   unfolding listed
   root-grows root nodes found = by _ found
     where
       from_page : TreePage → Found (List NewNode)
-      from_page p = listed_at (child_listed dig ps since p.level p) p.entries root.page None None 0 p.shape [] >>= (λ (all : Listed). Is all.nodes)
+      from_page p = listed_at (child_listed dig ps since p.level p) p.entries root.page None None 0 p.shape []
+          >>= (λ (all : Listed). Is all.nodes)
 
-      by : (older : Bool) → (if older then Is [] else (node_in dig ps root.page >>= from_page)) ≡ Is nodes → (tree : ListedTree) × NamesSides 0 tree × (postorder tree ≡ nodes)
+      by : (older : Bool) → (if older then Is [] else (node_in dig ps root.page >>= from_page)) ≡ Is nodes
+          → (tree : ListedTree) × NamesSides 0 tree × (postorder tree ≡ nodes)
       by true e = (NoTree, tt, same_found [] nodes e)
       by false e =
           let first = from_both (node_in dig ps root.page) from_page nodes e in
           let p : TreePage = first.0 in
-          let last = from_both (listed_at (child_listed dig ps since p.level p) p.entries root.page None None 0 p.shape []) (λ (all : Listed). Is all.nodes) nodes first.2 in
+          let last = from_both (listed_at (child_listed dig ps since p.level p) p.entries root.page None None 0 p.shape
+          []) (λ (all : Listed). Is all.nodes) nodes first.2 in
           let sized = (is-root dig ps root.page p first.1).may_stand.node.sized in
-          let all = shape-grows (child_listed dig ps since p.level p) p.entries (child-grows p.level p) root.page None None 0 p.shape [] 0 last.0 (omega (arith, sized)) refl last.1 in
+          let all = shape-grows (child_listed dig ps since p.level p) p.entries (child-grows p.level p) root.page None
+          None 0 p.shape [] 0 last.0 (omega (arith, sized)) refl last.1 in
           (all.tree, all.names, sym all.are ∙ same_found last.0.nodes nodes last.2)

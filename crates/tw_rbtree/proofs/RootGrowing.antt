@@ -1,5 +1,6 @@
 -- A root with an entry more below it.
-use Rattle.std.proofs.Common.{◌≡◌, ◌≢◌, ℕ, ◌≤◌, List, length, Bool, true, refl, ap, sym, ◌∙◌, subst, arith, inl, inr, Result, Ok, Err}
+use Rattle.std.proofs.Common.{◌≡◌, ◌≢◌, ℕ, ◌≤◌, List, length, Bool, true, refl, ap, sym, ◌∙◌, subst, arith, inl, inr}
+use Rattle.std.proofs.Common.{Result, Ok, Err}
 use Rattle.std.specs.Prelude.{Option, Some, None, map}
 use Rattle.tw_base.specs.declared.history.root.Root.{Root}
 use Rattle.tw_base.specs.declared.history.thread.Entry.{Entry}
@@ -36,7 +37,8 @@ all-lie_between es = between-all None None es (all_between es)
 
 -- ---- where the pages stand for a tree
 
-module _ (dig : List ℕ → List ℕ) (Has : OfPage) (ps : Image) (root : Root) (t : Tree) (stands : StandsWith dig Has ps root t) where
+module _ (dig : List ℕ → List ℕ) (Has : OfPage) (ps : Image) (root : Root) (t : Tree)
+    (stands : StandsWith dig Has ps root t) where
   -- the page of the root over its children's trees
   pub record OwnTrees (p : TreePage) : Type 0 where
     pub trees : List Tree
@@ -52,10 +54,20 @@ module _ (dig : List ℕ → List ℕ) (Has : OfPage) (ps : Image) (root : Root)
       by (inl none) = absurd (some none.0)
       by (inr (level, is)) =
           let q_is : is.node ≡ p = same_found is.node p (sym (root-is dig ps root.page is.node is.at) ∙ found) in
-          let are_at : AreTrees (IsTreeBelow dig Has ps is.node.level) is.node.children is.trees = subst (λ (n : ℕ). AreTrees (IsTreeBelow dig Has ps n) is.node.children is.trees) (sym is.level_is) is.are_trees in
+          let are_at : AreTrees (IsTreeBelow dig Has ps is.node.level) is.node.children is.trees =
+          subst (λ (n : ℕ). AreTrees (IsTreeBelow dig Has ps n) is.node.children is.trees) (sym is.level_is)
+          is.are_trees in
           let count = trees-count (IsTreeBelow dig Has ps level) is.node.children is.trees is.are_trees in
-          let lists : woven (map entries is.trees) is.node.entries ≡ entries t = sym (page-list is.node is.trees is.at.may_stand.node count) ∙ ap entries (sym is.tree_is) in
-          subst OwnTrees q_is (record { trees = is.trees; are = are_at; rising = subst IsRising (sym lists) stands.rising; lists = lists; keys = is.least_keys })
+          let lists : woven (map entries is.trees) is.node.entries ≡ entries t =
+          sym (page-list is.node is.trees is.at.may_stand.node count) ∙ ap entries (sym is.tree_is) in
+          subst OwnTrees q_is
+          (record {
+            trees = is.trees;
+            are = are_at;
+            rising = subst IsRising (sym lists) stands.rising;
+            lists = lists;
+            keys = is.least_keys;
+          })
 
   pub empty-tree : root.page ≡ 0 → t ≡ Empty
   empty-tree none = by stands.tree
@@ -65,16 +77,20 @@ module _ (dig : List ℕ → List ℕ) (Has : OfPage) (ps : Image) (root : Root)
       by (inr (level, is)) = absurd (omega (arith, none, is.at.low))
 
   -- the list with the entry rises, where the way found no entry of its key
-  pub rises-with : (entry : Entry) (p : TreePage) (two : Bool) → root.page ≢ 0 → node_in dig ps root.page ≡ Is p → grows_from dig ps (key_of entry) p.level None None p ≡ Is (Ok two) → IsRising (with_entry (entries t) entry)
+  pub rises-with : (entry : Entry) (p : TreePage) (two : Bool) → root.page ≢ 0 → node_in dig ps root.page ≡ Is p
+      → grows_from dig ps (key_of entry) p.level None None p ≡ Is (Ok two) → IsRising (with_entry (entries t) entry)
   unfolding grows_from
   rises-with entry p two some first grows =
       let key : Key = key_of entry in
       let w = root-way dig ps (Absent (key_of entry)) root t (stands-any dig Has ps root t stands) in
       let found : way_from dig ps (Absent (key_of entry)) p.level None None p ≡ Is w.stops =
-      sym (way-root dig ps (Absent (key_of entry)) root some ∙ is_on (node_in dig ps root.page) (λ q. way_from dig ps (Absent (key_of entry)) q.level None None q) p first) ∙ w.found in
+      sym (way-root dig ps (Absent (key_of entry)) root some ∙ is_on (node_in dig ps root.page)
+      (λ q. way_from dig ps (Absent (key_of entry)) q.level None None q) p first) ∙ w.found in
       let ends : grows_of w.stops ≡ Ok two =
-      same_found (grows_of w.stops) (Ok two) (sym (is_on (way_from dig ps (Absent (key_of entry)) p.level None None p) (λ stops. Is (grows_of stops)) w.stops found) ∙ grows) in
-      let absent : entry_with (entries t) (key_of entry) ≡ None = w.tells ∙ none (end_of_way nowhere w.stops).met (all_full w.stops) ends in
+      same_found (grows_of w.stops) (Ok two) (sym (is_on (way_from dig ps (Absent (key_of entry)) p.level None None p)
+      (λ stops. Is (grows_of stops)) w.stops found) ∙ grows) in
+      let absent : entry_with (entries t) (key_of entry) ≡ None = w.tells ∙ none (end_of_way nowhere w.stops).met
+      (all_full w.stops) ends in
       let leaf = has-leaf entry t (with_leaf t entry) stands.rising absent refl in
       subst IsRising leaf.list leaf.rising
     where
@@ -83,7 +99,9 @@ module _ (dig : List ℕ → List ℕ) (Has : OfPage) (ps : Image) (root : Root)
       none (Some e) full is = absurd (let wrong : ◌≡◌ {A = Result Bool TreeFault} (Err Present) (Ok two) = is in cc)
 
 -- a child that is a tree, as a root
-pub root-stands : (dig : List ℕ → List ℕ) (Has : OfPage) (now : Image) (level least : ℕ) (c : Child) (t : Tree) (new : Root) → 1 ≤ least → IsChildTree dig Has now level least c t → IsRising (entries t) → new.page ≡ c.page → new.label ≡ c.label → StandsWith dig Has now new t
+pub root-stands : (dig : List ℕ → List ℕ) (Has : OfPage) (now : Image) (level least : ℕ) (c : Child) (t : Tree)
+    (new : Root) → 1 ≤ least → IsChildTree dig Has now level least c t → IsRising (entries t) → new.page ≡ c.page
+    → new.label ≡ c.label → StandsWith dig Has now new t
 root-stands dig Has now level least c t new some is rising page label = record {
   rising = rising;
   label = label ∙ is.0;

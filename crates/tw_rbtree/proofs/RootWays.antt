@@ -1,5 +1,6 @@
 -- What is found under a root for whose tree the pages stand.
-use Rattle.std.proofs.Common.{◌≡◌, ℕ, ◌+◌, ◌-◌, ◌*◌, ◌^◌, ◌<◌, ◌≤◌, List, [], ◌∷◌, length, refl, ap, sym, ◌∙◌, subst, arith, inl, inr}
+use Rattle.std.proofs.Common.{◌≡◌, ℕ, ◌+◌, ◌-◌, ◌*◌, ◌^◌, ◌<◌, ◌≤◌, List, [], ◌∷◌, length, refl, ap, sym, ◌∙◌, subst}
+use Rattle.std.proofs.Common.{arith, inl, inr}
 use Rattle.std.specs.Prelude.{◌==◌, Bool, true, false, Option, None, if◌then◌else◌}
 use Rattle.tw_base.specs.declared.history.root.Root.{Root}
 use Rattle.tw_base.specs.declared.history.thread.Entry.{Entry}
@@ -24,7 +25,8 @@ use Rattle.tw_rbtree.specs.Answers.{IsSoAt}
 use Rattle.tw_rbtree.specs.Paths.{proof_of_way, way_nodes, way_proof}
 use Rattle.tw_rbtree.specs.Reading.{levels_in, node_in}
 use Rattle.tw_rbtree.specs.Standing.{IsRootTree, IsTreeBelow, IsTreePage, StandsForTree, any_page}
-use Rattle.tw_rbtree.specs.Ways.{Stop, end_of_way, found_after, found_before, found_with, nowhere, way, way_end, way_from}
+use Rattle.tw_rbtree.specs.Ways.{Stop, end_of_way, found_after, found_before, found_with, nowhere, way, way_end}
+use Rattle.tw_rbtree.specs.Ways.{way_from}
 use Rattle.tw_rbtree.proofs.PageLaws.{root-is}
 use Rattle.tw_rbtree.proofs.SizeLaws.{root-count}
 use Rattle.tw_rbtree.proofs.Standings.{WayIn, way-in}
@@ -61,38 +63,58 @@ module _ (dig : List ℕ → List ℕ) (ps : Image) (ask : Ask) (root : Root) wh
   unfolding levels_in level_by
   no_levels none = ap level_by (let t : (root.page == 0) ≡ true = grind arith in t)
 
-  some_levels : (level : ℕ) (p : TreePage) → (root.page ≡ 0 → ⊥) → node_in dig ps root.page ≡ Is p → p.level ≡ level → levels_in dig ps root.page ≡ Is (level + 1)
+  some_levels : (level : ℕ) (p : TreePage) → (root.page ≡ 0 → ⊥) → node_in dig ps root.page ≡ Is p → p.level ≡ level
+      → levels_in dig ps root.page ≡ Is (level + 1)
   unfolding levels_in level_by
   some_levels level p some found is =
-      ap level_by (let t : (root.page == 0) ≡ false = grind arith in t) ∙ is_on (node_in dig ps root.page) (λ (q : TreePage). Is (q.level + 1)) p found ∙ ap (λ (n : ℕ). Is (n + 1)) is
+      ap level_by (let t : (root.page == 0) ≡ false = grind arith in t) ∙ is_on (node_in dig ps root.page)
+      (λ (q : TreePage). Is (q.level + 1)) p found ∙ ap (λ (n : ℕ). Is (n + 1)) is
 
   empty_way : root.page ≡ 0 → RootWay NoEntry
   unfolding way_nodes way_proof way_up place_of_ask
-  empty_way none = record { levels_is = no_levels none; stops = []; found = way-empty dig ps ask root none; tells = nothing_tells ask; proof = refl; levels = 0; few = omega arith; many = λ (h : 0 < 0). absurd (omega (arith, h)); up = refl }
+  empty_way none =
+      record {
+        levels_is = no_levels none;
+        stops = [];
+        found = way-empty dig ps ask root none;
+        tells = nothing_tells ask;
+        proof = refl;
+        levels = 0;
+        few = omega arith;
+        many = λ (h : 0 < 0). absurd (omega (arith, h));
+        up = refl;
+      }
 
-  page_way : (t : Tree) → IsRising (entries t) → (level : ℕ) → IsTreePage dig any_page ps (IsTreeBelow dig any_page ps level) level 1 root.page t → RootWay t
+  page_way : (t : Tree) → IsRising (entries t) → (level : ℕ) → IsTreePage dig any_page ps
+      (IsTreeBelow dig any_page ps level) level 1 root.page t → RootWay t
   page_way t rising level is =
       let p = is.node in
-      let rises : IsRising (entries (page_tree p is.trees)) = subst (λ (x : Tree). IsRising (entries x)) is.tree_is rising in
+      let rises : IsRising (entries (page_tree p is.trees)) = subst (λ (x : Tree). IsRising (entries x)) is.tree_is
+      rising in
       let w : WayIn dig ps ask level None None p (page_tree p is.trees) =
-      way-in dig ps ask level None None root.page p is.trees is.at is.level_is is.are_trees rises (all_between (entries (page_tree p is.trees))) in
+      way-in dig ps ask level None None root.page p is.trees is.at is.level_is is.are_trees rises
+      (all_between (entries (page_tree p is.trees))) in
       let on : way dig ps ask root ≡ Is (w.first ∷ w.rest) =
       way-root dig ps ask root (λ (e : root.page ≡ 0). omega (arith, e, is.at.low))
-      ∙ is_on (node_in dig ps root.page) (λ q. way_from dig ps ask q.level None None q) p (root-is dig ps root.page p is.at)
+      ∙ is_on (node_in dig ps root.page) (λ q. way_from dig ps ask q.level None None q) p
+      (root-is dig ps root.page p is.at)
       ∙ ap (λ (n : ℕ). way_from dig ps ask n None None p) is.level_is ∙ w.found in
       subst RootWay (sym is.tree_is) (record {
         stops = w.first ∷ w.rest;
         found = on;
         tells = w.tells;
         levels = level + 1;
-        levels_is = some_levels level p (λ (e : root.page ≡ 0). omega (arith, e, is.at.low)) (root-is dig ps root.page p is.at) is.level_is;
+        levels_is = some_levels level p (λ (e : root.page ≡ 0). omega (arith, e, is.at.low))
+            (root-is dig ps root.page p is.at) is.level_is;
         few = w.few;
         many = λ _.
             let count = root-count dig ps level root.page t is in
             let same : level + 1 - 1 ≡ level = omega arith in
-            subst (λ (n : ℕ). 2 * 13 ^ n ≤ length (entries (page_tree p is.trees)) + 1) (sym same) (subst (λ (x : Tree). 2 * 13 ^ level ≤ length (entries x) + 1) is.tree_is count);
+            subst (λ (n : ℕ). 2 * 13 ^ n ≤ length (entries (page_tree p is.trees)) + 1) (sym same)
+            (subst (λ (x : Tree). 2 * 13 ^ level ≤ length (entries x) + 1) is.tree_is count);
         up = w.up;
-        proof = w.proof (way_nodes dig (w.first ∷ w.rest)) ∙ ap (λ (up : List Ancestor). proof_at dig (place_of_ask ask (page_tree p is.trees)) up) w.up;
+        proof = w.proof (way_nodes dig (w.first ∷ w.rest))
+            ∙ ap (λ (up : List Ancestor). proof_at dig (place_of_ask ask (page_tree p is.trees)) up) w.up;
       })
 
   pub root-way : (t : Tree) → StandsForTree dig ps root t → RootWay t
@@ -106,7 +128,8 @@ module _ (dig : List ℕ → List ℕ) (ps : Image) (root : Root) (t : Tree) whe
   abbrev Last : List Stop → Found Sought
   Last stops = Is (end_of_way nowhere stops)
 
-  end-is : (ask : Ask) (stops : List Stop) → way dig ps ask root ≡ Is stops → way_end dig ps ask root ≡ Is (end_of_way nowhere stops)
+  end-is : (ask : Ask) (stops : List Stop) → way dig ps ask root ≡ Is stops → way_end dig ps ask root ≡ Is
+      (end_of_way nowhere stops)
   unfolding way_end
   end-is ask stops found = is_on (way dig ps ask root) Last stops found
 
@@ -115,23 +138,27 @@ module _ (dig : List ℕ → List ℕ) (ps : Image) (root : Root) (t : Tree) whe
     unfolding found_with
     with-found =
         let w = root-way dig ps (Absent key) root t stands in
-        is_on (way_end dig ps (Absent key) root) (λ end. Is end.met) (end_of_way nowhere w.stops) (end-is (Absent key) w.stops w.found) ∙ ap (λ (o : Option Entry). Is o) (sym w.tells)
+        is_on (way_end dig ps (Absent key) root) (λ end. Is end.met) (end_of_way nowhere w.stops)
+        (end-is (Absent key) w.stops w.found) ∙ ap (λ (o : Option Entry). Is o) (sym w.tells)
 
     pub before-found : found_before dig ps root key ≡ Is (last_below (entries t) key)
     unfolding found_before
     before-found =
         let w = root-way dig ps (Below key) root t stands in
-        is_on (way_end dig ps (Below key) root) (λ end. Is end.low) (end_of_way nowhere w.stops) (end-is (Below key) w.stops w.found)
+        is_on (way_end dig ps (Below key) root) (λ end. Is end.low) (end_of_way nowhere w.stops)
+        (end-is (Below key) w.stops w.found)
         ∙ ap (λ (o : Option Entry). Is o) (sym w.tells ∙ or-none (last_below (entries t) key))
 
     pub after-found : found_after dig ps root key ≡ Is (first_above (entries t) key)
     unfolding found_after
     after-found =
         let w = root-way dig ps (Above key) root t stands in
-        is_on (way_end dig ps (Above key) root) (λ end. Is end.high) (end_of_way nowhere w.stops) (end-is (Above key) w.stops w.found)
+        is_on (way_end dig ps (Above key) root) (λ end. Is end.high) (end_of_way nowhere w.stops)
+        (end-is (Above key) w.stops w.found)
         ∙ ap (λ (o : Option Entry). Is o) (sym w.tells ∙ or-none (first_above (entries t) key))
 
-  pub so-found : (ask : Ask) (end : Sought) → Tells ask (entries t) None None end → (IsSo (entries t) ask → IsSoAt ask end.met) × (IsSoAt ask end.met → IsSo (entries t) ask)
+  pub so-found : (ask : Ask) (end : Sought) → Tells ask (entries t) None None end
+      → (IsSo (entries t) ask → IsSoAt ask end.met) × (IsSoAt ask end.met → IsSo (entries t) ask)
   so-found (Present e) end tells = (λ so. sym tells ∙ so, λ so. tells ∙ so)
   so-found (Absent key) end tells = (λ so. sym tells ∙ so, λ so. tells ∙ so)
   so-found (Below key) end tells = (λ so. tt, λ so. tt)

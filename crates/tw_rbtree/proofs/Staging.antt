@@ -1,5 +1,6 @@
 -- Pages that are staged over children that are trees.
-use Rattle.std.proofs.Common.{◌≡◌, ℕ, suc, zero, ◌+◌, ◌-◌, ◌≤◌, List, [], ◌∷◌, ◌++◌, length, refl, ap, sym, ◌∙◌, subst, arith, length-append}
+use Rattle.std.proofs.Common.{◌≡◌, ℕ, suc, zero, ◌+◌, ◌-◌, ◌≤◌, List, [], ◌∷◌, ◌++◌, length, refl, ap, sym, ◌∙◌, subst}
+use Rattle.std.proofs.Common.{arith, length-append}
 use Rattle.std.specs.Prelude.{Option, Some}
 use Rattle.std.specs.Option.{option_map}
 use Rattle.std.proofs.Math.Seq.{get_or-append_seam}
@@ -22,58 +23,79 @@ use Rattle.tw_rbtree.proofs.Keeping.{below-kept, tree_page-kept, trees-map}
 use Rattle.tw_rbtree.proofs.Standings.{over-labels, trees-count}
 
 -- new pages have no name
-pub above-named : (named : Named) (used : ℕ) → named.below ≤ used → (page : ℕ) (t : Tree) → used ≤ page → HasNamed named page t
+pub above-named : (named : Named) (used : ℕ) → named.below ≤ used → (page : ℕ) (t : Tree) → used ≤ page
+    → HasNamed named page t
 above-named named used low page t high inside = absurd (omega (arith, low, high, inside))
 
 module _ (dig : List ℕ → List ℕ) (Has : OfPage) where
   -- children of pages lie below what is staged next
-  lies_below : (ps : Image) (page level own : ℕ) → own ≡ level → page ≡ 4 + length ps → (cs : List Child) (ts : List Tree) → AreTrees (IsTreeBelow dig Has ps level) cs ts → Each (LiesBelow page own) cs
+  lies_below : (ps : Image) (page level own : ℕ) → own ≡ level → page ≡ 4 + length ps
+      → (cs : List Child) (ts : List Tree) → AreTrees (IsTreeBelow dig Has ps level) cs ts → Each (LiesBelow page own)
+      cs
   unfolding IsTreeBelow
   lies_below ps page level own is at [] ts are = tt
   lies_below ps page level own is at (c ∷ cs) [] are = absurd are
   lies_below ps page zero zero is at (c ∷ cs) (t ∷ ts) are = (tt, lies_below ps page zero zero is at cs ts are.1)
   lies_below ps page zero (suc own) is at (c ∷ cs) (t ∷ ts) are = absurd (omega (arith, is))
   lies_below ps page (suc level) zero is at (c ∷ cs) (t ∷ ts) are = absurd (omega (arith, is))
-  lies_below ps page (suc level) (suc own) is at (c ∷ cs) (t ∷ ts) are = (omega (arith, at, are.0.1.at.below), lies_below ps page (suc level) (suc own) is at cs ts are.1)
+  lies_below ps page (suc level) (suc own) is at (c ∷ cs) (t ∷ ts) are =
+      (omega (arith, at, are.0.1.at.below), lies_below ps page (suc level) (suc own) is at cs ts are.1)
 
-  pub over-kept : (ps more : Image) (level least : ℕ) (p : TreePage) (es : List Entry) → IsOverLevel dig Has ps level least p es → IsOverLevel dig Has (ps ++ more) level least p es
+  pub over-kept : (ps more : Image) (level least : ℕ) (p : TreePage) (es : List Entry) → IsOverLevel dig Has ps level
+      least p es → IsOverLevel dig Has (ps ++ more) level least p es
   over-kept ps more level least p es over = record {
     level_is = over.level_is;
     least_keys = over.least_keys;
     trees = over.trees;
-    are_trees = trees-map (IsTreeBelow dig Has ps level) (IsTreeBelow dig Has (ps ++ more) level) (below-kept dig Has ps more level) p.children over.trees over.are_trees;
+    are_trees = trees-map (IsTreeBelow dig Has ps level) (IsTreeBelow dig Has (ps ++ more) level)
+        (below-kept dig Has ps more level) p.children over.trees over.are_trees;
     lists = over.lists;
   }
 
-  pub child_tree-kept : (ps more : Image) (level least : ℕ) (c : Child) (t : Tree) → IsChildTree dig Has ps level least c t → IsChildTree dig Has (ps ++ more) level least c t
-  child_tree-kept ps more level least c t is =
-      (is.0, tree_page-kept dig Has ps more (IsTreeBelow dig Has ps level) (IsTreeBelow dig Has (ps ++ more) level) (below-kept dig Has ps more level) level least c.page t is.1)
+  pub child_tree-kept : (ps more : Image) (level least : ℕ) (c : Child) (t : Tree) → IsChildTree dig Has ps level least
+      c t → IsChildTree dig Has (ps ++ more) level least c t
+  child_tree-kept ps more level least c t is = (
+    is.0,
+    tree_page-kept dig Has ps more (IsTreeBelow dig Has ps level) (IsTreeBelow dig Has (ps ++ more) level)
+        (below-kept dig Has ps more level) level least c.page t is.1,
+  )
 
   -- a page that is staged over trees is a tree
-  pub staged-tree : (ps : Image) (bytes : List ℕ) (used level least : ℕ) (p : TreePage) (c : Child) (es : List Entry) → ((page : ℕ) (t : Tree) → used ≤ page → Has page t) → used ≡ 4 + length ps → IsStaged dig used p c
-      → IsPageOf page_node_codec bytes (fields_of p) → IsNode p → HasChildren dig p → IsOverLevel dig Has ps level least p es
+  pub staged-tree : (ps : Image) (bytes : List ℕ) (used level least : ℕ) (p : TreePage) (c : Child) (es : List Entry)
+      → ((page : ℕ) (t : Tree) → used ≤ page → Has page t) → used ≡ 4 + length ps → IsStaged dig used p c
+      → IsPageOf page_node_codec bytes (fields_of p) → IsNode p → HasChildren dig p → IsOverLevel dig Has ps level least
+      p es
       → (t : Tree) × IsChildTree dig Has (ps ++ bytes ∷ []) level least c t × (entries t ≡ es)
   staged-tree ps bytes used level least p c es new at staged spelled node kinds over =
-      let count : length over.trees ≡ length p.children = trees-count (IsTreeBelow dig Has ps level) p.children over.trees over.are_trees in
+      let count : length over.trees ≡ length p.children = trees-count (IsTreeBelow dig Has ps level) p.children
+      over.trees over.are_trees in
       let index : c.page - 4 ≡ length ps = omega (arith, staged.page_is, at) in
-      let there : page_at (ps ++ bytes ∷ []) (c.page - 4) ≡ bytes = ap (page_at (ps ++ bytes ∷ [])) index ∙ get_or-append_seam ps bytes [] [] in
+      let there : page_at (ps ++ bytes ∷ []) (c.page - 4) ≡ bytes = ap (page_at (ps ++ bytes ∷ [])) index
+      ∙ get_or-append_seam ps bytes [] [] in
       let own : c.page ≡ 4 + length ps = staged.page_is ∙ at in
       let stands : IsPageAt dig (ps ++ bytes ∷ []) c.page p = record {
         low = omega (arith, own);
         below = omega (arith, own, length-append ps (bytes ∷ []));
-        may_stand = record { node = node; children = kinds; below = lies_below ps c.page level p.level over.level_is own p.children over.trees over.are_trees };
+        may_stand =
+            record {
+              node = node;
+              children = kinds;
+              below = lies_below ps c.page level p.level over.level_is own p.children over.trees over.are_trees;
+            };
         bytes = subst (λ (b : List ℕ). IsPageOf page_node_codec b (fields_of p)) (sym there) spelled;
       } in (
         page_tree p over.trees,
         (
-          staged.label_is ∙ page-label dig p over.trees (over-labels dig Has ps level p over.trees kinds over.level_is over.are_trees),
+          staged.label_is ∙ page-label dig p over.trees (over-labels dig Has ps level p over.trees kinds over.level_is
+              over.are_trees),
           record {
             node = p;
             at = stands;
             level_is = over.level_is;
             least_keys = over.least_keys;
             trees = over.trees;
-            are_trees = trees-map (IsTreeBelow dig Has ps level) (IsTreeBelow dig Has (ps ++ bytes ∷ []) level) (below-kept dig Has ps (bytes ∷ []) level) p.children over.trees over.are_trees;
+            are_trees = trees-map (IsTreeBelow dig Has ps level) (IsTreeBelow dig Has (ps ++ bytes ∷ []) level)
+                (below-kept dig Has ps (bytes ∷ []) level) p.children over.trees over.are_trees;
             tree_is = refl;
             has = new c.page (page_tree p over.trees) (omega (arith, staged.page_is));
           },
@@ -82,5 +104,6 @@ module _ (dig : List ℕ → List ℕ) (Has : OfPage) where
       )
 
 -- the pages after one is put behind those told
-pub put_behind : (o : Option Image) (ps : Image) (bytes : List ℕ) (new : Option Image) → o ≡ Some ps → new ≡ option_map (λ xs. xs ++ bytes ∷ []) o → new ≡ Some (ps ++ bytes ∷ [])
+pub put_behind : (o : Option Image) (ps : Image) (bytes : List ℕ) (new : Option Image) → o ≡ Some ps
+    → new ≡ option_map (λ xs. xs ++ bytes ∷ []) o → new ≡ Some (ps ++ bytes ∷ [])
 put_behind o ps bytes new told put = put ∙ ap (option_map (λ xs. xs ++ bytes ∷ [])) told

@@ -17,7 +17,8 @@ use Rattle.tw_outside.specs.Files.{Files, IsReadTo, IsThere, TellsBytes}
 use Rattle.tw_outside.proofs.Counting.{Rose-earlier}
 use Rattle.tw_text.specs.Faults.{fault_of_input}
 use Rattle.tw_text.specs.declared.fault.CommandFault.{CommandFault}
-use Rattle.tw_text.specs.declared.fault.CommandFault.TheVariants.{DiskFault, InputFault, NoMemory, Refused, Unreadable, Unserved}
+use Rattle.tw_text.specs.declared.fault.CommandFault.TheVariants.{DiskFault, InputFault, NoMemory, Refused, Unreadable}
+use Rattle.tw_text.specs.declared.fault.CommandFault.TheVariants.{Unserved}
 use Rattle.tw_text.specs.declared.refusal.BadInput.{BadInput}
 use Rattle.tw_text.specs.declared.refusal.BadInput.TheVariants.{BadByte, BadLine, Unsound}
 use Rattle.tw_chain.specs.Proofs.{proof_layout}
@@ -45,22 +46,29 @@ use Rattle.tw_reachcmd.proofs.EvidenceFiles.{bad_line_of}
 -- ---- the proof
 
 -- an audit of the same bytes against the same histories
-pub audit_same : (histories family : List History) (anchors : List Thread) (bytes front : List ℕ) (r : Result Finding AuditFault) → histories ≡ family → bytes ≡ front
+pub audit_same : (histories family : List History) (anchors : List Thread) (bytes front : List ℕ)
+    (r : Result Finding AuditFault) → histories ≡ family → bytes ≡ front
     → IsAudit sha256 histories anchors bytes r → IsAudit sha256 family anchors front r
 audit_same histories family anchors bytes front r same is audit =
-    subst (λ (hs : List History). IsAudit sha256 hs anchors front r) same (subst (λ (b : List ℕ). IsAudit sha256 histories anchors b r) is audit)
+    subst (λ (hs : List History). IsAudit sha256 hs anchors front r) same
+    (subst (λ (b : List ℕ). IsAudit sha256 histories anchors b r) is audit)
 
 module _ (family : List History) (anchors : List Thread) where
   answer_behind : (front more : List ℕ) → (IsFront proof_layout front → ⊥) → (r : Result Finding AuditFault)
       → IsAudit sha256 family anchors front r → IsAudit sha256 family anchors (front ++ more) r
-  answer_behind front more broken (Ok (NotAccepted reason)) is = verdict_behind front more broken sha256 anchors false (No reason) is
+  answer_behind front more broken (Ok (NotAccepted reason)) is = verdict_behind front more broken sha256 anchors false
+      (No reason) is
   answer_behind front more broken (Err fault.NoMemory) is = tt
-  answer_behind front more broken (Ok (Stands report)) is = absurd (nothing_here proof_layout front more broken is.0.0 is.0.1)
-  answer_behind front more broken (Ok (Clash one other digest)) is = absurd (nothing_here proof_layout front more broken is.0.0 is.0.1)
-  answer_behind front more broken (Err (fault.NotHeld held found)) is = absurd (nothing_here proof_layout front more broken is.0.0 is.0.1)
+  answer_behind front more broken (Ok (Stands report)) is =
+      absurd (nothing_here proof_layout front more broken is.0.0 is.0.1)
+  answer_behind front more broken (Ok (Clash one other digest)) is =
+      absurd (nothing_here proof_layout front more broken is.0.0 is.0.1)
+  answer_behind front more broken (Err (fault.NotHeld held found)) is =
+      absurd (nothing_here proof_layout front more broken is.0.0 is.0.1)
 
   -- what an audit of first bytes answers, at which no proof goes on or which are all, is what one of the file does
-  pub answer_of_file : (told : Option Files) (file front bytes : List ℕ) → IsFarFront told file front → TellsBytes told file bytes → (r : Result Finding AuditFault)
+  pub answer_of_file : (told : Option Files) (file front bytes : List ℕ) → IsFarFront told file front
+      → TellsBytes told file bytes → (r : Result Finding AuditFault)
       → IsAudit sha256 family anchors front r → IsAudit sha256 family anchors bytes r
   answer_of_file told file front bytes far tells r is = elim (far.far bytes tells) [
     | inl whole ↦ subst (λ b. IsAudit sha256 family anchors b r) whole is
@@ -70,7 +78,8 @@ module _ (family : List History) (anchors : List Thread) where
   ]
 
   -- the audit of the file, and what its answer means
-  pub audited_of : (told : Option Files) (proof front : List ℕ) (audited : Audited) → IsThere told proof → IsFarFront told proof front → AllSound family
+  pub audited_of : (told : Option Files) (proof front : List ℕ) (audited : Audited) → IsThere told proof
+      → IsFarFront told proof front → AllSound family
       → IsAudit sha256 family anchors front (finding_answer audited) → IsAudited told proof anchors family audited
   audited_of told proof front audited there far sound is = record {
     there = there;
@@ -82,10 +91,16 @@ module _ (family : List History) (anchors : List Thread) where
 
 -- ---- the histories
 
-module _ (told : Option Files) (files : List (List ℕ)) (f : Family) (there : Each (IsThere told) files) (are : AreHistoriesRead told files f) where
-  pub hold_histories : (family : List History) → family ≡ f.histories → f.bad ≡ None → HoldHistories told files family × AllSound family
+module _ (told : Option Files) (files : List (List ℕ)) (f : Family) (there : Each (IsThere told) files)
+    (are : AreHistoriesRead told files f) where
+  pub hold_histories : (family : List History) → family ≡ f.histories → f.bad ≡ None → HoldHistories told files family
+      × AllSound family
   hold_histories family same none = subst (λ hs. HoldHistories told files hs × AllSound hs) (sym same) (
-    record { there = there; are = λ all tells. subst (λ (bad : Option BadInput). AreSoFar files all f.histories bad) none (are.so_far all tells).1 },
+    record {
+      there = there;
+      are = λ all tells. subst (λ (bad : Option BadInput). AreSoFar files all f.histories bad) none
+          (are.so_far all tells).1;
+    },
     are.sound,
   )
 
@@ -99,13 +114,16 @@ module _ (told : Option Files) (files : List (List ℕ)) (f : Family) (there : E
 -- ---- the command
 
 -- of what was read of the proof and of the histories
-pub under_of : (a : Asked) (proof : List ℕ) (anchors : List Thread) (histories : List (List ℕ)) (front : List ℕ) (f : Family) (r : Result Audited CommandFault)
-    → IsThere a.told proof → IsFarFront a.told proof front → Each (IsThere a.told) histories → AreHistoriesRead a.told histories f
+pub under_of : (a : Asked) (proof : List ℕ) (anchors : List Thread) (histories : List (List ℕ)) (front : List ℕ)
+    (f : Family) (r : Result Audited CommandFault)
+    → IsThere a.told proof → IsFarFront a.told proof front → Each (IsThere a.told) histories → AreHistoriesRead a.told
+    histories f
     → IsReadAudited anchors front f r → UnderComes a proof anchors histories r
 under_of a proof anchors histories front f (Ok audited) there far each are comes =
     let held = hold_histories a.told histories f each are f.histories refl comes.0 in
     (f.histories, (held.0, held.1, audited_of f.histories anchors a.told proof front audited there far held.1 comes.1))
-under_of a proof anchors histories front f (Err (Unreadable bad)) there far each are comes = (there, hold_none a.told histories f each are bad comes)
+under_of a proof anchors histories front f (Err (Unreadable bad)) there far each are comes =
+    (there, hold_none a.told histories f each are bad comes)
 under_of a proof anchors histories front f (Err NoMemory) there far each are comes = tt
 under_of a proof anchors histories front f (Err InputFault) there far each are comes = absurd comes
 under_of a proof anchors histories front f (Err DiskFault) there far each are comes = absurd comes
@@ -113,24 +131,35 @@ under_of a proof anchors histories front f (Err (Refused refusal)) there far eac
 under_of a proof anchors histories front f (Err (Unserved cause)) there far each are comes = absurd comes
 
 -- where a file couldn't be read
-pub under_failed : (a : Asked) (proof : List ℕ) (anchors : List Thread) (histories : List (List ℕ)) (why : ReadingFault) (came : CommandFault)
-    → (why ≡ Failed → Rose a.before a.after) → came ≡ fault_of_input why → UnderComes a proof anchors histories (Err came)
-under_failed a proof anchors histories Failed came rose is = subst (λ (f : CommandFault). UnderComes a proof anchors histories (Err f)) (sym is) (rose refl)
-under_failed a proof anchors histories WantedMemory came rose is = subst (λ (f : CommandFault). UnderComes a proof anchors histories (Err f)) (sym is) tt
+pub under_failed : (a : Asked) (proof : List ℕ) (anchors : List Thread) (histories : List (List ℕ)) (why : ReadingFault)
+    (came : CommandFault)
+    → (why ≡ Failed → Rose a.before a.after) → came ≡ fault_of_input why → UnderComes a proof anchors histories
+    (Err came)
+under_failed a proof anchors histories Failed came rose is =
+    subst (λ (f : CommandFault). UnderComes a proof anchors histories (Err f)) (sym is) (rose refl)
+under_failed a proof anchors histories WantedMemory came rose is =
+    subst (λ (f : CommandFault). UnderComes a proof anchors histories (Err f)) (sym is) tt
 
-pub audit_failed : (a : Asked) (proof anchors : List ℕ) (histories : List (List ℕ)) (why : ReadingFault) (came : CommandFault)
-    → (why ≡ Failed → Rose a.before a.after) → came ≡ fault_of_input why → AuditComes a proof anchors histories (Err came)
-audit_failed a proof anchors histories Failed came rose is = subst (λ (f : CommandFault). AuditComes a proof anchors histories (Err f)) (sym is) (rose refl)
-audit_failed a proof anchors histories WantedMemory came rose is = subst (λ (f : CommandFault). AuditComes a proof anchors histories (Err f)) (sym is) tt
+pub audit_failed : (a : Asked) (proof anchors : List ℕ) (histories : List (List ℕ)) (why : ReadingFault)
+    (came : CommandFault)
+    → (why ≡ Failed → Rose a.before a.after) → came ≡ fault_of_input why → AuditComes a proof anchors histories
+    (Err came)
+audit_failed a proof anchors histories Failed came rose is =
+    subst (λ (f : CommandFault). AuditComes a proof anchors histories (Err f)) (sym is) (rose refl)
+audit_failed a proof anchors histories WantedMemory came rose is =
+    subst (λ (f : CommandFault). AuditComes a proof anchors histories (Err f)) (sym is) tt
 
 -- since an earlier moment, of inputs that tell the same, under the anchors of a file
-pub audits_since : (told now : Option Files) (before begun after : ℕ) (proof anchors : List ℕ) (held : List Thread) (histories : List (List ℕ))
-    (r : Result Audited CommandFault) → now ≡ told → before ≤ begun → HasAnchors told anchors held → UnderComes (asked now begun after) proof held histories r
+pub audits_since : (told now : Option Files) (before begun after : ℕ) (proof anchors : List ℕ) (held : List Thread)
+    (histories : List (List ℕ))
+    (r : Result Audited CommandFault) → now ≡ told → before ≤ begun → HasAnchors told anchors held
+    → UnderComes (asked now begun after) proof held histories r
     → AuditComes (asked told before after) proof anchors histories r
 audits_since told now before begun after proof anchors held histories r same le has comes =
     by r (subst (λ t. UnderComes (asked t begun after) proof held histories r) same comes)
   where
-    by : (r : Result Audited CommandFault) → UnderComes (asked told begun after) proof held histories r → AuditComes (asked told before after) proof anchors histories r
+    by : (r : Result Audited CommandFault) → UnderComes (asked told begun after) proof held histories r
+        → AuditComes (asked told before after) proof anchors histories r
     by (Ok audited) comes = (held, has, comes)
     by (Err (Unreadable (BadByte named place))) comes = (held, has, comes)
     by (Err (Unreadable (Unsound named step rule))) comes = (held, has, comes)
@@ -142,13 +171,16 @@ audits_since told now before begun after proof anchors held histories r same le 
     by (Err (Unserved cause)) comes = absurd comes
 
 -- a bad line, once all are read
-pub refuses_line : (a : Asked) (proof anchors all : List ℕ) (histories : List (List ℕ)) (fault : CommandFault) → IsThere a.told proof → IsThere a.told anchors
-    → IsReadTo a.told anchors file_limit all → Each (IsThere a.told) histories → IsNoAnchors anchors all fault → AuditComes a proof anchors histories (Err fault)
+pub refuses_line : (a : Asked) (proof anchors all : List ℕ) (histories : List (List ℕ)) (fault : CommandFault)
+    → IsThere a.told proof → IsThere a.told anchors
+    → IsReadTo a.told anchors file_limit all → Each (IsThere a.told) histories → IsNoAnchors anchors all fault
+    → AuditComes a proof anchors histories (Err fault)
 refuses_line a proof anchors all histories (Unreadable (BadLine named number)) proof_there there read each is =
     (is.0, bad_line_of a.told anchors all there read proof number proof_there is.1, each)
 refuses_line a proof anchors all histories NoMemory proof_there there read each is = tt
 refuses_line a proof anchors all histories (Unreadable (BadByte named place)) proof_there there read each is = absurd is
-refuses_line a proof anchors all histories (Unreadable (Unsound named step rule)) proof_there there read each is = absurd is
+refuses_line a proof anchors all histories (Unreadable (Unsound named step rule)) proof_there there read each is =
+    absurd is
 refuses_line a proof anchors all histories InputFault proof_there there read each is = absurd is
 refuses_line a proof anchors all histories DiskFault proof_there there read each is = absurd is
 refuses_line a proof anchors all histories (Refused refusal) proof_there there read each is = absurd is

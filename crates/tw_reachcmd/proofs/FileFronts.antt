@@ -17,17 +17,21 @@ use Rattle.tw_filecmd.proofs.FormatFronts.{none_is_none, word_is_whole}
 use Rattle.tw_reachcmd.specs.Held.{FileHolds, HoldsNone}
 
 pub thread-short : (word : List ℕ) (t : ThreadProof) → Spells thread_proof_layout word t → length word < file_limit
-thread-short word t spelled = let size = proof-size word (Archived t) (thread-is-proof word t spelled) in omega (arith, size)
+thread-short word t spelled = let size = proof-size word (Archived t) (thread-is-proof word t spelled) in
+    omega (arith, size)
 
 pub link-short : (word : List ℕ) (l : LinkProof) → Spells link_proof_layout word l → length word < file_limit
 link-short word l spelled = let size = proof-size word (Linked l) (link-is-proof word l spelled) in omega (arith, size)
 
 pub evidence-short : (word : List ℕ) (e : Evidence) → Spells evidence_layout word e → length word < file_limit
 evidence-short word e spelled =
-    let size = evidence-size word ([], e, subst (λ w. Spells evidence_layout w e) (sym (append-nil word)) spelled) in omega (arith, size)
+    let size = evidence-size word ([], e, subst (λ w. Spells evidence_layout w e) (sym (append-nil word)) spelled) in
+    omega (arith, size)
 
-module _ {X : Type 0} (layout : Format X) (short : (word : List ℕ) (x : X) → Spells layout word x → length word < file_limit)
-    (told : Option Files) (file all : List ℕ) (there : IsThere told file) (read : IsReadTo told file file_limit all) where
+module _ {X : Type 0} (layout : Format X) (short : (word : List ℕ) (x : X) → Spells layout word x
+    → length word < file_limit)
+    (told : Option Files) (file all : List ℕ) (there : IsThere told file)
+    (read : IsReadTo told file file_limit all) where
   pub holds : (x : X) → Spells layout all x → FileHolds layout told file x
   holds x spelled = record {
     there = there;

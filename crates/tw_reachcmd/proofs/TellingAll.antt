@@ -12,11 +12,19 @@ pub record EndsWith (told : Option Files) (files all : List (List ℕ)) (file : 
   pub tells_front : TellAll told files front
   pub tells : TellsBytes told file bytes
 
-pub ends_with : (told : Option Files) (files all : List (List ℕ)) (file : List ℕ) → TellAll told (files ++ file ∷ []) all → EndsWith told files all file
+pub ends_with : (told : Option Files) (files all : List (List ℕ)) (file : List ℕ) → TellAll told (files ++ file ∷ [])
+    all → EndsWith told files all file
 ends_with told [] [] file tells = absurd tells
-ends_with told [] (bytes ∷ []) file tells = record { front = []; bytes = bytes; is = refl; tells_front = tt; tells = tells.0 }
+ends_with told [] (bytes ∷ []) file tells =
+    record { front = []; bytes = bytes; is = refl; tells_front = tt; tells = tells.0 }
 ends_with told [] (bytes ∷ more ∷ all) file tells = absurd tells.1
 ends_with told (first ∷ files) [] file tells = absurd tells
 ends_with told (first ∷ files) (head ∷ all) file tells =
     let rest = ends_with told files all file tells.1 in
-    record { front = head ∷ rest.front; bytes = rest.bytes; is = ap (λ more. head ∷ more) rest.is; tells_front = (tells.0, rest.tells_front); tells = rest.tells }
+    record {
+      front = head ∷ rest.front;
+      bytes = rest.bytes;
+      is = ap (λ more. head ∷ more) rest.is;
+      tells_front = (tells.0, rest.tells_front);
+      tells = rest.tells;
+    }

@@ -1,5 +1,6 @@
 -- The values of the lines that texts are read as.
-use Rattle.std.proofs.Common.{◌≡◌, ℕ, suc, ◌≤◌, List, [], ◌∷◌, codes, length, nat_le, ◌&&◌, Bool, true, false, if◌then◌else◌, Option, Some, None, option_map, Result, Ok, Err, refl, sym, subst, arith}
+use Rattle.std.proofs.Common.{◌≡◌, ℕ, suc, ◌≤◌, List, [], ◌∷◌, codes, length, nat_le, ◌&&◌, Bool, true, false}
+use Rattle.std.proofs.Common.{if◌then◌else◌, Option, Some, None, option_map, Result, Ok, Err, refl, sym, subst, arith}
 use Rattle.std.specs.Option.{option_and_then}
 use Rattle.std.specs.Result.{result_ok}
 use Rattle.std.specs.Str.{bytes_eq}
@@ -19,11 +20,15 @@ use Rattle.tw_base.specs.kinds.Names.{IsName, is_name_text, padded_name}
 use Rattle.tw_text.specs.Words.{is_number, is_number_within, word_number}
 use Rattle.tw_words.specs.Forms.{name_value, number_value}
 use Rattle.tw_script.specs.AskedWords.{AsksWell}
-use Rattle.tw_script.specs.LineForms.{Form, all_values, any_number_value, choose_form, end, form_named, maybe, maybe_number, next, no_words, then_form}
-use Rattle.tw_script.specs.LineTable.{anchor, append, asked_proof, crash, deliver, hostile, inject, join, line_forms, line_of, lose, of_absence, of_event, of_link, of_thread, proofs, prove, send, service, verify}
+use Rattle.tw_script.specs.LineForms.{Form, all_values, any_number_value, choose_form, end, form_named, maybe}
+use Rattle.tw_script.specs.LineForms.{maybe_number, next, no_words, then_form}
+use Rattle.tw_script.specs.LineTable.{anchor, append, asked_proof, crash, deliver, hostile, inject, join, line_forms}
+use Rattle.tw_script.specs.LineTable.{line_of, lose, of_absence, of_event, of_link, of_thread, proofs, prove, send}
+use Rattle.tw_script.specs.LineTable.{service, verify}
 use Rattle.tw_script.specs.LineWords.{bytes_value, choice_value, words as words_of}
 use Rattle.tw_script.specs.declared.line.Line.{Line}
-use Rattle.tw_script.specs.declared.line.Line.TheVariants.{Service, Hostile, Append, Send, Inject, Deliver, Lose, Crash, Prove, Join, Anchor, Verify}
+use Rattle.tw_script.specs.declared.line.Line.TheVariants.{Service, Hostile, Append, Send, Inject, Deliver, Lose, Crash}
+use Rattle.tw_script.specs.declared.line.Line.TheVariants.{Prove, Join, Anchor, Verify}
 
 -- what a line has by its form
 abbrev pub HasValues : Line → Type 0
@@ -53,38 +58,45 @@ module _ {X : Type 0} (P : X → Type 0) where
     gives-then all [] x is = absurd (none-some x is)
     gives-then all (word ∷ words) x is = by (part word) refl is
       where
-        by : (o : Option V) → part word ≡ o → option_and_then (λ (taken : V × List (List ℕ)). form taken.0 taken.1) (option_map (λ (v : V). (v, words)) o) ≡ Some x → P x
+        by : (o : Option V) → part word ≡ o → option_and_then (λ (taken : V × List (List ℕ)). form taken.0 taken.1)
+            (option_map (λ (v : V). (v, words)) o) ≡ Some x → P x
         by None at is = absurd (none-some x is)
         by (Some v) at is = all word v at words x is
 
   module _ {Y : Type 0} (f : Y → X) (form : Form Y) where
-    gives-map : ((words : List (List ℕ)) (y : Y) → form words ≡ Some y → P (f y)) → Gives (λ words. option_map f (form words))
+    gives-map : ((words : List (List ℕ)) (y : Y) → form words ≡ Some y → P (f y))
+        → Gives (λ words. option_map f (form words))
     gives-map all words x is = by (form words) refl is
       where
         by : (o : Option Y) → form words ≡ o → option_map f o ≡ Some x → P x
         by None at is = absurd (none-some x is)
         by (Some y) at is = subst P (same_Some (f y) x is) (all words y at)
 
-  gives-named : (rows : List (List ℕ × Form X)) → Each (λ (row : List ℕ × Form X). Gives row.1) rows → (word : List ℕ) (form : Form X) → form_named rows word ≡ Some form → Gives form
+  gives-named : (rows : List (List ℕ × Form X)) → Each (λ (row : List ℕ × Form X). Gives row.1) rows
+      → (word : List ℕ) (form : Form X) → form_named rows word ≡ Some form → Gives form
   gives-named [] all word form is = absurd (none-some form is)
   gives-named (row ∷ rows) all word form is = by (bytes_eq word row.0) is (λ q. gives-named rows all.1 word form q)
     where
-      by : (b : Bool) → (if b then Some row.1 else form_named rows word) ≡ Some form → (form_named rows word ≡ Some form → Gives form) → Gives form
+      by : (b : Bool) → (if b then Some row.1 else form_named rows word) ≡ Some form
+          → (form_named rows word ≡ Some form → Gives form) → Gives form
       by true is rest = subst Gives (same_Some row.1 form is) all.0
       by false is rest = rest is
 
-  gives-choose : (rows : List (List ℕ × Form X)) → Each (λ (row : List ℕ × Form X). Gives row.1) rows → Gives (choose_form rows)
+  gives-choose : (rows : List (List ℕ × Form X)) → Each (λ (row : List ℕ × Form X). Gives row.1) rows
+      → Gives (choose_form rows)
   gives-choose rows all = gives-then (form_named rows) (λ form. form) (gives-named rows all)
 
 -- ---- words
 
-module _ {V : Type 0} (Q : V → Type 0) (part : List ℕ → Option V) (each : (word : List ℕ) (v : V) → part word ≡ Some v → Q v) where
+module _ {V : Type 0} (Q : V → Type 0) (part : List ℕ → Option V) (each : (word : List ℕ) (v : V) → part word ≡ Some v
+    → Q v) where
   values-each : (words : List (List ℕ)) (vs : List V) → all_values part words ≡ Some vs → Each Q vs
   unfolding all_values
   values-each [] vs is = subst (Each Q) (same_Some [] vs is) tt
   values-each (word ∷ words) vs is = by (part word) refl (all_values part words) (values-each words) is
     where
-      front : (v : V) → Q v → (o : Option (List V)) → ((more : List V) → o ≡ Some more → Each Q more) → option_map (λ (more : List V). v ∷ more) o ≡ Some vs → Each Q vs
+      front : (v : V) → Q v → (o : Option (List V)) → ((more : List V) → o ≡ Some more → Each Q more)
+          → option_map (λ (more : List V). v ∷ more) o ≡ Some vs → Each Q vs
       front v q None rest is = absurd (none-some vs is)
       front v q (Some more) rest is = subst (Each Q) (same_Some (v ∷ more) vs is) (q, rest more refl)
 
@@ -100,11 +112,13 @@ are-bytes (x ∷ xs) is = (is 0, are-bytes xs (λ i. is (suc i)))
 bytes-are : (word bytes : List ℕ) → bytes_value word ≡ Some bytes → AreBytes bytes
 bytes-are word bytes is = by (bytes_eq word (codes "-")) (nat_le 1 (length word)) (decode_of word) refl is
   where
-    by : (none some : Bool) (r : Result (List ℕ) FromHexError) → decode_of word ≡ r → (if none then Some [] else if some then result_ok r else None) ≡ Some bytes → AreBytes bytes
+    by : (none some : Bool) (r : Result (List ℕ) FromHexError) → decode_of word ≡ r
+        → (if none then Some [] else if some then result_ok r else None) ≡ Some bytes → AreBytes bytes
     by true some r at is = subst AreBytes (same_Some [] bytes is) tt
     by false false r at is = absurd (none-some bytes is)
     by false true (Err e) at is = absurd (none-some bytes is)
-    by false true (Ok found) at is = subst AreBytes (same_Some found bytes is) (are-bytes found (decode_of-ok word found at).3)
+    by false true (Ok found) at is = subst AreBytes (same_Some found bytes is)
+        (are-bytes found (decode_of-ok word found at).3)
 
 name-is : (word name : List ℕ) → name_value word ≡ Some name → IsName name
 name-is word name is =
@@ -114,7 +128,8 @@ name-is word name is =
 number-step : (word : List ℕ) (n : ℕ) → number_value 1 LAST_STEP word ≡ Some n → IsStep n
 number-step word n is =
     let parts = cond_some (is_number_within 1 LAST_STEP word) (word_number word) n is in
-    let within = and_parts (is_number word && nat_le 1 (word_number word)) (nat_le (word_number word) LAST_STEP) parts.0 in
+    let within = and_parts (is_number word && nat_le 1 (word_number word)) (nat_le (word_number word) LAST_STEP)
+    parts.0 in
     let least = leb-true 1 (word_number word) (and_parts (is_number word) (nat_le 1 (word_number word)) within.0).1 in
     subst IsStep parts.1 (omega (arith, least), leb-true (word_number word) LAST_STEP within.1)
 
@@ -126,19 +141,24 @@ gives-maybe made may = gives-map MayAsk made maybe_number (λ words top is. may 
 event-gives : Gives MayAsk of_event
 unfolding of_event
 event-gives =
-    gives-then MayAsk any_number_value _ (λ word step is. gives-then MayAsk any_number_value _ (λ word index is. gives-maybe (λ top. ask.Event step index top) (λ top. tt)))
+    gives-then MayAsk any_number_value _ (λ word step is. gives-then MayAsk any_number_value _
+    (λ word index is. gives-maybe (λ top. ask.Event step index top) (λ top. tt)))
 
 thread-gives : Gives MayAsk of_thread
 unfolding of_thread
 thread-gives =
-    gives-then MayAsk any_number_value _ (λ word step is. gives-then MayAsk name_value _ (λ word peer is. gives-then MayAsk (number_value 1 LAST_STEP) _
-    (λ word k is. gives-maybe (λ top. ask.Thread step (record { from = peer; step = k }) top) (λ top. number-step word k is))))
+    gives-then MayAsk any_number_value _ (λ word step is. gives-then MayAsk name_value _
+    (λ word peer is. gives-then MayAsk (number_value 1 LAST_STEP) _
+    (λ word k is. gives-maybe (λ top. ask.Thread step (record { from = peer; step = k }) top)
+    (λ top. number-step word k is))))
 
 absence-gives : Gives MayAsk of_absence
 unfolding of_absence
 absence-gives =
-    gives-then MayAsk any_number_value _ (λ word step is. gives-then MayAsk name_value _ (λ word peer is. gives-then MayAsk (number_value 1 LAST_STEP) _
-    (λ word k is. gives-maybe (λ top. ask.Absent step (record { from = peer; step = k }) top) (λ top. number-step word k is))))
+    gives-then MayAsk any_number_value _ (λ word step is. gives-then MayAsk name_value _
+    (λ word peer is. gives-then MayAsk (number_value 1 LAST_STEP) _
+    (λ word k is. gives-maybe (λ top. ask.Absent step (record { from = peer; step = k }) top)
+    (λ top. number-step word k is))))
 
 link-gives : Gives MayAsk of_link
 unfolding of_link
@@ -152,27 +172,33 @@ asked-gives = gives-choose MayAsk proofs (event-gives, (thread-gives, (absence-g
 
 service-gives : Gives HasValues service
 unfolding service
-service-gives = gives-then HasValues name_value _ (λ word name is. gives-end HasValues (Service name) (name-is word name is))
+service-gives = gives-then HasValues name_value _ (λ word name is. gives-end HasValues (Service name)
+    (name-is word name is))
 
 hostile-gives : Gives HasValues hostile
 unfolding hostile
-hostile-gives = gives-then HasValues name_value _ (λ word name is. gives-end HasValues (Hostile name) (name-is word name is))
+hostile-gives = gives-then HasValues name_value _ (λ word name is. gives-end HasValues (Hostile name)
+    (name-is word name is))
 
 append-gives : Gives HasValues append
 unfolding append
-append-gives = gives-then HasValues name_value _ (λ word name is. gives-map HasValues (λ events. Append name events) (all_values bytes_value) (values-each AreBytes bytes_value bytes-are))
+append-gives = gives-then HasValues name_value _ (λ word name is. gives-map HasValues (λ events. Append name events)
+    (all_values bytes_value) (values-each AreBytes bytes_value bytes-are))
 
 send-gives : Gives HasValues send
 unfolding send
-send-gives = gives-then HasValues name_value _ (λ word name is. gives-then HasValues any_number_value _ (λ word since is. gives-end HasValues (Send name since) tt))
+send-gives = gives-then HasValues name_value _ (λ word name is. gives-then HasValues any_number_value _
+    (λ word since is. gives-end HasValues (Send name since) tt))
 
 inject-gives : Gives HasValues inject
 unfolding inject
-inject-gives = gives-then HasValues name_value _ (λ word name is. gives-then HasValues bytes_value _ (λ word bytes is. gives-end HasValues (Inject name bytes) tt))
+inject-gives = gives-then HasValues name_value _ (λ word name is. gives-then HasValues bytes_value _
+    (λ word bytes is. gives-end HasValues (Inject name bytes) tt))
 
 deliver-gives : Gives HasValues deliver
 unfolding deliver
-deliver-gives = gives-then HasValues any_number_value _ (λ word message is. gives-then HasValues name_value _ (λ word name is. gives-end HasValues (Deliver message name) tt))
+deliver-gives = gives-then HasValues any_number_value _ (λ word message is. gives-then HasValues name_value _
+    (λ word name is. gives-end HasValues (Deliver message name) tt))
 
 lose-gives : Gives HasValues lose
 unfolding lose
@@ -182,16 +208,19 @@ crash-gives : Gives HasValues crash
 unfolding crash
 crash-gives =
     gives-then HasValues name_value _ (λ word name is. gives-then HasValues (number_value 1 0xffff_ffff_ffff_ffff) _
-    (λ word call is. gives-then HasValues choice_value _ (λ word choice is. gives-end HasValues (Crash name call choice) tt)))
+    (λ word call is. gives-then HasValues choice_value _ (λ word choice is. gives-end HasValues (Crash name call choice)
+    tt)))
 
 prove-gives : Gives HasValues prove
 unfolding prove
-prove-gives = gives-then HasValues name_value _ (λ word name is. gives-map HasValues (λ asked. Prove name asked) asked_proof asked-gives)
+prove-gives = gives-then HasValues name_value _ (λ word name is. gives-map HasValues (λ asked. Prove name asked)
+    asked_proof asked-gives)
 
 join-gives : Gives HasValues join
 unfolding join
 join-gives words x is =
-    option_and_then_some (λ (files : List ℕ). if nat_le 2 (length files) then Some (Join files) else None) (all_values any_number_value words) x is
+    option_and_then_some (λ (files : List ℕ). if nat_le 2 (length files) then Some (Join files) else None)
+    (all_values any_number_value words) x is
     (λ files at some.
     let parts = cond_some (nat_le 2 (length files)) (Join files) x some in
     subst HasValues parts.1 (leb-true 2 (length files) parts.0))
@@ -207,8 +236,22 @@ unfolding verify
 verify-gives = gives-then HasValues any_number_value _ (λ word file is. gives-end HasValues (Verify file) tt)
 
 all-give : Each (λ (row : List ℕ × Form Line). Gives HasValues row.1) line_forms
-all-give =
-    (service-gives, (hostile-gives, (append-gives, (send-gives, (inject-gives, (deliver-gives, (lose-gives, (crash-gives, (prove-gives, (join-gives, (anchor-gives, (verify-gives, tt))))))))))))
+all-give = (
+  service-gives,
+  (
+    hostile-gives,
+    (
+      append-gives,
+      (
+        send-gives,
+        (
+          inject-gives,
+          (deliver-gives, (lose-gives, (crash-gives, (prove-gives, (join-gives, (anchor-gives, (verify-gives, tt))))))),
+        ),
+      ),
+    ),
+  ),
+)
 
 pub line-has : (text : List ℕ) (line : Line) → line_of text ≡ Some line → HasValues line
 unfolding line_of

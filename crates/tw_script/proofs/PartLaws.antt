@@ -1,5 +1,7 @@
 -- The parts of a text, one after another.
-use Rattle.std.proofs.Common.{◌≡◌, ℕ, suc, ◌+◌, ◌-◌, ◌≤◌, List, [], ◌∷◌, length, take, drop, position, Bool, true, false, cond, Some, None, nat_lt, ap, subst, sym, ◌∙◌, refl, inl, inr, arith, le-leb, leb-true}
+use Rattle.std.proofs.Common.{◌≡◌, ℕ, suc, ◌+◌, ◌-◌, ◌≤◌, List, [], ◌∷◌, length, take, drop, position, Bool, true}
+use Rattle.std.proofs.Common.{false, cond, Some, None, nat_lt, ap, subst, sym, ◌∙◌, refl, inl, inr, arith, le-leb}
+use Rattle.std.proofs.Common.{leb-true}
 use Rattle.std.specs.List.{position_or_len, slice_split}
 use Rattle.std.proofs.lemmas.Bool.{cases_lt}
 use Rattle.std.proofs.Math.Seq.{take-length}
@@ -13,7 +15,8 @@ module _ (p : ℕ → Bool) (xs : List ℕ) where
   pub split-some : (i : ℕ) → position p xs ≡ Some i → slice_split p xs ≡ take i xs ∷ slice_split p (drop (i + 1) xs)
   split-some i at = by (nat_lt (position_or_len p xs) (length xs)) refl at
     where
-      by : (b : Bool) → nat_lt (position_or_len p xs) (length xs) ≡ b → cond b (Some (position_or_len p xs)) None ≡ Some i
+      by : (b : Bool) → nat_lt (position_or_len p xs) (length xs) ≡ b → cond b (Some (position_or_len p xs)) None
+          ≡ Some i
           → slice_split p xs ≡ take i xs ∷ slice_split p (drop (i + 1) xs)
       by true below some =
           let place : position_or_len p xs ≡ i = cc in
@@ -26,7 +29,8 @@ module _ (p : ℕ → Bool) (xs : List ℕ) where
   split-none none = elim (cases_lt (position_or_len p xs) (length xs)) [
     | inl below ↦ absurd (
         let found : position p xs ≡ Some (position_or_len p xs) =
-        ap (λ (b : Bool). cond b (Some (position_or_len p xs)) None) (le-leb (suc (position_or_len p xs)) (length xs) below) in cc)
+        ap (λ (b : Bool). cond b (Some (position_or_len p xs)) None) (le-leb (suc (position_or_len p xs)) (length xs)
+        below) in cc)
     | inr above ↦ slice_split_none p xs (λ k d within. fails_before_first p xs k d (omega (arith, above, within)))
   ]
 

@@ -1,5 +1,6 @@
 -- Texts are read one after another.
-use Rattle.std.proofs.Common.{◌≡◌, ℕ, suc, ◌+◌, ◌≤◌, List, [], ◌∷◌, ◌++◌, length, Bool, true, false, Some, None, Result, Ok, Err, ap, subst, sym, ◌∙◌, refl, arith, append-nil, append_assoc}
+use Rattle.std.proofs.Common.{◌≡◌, ℕ, suc, ◌+◌, ◌≤◌, List, [], ◌∷◌, ◌++◌, length, Bool, true, false, Some, None, Result}
+use Rattle.std.proofs.Common.{Ok, Err, ap, subst, sym, ◌∙◌, refl, arith, append-nil, append_assoc}
 use Rattle.tw_msg.specs.AnchorsFile.{is_line_feed}
 use Rattle.tw_script.specs.Allowed.{made_by, nothing_made}
 use Rattle.tw_script.specs.LineTakings.{TakesText}
@@ -8,7 +9,8 @@ use Rattle.tw_script.specs.Takings.{parts_left}
 use Rattle.tw_script.specs.Scripts.{allowed_line, in_front, is_skipped, line_texts, read_lines}
 use Rattle.tw_script.specs.declared.limits.TheConstants.{MOST_SCRIPT_BYTES}
 use Rattle.tw_script.specs.declared.line.Line.{Line}
-use Rattle.tw_script.specs.declared.line.Line.TheVariants.{Service, Hostile, Append, Send, Inject, Deliver, Lose, Crash, Prove, Join, Anchor, Verify}
+use Rattle.tw_script.specs.declared.line.Line.TheVariants.{Service, Hostile, Append, Send, Inject, Deliver, Lose, Crash}
+use Rattle.tw_script.specs.declared.line.Line.TheVariants.{Prove, Join, Anchor, Verify}
 use Rattle.tw_script.specs.declared.made.Made.{Made}
 use Rattle.tw_script.specs.declared.script.NumberedLine.{NumberedLine}
 use Rattle.tw_script.specs.declared.stop.Stop.{Stop}
@@ -30,11 +32,13 @@ module _ (made : Made) (number : ℕ) (text : List ℕ) (texts : List (List ℕ)
   read-skipped skipped = rw skipped refl
 
   pub read-line : (line : Line) → is_skipped text ≡ false → allowed_line made text ≡ Some line
-      → read_lines made number (text ∷ texts) ≡ in_front (numbered number line) (read_lines (made_by made line) (suc number) texts)
+      → read_lines made number (text ∷ texts) ≡ in_front (numbered number line)
+      (read_lines (made_by made line) (suc number) texts)
   unfolding read_lines
   read-line line told is = rw (told, is) refl
 
-  pub read-stops : is_skipped text ≡ false → allowed_line made text ≡ None → read_lines made number (text ∷ texts) ≡ Err number
+  pub read-stops : is_skipped text ≡ false → allowed_line made text ≡ None → read_lines made number (text ∷ texts) ≡ Err
+      number
   unfolding read_lines
   read-stops told none = rw (told, none) refl
 
@@ -60,12 +64,15 @@ ahead-none : (r : Result (List NumberedLine) ℕ) → ahead [] r ≡ r
 ahead-none (Ok more) = refl
 ahead-none (Err number) = refl
 
-ahead-one : (script : List NumberedLine) (line : NumberedLine) (r : Result (List NumberedLine) ℕ) → ahead script (in_front line r) ≡ ahead (script ++ line ∷ []) r
-ahead-one script line (Ok more) = ap (λ (lines : List NumberedLine). Ok lines) (sym (append_assoc script (line ∷ []) more))
+ahead-one : (script : List NumberedLine) (line : NumberedLine) (r : Result (List NumberedLine) ℕ)
+    → ahead script (in_front line r) ≡ ahead (script ++ line ∷ []) r
+ahead-one script line (Ok more) = ap (λ (lines : List NumberedLine). Ok lines)
+    (sym (append_assoc script (line ∷ []) more))
 ahead-one script line (Err number) = refl
 
 -- so many texts are read, as these lines, and these are left
-pub record AreRead (bytes : List ℕ) (made : Made) (script : List NumberedLine) (number : ℕ) (left : List (List ℕ)) : Type 0 where
+pub record AreRead (bytes : List ℕ) (made : Made) (script : List NumberedLine) (number : ℕ)
+    (left : List (List ℕ)) : Type 0 where
   pub read : read_lines nothing_made 1 (line_texts bytes) ≡ ahead script (read_lines made (suc number) left)
   pub few : number + length left ≤ MOST_SCRIPT_BYTES + 1
   pub files : made.files ≤ number
@@ -77,7 +84,8 @@ none-read bytes within = record {
   files = omega arith;
 }
 
-pub begun : (bytes : List ℕ) (made : Made) (script : List NumberedLine) (more : Bool) (text : List ℕ) → made ≡ nothing_made → script ≡ [] → more ≡ true → text ≡ bytes
+pub begun : (bytes : List ℕ) (made : Made) (script : List NumberedLine) (more : Bool) (text : List ℕ)
+    → made ≡ nothing_made → script ≡ [] → more ≡ true → text ≡ bytes
     → length bytes ≤ MOST_SCRIPT_BYTES → AreRead bytes made script 0 (parts_left is_line_feed more text)
 begun bytes made script true text none empty left whole within =
     subst (λ (m : Made). AreRead bytes m script 0 (line_texts text)) (sym none)
@@ -85,7 +93,8 @@ begun bytes made script true text none empty left whole within =
     (subst (λ (t : List ℕ). AreRead bytes nothing_made [] 0 (line_texts t)) (sym whole) (none-read bytes within)))
 begun bytes made script false text none empty left whole within = absurd (cc)
 
-module _ (bytes : List ℕ) (made : Made) (script : List NumberedLine) (number : ℕ) (text : List ℕ) (left : List (List ℕ)) (before : AreRead bytes made script number (text ∷ left)) where
+module _ (bytes : List ℕ) (made : Made) (script : List NumberedLine) (number : ℕ) (text : List ℕ) (left : List (List ℕ))
+    (before : AreRead bytes made script number (text ∷ left)) where
   -- the next number
   up : suc number ≡ number + 1
   up = omega arith
@@ -110,15 +119,19 @@ module _ (bytes : List ℕ) (made : Made) (script : List NumberedLine) (number :
     files = omega (arith, before.files, files-made made line);
   }
 
-  pub next-stops : is_skipped text ≡ false → allowed_line made text ≡ None → read_lines nothing_made 1 (line_texts bytes) ≡ Err (number + 1)
+  pub next-stops : is_skipped text ≡ false → allowed_line made text ≡ None → read_lines nothing_made 1
+      (line_texts bytes) ≡ Err (number + 1)
   next-stops told none =
       before.read ∙ ap (ahead script) (read-stops made (suc number) text left told none) ∙ ap (λ (n : ℕ). Err n) up
 
-  pub stops-at : (stop : Stop) (after : Made) → is_skipped text ≡ false → TakesText made text after (Err stop) → ReadsLines bytes (Err (fault_at (number + 1) stop))
+  pub stops-at : (stop : Stop) (after : Made) → is_skipped text ≡ false → TakesText made text after (Err stop)
+      → ReadsLines bytes (Err (fault_at (number + 1) stop))
   stops-at NotAllowed after told none = next-stops told none
   stops-at NoMemory after told free = tt
 
 -- all are read
-pub all-read : (bytes : List ℕ) (made : Made) (script : List NumberedLine) (number : ℕ) → AreRead bytes made script number [] → read_lines nothing_made 1 (line_texts bytes) ≡ Ok script
+pub all-read : (bytes : List ℕ) (made : Made) (script : List NumberedLine) (number : ℕ) → AreRead bytes made script
+    number [] → read_lines nothing_made 1 (line_texts bytes) ≡ Ok script
 all-read bytes made script number before =
-    before.read ∙ ap (ahead script) (read-none made (suc number)) ∙ ap (λ (lines : List NumberedLine). Ok lines) (append-nil script)
+    before.read ∙ ap (ahead script) (read-none made (suc number)) ∙ ap (λ (lines : List NumberedLine). Ok lines)
+    (append-nil script)

@@ -1,5 +1,6 @@
 -- Words are taken as values, one after another.
-use Rattle.std.proofs.Common.{◌≡◌, ℕ, List, [], ◌∷◌, ◌++◌, Option, Some, None, option_map, Err, ap, sym, ◌∙◌, refl, append-nil, append_assoc}
+use Rattle.std.proofs.Common.{◌≡◌, ℕ, List, [], ◌∷◌, ◌++◌, Option, Some, None, option_map, Err, ap, sym, ◌∙◌, refl}
+use Rattle.std.proofs.Common.{append-nil, append_assoc}
 use Rattle.tw_script.specs.LineForms.{all_values}
 use Rattle.tw_script.specs.Takings.{ReadsWords}
 use Rattle.tw_script.specs.declared.stop.Stop.{Stop}
@@ -14,7 +15,8 @@ module _ {V : Type 0} where
   behind-none (Some rest) = refl
   behind-none None = refl
 
-  behind-one : (values : List V) (v : V) (more : Option (List V)) → behind values (option_map (λ rest. v ∷ rest) more) ≡ behind (values ++ v ∷ []) more
+  behind-one : (values : List V) (v : V) (more : Option (List V)) → behind values (option_map (λ rest. v ∷ rest) more)
+      ≡ behind (values ++ v ∷ []) more
   behind-one values v (Some rest) = ap (λ (vs : List V). Some vs) (sym (append_assoc values (v ∷ []) rest))
   behind-one values v None = refl
 
@@ -27,17 +29,20 @@ module _ {V : Type 0} (part : List ℕ → Option V) where
   none-taken all = record { are = sym (behind-none (all_values part all)) }
 
   module _ (all left : List (List ℕ)) (values : List V) where
-    pub more-taken : (word : List ℕ) (v : V) → AreTaken all (word ∷ left) values → part word ≡ Some v → AreTaken all left (values ++ v ∷ [])
+    pub more-taken : (word : List ℕ) (v : V) → AreTaken all (word ∷ left) values → part word ≡ Some v
+        → AreTaken all left (values ++ v ∷ [])
     unfolding all_values
     more-taken word v before some = record {
       are = before.are ∙ rw some (behind-one values v (all_values part left));
     }
 
-    pub taken-stops : (word : List ℕ) → AreTaken all (word ∷ left) values → part word ≡ None → all_values part all ≡ None
+    pub taken-stops : (word : List ℕ) → AreTaken all (word ∷ left) values → part word ≡ None
+        → all_values part all ≡ None
     unfolding all_values
     taken-stops word before none = before.are ∙ rw none refl
 
-    pub stop-taken : {Y Z : Type 0} (view : Y → V) (views : Z → List V) (word : List ℕ) (stop : Stop) → AreTaken all (word ∷ left) values
+    pub stop-taken : {Y Z : Type 0} (view : Y → V) (views : Z → List V) (word : List ℕ) (stop : Stop)
+        → AreTaken all (word ∷ left) values
         → ReadsWords (part word) view (Err stop) → ReadsWords (all_values part all) views (Err stop)
     stop-taken view views word NotAllowed before none = taken-stops word before none
     stop-taken view views word NoMemory before free = tt

@@ -32,66 +32,105 @@ use Rattle.tw_service.proofs.Serving.{read_leaves, read_serves}
 abbrev fails : (T : Type 0) → Refusal → Result T Refusal
 fails T why = Err why
 
-module _ {D H : Type 0} {g : _} {k : _} (view : D → DiskView) (only_now : (d : D) (c : Image) → (view d).left_since (view d).moment c → (view d).may_leave c) (dig : List ℕ → List ℕ) {T : Type 0} (Own : Refusal → Type 0) (call : Call) (reply : T → Reply)
+module _ {D H : Type 0} {g : _} {k : _} (view : D → DiskView) (only_now : (d : D) (c : Image) → (view d).left_since
+    (view d).moment c → (view d).may_leave c) (dig : List ℕ → List ℕ) {T : Type 0} (Own : Refusal → Type 0)
+    (call : Call) (reply : T → Reply)
     (table : Option Refusal) (found : Image → Found (Result T Refusal)) where
   -- a store that was only read
-  over_on : (s t : Service D H g k) → record_of t ≡ record_of s → IsSameStore view s.recorded.kept.store t.recorded.kept.store
-      → (ps : Image) → IsOver view s ps → IsOver view t ps × LeavesOnly (view (disk_of s)) (view (disk_of t)) (IsWritten root_kind (written_record (record_of s) ps))
+  over_on : (s t : Service D H g k) → record_of t ≡ record_of s → IsSameStore view s.recorded.kept.store
+      t.recorded.kept.store
+      → (ps : Image) → IsOver view s ps → IsOver view t ps × LeavesOnly (view (disk_of s)) (view (disk_of t))
+      (IsWritten root_kind (written_record (record_of s) ps))
   over_on s t root same ps over = (
     subst (λ (r : RootRecord). RestsWith view root_kind t.recorded.kept.store (written_record r ps)) (sym root)
-        (still_rests view root_kind s.recorded.kept.store t.recorded.kept.store (written_record s.recorded.kept.root ps) same over),
-    only_same view root_kind only_now s.recorded.kept.store t.recorded.kept.store (written_record s.recorded.kept.root ps) (IsWritten root_kind (written_record s.recorded.kept.root ps)) same over (λ i was. was),
+        (still_rests view root_kind s.recorded.kept.store t.recorded.kept.store (written_record s.recorded.kept.root ps)
+        same over),
+    only_same view root_kind only_now s.recorded.kept.store t.recorded.kept.store (written_record s.recorded.kept.root
+        ps) (IsWritten root_kind (written_record s.recorded.kept.root ps)) same over (λ i was. was),
   )
 
   -- the table's refusal
-  pub asked_refused : (s : Service D H g k) (r : Refusal) → Some r ≡ table → (IsFault r → ⊥) → ((ps : Image) → pages_of view s ≡ Some ps → found ps ≡ Is (Err r))
-      → (has_failed s ≡ false → (h : History) → Serves dig view s h → IsTold r × IsStepOf dig h call (Refused r) h) → AsksOr dig view Own call reply table found s s (Err r)
+  pub asked_refused : (s : Service D H g k) (r : Refusal) → Some r ≡ table → (IsFault r → ⊥)
+      → ((ps : Image) → pages_of view s ≡ Some ps → found ps ≡ Is (Err r))
+      → (has_failed s ≡ false → (h : History) → Serves dig view s h → IsTold r × IsStepOf dig h call (Refused r) h)
+      → AsksOr dig view Own call reply table found s s (Err r)
   asked_refused s r is told finds step = record {
-    table = subst (λ (o : Option Refusal). MatchOption o (IfErr (fails T r) (λ why. IsFault why ⊎ Own why)) (λ why. fails T r ≡ Err why)) is refl;
+    table = subst (λ (o : Option Refusal). MatchOption o (IfErr (fails T r) (λ why. IsFault why ⊎ Own why))
+        (λ why. fails T r ≡ Err why)) is refl;
     answer = λ ps list. table_found r (found ps) told (finds ps list);
-    machine = λ whole h served. let own = step whole h served in answers_refusal dig h call reply (Serves dig view s) r own.0 own.1 served;
-    same = λ h served. (served, read_leaves view only_now dig s.recorded.kept.store s.recorded.kept.store s.recorded.kept.root h (is_same_itself view s.recorded.kept.store) served);
+    machine = λ whole h served. let own = step whole h served in answers_refusal dig h call reply (Serves dig view s) r
+        own.0 own.1 served;
+    same = λ h served. (
+      served,
+      read_leaves view only_now dig s.recorded.kept.store s.recorded.kept.store s.recorded.kept.root h
+          (is_same_itself view s.recorded.kept.store) served,
+    );
     unwritten = is_same_itself view s.recorded.kept.store;
     over = over_on s s refl (is_same_itself view s.recorded.kept.store);
     kept = refl;
-    broken = ((λ failed. inl failed), (λ either. ⊎_elim (λ failed. failed) (λ fault. absurd (told (is_disk_fault T r fault))) either));
+    broken = (
+      (λ failed. inl failed),
+      (λ either. ⊎_elim (λ failed. failed) (λ fault. absurd (told (is_disk_fault T r fault))) either),
+    );
     fault = λ fault. absurd (told (is_disk_fault T r fault));
     later = omega arith;
   }
 
   -- the pages were read
-  module _ (s t : Service D H g k) (none : None ≡ table) (root : record_of t ≡ record_of s) (same : IsSameStore view s.recorded.kept.store t.recorded.kept.store)
+  module _ (s t : Service D H g k) (none : None ≡ table) (root : record_of t ≡ record_of s)
+      (same : IsSameStore view s.recorded.kept.store t.recorded.kept.store)
       (later : (view (disk_of s)).faults ≤ (view (disk_of t)).faults) where
     serves_on : (h : History) → Serves dig view s h → Serves dig view t h
-    serves_on h served = subst (λ (r : RootRecord). StoreServes dig view t.recorded.kept.store r h) (sym root) (read_serves view only_now dig s.recorded.kept.store t.recorded.kept.store s.recorded.kept.root h same served)
+    serves_on h served = subst (λ (r : RootRecord). StoreServes dig view t.recorded.kept.store r h) (sym root)
+        (read_serves view only_now dig s.recorded.kept.store t.recorded.kept.store s.recorded.kept.root h same served)
 
-    pub asked_ok : (x : T) → t.is_broken ≡ s.is_broken → ((ps : Image) → pages_of view s ≡ Some ps → found ps ≡ Is (Ok x))
-        → (has_failed s ≡ false → (h : History) → Serves dig view s h → IsStepOf dig h call (reply x) h) → AsksOr dig view Own call reply table found s t (Ok x)
+    pub asked_ok : (x : T) → t.is_broken ≡ s.is_broken → ((ps : Image) → pages_of view s ≡ Some ps
+        → found ps ≡ Is (Ok x))
+        → (has_failed s ≡ false → (h : History) → Serves dig view s h → IsStepOf dig h call (reply x) h)
+        → AsksOr dig view Own call reply table found s t (Ok x)
     asked_ok x flag finds step = record {
-      table = subst (λ (o : Option Refusal). MatchOption o (Unit {0}) (λ why. ◌≡◌ {A = Result T Refusal} (Ok x) (Err why))) none tt;
+      table = subst (λ (o : Option Refusal). MatchOption o (Unit {0}) (λ why. ◌≡◌ {A = Result T Refusal} (Ok x)
+          (Err why))) none tt;
       answer = finds;
       machine = λ whole h served. (h, step whole h served, serves_on h served);
-      same = λ h served. (serves_on h served, read_leaves view only_now dig s.recorded.kept.store t.recorded.kept.store s.recorded.kept.root h same served);
+      same = λ h served. (
+        serves_on h served,
+        read_leaves view only_now dig s.recorded.kept.store t.recorded.kept.store s.recorded.kept.root h same served,
+      );
       unwritten = same;
       over = over_on s t root same;
       kept = root;
-      broken = ((λ failed. inl (subst (λ b. IsTrue b) flag failed)), (λ either. ⊎_elim (λ failed. subst (λ b. IsTrue b) (sym flag) failed) (λ fault. cc) either));
+      broken = (
+        (λ failed. inl (subst (λ b. IsTrue b) flag failed)),
+        (λ either. ⊎_elim (λ failed. subst (λ b. IsTrue b) (sym flag) failed) (λ fault. cc) either),
+      );
       fault = λ fault. cc;
       later = later;
     }
 
     -- it is refused by what was found
-    pub asked_own : (r : Refusal) → Own r → IsTold r → s.is_broken ≡ false → IsTrue t.is_broken ↔ (r ≡ DiskFault) → ((ps : Image) → pages_of view s ≡ Some ps → IsRefusalFound r (found ps))
-        → (has_failed s ≡ false → (h : History) → Serves dig view s h → IsStepOf dig h call (Refused r) h) → AsksOr dig view Own call reply table found s t (Err r)
+    pub asked_own : (r : Refusal) → Own r → IsTold r → s.is_broken ≡ false → IsTrue t.is_broken ↔ (r ≡ DiskFault)
+        → ((ps : Image) → pages_of view s ≡ Some ps → IsRefusalFound r (found ps))
+        → (has_failed s ≡ false → (h : History) → Serves dig view s h → IsStepOf dig h call (Refused r) h)
+        → AsksOr dig view Own call reply table found s t (Err r)
     asked_own r own told whole flag finds step = record {
-      table = subst (λ (o : Option Refusal). MatchOption o (IsFault r ⊎ Own r) (λ why. fails T r ≡ Err why)) none (inr own);
+      table = subst (λ (o : Option Refusal). MatchOption o (IsFault r ⊎ Own r) (λ why. fails T r ≡ Err why)) none
+          (inr own);
       answer = finds;
-      machine = λ good h served. answers_refusal dig h call reply (Serves dig view t) r told (step good h served) (serves_on h served);
-      same = λ h served. (serves_on h served, read_leaves view only_now dig s.recorded.kept.store t.recorded.kept.store s.recorded.kept.root h same served);
+      machine = λ good h served. answers_refusal dig h call reply (Serves dig view t) r told (step good h served)
+          (serves_on h served);
+      same = λ h served. (
+        serves_on h served,
+        read_leaves view only_now dig s.recorded.kept.store t.recorded.kept.store s.recorded.kept.root h same served,
+      );
       unwritten = same;
       over = over_on s t root same;
       kept = root;
-      broken = ((λ failed. absurd (no_fault (flag.0 failed))), (λ either. ⊎_elim (λ failed. let was = subst (λ b. IsTrue b) whole failed in absurd cc) (λ is. absurd (told.0 (is_disk_fault T r is))) either));
+      broken = (
+        (λ failed. absurd (no_fault (flag.0 failed))),
+        (λ either. ⊎_elim (λ failed. let was = subst (λ b. IsTrue b) whole failed in absurd cc)
+            (λ is. absurd (told.0 (is_disk_fault T r is))) either),
+      );
       fault = λ is. absurd (told.0 (is_disk_fault T r is));
       later = later;
     }
@@ -99,17 +138,29 @@ module _ {D H : Type 0} {g : _} {k : _} (view : D → DiskView) (only_now : (d :
         no_fault : r ≡ DiskFault → ⊥
         no_fault is = told.0 (subst IsFault (sym is) tt)
 
-    pub asked_err : (r : Refusal) → IsFault r → s.is_broken ≡ false → IsTrue t.is_broken ↔ (r ≡ DiskFault) → ((ps : Image) → pages_of view s ≡ Some ps → IsRefusalFound r (found ps))
-        → ((h : History) → Serves dig view s h → IsBadPageRefusal r → ⊥) → (r ≡ DiskFault → Rose (view (disk_of s)).faults (view (disk_of t)).faults) → AsksOr dig view Own call reply table found s t (Err r)
+    pub asked_err : (r : Refusal) → IsFault r → s.is_broken ≡ false → IsTrue t.is_broken ↔ (r ≡ DiskFault)
+        → ((ps : Image) → pages_of view s ≡ Some ps → IsRefusalFound r (found ps))
+        → ((h : History) → Serves dig view s h → IsBadPageRefusal r → ⊥)
+        → (r ≡ DiskFault → Rose (view (disk_of s)).faults (view (disk_of t)).faults) → AsksOr dig view Own call reply
+        table found s t (Err r)
     asked_err r fault whole flag finds good rose = record {
-      table = subst (λ (o : Option Refusal). MatchOption o (IsFault r ⊎ Own r) (λ why. fails T r ≡ Err why)) none (inl fault);
+      table = subst (λ (o : Option Refusal). MatchOption o (IsFault r ⊎ Own r) (λ why. fails T r ≡ Err why)) none
+          (inl fault);
       answer = finds;
-      machine = λ whole h served. answers_fault dig h call reply (Serves dig view t) r fault (good h served) (inr (serves_on h served));
-      same = λ h served. (serves_on h served, read_leaves view only_now dig s.recorded.kept.store t.recorded.kept.store s.recorded.kept.root h same served);
+      machine = λ whole h served. answers_fault dig h call reply (Serves dig view t) r fault (good h served)
+          (inr (serves_on h served));
+      same = λ h served. (
+        serves_on h served,
+        read_leaves view only_now dig s.recorded.kept.store t.recorded.kept.store s.recorded.kept.root h same served,
+      );
       unwritten = same;
       over = over_on s t root same;
       kept = root;
-      broken = ((λ failed. inr (ap (fails T) (flag.0 failed))), (λ either. ⊎_elim (λ failed. let was = subst (λ b. IsTrue b) whole failed in absurd cc) (λ is. flag.1 (of_fails is)) either));
+      broken = (
+        (λ failed. inr (ap (fails T) (flag.0 failed))),
+        (λ either. ⊎_elim (λ failed. let was = subst (λ b. IsTrue b) whole failed in absurd cc)
+            (λ is. flag.1 (of_fails is)) either),
+      );
       fault = λ is. rose (of_fails is);
       later = later;
     }

@@ -1,5 +1,6 @@
 -- The history that has no step yet.
-use Rattle.std.proofs.Common.{◌≡◌, ℕ, ◌<◌, ◌≤◌, List, [], length, refl, ap, sym, ◌∙◌, arith, subst, inl, inr, ⊎_elim, ◌⊎◌}
+use Rattle.std.proofs.Common.{◌≡◌, ℕ, ◌<◌, ◌≤◌, List, [], length, refl, ap, sym, ◌∙◌, arith, subst, inl, inr, ⊎_elim}
+use Rattle.std.proofs.Common.{◌⊎◌}
 use Rattle.tw_disk.specs.Image.{Image}
 use Rattle.tw_disk.specs.Disk.{DiskView, LeavesOnly, Reads}
 use Rattle.tw_disk.proofs.Moments.{leaves_weaker}
@@ -30,8 +31,10 @@ use Rattle.tw_service.specs.Stands.{IsBlankOrNew, KeepsHistory, KeepsWhole, grea
 pub sound_none : (name : List ℕ) → IsName name → IsSound (no_history name)
 sound_none name is = record { name = is; length = omega arith; steps = λ i s there. cc }
 
-module _ (dig : List ℕ → List ℕ) (size : (text : List ℕ) → IsDigest (dig text)) (r : RootRecord) (is_name : IsName r.name) (first : r.head.step ≡ 0) (no_page : r.head.page ≡ 0)
-    (label : r.head.auth ≡ dig (genesis_text r.name)) (no_archive : r.archive.page ≡ 0) (empty : r.archive.label ≡ dig empty_tree_text) (no_threads : r.threads ≡ 0) (untimed : r.time ≡ None) where
+module _ (dig : List ℕ → List ℕ) (size : (text : List ℕ) → IsDigest (dig text)) (r : RootRecord)
+    (is_name : IsName r.name) (first : r.head.step ≡ 0) (no_page : r.head.page ≡ 0)
+    (label : r.head.auth ≡ dig (genesis_text r.name)) (no_archive : r.archive.page ≡ 0)
+    (empty : r.archive.label ≡ dig empty_tree_text) (no_threads : r.threads ≡ 0) (untimed : r.time ≡ None) where
   -- the authenticator of a name
   genesis : r.head.auth ≡ auth dig (no_history r.name) 0
   unfolding auth auths
@@ -75,7 +78,9 @@ module _ (dig : List ℕ → List ℕ) (size : (text : List ℕ) → IsDigest (d
   -- the record may stand in a store without a page, at its first generation or before it
   pub may_none : (generation : ℕ) → generation ≤ 1 → IsAllowed 4 generation r
   may_none generation low = record {
-    spelled = root-fits r is_name (omega (arith, first)) (subst IsDigest (sym label) (size (genesis_text r.name))) (omega (arith, no_page)) (omega (arith, no_archive)) (subst IsDigest (sym empty) (size empty_tree_text)) (omega (arith, no_threads)) (subst IsTimeWithinLimits (sym untimed) tt);
+    spelled = root-fits r is_name (omega (arith, first)) (subst IsDigest (sym label) (size (genesis_text r.name)))
+        (omega (arith, no_page)) (omega (arith, no_archive)) (subst IsDigest (sym empty) (size empty_tree_text))
+        (omega (arith, no_threads)) (subst IsTimeWithinLimits (sym untimed) tt);
     fits = fits_none 4 generation refl low;
   }
 
@@ -87,14 +92,24 @@ module _ (dig : List ℕ → List ℕ) (size : (text : List ℕ) → IsDigest (d
   begun : (i : Image) → IsBlankOrFirst root_kind (KeepsHistory dig) (no_history r.name) i → IsBlankOrNew dig r.name i
   begun i made = ⊎_elim (λ blank. inl blank) (λ stands. inr (record { named = refl; stands = stands })) made
 
-  pub leaves_none : (old new : DiskView) → LeavesOnly old new (λ i. old.may_leave i ⊎ IsBlankOrNewWith root_kind r i) → LeavesOnly old new (λ i. old.may_leave i ⊎ IsBlankOrNew dig r.name i)
-  leaves_none old new run = leaves_weaker old new (λ i. old.may_leave i ⊎ IsBlankOrFirst root_kind (KeepsHistory dig) (no_history r.name) i) (λ i. old.may_leave i ⊎ IsBlankOrNew dig r.name i)
-      (λ i either. ⊎_elim (λ was. inl was) (λ made. inr (begun i made)) either) (leaves_begun root_kind (KeepsHistory dig) r (no_history r.name) keeps_first old new run)
+  pub leaves_none : (old new : DiskView) → LeavesOnly old new (λ i. old.may_leave i ⊎ IsBlankOrNewWith root_kind r i)
+      → LeavesOnly old new (λ i. old.may_leave i ⊎ IsBlankOrNew dig r.name i)
+  leaves_none old new run = leaves_weaker old new (λ i. old.may_leave i ⊎ IsBlankOrFirst root_kind (KeepsHistory dig)
+      (no_history r.name) i) (λ i. old.may_leave i ⊎ IsBlankOrNew dig r.name i)
+      (λ i either. ⊎_elim (λ was. inl was) (λ made. inr (begun i made)) either)
+      (leaves_begun root_kind (KeepsHistory dig) r (no_history r.name) keeps_first old new run)
 
-  pub tells_none : (old new : DiskView) → Reads new (λ i. old.may_leave i ⊎ IsBlankOrNewWith root_kind r i) → Reads new (λ i. old.may_leave i ⊎ IsBlankOrNew dig r.name i)
+  pub tells_none : (old new : DiskView) → Reads new (λ i. old.may_leave i ⊎ IsBlankOrNewWith root_kind r i)
+      → Reads new (λ i. old.may_leave i ⊎ IsBlankOrNew dig r.name i)
   tells_none old new tells =
       let reads = reads_begun root_kind (KeepsHistory dig) r (no_history r.name) keeps_first old new tells in
-      record { image = reads.image; told = reads.told; has = ⊎_elim (λ was. inl was) (λ made. inr (begun reads.image made)) reads.has }
+      record {
+        image = reads.image;
+        told = reads.told;
+        has = ⊎_elim (λ was. inl was) (λ made. inr (begun reads.image made)) reads.has;
+      }
 
-  pub serves_none : {D : Type 0} {g : _} (view : D → DiskView) (store : Store D g) (now : RootRecord) → now ≡ r → RestsWith view root_kind store (written_record r []) → StoreServes dig view store now (no_history r.name)
-  serves_none view store now is rests = serves_first root_kind (KeepsHistory dig) r (no_history r.name) keeps_first view store now is rests
+  pub serves_none : {D : Type 0} {g : _} (view : D → DiskView) (store : Store D g) (now : RootRecord) → now ≡ r
+      → RestsWith view root_kind store (written_record r []) → StoreServes dig view store now (no_history r.name)
+  serves_none view store now is rests = serves_first root_kind (KeepsHistory dig) r (no_history r.name) keeps_first view
+      store now is rests

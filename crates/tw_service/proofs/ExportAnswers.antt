@@ -23,25 +23,33 @@ use Rattle.tw_service.proofs.KeptExports.{file_kept}
 ok_ok : (x y : List ℕ) → ◌≡◌ {A = Result (List ℕ) Refusal} (Ok x) (Ok y) → x ≡ y
 ok_ok x y e = cc
 
-module _ (dig : List ℕ → List ℕ) (size : (text : List ℕ) → IsDigest (dig text)) (ps : Image) (h : History) (r : RootRecord) (keeps : KeepsWhole dig ps h r) (sound : IsSound h) where
+module _ (dig : List ℕ → List ℕ) (size : (text : List ℕ) → IsDigest (dig text)) (ps : Image) (h : History)
+    (r : RootRecord) (keeps : KeepsWhole dig ps h r) (sound : IsSound h) where
   pub export_kept : history_file dig ps h.name r.head ≡ Is (file_or (file_told h))
   unfolding history_file
-  export_kept = is_on (found_file dig ps h.name r.head) (λ told. Is (file_or told)) (file_told h) (file_kept dig size ps h r keeps sound)
+  export_kept = is_on (found_file dig ps h.name r.head) (λ told. Is (file_or told)) (file_told h)
+      (file_kept dig size ps h r keeps sound)
 
   module _ (name : List ℕ) (named : h.name ≡ name) where
-    found_is : (b : Bool) → is_short h ≡ b → history_file dig ps name r.head ≡ Is (file_or (if b then Ok (history_bytes h) else Err (told_size h)))
-    found_is b is = ap (λ (n : List ℕ). history_file dig ps n r.head) (sym named) ∙ export_kept ∙ ap (λ (c : Bool). Is (file_or (if c then Ok (history_bytes h) else Err (told_size h)))) is
+    found_is : (b : Bool) → is_short h ≡ b → history_file dig ps name r.head ≡ Is
+        (file_or (if b then Ok (history_bytes h) else Err (told_size h)))
+    found_is b is = ap (λ (n : List ℕ). history_file dig ps n r.head) (sym named) ∙ export_kept
+        ∙ ap (λ (c : Bool). Is (file_or (if c then Ok (history_bytes h) else Err (told_size h)))) is
 
   -- by the table it is the history's file, or its refusal
-  pub export_table : MatchOption (file_refusal h) (history_file dig ps h.name r.head ≡ Is (Ok (history_bytes h))) (λ refusal. history_file dig ps h.name r.head ≡ Is (Err refusal))
+  pub export_table : MatchOption (file_refusal h) (history_file dig ps h.name r.head ≡ Is (Ok (history_bytes h)))
+      (λ refusal. history_file dig ps h.name r.head ≡ Is (Err refusal))
   export_table = by (is_short h) refl
     where
-      by : (b : Bool) → is_short h ≡ b → MatchOption (file_refusal h) (history_file dig ps h.name r.head ≡ Is (Ok (history_bytes h))) (λ refusal. history_file dig ps h.name r.head ≡ Is (Err refusal))
+      by : (b : Bool) → is_short h ≡ b → MatchOption (file_refusal h) (history_file dig ps h.name r.head ≡ Is
+          (Ok (history_bytes h))) (λ refusal. history_file dig ps h.name r.head ≡ Is (Err refusal))
       by true is =
-          subst (λ (o : Option Refusal). MatchOption o (history_file dig ps h.name r.head ≡ Is (Ok (history_bytes h))) (λ refusal. history_file dig ps h.name r.head ≡ Is (Err refusal)))
+          subst (λ (o : Option Refusal). MatchOption o (history_file dig ps h.name r.head ≡ Is (Ok (history_bytes h)))
+          (λ refusal. history_file dig ps h.name r.head ≡ Is (Err refusal)))
           (sym (ap (λ (c : Bool). if c then None else Some (TooLong (told_size h))) is)) (found_is h.name refl true is)
       by false is =
-          subst (λ (o : Option Refusal). MatchOption o (history_file dig ps h.name r.head ≡ Is (Ok (history_bytes h))) (λ refusal. history_file dig ps h.name r.head ≡ Is (Err refusal)))
+          subst (λ (o : Option Refusal). MatchOption o (history_file dig ps h.name r.head ≡ Is (Ok (history_bytes h)))
+          (λ refusal. history_file dig ps h.name r.head ≡ Is (Err refusal)))
           (sym (ap (λ (c : Bool). if c then None else Some (TooLong (told_size h))) is)) (found_is h.name refl false is)
 
 -- ---- steps of the machine

@@ -23,7 +23,8 @@ bounded : (ts : List ℕ) (n : ℕ) → AtMost n (greatest ts) → Each (λ t. t
 bounded [] n l = tt
 bounded (t ∷ ts) n l = let both = of_both n t (greatest ts) l in (both.0, bounded ts n both.1)
 
-not_below : (last given : ℕ) (b : Bool) → nat_lt given last ≡ b → (if b then Some (ClockBack last given) else None) ≡ None → last ≤ given
+not_below : (last given : ℕ) (b : Bool) → nat_lt given last ≡ b → (if b then Some (ClockBack last given) else None)
+    ≡ None → last ≤ given
 not_below last given true is none = cc
 not_below last given false is none = ltb-false given last is
 
@@ -32,7 +33,8 @@ clock_allows None given none = tt
 clock_allows (Some last) given none = not_below last given (nat_lt given last) refl none
 
 -- a time that the table allows isn't below an earlier one
-pub allowed : (ts : List ℕ) (time : Option ℕ) → clock_refusal (greatest ts) time ≡ None → IfSome time (λ t. Each (λ earlier. earlier ≤ t) ts)
+pub allowed : (ts : List ℕ) (time : Option ℕ) → clock_refusal (greatest ts) time ≡ None
+    → IfSome time (λ t. Each (λ earlier. earlier ≤ t) ts)
 allowed ts None none = tt
 allowed ts (Some given) none = bounded ts given (clock_allows (greatest ts) given none)
 
@@ -50,7 +52,8 @@ pub greatest-more : (ts : List ℕ) (time : Option ℕ) → greatest (ts ++ opti
 greatest-more ts None = ap greatest (append-nil ts)
 greatest-more ts (Some given) = more ts given
 
-pub greater-within : (clock time : Option ℕ) → IsTimeWithinLimits clock → IsTimeWithinLimits time → IsTimeWithinLimits (greater clock time)
+pub greater-within : (clock time : Option ℕ) → IsTimeWithinLimits clock → IsTimeWithinLimits time
+    → IsTimeWithinLimits (greater clock time)
 greater-within clock None one other = one
 greater-within None (Some given) one other = other
 greater-within (Some last) (Some given) one other = omega (arith, one, other)

@@ -23,25 +23,33 @@ use Rattle.tw_tmap.specs.Checking.{first_after, last_before}
 use Rattle.tw_service.specs.Mapping.{high_file, high_with, low_before, mapped_low_part}
 
 module _ {X Y T : Type 0} (next : X → Found Y) (value : T → Y) where
-  stays : (sort : FaultSort) (found : Found X) → SaysOf service_refusals sort found → SaysOf service_refusals sort (found >>= next)
+  stays : (sort : FaultSort) (found : Found X) → SaysOf service_refusals sort found → SaysOf service_refusals sort
+      (found >>= next)
   stays (OfPage page) found is = ap (λ (f : Found X). f >>= next) is
   stays _ found is = tt
 
-  pub handed-says : (result : Result T Refusal) (fault : Refusal) (found : Found X) → IsErrAnd result (λ e. e ≡ fault) → SaysOf service_refusals (service_refusals fault) found → AnswersAs service_refusals value result (found >>= next)
+  pub handed-says : (result : Result T Refusal) (fault : Refusal) (found : Found X) → IsErrAnd result (λ e. e ≡ fault)
+      → SaysOf service_refusals (service_refusals fault) found → AnswersAs service_refusals value result
+      (found >>= next)
   handed-says (Ok x) fault found is there = absurd is
-  handed-says (Err e) fault found is there = subst (λ (f : Refusal). SaysOf service_refusals (service_refusals f) (found >>= next)) (sym is) (stays (service_refusals fault) found there)
+  handed-says (Err e) fault found is there = subst (λ (f : Refusal). SaysOf service_refusals (service_refusals f)
+      (found >>= next)) (sym is) (stays (service_refusals fault) found there)
 
 module _ {X Y T : Type 0} (next : X → Found (Result Y Refusal)) (value : T → Y) where
-  refuses : (fault : Refusal) (found : Found X) → IsFault fault → SaysOf service_refusals (service_refusals fault) found → RefusesAs service_refusals (service_refusals fault) fault (found >>= next)
+  refuses : (fault : Refusal) (found : Found X) → IsFault fault → SaysOf service_refusals (service_refusals fault) found
+      → RefusesAs service_refusals (service_refusals fault) fault (found >>= next)
   refuses (BadPage page) found of is = ap (λ (f : Found X). f >>= next) is
   refuses DiskFault found of is = tt
   refuses NoMemory found of is = tt
   refuses _ found of is = absurd of
 
-  pub handed-refuses : (result : Result T Refusal) (fault : Refusal) (found : Found X) → IsErrAnd result (λ e. e ≡ fault) → IsFault fault → SaysOf service_refusals (service_refusals fault) found
+  pub handed-refuses : (result : Result T Refusal) (fault : Refusal) (found : Found X)
+      → IsErrAnd result (λ e. e ≡ fault) → IsFault fault → SaysOf service_refusals (service_refusals fault) found
       → AnswersOr service_refusals value result (found >>= next)
   handed-refuses (Ok x) fault found is of there = absurd is
-  handed-refuses (Err e) fault found is of there = subst (λ (f : Refusal). RefusesAs service_refusals (service_refusals f) f (found >>= next)) (sym is) (refuses fault found of there)
+  handed-refuses (Err e) fault found is of there =
+      subst (λ (f : Refusal). RefusesAs service_refusals (service_refusals f) f (found >>= next)) (sym is)
+      (refuses fault found of there)
 
 module _ {T : Type 0} (result : Result T Refusal) (fault : Refusal) where
   own_by : (r : Result T Refusal) → IsErrAnd r (λ e. e ≡ fault) → IsFault fault → IfErr r IsFault
@@ -51,34 +59,48 @@ module _ {T : Type 0} (result : Result T Refusal) (fault : Refusal) where
   pub handed-fault : IsErrAnd result (λ e. e ≡ fault) → IsFault fault → IfErr result IsFault
   handed-fault is own = own_by result is own
 
-  failed_by : (r : Result T Refusal) → IsErrAnd r (λ e. e ≡ fault) → is_failed service_refusals r ≡ is_of_disk (service_refusals fault)
+  failed_by : (r : Result T Refusal) → IsErrAnd r (λ e. e ≡ fault) → is_failed service_refusals r ≡ is_of_disk
+      (service_refusals fault)
   failed_by (Ok x) is = absurd is
   failed_by (Err e) is = ap (λ (f : Refusal). is_of_disk (service_refusals f)) is
 
   -- it tells of the disk where it did
-  pub handed-tells : IsErrAnd result (λ e. e ≡ fault) → is_failed service_refusals result ≡ is_of_disk (service_refusals fault)
+  pub handed-tells : IsErrAnd result (λ e. e ≡ fault) → is_failed service_refusals result ≡ is_of_disk
+      (service_refusals fault)
   handed-tells is = failed_by result is
 
 -- from step 2 on, where the step before is found, what is shown in its archive is told
-pub before-told : (dig : List ℕ → List ℕ) (ps : Image) (head : Head) (step : ℕ) (peer : List ℕ) (top : ℕ) (proof : StepProof) (asked : Ask) → 1 < step → found_proof dig ps head top (step - 1) ≡ Is proof → asked ≡ last_before peer
-    → low_before dig ps head step peer top ≡ (tree_shown dig ps proof.info.archive asked >>= (λ tree. Is (Some (mapped_low_part proof tree))))
+pub before-told : (dig : List ℕ → List ℕ) (ps : Image) (head : Head) (step : ℕ) (peer : List ℕ) (top : ℕ)
+    (proof : StepProof) (asked : Ask) → 1 < step → found_proof dig ps head top (step - 1) ≡ Is proof
+    → asked ≡ last_before peer
+    → low_before dig ps head step peer top ≡ (tree_shown dig ps proof.info.archive asked
+    >>= (λ tree. Is (Some (mapped_low_part proof tree))))
 unfolding low_before
 before-told dig ps head step peer top proof asked more is asks =
-    let later : Found (Option LowPart) = found_proof dig ps head top (step - 1) >>= (λ proof. tree_shown dig ps proof.info.archive (last_before peer) >>= (λ tree. Is (Some (mapped_low_part proof tree)))) in
+    let later : Found (Option LowPart) = found_proof dig ps head top (step - 1) >>= (λ proof. tree_shown dig ps
+    proof.info.archive (last_before peer) >>= (λ tree. Is (Some (mapped_low_part proof tree)))) in
     ap (λ (b : Bool). if b then Is None else later) (lt-leb step 1 more)
-    ∙ is_on (found_proof dig ps head top (step - 1)) (λ proof. tree_shown dig ps proof.info.archive (last_before peer) >>= (λ tree. Is (Some (mapped_low_part proof tree)))) proof is
-    ∙ ap (λ (a : Ask). tree_shown dig ps proof.info.archive a >>= (λ tree. Is (Some (mapped_low_part proof tree)))) (sym asks)
+    ∙ is_on (found_proof dig ps head top (step - 1)) (λ proof. tree_shown dig ps proof.info.archive (last_before peer)
+    >>= (λ tree. Is (Some (mapped_low_part proof tree)))) proof is
+    ∙ ap (λ (a : Ask). tree_shown dig ps proof.info.archive a >>= (λ tree. Is (Some (mapped_low_part proof tree))))
+    (sym asks)
 
 -- of step 1 no step before is shown
-pub before-none : (dig : List ℕ → List ℕ) (ps : Image) (head : Head) (step : ℕ) (peer : List ℕ) (top : ℕ) → step ≤ 1 → low_before dig ps head step peer top ≡ Is None
+pub before-none : (dig : List ℕ → List ℕ) (ps : Image) (head : Head) (step : ℕ) (peer : List ℕ) (top : ℕ) → step ≤ 1
+    → low_before dig ps head step peer top ≡ Is None
 unfolding low_before
 before-none dig ps head step peer top end =
-    ap (λ (b : Bool). if b then Is None else (found_proof dig ps head top (step - 1) >>= (λ proof. tree_shown dig ps proof.info.archive (last_before peer) >>= (λ tree. Is (Some (mapped_low_part proof tree)))))) (le-leb step 1 end)
+    ap (λ (b : Bool). if b then Is None else (found_proof dig ps head top (step - 1) >>= (λ proof. tree_shown dig ps
+    proof.info.archive (last_before peer) >>= (λ tree. Is (Some (mapped_low_part proof tree)))))) (le-leb step 1 end)
 
 -- where the top is found, what is shown in its archive is written
-pub high-told : (dig : List ℕ → List ℕ) (ps : Image) (head : Head) (step : ℕ) (peer : List ℕ) (top : ℕ) (name : List ℕ) (info : StepInfo) (asked : Ask) → found_step dig ps head top ≡ Is info → asked ≡ first_after peer step
-    → high_file dig ps head step peer top name ≡ (tree_shown dig ps info.archive asked >>= (λ tree. Is (Ok (high_bytes (high_with name step peer top info tree)))))
+pub high-told : (dig : List ℕ → List ℕ) (ps : Image) (head : Head) (step : ℕ) (peer : List ℕ) (top : ℕ) (name : List ℕ)
+    (info : StepInfo) (asked : Ask) → found_step dig ps head top ≡ Is info → asked ≡ first_after peer step
+    → high_file dig ps head step peer top name ≡ (tree_shown dig ps info.archive asked
+    >>= (λ tree. Is (Ok (high_bytes (high_with name step peer top info tree)))))
 unfolding high_file
 high-told dig ps head step peer top name info asked is asks =
-    is_on (found_step dig ps head top) (λ info. tree_shown dig ps info.archive (first_after peer step) >>= (λ tree. Is (Ok (high_bytes (high_with name step peer top info tree))))) info is
-    ∙ ap (λ (a : Ask). tree_shown dig ps info.archive a >>= (λ tree. Is (Ok (high_bytes (high_with name step peer top info tree))))) (sym asks)
+    is_on (found_step dig ps head top) (λ info. tree_shown dig ps info.archive (first_after peer step)
+    >>= (λ tree. Is (Ok (high_bytes (high_with name step peer top info tree))))) info is
+    ∙ ap (λ (a : Ask). tree_shown dig ps info.archive a
+    >>= (λ tree. Is (Ok (high_bytes (high_with name step peer top info tree))))) (sym asks)

@@ -26,26 +26,36 @@ use Rattle.tw_service.proofs.KeptThreads.{few_nodes}
 use Rattle.tw_service.proofs.WholePages.{tree_at}
 
 module _ (dig : List ℕ → List ℕ) (ps : Image) (h : History) (r : RootRecord) (whole : KeepsWhole dig ps h r) where
-  few_of : (step : ℕ) → step ≤ length h.steps → (asked : Ask) (shown : TreeProof) → shown ≡ proof_of dig (tree h step) asked → IsFewNodes (length (entries (tree h step))) (length (ancestors_of shown))
-  few_of step within asked shown is = few_nodes dig ps (archive_at dig h whole.steps.places step) (tree h step) asked shown (tree_at dig ps h r whole step within) is
+  few_of : (step : ℕ) → step ≤ length h.steps → (asked : Ask) (shown : TreeProof) → shown ≡ proof_of dig (tree h step)
+      asked → IsFewNodes (length (entries (tree h step))) (length (ancestors_of shown))
+  few_of step within asked shown is = few_nodes dig ps (archive_at dig h whole.steps.places step) (tree h step) asked
+      shown (tree_at dig ps h r whole step within) is
 
   -- what a low file shows of the step before
-  own_low : (step : ℕ) (peer : List ℕ) (top : ℕ) (f : LowFile) → step ≤ length h.steps → IsOwnLow dig h step peer top f → IfSome f.shown (λ p. IsFewNodes (length (entries (tree h (step - 1)))) (length (ancestors_of p.shown)))
+  own_low : (step : ℕ) (peer : List ℕ) (top : ℕ) (f : LowFile) → step ≤ length h.steps → IsOwnLow dig h step peer top f
+      → IfSome f.shown (λ p. IsFewNodes (length (entries (tree h (step - 1)))) (length (ancestors_of p.shown)))
   own_low step peer top f within own = by f.shown own.shown
     where
-      by : (o : Option LowPart) → MatchOption o (step ≡ 1) (λ p. (1 < step) × IsPartOfHistory dig h (step - 1) top (low_file_part f p) × (p.shown ≡ proof_of dig (tree h (step - 1)) (low_ask f)))
+      by : (o : Option LowPart) → MatchOption o (step ≡ 1) (λ p. (1 < step) × IsPartOfHistory dig h (step - 1) top
+          (low_file_part f p) × (p.shown ≡ proof_of dig (tree h (step - 1)) (low_ask f)))
           → IfSome o (λ p. IsFewNodes (length (entries (tree h (step - 1)))) (length (ancestors_of p.shown)))
       by None is = tt
       by (Some p) is = few_of (step - 1) (omega (arith, within)) (low_ask f) p.shown is.2
 
-  pub low_few : (step : ℕ) (peer : List ℕ) (top : ℕ) (bytes : List ℕ) → step ≤ length h.steps → MakesLow dig h step peer top bytes
-      → (f : LowFile) → Spells low_layout bytes f → IfSome f.shown (λ p. IsFewNodes (length (entries (tree h (step - 1)))) (length (ancestors_of p.shown)))
+  pub low_few : (step : ℕ) (peer : List ℕ) (top : ℕ) (bytes : List ℕ) → step ≤ length h.steps → MakesLow dig h step peer
+      top bytes
+      → (f : LowFile) → Spells low_layout bytes f
+      → IfSome f.shown (λ p. IsFewNodes (length (entries (tree h (step - 1)))) (length (ancestors_of p.shown)))
   low_few step peer top bytes within makes f spells =
-      own_low step peer top f within (subst (λ (x : LowFile). IsOwnLow dig h step peer top x) (one_value low_layout bytes makes.0 f makes.1 spells) makes.2)
+      own_low step peer top f within (subst (λ (x : LowFile). IsOwnLow dig h step peer top x)
+      (one_value low_layout bytes makes.0 f makes.1 spells) makes.2)
 
   -- and a high file of its top
-  pub high_few : (step : ℕ) (peer : List ℕ) (top : ℕ) (bytes : List ℕ) → top ≤ length h.steps → MakesHigh dig h step peer top bytes
-      → (f : HighFile) → Spells high_layout bytes f → IsFewNodes (length (entries (tree h top))) (length (ancestors_of f.shown))
+  pub high_few : (step : ℕ) (peer : List ℕ) (top : ℕ) (bytes : List ℕ) → top ≤ length h.steps → MakesHigh dig h step
+      peer top bytes
+      → (f : HighFile) → Spells high_layout bytes f → IsFewNodes (length (entries (tree h top)))
+      (length (ancestors_of f.shown))
   high_few step peer top bytes within makes f spells =
-      let own = subst (λ (x : HighFile). IsOwnHigh dig h top peer step x) (one_value high_layout bytes makes.0 f makes.1 spells) makes.2 in
+      let own = subst (λ (x : HighFile). IsOwnHigh dig h top peer step x) (one_value high_layout bytes makes.0 f makes.1
+      spells) makes.2 in
       few_of top within (high_ask f) f.shown own.shown

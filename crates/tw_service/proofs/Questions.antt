@@ -1,4 +1,5 @@
--- What is found for a question in pages that keep a history whole is what the history makes of it, and asking is a step of the machine.
+-- What is found for a question in pages that keep a history whole is what the history makes of it, and asking is a step
+-- of the machine.
 use Rattle.std.proofs.Common.{◌≡◌, ◌∙◌, ◌≤◌, ℕ, List, length, Bool, true, false, refl, ap, sym, subst, arith, inl, inr}
 use Rattle.std.specs.Prelude.{MatchOption, MatchResult, Option, Some, None, Result, Ok, Err, if◌then◌else◌}
 use Rattle.std.proofs.lemmas.Bool.{cases_lt}
@@ -30,12 +31,15 @@ use Rattle.tw_skipproof.specs.HistoryProofs.{MakesExistence}
 use Rattle.tw_history.specs.Refusals.{ReadsHistory}
 use Rattle.tw_service.proofs.ShortFiles.{reads-back}
 use Rattle.tw_answers.specs.declared.refusal.Refusal.{Refusal}
-use Rattle.tw_answers.specs.declared.refusal.Refusal.TheVariants.{BadPage, DiskFault, HasThread, NoEvent, NoMemory, NoThread, TooLong}
+use Rattle.tw_answers.specs.declared.refusal.Refusal.TheVariants.{BadPage, DiskFault, HasThread, NoEvent, NoMemory}
+use Rattle.tw_answers.specs.declared.refusal.Refusal.TheVariants.{NoThread, TooLong}
 use Rattle.tw_answers.specs.declared.root.RootRecord.{RootRecord}
 use Rattle.tw_answers.specs.Finds.{IsRefusalFound, link_proof, path_down, written_found}
 use Rattle.tw_answers.specs.Limits.{broken_refusal, has_thread, no_thread, or_else, thread_refusal}
 use Rattle.tw_answers.specs.Refusals.{IsBadPageRefusal, IsFault}
-use Rattle.tw_answers.proofs.TableAnswers.{IsTold, NoFault, Of, has_event, link_no_fault, link_told, no_event_told, order_no_fault, order_told, thread_no_fault, thread_told, top_no_fault, top_told}
+use Rattle.tw_answers.proofs.TableAnswers.{IsTold, NoFault, Of, has_event, link_no_fault, link_told, no_event_told}
+use Rattle.tw_answers.proofs.TableAnswers.{order_no_fault, order_told, thread_no_fault, thread_told, top_no_fault}
+use Rattle.tw_answers.proofs.TableAnswers.{top_told}
 use Rattle.tw_base.specs.declared.history.question.Question.{Question}
 use Rattle.tw_base.specs.declared.history.question.Question.TheVariants as ask
 use Rattle.tw_service.specs.Answered.{HasFewFor, IsAcceptedFor}
@@ -46,24 +50,29 @@ use Rattle.tw_service.specs.Machine.Call.{Ask}
 use Rattle.tw_service.specs.Machine.Reply.{OfBytes, Refused}
 use Rattle.tw_service.specs.Mapping.{MakesHigh, MakesLow, high_file, low_file}
 use Rattle.tw_base.specs.history.Questions.{HasNames, MayAsk}
-use Rattle.tw_service.specs.Questions.{AreInOrder, Besides, found_bytes, history_refusal, message_found, message_told, pages_refusal, question_refusal, told_as}
+use Rattle.tw_service.specs.Questions.{AreInOrder, Besides, found_bytes, history_refusal, message_found, message_told}
+use Rattle.tw_service.specs.Questions.{pages_refusal, question_refusal, told_as}
 use Rattle.tw_service.specs.Stands.{KeepsWhole}
 use Rattle.tw_service.specs.Tops.{top_or_last}
 use Rattle.tw_service.proofs.ExportAnswers.{export_kept, too_long_told}
 use Rattle.tw_service.proofs.KeptAnswers.{beyond, in_range, kept_link, kept_path, no_such}
 use Rattle.tw_service.proofs.KeptMaps.{high_kept, low_kept}
 use Rattle.tw_service.proofs.MapSizes.{high_few, low_few}
-use Rattle.tw_service.proofs.KeptThreads.{absence_few, absence_is, has_thread_told, lacks, made_absence, made_thread, makes, no_bad_is, no_thread_told, one_absence, one_thread, thread_few, thread_is}
+use Rattle.tw_service.proofs.KeptThreads.{absence_few, absence_is, has_thread_told, lacks, made_absence, made_thread}
+use Rattle.tw_service.proofs.KeptThreads.{makes, no_bad_is, no_thread_told, one_absence, one_thread, thread_few}
+use Rattle.tw_service.proofs.KeptThreads.{thread_is}
 
 -- ---- what pages that keep a history have of a question
 
 -- the answer that is found: bytes that are right, where pages refuse nothing, or the refusal that they tell
-pub record IsHeld (found : Found (Result (List ℕ) Refusal)) (Right : List ℕ → Type 0) (refusal : Option Refusal) : Type 0 where
+pub record IsHeld (found : Found (Result (List ℕ) Refusal)) (Right : List ℕ → Type 0) (refusal : Option Refusal) : Type
+    0 where
   pub result : Result (List ℕ) Refusal
   pub is : found ≡ Is result
   pub own : MatchResult result (λ bytes. (refusal ≡ None) × Right bytes) (λ why. refusal ≡ Some why)
 
-module _ (found : Found (Result (List ℕ) Refusal)) (Right : List ℕ → Type 0) (refusal : Option Refusal) (held : IsHeld found Right refusal) where
+module _ (found : Found (Result (List ℕ) Refusal)) (Right : List ℕ → Type 0) (refusal : Option Refusal)
+    (held : IsHeld found Right refusal) where
   ok_ok : (x y : List ℕ) → ◌≡◌ {A = Result (List ℕ) Refusal} (Ok x) (Ok y) → x ≡ y
   ok_ok x y e = cc
 
@@ -76,7 +85,8 @@ module _ (found : Found (Result (List ℕ) Refusal)) (Right : List ℕ → Type 
   pub held_ok : (bytes : List ℕ) → found ≡ Is (Ok bytes) → (refusal ≡ None) × Right bytes
   held_ok bytes is = by held.result held.own (same_found held.result (Ok bytes) (sym held.is ∙ is))
     where
-      by : (r : Result (List ℕ) Refusal) → MatchResult r (λ bs. (refusal ≡ None) × Right bs) (λ why. refusal ≡ Some why) → r ≡ Ok bytes → (refusal ≡ None) × Right bytes
+      by : (r : Result (List ℕ) Refusal) → MatchResult r (λ bs. (refusal ≡ None) × Right bs) (λ why. refusal ≡ Some why)
+          → r ≡ Ok bytes → (refusal ≡ None) × Right bytes
       by (Ok bs) own same = (own.0, subst Right (ok_ok bs bytes same) own.1)
       by (Err why) own same = absurd (ok_err bytes why (sym same))
 
@@ -88,9 +98,11 @@ module _ (found : Found (Result (List ℕ) Refusal)) (Right : List ℕ → Type 
   told_found _ told is = is
 
   pub held_own : (why : Refusal) → (IsFault why → ⊥) → IsRefusalFound why found → refusal ≡ Some why
-  held_own why told is = by held.result held.own (same_found held.result (Err why) (sym held.is ∙ told_found why told is))
+  held_own why told is = by held.result held.own
+      (same_found held.result (Err why) (sym held.is ∙ told_found why told is))
     where
-      by : (r : Result (List ℕ) Refusal) → MatchResult r (λ bs. (refusal ≡ None) × Right bs) (λ w. refusal ≡ Some w) → r ≡ Err why → refusal ≡ Some why
+      by : (r : Result (List ℕ) Refusal) → MatchResult r (λ bs. (refusal ≡ None) × Right bs) (λ w. refusal ≡ Some w)
+          → r ≡ Err why → refusal ≡ Some why
       by (Ok bs) own same = absurd (ok_err bs why same)
       by (Err w) own same = own ∙ ap (λ (x : Refusal). Some x) (err_err w why same)
 
@@ -98,16 +110,21 @@ module _ (found : Found (Result (List ℕ) Refusal)) (Right : List ℕ → Type 
   held_good why is = no_bad_is why found held.result held.is is
 
 -- the same by what pages refuse
-pub held_all : (found : Found (Result (List ℕ) Refusal)) (Right : List ℕ → Type 0) (refusal : Option Refusal) → IsHeld found Right refusal
+pub held_all : (found : Found (Result (List ℕ) Refusal)) (Right : List ℕ → Type 0) (refusal : Option Refusal)
+    → IsHeld found Right refusal
     → MatchOption refusal ((bytes : List ℕ) × (found ≡ Is (Ok bytes)) × Right bytes) (λ why. found ≡ Is (Err why))
 held_all found Right refusal held = by held.result held.is held.own
   where
-    by : (r : Result (List ℕ) Refusal) → found ≡ Is r → MatchResult r (λ bs. (refusal ≡ None) × Right bs) (λ w. refusal ≡ Some w)
+    by : (r : Result (List ℕ) Refusal) → found ≡ Is r → MatchResult r (λ bs. (refusal ≡ None) × Right bs)
+        (λ w. refusal ≡ Some w)
         → MatchOption refusal ((bytes : List ℕ) × (found ≡ Is (Ok bytes)) × Right bytes) (λ why. found ≡ Is (Err why))
-    by (Ok bs) is own = subst (λ (o : Option Refusal). MatchOption o ((bytes : List ℕ) × (found ≡ Is (Ok bytes)) × Right bytes) (λ why. found ≡ Is (Err why))) (sym own.0) (bs, is, own.1)
-    by (Err w) is own = subst (λ (o : Option Refusal). MatchOption o ((bytes : List ℕ) × (found ≡ Is (Ok bytes)) × Right bytes) (λ why. found ≡ Is (Err why))) (sym own) is
+    by (Ok bs) is own = subst (λ (o : Option Refusal). MatchOption o ((bytes : List ℕ) × (found ≡ Is (Ok bytes))
+        × Right bytes) (λ why. found ≡ Is (Err why))) (sym own.0) (bs, is, own.1)
+    by (Err w) is own = subst (λ (o : Option Refusal). MatchOption o ((bytes : List ℕ) × (found ≡ Is (Ok bytes))
+        × Right bytes) (λ why. found ≡ Is (Err why))) (sym own) is
 
-module _ (dig : List ℕ → List ℕ) (size : (text : List ℕ) → IsDigest (dig text)) (ps : Image) (h : History) (r : RootRecord) (whole : KeepsWhole dig ps h r) (sound : IsSound h) (name : List ℕ) (named : h.name ≡ name) where
+module _ (dig : List ℕ → List ℕ) (size : (text : List ℕ) → IsDigest (dig text)) (ps : Image) (h : History)
+    (r : RootRecord) (whole : KeepsWhole dig ps h r) (sound : IsSound h) (name : List ℕ) (named : h.name ≡ name) where
   abbrev last : ℕ
   last = r.head.step
 
@@ -117,49 +134,83 @@ module _ (dig : List ℕ → List ℕ) (size : (text : List ℕ) → IsDigest (d
   abbrev Held : Question → Type 0
   Held q = IsHeld (found_bytes dig ps name r.head q) (Makes dig h q) (pages_refusal h q)
 
-  event_held : (step index : ℕ) (top : Option ℕ) → AreInOrder last (ask.Event step index top) → Held (ask.Event step index top)
+  event_held : (step index : ℕ) (top : Option ℕ) → AreInOrder last (ask.Event step index top)
+      → Held (ask.Event step index top)
   unfolding found_bytes pages_refusal Makes
   event_held step index top order =
       elim (cases_lt index (length (events_at h step))) [
-        | inl less ↦ (let own = in_range dig size ps h r.head whole.steps sound name named step index (top_or_last top last) order.0 order.1 order.2 less in record {
-          result = Ok own.bytes;
-          is = own.is;
-          own = (has_event (length (events_at h step)) index less, subst (λ n. MakesExistence dig h step index (top_or_last top n) own.bytes) ends own.makes);
-        })
+        | inl less ↦ (let own = in_range dig size ps h r.head whole.steps sound name named step index
+            (top_or_last top last) order.0 order.1 order.2 less in record {
+              result = Ok own.bytes;
+              is = own.is;
+              own = (
+                has_event (length (events_at h step)) index less,
+                subst (λ n. MakesExistence dig h step index (top_or_last top n) own.bytes) ends own.makes,
+              );
+            })
         | inr past ↦ record {
           result = Err (NoEvent (length (events_at h step)));
-          is = beyond dig size ps h r.head whole.steps sound name named step index (top_or_last top last) order.0 order.1 order.2 past;
+          is = beyond dig size ps h r.head whole.steps sound name named step index (top_or_last top last) order.0
+              order.1 order.2 past;
           own = no_such (length (events_at h step)) index past;
         }
       ]
 
-  thread_held : (step : ℕ) (key : Key) (top : Option ℕ) → AreInOrder last (ask.Thread step key top) → Held (ask.Thread step key top)
+  thread_held : (step : ℕ) (key : Key) (top : Option ℕ) → AreInOrder last (ask.Thread step key top)
+      → Held (ask.Thread step key top)
   unfolding found_bytes pages_refusal Makes
   thread_held step key top order = by (entry_with (entries (tree h step)) key) refl
     where
       by : (o : Option Entry) → entry_with (entries (tree h step)) key ≡ o → Held (ask.Thread step key top)
-      by None is = record { result = Err NoThread; is = thread_is dig size ps h r whole sound name named step key (top_or_last top last) order.0 order.1 order.2 None is; own = ap no_thread is }
+      by None is =
+          record {
+            result = Err NoThread;
+            is = thread_is dig size ps h r whole sound name named step key (top_or_last top last) order.0 order.1
+                order.2 None is;
+            own = ap no_thread is;
+          }
       by (Some e) is =
-          let bytes : List ℕ = bytes_of_proof (Archived (made_thread dig size ps h r whole sound name named step key (top_or_last top last) order.0 order.1 order.2 e)) in
+          let bytes : List ℕ = bytes_of_proof (Archived (made_thread dig size ps h r whole sound name named step key
+          (top_or_last top last) order.0 order.1 order.2 e)) in
           record {
             result = Ok bytes;
-            is = thread_is dig size ps h r whole sound name named step key (top_or_last top last) order.0 order.1 order.2 (Some e) is;
-            own = (ap no_thread is, subst (λ n. MakesThread dig h step key (top_or_last top n) bytes) ends (makes dig size ps h r whole sound name named step key (top_or_last top last) order.0 order.1 order.2 e is));
+            is = thread_is dig size ps h r whole sound name named step key (top_or_last top last) order.0 order.1
+                order.2 (Some e) is;
+            own = (
+              ap no_thread is,
+              subst (λ n. MakesThread dig h step key (top_or_last top n) bytes) ends
+                  (makes dig size ps h r whole sound name named step key (top_or_last top last) order.0 order.1 order.2
+                  e is),
+            );
           }
 
-  absence_held : (step : ℕ) (key : Key) (top : Option ℕ) → MayAsk (ask.Absent step key top) → HasNames (ask.Absent step key top) → AreInOrder last (ask.Absent step key top) → Held (ask.Absent step key top)
+  absence_held : (step : ℕ) (key : Key) (top : Option ℕ) → MayAsk (ask.Absent step key top)
+      → HasNames (ask.Absent step key top) → AreInOrder last (ask.Absent step key top) → Held (ask.Absent step key top)
   unfolding found_bytes pages_refusal Makes
   absence_held step key top may names order = by (entry_with (entries (tree h step)) key) refl
     where
       by : (o : Option Entry) → entry_with (entries (tree h step)) key ≡ o → Held (ask.Absent step key top)
       by None is =
-          let bytes : List ℕ = bytes_of_proof (Absent (made_absence dig size ps h r whole sound name named step key (top_or_last top last) order.0 order.1 order.2)) in
+          let bytes : List ℕ = bytes_of_proof
+          (Absent (made_absence dig size ps h r whole sound name named step key (top_or_last top last) order.0 order.1
+          order.2)) in
           record {
             result = Ok bytes;
-            is = absence_is dig size ps h r whole sound name named step key (top_or_last top last) order.0 order.1 order.2 None is;
-            own = (ap has_thread is, subst (λ n. MakesAbsence dig h step key (top_or_last top n) bytes) ends (lacks dig size ps h r whole sound name named step key (top_or_last top last) order.0 order.1 order.2 names may is));
+            is = absence_is dig size ps h r whole sound name named step key (top_or_last top last) order.0 order.1
+                order.2 None is;
+            own = (
+              ap has_thread is,
+              subst (λ n. MakesAbsence dig h step key (top_or_last top n) bytes) ends (lacks dig size ps h r whole sound
+                  name named step key (top_or_last top last) order.0 order.1 order.2 names may is),
+            );
           }
-      by (Some e) is = record { result = Err (HasThread e.archived); is = absence_is dig size ps h r whole sound name named step key (top_or_last top last) order.0 order.1 order.2 (Some e) is; own = ap has_thread is }
+      by (Some e) is =
+          record {
+            result = Err (HasThread e.archived);
+            is = absence_is dig size ps h r whole sound name named step key (top_or_last top last) order.0 order.1
+                order.2 (Some e) is;
+            own = ap has_thread is;
+          }
 
   link_held : (step : ℕ) (top : Option ℕ) → AreInOrder last (ask.Link step top) → Held (ask.Link step top)
   unfolding found_bytes pages_refusal Makes
@@ -171,21 +222,25 @@ module _ (dig : List ℕ → List ℕ) (size : (text : List ℕ) → IsDigest (d
         own = (refl, subst (λ n. MakesLink dig h step (top_or_last top n) own.0) ends own.2);
       }
 
-  low_held : (step : ℕ) (peer : List ℕ) (top : Option ℕ) → HasNames (ask.Low step peer top) → AreInOrder last (ask.Low step peer top) → Held (ask.Low step peer top)
+  low_held : (step : ℕ) (peer : List ℕ) (top : Option ℕ) → HasNames (ask.Low step peer top)
+      → AreInOrder last (ask.Low step peer top) → Held (ask.Low step peer top)
   unfolding found_bytes pages_refusal Makes
   low_held step peer top names order =
       let short : step ≤ LAST_STEP = omega (arith, order.1, order.2, ends, sound.length) in
-      let own = low_kept dig size ps h r.head whole.steps whole.trees sound peer names step (top_or_last top last) order.0 short (omega (arith, order.0, order.1)) order.2 order.1 in
+      let own = low_kept dig size ps h r.head whole.steps whole.trees sound peer names step (top_or_last top last)
+      order.0 short (omega (arith, order.0, order.1)) order.2 order.1 in
       record {
         result = Ok own.0;
         is = ap (λ (n : List ℕ). low_file dig ps r.head step peer (top_or_last top last) n) (sym named) ∙ own.1;
         own = (refl, subst (λ n. MakesLow dig h step peer (top_or_last top n) own.0) ends own.2);
       }
 
-  high_held : (step : ℕ) (peer : List ℕ) (top : Option ℕ) → MayAsk (ask.High step peer top) → HasNames (ask.High step peer top) → AreInOrder last (ask.High step peer top) → Held (ask.High step peer top)
+  high_held : (step : ℕ) (peer : List ℕ) (top : Option ℕ) → MayAsk (ask.High step peer top)
+      → HasNames (ask.High step peer top) → AreInOrder last (ask.High step peer top) → Held (ask.High step peer top)
   unfolding found_bytes pages_refusal Makes
   high_held step peer top may names order =
-      let own = high_kept dig size ps h r.head whole.steps whole.trees sound peer names step (top_or_last top last) (omega (arith, may.0)) may.1 order.0 order.1 in
+      let own = high_kept dig size ps h r.head whole.steps whole.trees sound peer names step (top_or_last top last)
+      (omega (arith, may.0)) may.1 order.0 order.1 in
       record {
         result = Ok own.0;
         is = ap (λ (n : List ℕ). high_file dig ps r.head step peer (top_or_last top last) n) (sym named) ∙ own.1;
@@ -193,7 +248,8 @@ module _ (dig : List ℕ → List ℕ) (size : (text : List ℕ) → IsDigest (d
       }
 
   -- the message that is found is the history's own
-  pub told_held : (since : ℕ) → AreInOrder last (ask.ThreadOut since) → (m : Message) × (message_told dig ps name r.head since ≡ Is (Ok m)) × IsMessageOf dig h since m
+  pub told_held : (since : ℕ) → AreInOrder last (ask.ThreadOut since) → (m : Message)
+      × (message_told dig ps name r.head since ≡ Is (Ok m)) × IsMessageOf dig h since m
   unfolding message_told
   told_held since order =
       let own = kept_path dig size ps h r.head since whole.steps order.1 in
@@ -210,17 +266,22 @@ module _ (dig : List ℕ → List ℕ) (size : (text : List ℕ) → IsDigest (d
   same_message : (x y : Message) → ◌≡◌ {A = Result Message Refusal} (Ok x) (Ok y) → x ≡ y
   same_message x y e = cc
 
-  pub message_makes : (since : ℕ) (m : Message) → IsMessageOf dig h since m → Makes dig h (ask.ThreadOut since) (message_bytes m)
+  pub message_makes : (since : ℕ) (m : Message) → IsMessageOf dig h since m → Makes dig h (ask.ThreadOut since)
+      (message_bytes m)
   unfolding Makes
   message_makes since m mine = (m, message-spelled dig h (λ t. (size t).0) (λ t. (size t).1) sound since m mine, mine)
 
-  pub told_own : (since : ℕ) → AreInOrder last (ask.ThreadOut since) → (m : Message) → message_told dig ps name r.head since ≡ Is (Ok m) → IsMessageOf dig h since m
+  pub told_own : (since : ℕ) → AreInOrder last (ask.ThreadOut since) → (m : Message) → message_told dig ps name r.head
+      since ≡ Is (Ok m) → IsMessageOf dig h since m
   told_own since order m is =
       let own = told_held since order in
-      subst (λ (x : Message). IsMessageOf dig h since x) (same_message own.0 m (same_found (Ok own.0) (Ok m) (sym own.1 ∙ is))) own.2
+      subst (λ (x : Message). IsMessageOf dig h since x)
+      (same_message own.0 m (same_found (Ok own.0) (Ok m) (sym own.1 ∙ is))) own.2
 
-  pub told_good : (since : ℕ) → AreInOrder last (ask.ThreadOut since) → (why : Refusal) → IsRefusalFound why (message_told dig ps name r.head since) → IsBadPageRefusal why → ⊥
-  told_good since order why is = let own = told_held since order in no_bad_is why (message_told dig ps name r.head since) (Ok own.0) own.1 is
+  pub told_good : (since : ℕ) → AreInOrder last (ask.ThreadOut since) → (why : Refusal)
+      → IsRefusalFound why (message_told dig ps name r.head since) → IsBadPageRefusal why → ⊥
+  told_good since order why is = let own = told_held since order in
+      no_bad_is why (message_told dig ps name r.head since) (Ok own.0) own.1 is
 
   message_held : (since : ℕ) → AreInOrder last (ask.ThreadOut since) → Held (ask.ThreadOut since)
   unfolding found_bytes message_found pages_refusal
@@ -236,14 +297,25 @@ module _ (dig : List ℕ → List ℕ) (size : (text : List ℕ) → IsDigest (d
   unfolding found_bytes pages_refusal Makes
   file_held = by (is_short h) refl
     where
-      found_is : (b : Bool) → is_short h ≡ b → history_file dig ps name r.head ≡ Is (file_or (if b then Ok (history_bytes h) else Err (told_size h)))
+      found_is : (b : Bool) → is_short h ≡ b → history_file dig ps name r.head ≡ Is
+          (file_or (if b then Ok (history_bytes h) else Err (told_size h)))
       found_is b is =
           ap (λ (n : List ℕ). history_file dig ps n r.head) (sym named) ∙ export_kept dig size ps h r whole sound
           ∙ ap (λ (c : Bool). Is (file_or (if c then Ok (history_bytes h) else Err (told_size h)))) is
 
       by : (b : Bool) → is_short h ≡ b → Held ask.Export
-      by true is = record { result = Ok (history_bytes h); is = found_is true is; own = (ap (λ (c : Bool). if c then None else Some (TooLong (told_size h))) is, refl) }
-      by false is = record { result = Err (TooLong (told_size h)); is = found_is false is; own = ap (λ (c : Bool). if c then None else Some (TooLong (told_size h))) is }
+      by true is =
+          record {
+            result = Ok (history_bytes h);
+            is = found_is true is;
+            own = (ap (λ (c : Bool). if c then None else Some (TooLong (told_size h))) is, refl);
+          }
+      by false is =
+          record {
+            result = Err (TooLong (told_size h));
+            is = found_is false is;
+            own = ap (λ (c : Bool). if c then None else Some (TooLong (told_size h))) is;
+          }
 
   pub held : (q : Question) → MayAsk q → HasNames q → AreInOrder last q → Held q
   held (ask.Event step index top) may names order = event_held step index top order
@@ -264,20 +336,36 @@ module _ (dig : List ℕ → List ℕ) (size : (text : List ℕ) → IsDigest (d
   passes true why none = refl
   passes false why none = absurd cc
 
-  accepted_at : (q : Question) → AreInOrder (length h.steps) q → pages_refusal h q ≡ None → (bytes : List ℕ) → Makes dig h q bytes → IsAcceptedFor dig h q bytes
+  accepted_at : (q : Question) → AreInOrder (length h.steps) q → pages_refusal h q ≡ None → (bytes : List ℕ)
+      → Makes dig h q bytes → IsAcceptedFor dig h q bytes
   unfolding Makes IsAcceptedFor pages_refusal
-  accepted_at (ask.Event step index top) order none bytes makes = λ anchors anchor at reached. Accepts-made dig h step index (top_or_last top (length h.steps)) bytes anchors anchor order.1 makes at reached
-  accepted_at (ask.Thread step key top) order none bytes makes = λ anchors anchor at reached.
-      (Archived makes.0, makes.1, own-accepted dig h step (top_or_last top (length h.steps)) order.1 anchors anchor at reached sound order.2 (Archived makes.0) makes.2)
-  accepted_at (ask.Absent step key top) order none bytes makes = λ anchors anchor at reached.
-      (Absent makes.0, makes.1, own-accepted dig h step (top_or_last top (length h.steps)) order.1 anchors anchor at reached sound order.2 (Absent makes.0) makes.2)
-  accepted_at (ask.Link step top) order none bytes makes = λ anchors anchor at reached.
-      (Linked makes.0, makes.1, own-accepted dig h step (top_or_last top (length h.steps)) order.1 anchors anchor at reached sound order.2 (Linked makes.0) makes.2)
+  accepted_at (ask.Event step index top) order none bytes makes = λ anchors anchor at reached. Accepts-made dig h step
+      index (top_or_last top (length h.steps)) bytes anchors anchor order.1 makes at reached
+  accepted_at (ask.Thread step key top) order none bytes makes = λ anchors anchor at reached. (
+    Archived makes.0,
+    makes.1,
+    own-accepted dig h step (top_or_last top (length h.steps)) order.1 anchors anchor at reached sound order.2
+        (Archived makes.0) makes.2,
+  )
+  accepted_at (ask.Absent step key top) order none bytes makes = λ anchors anchor at reached. (
+    Absent makes.0,
+    makes.1,
+    own-accepted dig h step (top_or_last top (length h.steps)) order.1 anchors anchor at reached sound order.2
+        (Absent makes.0) makes.2,
+  )
+  accepted_at (ask.Link step top) order none bytes makes = λ anchors anchor at reached. (
+    Linked makes.0,
+    makes.1,
+    own-accepted dig h step (top_or_last top (length h.steps)) order.1 anchors anchor at reached sound order.2
+        (Linked makes.0) makes.2,
+  )
   accepted_at ask.Export order none bytes makes =
-      subst (λ (bs : List ℕ). ReadsHistory bs (Ok h)) (sym makes) (reads-back h sound (passes (is_short h) (TooLong (told_size h)) none))
+      subst (λ (bs : List ℕ). ReadsHistory bs (Ok h)) (sym makes)
+      (reads-back h sound (passes (is_short h) (TooLong (told_size h)) none))
   accepted_at _ order none bytes makes = tt
 
-  pub accepted_for : (q : Question) → AreInOrder last q → pages_refusal h q ≡ None → (bytes : List ℕ) → Makes dig h q bytes → IsAcceptedFor dig h q bytes
+  pub accepted_for : (q : Question) → AreInOrder last q → pages_refusal h q ≡ None → (bytes : List ℕ)
+      → Makes dig h q bytes → IsAcceptedFor dig h q bytes
   accepted_for q order = accepted_at q (at_end q order)
 
   few_at : (q : Question) → AreInOrder (length h.steps) q → (bytes : List ℕ) → Makes dig h q bytes → HasFewFor h q bytes
@@ -289,7 +377,8 @@ module _ (dig : List ℕ → List ℕ) (size : (text : List ℕ) → IsDigest (d
   few_at (ask.Absent step key top) order bytes makes = λ p spells.
       let n : ℕ = top_or_last top (length h.steps) in
       absence_few dig size ps h r whole sound name named step key n order.0 order.1 (omega (arith, order.2, ends)) p
-      (subst (λ (x : AbsenceProof). IsAbsenceProofOf dig h step n x) (one_absence bytes makes.0 p makes.1 spells) makes.2)
+      (subst (λ (x : AbsenceProof). IsAbsenceProofOf dig h step n x) (one_absence bytes makes.0 p makes.1 spells)
+      makes.2)
   few_at (ask.Low step peer top) order bytes makes =
       let n : ℕ = top_or_last top (length h.steps) in
       low_few dig ps h r whole step peer n bytes (omega (arith, order.1, order.2)) makes
@@ -340,18 +429,26 @@ besides_told _ why is = absurd is
 
 module _ (dig : List ℕ → List ℕ) (h : History) (q : Question) where
   pub ask_refused : (why : Refusal) → Some why ≡ history_refusal h q → IsStepOf dig h (Ask q) (Refused why) h
-  ask_refused why is =
-      (refl, subst (λ o. MatchOption o ((bytes : List ℕ) × Makes dig h q bytes × (Refused why ≡ OfBytes bytes)) (λ refusal. Refused why ≡ Refused refusal)) is refl)
+  ask_refused why is = (
+    refl,
+    subst (λ o. MatchOption o ((bytes : List ℕ) × Makes dig h q bytes × (Refused why ≡ OfBytes bytes))
+        (λ refusal. Refused why ≡ Refused refusal)) is refl,
+  )
 
-  pub ask_made : (bytes : List ℕ) → None ≡ history_refusal h q → Makes dig h q bytes → IsStepOf dig h (Ask q) (OfBytes bytes) h
-  ask_made bytes is makes =
-      (refl, subst (λ o. MatchOption o ((bs : List ℕ) × Makes dig h q bs × (OfBytes bytes ≡ OfBytes bs)) (λ refusal. OfBytes bytes ≡ Refused refusal)) is (bytes, makes, refl))
+  pub ask_made : (bytes : List ℕ) → None ≡ history_refusal h q → Makes dig h q bytes → IsStepOf dig h (Ask q)
+      (OfBytes bytes) h
+  ask_made bytes is makes = (
+    refl,
+    subst (λ o. MatchOption o ((bs : List ℕ) × Makes dig h q bs × (OfBytes bytes ≡ OfBytes bs))
+        (λ refusal. OfBytes bytes ≡ Refused refusal)) is (bytes, makes, refl),
+  )
 
 -- the table of a message
 none_after : (o : Option Refusal) → o ≡ or_else o None
 none_after None = refl
 none_after (Some why) = refl
 
-pub thread_whole : (h : History) (since : ℕ) (o : Option Refusal) → o ≡ thread_refusal false (length h.steps) since → o ≡ history_refusal h (ask.ThreadOut since)
+pub thread_whole : (h : History) (since : ℕ) (o : Option Refusal) → o ≡ thread_refusal false (length h.steps) since
+    → o ≡ history_refusal h (ask.ThreadOut since)
 unfolding question_refusal pages_refusal
 thread_whole h since o is = is ∙ none_after (thread_refusal false (length h.steps) since)

@@ -1,5 +1,6 @@
 -- What receiving a message makes: where the first lines of its table refuse it, and where the store took it in.
-use Rattle.std.proofs.Common.{◌≡◌, ◌≢◌, ◌⊎◌, ℕ, ◌+◌, ◌≤◌, List, length, refl, ap, sym, ◌∙◌, subst, arith, inl, inr, ⊎_elim, Bool, true, false}
+use Rattle.std.proofs.Common.{◌≡◌, ◌≢◌, ◌⊎◌, ℕ, ◌+◌, ◌≤◌, List, length, refl, ap, sym, ◌∙◌, subst, arith, inl, inr}
+use Rattle.std.proofs.Common.{⊎_elim, Bool, true, false}
 use Rattle.std.specs.Prelude.{◌↔◌, IsTrue, MatchOption, Option, Some, None, Result, Ok, Err, IfErr, IfOk}
 use Rattle.std.specs.Str.{bytes_eq}
 use Rattle.tw_base.specs.history.History.{History}
@@ -16,7 +17,8 @@ use Rattle.tw_pages.specs.SameSteps.{is_same_itself}
 use Rattle.tw_pages.specs.StoreValue.{is_broken, store_disk}
 use Rattle.tw_archive.specs.Judging.{judged_message}
 use Rattle.tw_answers.specs.declared.refusal.Refusal.{Refusal}
-use Rattle.tw_answers.specs.declared.refusal.Refusal.TheVariants.{Own, Forked, Stale, BadLink, Full, ClockBack, DiskFault, Reopen}
+use Rattle.tw_answers.specs.declared.refusal.Refusal.TheVariants.{Own, Forked, Stale, BadLink, Full, ClockBack}
+use Rattle.tw_answers.specs.declared.refusal.Refusal.TheVariants.{DiskFault, Reopen}
 use Rattle.tw_answers.specs.declared.root.RootRecord.{RootRecord}
 use Rattle.tw_answers.specs.Limits.{own_refusal}
 use Rattle.tw_answers.specs.Refusals.{IsBadPageRefusal, IsFault}
@@ -59,7 +61,8 @@ own_broken true name from is = refl
 own_broken false name from is = cc
 
 -- what tells of a message is no fault
-pub tells_told : (dig : List ℕ → List ℕ) (steps : ℕ) (clock time : Option ℕ) (m : Message) (r : Refusal) → TellsOfMessage dig steps clock time m r → IsTold r
+pub tells_told : (dig : List ℕ → List ℕ) (steps : ℕ) (clock time : Option ℕ) (m : Message) (r : Refusal)
+    → TellsOfMessage dig steps clock time m r → IsTold r
 tells_told dig steps clock time m (Forked step kept offered) tells = ((λ is. is), (λ is. cc))
 tells_told dig steps clock time m (Stale last) tells = ((λ is. is), (λ is. cc))
 tells_told dig steps clock time m (BadLink last kept) tells = ((λ is. is), (λ is. cc))
@@ -70,34 +73,57 @@ tells_told dig steps clock time m _ tells = absurd tells
 -- ---- the machine
 
 module _ (dig : List ℕ → List ℕ) (h : History) (m : Message) (time : Option ℕ) where
-  pub receive_refused : (r : Refusal) → Some r ≡ own_refusal false h.name m.thread.from → IsStepOf dig h (Receive m time) (Refused r) h
+  pub receive_refused : (r : Refusal) → Some r ≡ own_refusal false h.name m.thread.from
+      → IsStepOf dig h (Receive m time) (Refused r) h
   receive_refused r is =
-      subst (λ (o : Option Refusal). RepliesTo dig h m time (Refused r) h (refuse_or o (reception (length h.steps) (greatest_time h) time (judged_message dig (entries (tree h (length h.steps))) m)))) is (refl, refl)
+      subst (λ (o : Option Refusal). RepliesTo dig h m time (Refused r) h
+      (refuse_or o (reception (length h.steps) (greatest_time h) time
+      (judged_message dig (entries (tree h (length h.steps))) m)))) is (refl, refl)
 
 -- ---- a store that took a message in, of a service
 
-module _ {D H : Type 0} {g : _} {k : _} (view : D → DiskView) (only_now : (d : D) (c : Image) → (view d).left_since (view d).moment c → (view d).may_leave c) (dig : List ℕ → List ℕ) (m : Message) (time : Option ℕ) where
+module _ {D H : Type 0} {g : _} {k : _} (view : D → DiskView) (only_now : (d : D) (c : Image) → (view d).left_since
+    (view d).moment c → (view d).may_leave c) (dig : List ℕ → List ℕ) (m : Message) (time : Option ℕ) where
   abbrev Taken : (s t : Service D H g k) → Result Receipt Refusal → Type 0
-  Taken s t result = TakesIn dig view m time s.recorded.kept.store t.recorded.kept.store s.recorded.kept.root t.recorded.kept.root result
+  Taken s t result = TakesIn dig view m time s.recorded.kept.store t.recorded.kept.store s.recorded.kept.root
+      t.recorded.kept.root result
 
   module _ (s t : Service D H g k) (h : History) (served : Serves dig view s h) where
     abbrev Stepped : Result Receipt Refusal → Type 0
-    Stepped result = StepsIn dig view m time s.recorded.kept.store t.recorded.kept.store s.recorded.kept.root t.recorded.kept.root result h
+    Stepped result = StepsIn dig view m time s.recorded.kept.store t.recorded.kept.store s.recorded.kept.root
+        t.recorded.kept.root result h
 
-    steps_on : (result : Result Receipt Refusal) → Taken s t result → Stepped result → CallSteps dig view (Receive m time) (λ (x : Receipt). OfReceipt x) s t result h
-    steps_on (Ok receipt) taken x = record { next = x.next; is_next = x.is_next; any_moment = x.any_moment; told = x.told; done = x.done; refused = tt; machine = λ whole. tt }
+    steps_on : (result : Result Receipt Refusal) → Taken s t result → Stepped result
+        → CallSteps dig view (Receive m time) (λ (x : Receipt). OfReceipt x) s t result h
+    steps_on (Ok receipt) taken x =
+        record {
+          next = x.next;
+          is_next = x.is_next;
+          any_moment = x.any_moment;
+          told = x.told;
+          done = x.done;
+          refused = tt;
+          machine = λ whole. tt;
+        }
     steps_on (Err r) taken x = record {
       next = x.next;
       is_next = x.is_next;
       any_moment = x.any_moment;
       told = x.told;
       done = tt;
-      refused = ⊎_elim (λ fault. inl fault) (λ rest. ⊎_elim (λ fault. inl fault) (λ same. inr (rest, read_leaves view only_now dig s.recorded.kept.store t.recorded.kept.store s.recorded.kept.root h same served)) taken.same) x.kept;
+      refused = ⊎_elim (λ fault. inl fault) (λ rest. ⊎_elim (λ fault. inl fault)
+          (λ same. inr (
+            rest,
+            read_leaves view only_now dig s.recorded.kept.store t.recorded.kept.store s.recorded.kept.root h same
+                served,
+          )) taken.same) x.kept;
       machine = λ whole. ⊎_elim
-          (λ fault. answers_fault dig h (Receive m time) (λ (y : Receipt). OfReceipt y) (Serves dig view t) r fault x.good x.kept)
+          (λ fault. answers_fault dig h (Receive m time) (λ (y : Receipt). OfReceipt y) (Serves dig view t) r fault
+          x.good x.kept)
           (λ tells.
           let told = tells_told dig s.recorded.kept.root.head.step s.recorded.kept.root.time time m r tells in
-          answers_refusal dig h (Receive m time) (λ (y : Receipt). OfReceipt y) (Serves dig view t) r told (x.refused told.0)
+          answers_refusal dig h (Receive m time) (λ (y : Receipt). OfReceipt y) (Serves dig view t) r told
+          (x.refused told.0)
           (⊎_elim (λ fault. absurd (told.0 (subst IsFault (sym fault) tt))) (λ rest. rest) x.kept))
           taken.tells;
     }
@@ -105,24 +131,38 @@ module _ {D H : Type 0} {g : _} {k : _} (view : D → DiskView) (only_now : (d :
   -- the record after a step
   record_on : (s t : Service D H g k) (receipt : Receipt)
       → (IsStep receipt.by.step × (receipt.by.step ≤ steps_of s) × (record_of t ≡ record_of s) × HasSameDisk view s t)
-      ⊎ ((receipt ≡ receipt_at (name_of s) (head_of t) m.thread) × (steps_of t ≡ steps_of s + 1) × (record_of t ≡ next_record (record_of s) (head_of t) t.recorded.kept.root.archive (s.recorded.kept.root.threads + 1) time))
+      ⊎ ((receipt ≡ receipt_at (name_of s) (head_of t) m.thread) × (steps_of t ≡ steps_of s + 1)
+      × (record_of t ≡ next_record (record_of s) (head_of t) t.recorded.kept.root.archive
+      (s.recorded.kept.root.threads + 1) time))
       → (IsStep receipt.by.step × (receipt.by.step ≤ steps_of s) × (record_of t ≡ record_of s) × HasSameDisk view s t)
-      ⊎ ((receipt.by ≡ head_thread t) × (steps_of t ≡ steps_of s + 1) × (record_of t ≡ next_record (record_of s) (head_of t) t.recorded.kept.root.archive (s.recorded.kept.root.threads + 1) time))
+      ⊎ ((receipt.by ≡ head_thread t) × (steps_of t ≡ steps_of s + 1) × (record_of t ≡ next_record (record_of s)
+      (head_of t) t.recorded.kept.root.archive (s.recorded.kept.root.threads + 1) time))
   record_on s t receipt either =
       ⊎_elim (λ known. inl known)
       (λ made. let names = ap (λ (r : RootRecord). r.name) made.2 in
-      inr (ap (λ (x : Receipt). x.by) made.0 ∙ (λ j. record { from = sym names j; step = steps_of t; auth = t.recorded.kept.root.head.auth }), made.1, made.2)) either
+      inr (
+        ap (λ (x : Receipt). x.by) made.0
+            ∙ (λ j. record { from = sym names j; step = steps_of t; auth = t.recorded.kept.root.head.auth }),
+        made.1,
+        made.2,
+      )) either
 
   record_if : (s t : Service D H g k) (result : Result Receipt Refusal) → Taken s t result
-      → IfOk result (λ receipt. (IsStep receipt.by.step × (receipt.by.step ≤ steps_of s) × (record_of t ≡ record_of s) × HasSameDisk view s t)
-      ⊎ ((receipt.by ≡ head_thread t) × (steps_of t ≡ steps_of s + 1) × (record_of t ≡ next_record (record_of s) (head_of t) t.recorded.kept.root.archive (s.recorded.kept.root.threads + 1) time)))
+      → IfOk result (λ receipt. (IsStep receipt.by.step × (receipt.by.step ≤ steps_of s) × (record_of t ≡ record_of s)
+      × HasSameDisk view s t)
+      ⊎ ((receipt.by ≡ head_thread t) × (steps_of t ≡ steps_of s + 1) × (record_of t ≡ next_record (record_of s)
+      (head_of t) t.recorded.kept.root.archive (s.recorded.kept.root.threads + 1) time)))
   record_if s t (Ok receipt) taken = record_on s t receipt taken.record_is
   record_if s t (Err r) taken = tt
 
-  pub received_taken : (s t : Service D H g k) (result : Result Receipt Refusal) → None ≡ own_refusal s.is_broken s.recorded.kept.root.name m.thread.from → s.is_broken ≡ false → m.thread.from ≢ s.recorded.kept.root.name
-      → TakesIn dig view m time s.recorded.kept.store t.recorded.kept.store s.recorded.kept.root t.recorded.kept.root result → IsTrue t.is_broken ↔ (result ≡ Err DiskFault) → Receives dig view m time s t result
+  pub received_taken : (s t : Service D H g k) (result : Result Receipt Refusal) → None ≡ own_refusal s.is_broken
+      s.recorded.kept.root.name m.thread.from → s.is_broken ≡ false → m.thread.from ≢ s.recorded.kept.root.name
+      → TakesIn dig view m time s.recorded.kept.store t.recorded.kept.store s.recorded.kept.root t.recorded.kept.root
+      result → IsTrue t.is_broken ↔ (result ≡ Err DiskFault) → Receives dig view m time s t result
   received_taken s t result none whole other taken flag = record {
-    table = subst (λ (o : Option Refusal). MatchOption o (IfErr result (λ why. IsFault why ⊎ TellsOfMessage dig (steps_of s) s.recorded.kept.root.time time m why)) (λ why. result ≡ Err why)) none taken.tells;
+    table = subst (λ (o : Option Refusal). MatchOption o
+        (IfErr result (λ why. IsFault why ⊎ TellsOfMessage dig (steps_of s) s.recorded.kept.root.time time m why))
+        (λ why. result ≡ Err why)) none taken.tells;
     answer = λ is ps list. taken.answer ps list;
     steps = λ h served. steps_on s t h served result taken (taken.steps h served other);
     written = taken.written;
@@ -130,19 +170,26 @@ module _ {D H : Type 0} {g : _} {k : _} (view : D → DiskView) (only_now : (d :
     record_is = record_if s t result taken;
     kept = taken.kept;
     unwritten = taken.same;
-    broken = ((λ failed. inr (flag.0 failed)), (λ either. ⊎_elim (λ failed. let was : IsTrue false = subst (λ (b : Bool). IsTrue b) whole failed in absurd cc) (λ is. flag.1 is) either));
+    broken = (
+      (λ failed. inr (flag.0 failed)),
+      (λ either. ⊎_elim (λ failed. let was : IsTrue false = subst (λ (b : Bool). IsTrue b) whole failed in absurd cc)
+          (λ is. flag.1 is) either),
+    );
     fault = taken.fault;
     later = taken.later;
   }
 
   -- the first lines refuse it
-  pub received_refused : (s : Service D H g k) (r : Refusal) → Some r ≡ own_refusal s.is_broken s.recorded.kept.root.name m.thread.from → Receives dig view m time s s (Err r)
+  pub received_refused : (s : Service D H g k) (r : Refusal) → Some r ≡ own_refusal s.is_broken
+      s.recorded.kept.root.name m.thread.from → Receives dig view m time s s (Err r)
   received_refused s r is =
       let store = s.recorded.kept.store in
       let root = s.recorded.kept.root in
       let told : IsFault r → ⊥ = of_some NoFault _ r is (own_no_fault s.is_broken root.name m.thread.from) in
       record {
-        table = subst (λ (o : Option Refusal). MatchOption o (IfErr (fails r) (λ why. IsFault why ⊎ TellsOfMessage dig (steps_of s) root.time time m why)) (λ why. fails r ≡ Err why)) is refl;
+        table = subst (λ (o : Option Refusal). MatchOption o
+            (IfErr (fails r) (λ why. IsFault why ⊎ TellsOfMessage dig (steps_of s) root.time time m why))
+            (λ why. fails r ≡ Err why)) is refl;
         answer = λ none. (let both : Some r ≡ None = is ∙ none in absurd cc);
         steps = λ h served. record {
           next = h;
@@ -152,30 +199,42 @@ module _ {D H : Type 0} {g : _} {k : _} (view : D → DiskView) (only_now : (d :
           done = tt;
           refused = inr (served, read_leaves view only_now dig store store root h (is_same_itself view store) served);
           machine = λ whole.
-              let own : Some r ≡ own_refusal false h.name m.thread.from = is ∙ (λ j. own_refusal (whole j) (sym served.keeps.named j) m.thread.from) in
-              answers_refusal dig h (Receive m time) (λ (x : Receipt). OfReceipt x) (Serves dig view s) r (of_some IsTold _ r own (own_told h.name m.thread.from)) (receive_refused dig h m time r own) served;
+              let own : Some r ≡ own_refusal false h.name m.thread.from =
+              is ∙ (λ j. own_refusal (whole j) (sym served.keeps.named j) m.thread.from) in
+              answers_refusal dig h (Receive m time) (λ (x : Receipt). OfReceipt x) (Serves dig view s) r
+              (of_some IsTold _ r own (own_told h.name m.thread.from)) (receive_refused dig h m time r own) served;
         };
-        written = λ ps over. nothing_written view only_now (ArchivesTo dig m time) (IsReceiptOfRecord dig m time) store store root root (Err r) ps (is_same_itself view store) over refl tt;
+        written = λ ps over. nothing_written view only_now (ArchivesTo dig m time) (IsReceiptOfRecord dig m time) store
+            store root root (Err r) ps (is_same_itself view store) over refl tt;
         receipt = tt;
         record_is = tt;
         kept = refl;
         unwritten = inr (is_same_itself view store);
-        broken = ((λ failed. inl failed), (λ either. ⊎_elim (λ failed. failed) (λ fault. absurd (told (is_disk_fault Receipt r fault))) either));
+        broken = (
+          (λ failed. inl failed),
+          (λ either. ⊎_elim (λ failed. failed) (λ fault. absurd (told (is_disk_fault Receipt r fault))) either),
+        );
         fault = λ fault. absurd (told (is_disk_fault Receipt r fault));
         later = omega arith;
       }
 
 -- ---- a store that was only read
 
-module _ {D : Type 0} {g : _} (view : D → DiskView) (only_now : (d : D) (c : Image) → (view d).left_since (view d).moment c → (view d).may_leave c) (dig : List ℕ → List ℕ) (m : Message) (time : Option ℕ)
+module _ {D : Type 0} {g : _} (view : D → DiskView) (only_now : (d : D) (c : Image) → (view d).left_since
+    (view d).moment c → (view d).may_leave c) (dig : List ℕ → List ℕ) (m : Message) (time : Option ℕ)
     (old new : Store D g) (root : RootRecord) (same : IsSameStore view old new) where
   abbrev finds_as : Result Receipt Refusal → Type 0
-  finds_as result = (ps : Image) → store_list view old ≡ Some ps → ReceivesAs dig ps root m time root.head root.archive result (found_reception dig ps root.name root.head root.archive root.time m time)
+  finds_as result = (ps : Image) → store_list view old ≡ Some ps → ReceivesAs dig ps root m time root.head root.archive
+      result (found_reception dig ps root.name root.head root.archive root.time m time)
 
   -- it is refused
-  pub taken_err : (r : Refusal) → (IsFault r ⊎ TellsOfMessage dig root.head.step root.time time m r) → finds_as (Err r) → (r ≡ DiskFault) ⊎ (is_broken new ≡ false)
-      → ((h : History) → StoreServes dig view old root h → m.thread.from ≢ root.name → ((IsFault r → ⊥) → IsStepOf dig h (Receive m time) (Refused r) h) × (IsBadPageRefusal r → ⊥))
-      → (r ≡ DiskFault → Rose (view (store_disk old)).faults (view (store_disk new)).faults) → (view (store_disk old)).faults ≤ (view (store_disk new)).faults → TakesIn dig view m time old new root root (Err r)
+  pub taken_err : (r : Refusal) → (IsFault r ⊎ TellsOfMessage dig root.head.step root.time time m r) → finds_as (Err r)
+      → (r ≡ DiskFault) ⊎ (is_broken new ≡ false)
+      → ((h : History) → StoreServes dig view old root h → m.thread.from ≢ root.name
+      → ((IsFault r → ⊥) → IsStepOf dig h (Receive m time) (Refused r) h) × (IsBadPageRefusal r → ⊥))
+      → (r ≡ DiskFault → Rose (view (store_disk old)).faults (view (store_disk new)).faults)
+      → (view (store_disk old)).faults ≤ (view (store_disk new)).faults → TakesIn dig view m time old new root root
+      (Err r)
   taken_err r tells answer whole step rose later = record {
     tells = tells;
     answer = answer;
@@ -189,7 +248,8 @@ module _ {D : Type 0} {g : _} (view : D → DiskView) (only_now : (d : D) (c : I
       refused = (step h rest other).0;
       good = (step h rest other).1;
     };
-    written = λ ps over. nothing_written view only_now (ArchivesTo dig m time) (IsReceiptOfRecord dig m time) old new root root (Err r) ps same over refl tt;
+    written = λ ps over. nothing_written view only_now (ArchivesTo dig m time) (IsReceiptOfRecord dig m time) old new
+        root root (Err r) ps same over refl tt;
     receipt = tt;
     record_is = tt;
     kept = refl;
@@ -203,9 +263,12 @@ module _ {D : Type 0} {g : _} (view : D → DiskView) (only_now : (d : D) (c : I
       of_fails is = cc
 
   -- its thread is known
-  pub taken_known : (receipt : Receipt) → finds_as (Ok receipt) → is_broken new ≡ false → (receipt.thread ≡ m.thread) × (receipt.by.from ≡ root.name) → IsStep receipt.by.step → receipt.by.step ≤ root.head.step
-      → ((h : History) → StoreServes dig view old root h → m.thread.from ≢ root.name → IsStepOf dig h (Receive m time) (OfReceipt receipt) h)
-      → (view (store_disk old)).faults ≤ (view (store_disk new)).faults → TakesIn dig view m time old new root root (Ok receipt)
+  pub taken_known : (receipt : Receipt) → finds_as (Ok receipt) → is_broken new ≡ false → (receipt.thread ≡ m.thread)
+      × (receipt.by.from ≡ root.name) → IsStep receipt.by.step → receipt.by.step ≤ root.head.step
+      → ((h : History) → StoreServes dig view old root h → m.thread.from ≢ root.name → IsStepOf dig h (Receive m time)
+      (OfReceipt receipt) h)
+      → (view (store_disk old)).faults ≤ (view (store_disk new)).faults → TakesIn dig view m time old new root root
+      (Ok receipt)
   taken_known receipt answer whole of_thread is_step below step later = record {
     tells = tt;
     answer = answer;
@@ -219,7 +282,8 @@ module _ {D : Type 0} {g : _} (view : D → DiskView) (only_now : (d : D) (c : I
       refused = tt;
       good = tt;
     };
-    written = λ ps over. nothing_written view only_now (ArchivesTo dig m time) (IsReceiptOfRecord dig m time) old new root root (Ok receipt) ps same over refl (inl (refl, below));
+    written = λ ps over. nothing_written view only_now (ArchivesTo dig m time) (IsReceiptOfRecord dig m time) old new
+        root root (Ok receipt) ps same over refl (inl (refl, below));
     receipt = of_thread;
     record_is = inl (is_step, below, refl, same);
     kept = tt;

@@ -1,5 +1,6 @@
 -- The next record, and the pages that were staged for it.
-use Rattle.std.proofs.Common.{◌≡◌, ℕ, suc, zero, ◌+◌, ◌*◌, ◌^◌, ◌<◌, ◌≤◌, List, ◌++◌, length, refl, ap, sym, ◌∙◌, arith, subst, inl, inr}
+use Rattle.std.proofs.Common.{◌≡◌, ℕ, suc, zero, ◌+◌, ◌*◌, ◌^◌, ◌<◌, ◌≤◌, List, ◌++◌, length, refl, ap, sym, ◌∙◌, arith}
+use Rattle.std.proofs.Common.{subst, inl, inr}
 use Rattle.std.specs.Prelude.{IfSome, Option, Some, None, Ok, Err, false, is_some}
 use Rattle.tw_base.specs.declared.kinds.limits.TheConstants.{LAST_STEP}
 use Rattle.tw_base.specs.declared.history.content.Content.{Content}
@@ -44,14 +45,20 @@ some_step (Some t) step some = some
 
 last_small : (used count page : ℕ) → HasLastPage used count page → used < 2 ^ 64 → page < 2 ^ 64
 last_small used zero page last room = let none = last.none refl in omega (arith, none)
-last_small used (suc count) page last room = let some = last.some (omega arith) in let low = some.1 in omega (arith, low, room)
+last_small used (suc count) page last room = let some = last.some (omega arith) in let low = some.1 in
+    omega (arith, low, room)
 
 -- more pages have the last one of as many things still
 pub last_on : (used more count page : ℕ) → HasLastPage used count page → used ≤ more → HasLastPage more count page
-last_on used more count page last grows = record { none = last.none; some = λ some. let is = last.some some in (is.0, let low = is.1 in omega (arith, low, grows)) }
+last_on used more count page last grows =
+    record {
+      none = last.none;
+      some = λ some. let is = last.some some in (is.0, let low = is.1 in omega (arith, low, grows));
+    }
 
 -- it may stand over the pages that are used then
-module _ (r next : RootRecord) (before generation used commits : ℕ) (may : IsAllowed before generation r) (time : Option ℕ) (within : IsTimeWithinLimits time) where
+module _ (r next : RootRecord) (before generation used commits : ℕ) (may : IsAllowed before generation r)
+    (time : Option ℕ) (within : IsTimeWithinLimits time) where
   pub record IsNextRecord : Type 0 where
     pub named : next.name ≡ r.name
     pub one_more : next.head.step ≡ r.head.step + 1
@@ -67,11 +74,14 @@ module _ (r next : RootRecord) (before generation used commits : ℕ) (may : IsA
 
   pub may_next : IsNextRecord → IsAllowed used commits next
   may_next is = record {
-    spelled = root-fits next (subst IsName (sym is.named) (root-name (is_some r.time) r may.spelled)) (omega (arith, is.one_more, is.short)) is.auth
+    spelled = root-fits next (subst IsName (sym is.named) (root-name (is_some r.time) r may.spelled))
+        (omega (arith, is.one_more, is.short)) is.auth
         (let low = is.page.1 in let most = is.pages in omega (arith, low, most, is.one_more, is.short))
-        (last_small used next.threads next.archive.page is.archive (let most = is.pages in omega (arith, most, is.one_more, is.short)))
+        (last_small used next.threads next.archive.page is.archive (let most = is.pages in
+        omega (arith, most, is.one_more, is.short)))
         is.label (omega (arith, is.threads, is.one_more, is.short))
-        (subst IsTimeWithinLimits (sym is.timed) (greater-within r.time time (root-time (is_some r.time) r may.spelled) within));
+        (subst IsTimeWithinLimits (sym is.timed) (greater-within r.time time (root-time (is_some r.time) r may.spelled)
+        within));
     fits = record {
       steps = record { none = λ none. absurd (omega (arith, none, is.one_more)); some = λ some. is.page };
       threads = is.archive;
@@ -84,31 +94,43 @@ module _ (r next : RootRecord) (before generation used commits : ℕ) (may : IsA
 
 -- ---- what was committed
 
-module _ {D T : Type 0} {g : _} (view : D → DiskView) (only_now : (d : D) (c : Image) → (view d).left_since (view d).moment c → (view d).may_leave c)
+module _ {D T : Type 0} {g : _} (view : D → DiskView) (only_now : (d : D) (c : Image)
+    → (view d).left_since (view d).moment c → (view d).may_leave c)
     (IsNext : (w next : Written RootRecord) → Type 0) (IsAnswer : T → (w next : Written RootRecord) → Type 0)
-    (old mid new : Store D g) (r next : RootRecord) (ps all : Image) (put : IsStaged view root_kind old mid r next ps all) (is : IsNext (written_record r ps) (written_record next all)) where
+    (old mid new : Store D g) (r next : RootRecord) (ps all : Image) (put : IsStaged view root_kind old mid r next ps
+    all) (is : IsNext (written_record r ps) (written_record next all)) where
   -- what a clause of the commit says, for these pages
   abbrev pub OfThese : (Image → Image → Type 0) → Type 0
-  OfThese P = (qs some : Image) → RestsWith view root_kind mid (written_record r qs) → store_list view mid ≡ Some some → IsAllowed (store_count mid) (mid.generation + 1) next → P qs some
+  OfThese P = (qs some : Image) → RestsWith view root_kind mid (written_record r qs) → store_list view mid ≡ Some some
+      → IsAllowed (store_count mid) (mid.generation + 1) next → P qs some
 
   abbrev pub Leaves : Image → Image → Type 0
-  Leaves qs some = LeavesOnly (view (store_disk mid)) (view (store_disk new)) (IsOneOf root_kind (written_record r qs) (written_record next some))
+  Leaves qs some = LeavesOnly (view (store_disk mid)) (view (store_disk new)) (IsOneOf root_kind (written_record r qs)
+      (written_record next some))
 
   abbrev pub Tells : Image → Image → Type 0
   Tells qs some = Reads (view (store_disk new)) (IsOneOf root_kind (written_record r qs) (written_record next some))
 
-  pub committed : (value : T) (after : RootRecord) → IsAnswer value (written_record r ps) (written_record next all) → after ≡ next → OfThese Leaves → OfThese Tells → OfThese (λ qs some. RestsWith view root_kind new (written_record next some))
+  pub committed : (value : T) (after : RootRecord) → IsAnswer value (written_record r ps) (written_record next all)
+      → after ≡ next → OfThese Leaves → OfThese Tells
+      → OfThese (λ qs some. RestsWith view root_kind new (written_record next some))
       → CommitsRoot view IsNext IsAnswer old new r after (Ok value) ps
   committed value after answer after_is leaves tells rests = record {
     next = written_record next all;
     is_next = inr is;
     any_moment = leaves_since view only_now root_kind old mid r next ps all put new leaves;
     told = of_these view only_now root_kind old mid r next ps all put Tells tells;
-    done = (answer, after_is, of_these view only_now root_kind old mid r next ps all put (λ qs some. RestsWith view root_kind new (written_record next some)) rests);
+    done = (
+      answer,
+      after_is,
+      of_these view only_now root_kind old mid r next ps all put (λ qs some. RestsWith view root_kind new
+          (written_record next some)) rests,
+    );
     refused = tt;
   }
 
-  pub not_committed : (after : RootRecord) → OfThese Leaves → OfThese Tells → CommitsRoot view IsNext IsAnswer old new r after (Err DiskFault) ps
+  pub not_committed : (after : RootRecord) → OfThese Leaves → OfThese Tells → CommitsRoot view IsNext IsAnswer old new r
+      after (Err DiskFault) ps
   not_committed after leaves tells = record {
     next = written_record next all;
     is_next = inr is;
@@ -121,46 +143,69 @@ module _ {D T : Type 0} {g : _} (view : D → DiskView) (only_now : (d : D) (c :
 -- ---- what was staged
 
 -- the page of a step that is found lies behind the pages
-put-page : (ps : Image) (links : Found (List StepRef)) (next : List StepRef → Next Head) → ((ls : List StepRef) → 4 + length ps ≤ (next ls).value.page) → (n : Next Head) → (links >>= (λ ls. Is (next ls))) ≡ Is n → 4 + length ps ≤ n.value.page
-put-page ps (Is ls) next low n is = subst (λ (m : Next Head). 4 + length ps ≤ m.value.page) (same_found (next ls) n is) (low ls)
+put-page : (ps : Image) (links : Found (List StepRef)) (next : List StepRef → Next Head)
+    → ((ls : List StepRef) → 4 + length ps ≤ (next ls).value.page) → (n : Next Head) → (links >>= (λ ls. Is (next ls)))
+    ≡ Is n → 4 + length ps ≤ n.value.page
+put-page ps (Is ls) next low n is = subst (λ (m : Next Head). 4 + length ps ≤ m.value.page) (same_found (next ls) n is)
+    (low ls)
 put-page ps (Bad page) next low n is = cc
 
-behind-page : (dig : List ℕ → List ℕ) (ps : Image) (head : Head) (content : Content) (archive : Root) (time : Option ℕ) (n : Next Head) → appended dig ps head content archive time ≡ Is n → 4 + length ps ≤ n.value.page
+behind-page : (dig : List ℕ → List ℕ) (ps : Image) (head : Head) (content : Content) (archive : Root) (time : Option ℕ)
+    (n : Next Head) → appended dig ps head content archive time ≡ Is n → 4 + length ps ≤ n.value.page
 unfolding put_behind
-behind-page dig ps head content archive time n is = put-page ps (next_links ps head) (λ ls. next_of dig ps head (new_step dig content archive time) ls) (λ ls. omega arith) n is
+behind-page dig ps head content archive time n is = put-page ps (next_links ps head)
+    (λ ls. next_of dig ps head (new_step dig content archive time) ls) (λ ls. omega arith) n is
 
-module _ {D : Type 0} {g : _} (view : D → DiskView) (dig : List ℕ → List ℕ) (old mid : Store D g) (r next : RootRecord) (head : Head) (time : Option ℕ) (ps more : Image)
-    (same : IsSameStore view old mid) (rest : RestsWith view root_kind old (written_record r ps)) (count : store_count old ≡ 4 + length ps) (grown : store_list view mid ≡ Some (ps ++ more))
-    (auth : HasBytes 32 head.auth) (one_more : head.step ≡ r.head.step + 1) (short : r.head.step < LAST_STEP) (commits : old.generation ≤ r.head.step + 1) (within : IsTimeWithinLimits time)
+module _ {D : Type 0} {g : _} (view : D → DiskView) (dig : List ℕ → List ℕ) (old mid : Store D g) (r next : RootRecord)
+    (head : Head) (time : Option ℕ) (ps more : Image)
+    (same : IsSameStore view old mid) (rest : RestsWith view root_kind old (written_record r ps))
+    (count : store_count old ≡ 4 + length ps) (grown : store_list view mid ≡ Some (ps ++ more))
+    (auth : HasBytes 32 head.auth) (one_more : head.step ≡ r.head.step + 1) (short : r.head.step < LAST_STEP)
+    (commits : old.generation ≤ r.head.step + 1) (within : IsTimeWithinLimits time)
     (page : head.page < store_count mid) where
   may_old : IsAllowed (store_count old) old.generation r
-  may_old = subst (λ (n : ℕ). IsAllowed n old.generation r) (ap (λ (qs : Image). 4 + length qs) rest.has.pages_are ∙ sym count) rest.has.has.may
+  may_old = subst (λ (n : ℕ). IsAllowed n old.generation r) (ap (λ (qs : Image). 4 + length qs) rest.has.pages_are
+      ∙ sym count) rest.has.has.may
 
   all_told : (pages : Image) → store_list view mid ≡ Some pages → pages ≡ ps ++ more
   all_told pages told = let both : Some pages ≡ Some (ps ++ more) = sym told ∙ grown in cc
 
   -- for a step of events
-  module _ (events : List (List ℕ)) (next_is : next ≡ event_record r head time) (label : HasBytes 32 r.archive.label) (few : store_count mid ≤ store_count old + 19) (grows : store_count old ≤ store_count mid)
-      (pages : Image) (told : store_list view mid ≡ Some pages) (found : appended dig ps r.head (Events events) r.archive time ≡ Is (record { pages = pages; value = head })) where
+  module _ (events : List (List ℕ)) (next_is : next ≡ event_record r head time) (label : HasBytes 32 r.archive.label)
+      (few : store_count mid ≤ store_count old + 19) (grows : store_count old ≤ store_count mid)
+      (pages : Image) (told : store_list view mid ≡ Some pages) (found : appended dig ps r.head (Events events)
+      r.archive time ≡ Is (record { pages = pages; value = head })) where
     may_events : IsAllowed (store_count mid) (mid.generation + 1) (event_record r head time)
-    may_events = may_next r (event_record r head time) (store_count old) old.generation (store_count mid) (mid.generation + 1) may_old time within (record {
-      named = refl;
-      one_more = one_more;
-      short = short;
-      auth = auth;
-      label = label;
-      page = (let low = behind-page dig ps r.head (Events events) r.archive time (record { pages = pages; value = head }) found in omega (arith, low), page);
-      archive = last_on (store_count old) (store_count mid) r.threads r.archive.page may_old.fits.threads grows;
-      threads = let less = may_old.fits.few_threads in omega (arith, less, one_more);
-      timed = refl;
-      pages = let most = may_old.fits.few_pages in omega (arith, few, most, one_more);
-      generations = omega (arith, commits, same.generation, one_more);
-    })
+    may_events = may_next r (event_record r head time) (store_count old) old.generation (store_count mid)
+        (mid.generation + 1) may_old time within (record {
+          named = refl;
+          one_more = one_more;
+          short = short;
+          auth = auth;
+          label = label;
+          page = (
+            let low = behind-page dig ps r.head (Events events) r.archive time (record { pages = pages; value = head })
+                found in omega (arith, low),
+            page,
+          );
+          archive = last_on (store_count old) (store_count mid) r.threads r.archive.page may_old.fits.threads grows;
+          threads = let less = may_old.fits.few_threads in omega (arith, less, one_more);
+          timed = refl;
+          pages = let most = may_old.fits.few_pages in omega (arith, few, most, one_more);
+          generations = omega (arith, commits, same.generation, one_more);
+        })
 
     pub staged_events : IsStaged view root_kind old mid r next ps (ps ++ more)
-    staged_events = record { same = same; rest = rest; list = grown; may = subst (λ (x : RootRecord). IsAllowed (store_count mid) (mid.generation + 1) x) (sym next_is) may_events }
+    staged_events =
+        record {
+          same = same;
+          rest = rest;
+          list = grown;
+          may = subst (λ (x : RootRecord). IsAllowed (store_count mid) (mid.generation + 1) x) (sym next_is) may_events;
+        }
 
-    pub appends_events : append_refusal false r.head.step r.time events time ≡ None → AppendsTo dig events time (written_record r ps) (written_record next (ps ++ more))
+    pub appends_events : append_refusal false r.head.step r.time events time ≡ None → AppendsTo dig events time
+        (written_record r ps) (written_record next (ps ++ more))
     appends_events allowed =
         let is : head ≡ next.head = sym (ap (λ (x : RootRecord). x.head) next_is) in
         record {
@@ -172,25 +217,42 @@ module _ {D : Type 0} {g : _} (view : D → DiskView) (dig : List ℕ → List �
         }
 
   -- for a step that archives a thread
-  module _ (t : Thread) (archive : Root) (next_is : next ≡ next_record r head archive (r.threads + 1) time) (label : HasBytes 32 archive.label) (few : store_count mid ≤ store_count old + 42)
-      (tree : (store_count old ≤ archive.page) × (archive.page < store_count mid)) (staged : IsStagedBehind dig ps r t time (store_list view mid) head archive) where
+  module _ (t : Thread) (archive : Root) (next_is : next ≡ next_record r head archive (r.threads + 1) time)
+      (label : HasBytes 32 archive.label) (few : store_count mid ≤ store_count old + 42)
+      (tree : (store_count old ≤ archive.page) × (archive.page < store_count mid))
+      (staged : IsStagedBehind dig ps r t time (store_list view mid) head archive) where
     may_thread : IsAllowed (store_count mid) (mid.generation + 1) (next_record r head archive (r.threads + 1) time)
-    may_thread = may_next r (next_record r head archive (r.threads + 1) time) (store_count old) old.generation (store_count mid) (mid.generation + 1) may_old time within (record {
-      named = refl;
-      one_more = one_more;
-      short = short;
-      auth = auth;
-      label = label;
-      page = (let low = behind-page dig (ps ++ staged.tree_pages) r.head (Received t) archive time (record { pages = staged.pages; value = head }) staged.is in omega (arith, low), page);
-      archive = record { none = λ none. absurd (omega (arith, none)); some = λ some. (let low = tree.0 in omega (arith, low, count), tree.1) };
-      threads = let less = may_old.fits.few_threads in omega (arith, less, one_more);
-      timed = refl;
-      pages = let most = may_old.fits.few_pages in omega (arith, few, most, one_more);
-      generations = omega (arith, commits, same.generation, one_more);
-    })
+    may_thread = may_next r (next_record r head archive (r.threads + 1) time) (store_count old) old.generation
+        (store_count mid) (mid.generation + 1) may_old time within (record {
+          named = refl;
+          one_more = one_more;
+          short = short;
+          auth = auth;
+          label = label;
+          page = (
+            let low = behind-page dig (ps ++ staged.tree_pages) r.head (Received t) archive time
+                (record { pages = staged.pages; value = head }) staged.is in omega (arith, low),
+            page,
+          );
+          archive =
+              record {
+                none = λ none. absurd (omega (arith, none));
+                some = λ some. (let low = tree.0 in omega (arith, low, count), tree.1);
+              };
+          threads = let less = may_old.fits.few_threads in omega (arith, less, one_more);
+          timed = refl;
+          pages = let most = may_old.fits.few_pages in omega (arith, few, most, one_more);
+          generations = omega (arith, commits, same.generation, one_more);
+        })
 
     pub staged_thread : IsStaged view root_kind old mid r next ps (ps ++ more)
-    staged_thread = record { same = same; rest = rest; list = grown; may = subst (λ (x : RootRecord). IsAllowed (store_count mid) (mid.generation + 1) x) (sym next_is) may_thread }
+    staged_thread =
+        record {
+          same = same;
+          rest = rest;
+          list = grown;
+          may = subst (λ (x : RootRecord). IsAllowed (store_count mid) (mid.generation + 1) x) (sym next_is) may_thread;
+        }
 
     pub adds_thread : AddsThread dig t time (written_record r ps) (written_record next (ps ++ more))
     adds_thread =
@@ -201,6 +263,8 @@ module _ {D : Type 0} {g : _} (view : D → DiskView) (dig : List ℕ → List �
           behind = refl;
           root = next_is ∙ (λ j. next_record r (is j) (tree_is j) (r.threads + 1) time);
           staged = subst (λ (x : Root). IsStagedBehind dig ps r t time (Some (ps ++ more)) next.head x) tree_is
-              (subst (λ (x : Head). IsStagedBehind dig ps r t time (Some (ps ++ more)) x archive) is (subst (λ (o : Option Image). IsStagedBehind dig ps r t time o head archive) grown staged));
-          new_tree = subst (λ (x : Root). 4 + length ps ≤ x.page) tree_is (let low = tree.0 in omega (arith, low, count));
+              (subst (λ (x : Head). IsStagedBehind dig ps r t time (Some (ps ++ more)) x archive) is
+              (subst (λ (o : Option Image). IsStagedBehind dig ps r t time o head archive) grown staged));
+          new_tree = subst (λ (x : Root). 4 + length ps ≤ x.page) tree_is (let low = tree.0 in
+              omega (arith, low, count));
         }

@@ -1,5 +1,6 @@
 -- Pages that keep a history whole, and one more step of it, of events or of a thread.
-use Rattle.std.proofs.Common.{◌≡◌, ◌≢◌, ◌⊎◌, ℕ, suc, zero, ◌+◌, ◌^◌, ◌<◌, ◌≤◌, List, ◌++◌, length, refl, ap, sym, ◌∙◌, subst, arith, inl, inr, append_assoc, lit≤}
+use Rattle.std.proofs.Common.{◌≡◌, ◌≢◌, ◌⊎◌, ℕ, suc, zero, ◌+◌, ◌^◌, ◌<◌, ◌≤◌, List, ◌++◌, length, refl, ap, sym, ◌∙◌}
+use Rattle.std.proofs.Common.{subst, arith, inl, inr, append_assoc, lit≤}
 use Rattle.std.specs.Prelude.{Option}
 use Rattle.tw_base.specs.declared.kinds.limits.TheConstants.{LAST_STEP}
 use Rattle.tw_base.specs.declared.history.content.Content.TheVariants.{Events, Received}
@@ -46,17 +47,20 @@ module _ (dig : List ℕ → List ℕ) (ps : Image) (h : History) (r : RootRecor
   names = named_at dig ps h (step_pages places) (archive_at dig h places) (length h.steps)
 
   -- the archive's page lies below that of its step
-  archive_below : (i : ℕ) → i ≤ length h.steps → ((archive_at dig h places i).page ≡ 0) ⊎ ((archive_at dig h places i).page < new_from (step_pages places) i)
+  archive_below : (i : ℕ) → i ≤ length h.steps → ((archive_at dig h places i).page ≡ 0)
+      ⊎ ((archive_at dig h places i).page < new_from (step_pages places) i)
   archive_below zero within = inl (ap (λ (p : Place). p.archive) whole.steps.keeps.nowhere)
   archive_below (suc k) within = let low = (whole.steps.keeps.steps k within).archive in inr (omega (arith, low))
 
   place_low : (i : ℕ) → i ≤ length h.steps → (place_of_step places i).archive < 4 + length ps
   place_low zero within = let none = ap (λ (p : Place). p.archive) whole.steps.keeps.nowhere in omega (arith, none)
-  place_low (suc k) within = let own = whole.steps.keeps.steps k within in let low = own.archive in let below = own.below in omega (arith, low, below)
+  place_low (suc k) within = let own = whole.steps.keeps.steps k within in let low = own.archive in let below =
+      own.below in omega (arith, low, below)
 
   -- the archive's page is one of the pages, or 0
   pub archive_low : r.archive.page < 4 + length ps
-  archive_low = subst (λ (root : Root). root.page < 4 + length ps) (sym whole.archive) (place_low (length h.steps) (omega arith))
+  archive_low = subst (λ (root : Root). root.page < 4 + length ps) (sym whole.archive)
+      (place_low (length h.steps) (omega arith))
 
   -- the page behind that of a step isn't above the pages
   since_low : (i : ℕ) → i ≤ length h.steps → new_from (step_pages places) i ≤ 4 + length ps
@@ -66,14 +70,16 @@ module _ (dig : List ℕ → List ℕ) (ps : Image) (h : History) (r : RootRecor
   pub last_low : new_from (step_pages places) (length h.steps) ≤ 4 + length ps
   last_low = since_low (length h.steps) (omega arith)
 
-  any : (named : Named) (root : Root) (t : Tree) → StandsWith dig (HasNamed named) ps root t → StandsForTree dig ps root t
+  any : (named : Named) (root : Root) (t : Tree) → StandsWith dig (HasNamed named) ps root t → StandsForTree dig ps
+      root t
   any named root t stands = stands-any dig (HasNamed named) ps root t stands
 
   -- the pages stand for the archive's tree after the last step, with the trees of its numbers, and after each step
   pub tree_named : StandsWith dig (HasNamed names) ps r.archive (tree h (length h.steps))
   tree_named =
       subst (λ (root : Root). StandsWith dig (HasNamed names) ps root (tree h (length h.steps))) (sym whole.archive)
-      (stands-at dig ps h (step_pages places) (archive_at dig h places) whole.trees (length h.steps) (omega arith) (λ none. refl))
+      (stands-at dig ps h (step_pages places) (archive_at dig h places) whole.trees (length h.steps) (omega arith)
+      (λ none. refl))
 
   pub tree_stands : StandsForTree dig ps r.archive (tree h (length h.steps))
   tree_stands = any names r.archive (tree h (length h.steps)) tree_named
@@ -85,18 +91,24 @@ module _ (dig : List ℕ → List ℕ) (ps : Image) (h : History) (r : RootRecor
 
   -- ---- one more step, in these pages and those behind them
 
-  module _ (now : Image) (s : Step) (archive : Root) (head : Head) (longer : Keeps dig now (plus h s) head) (on : GoOn places longer.places (length h.steps) archive.page) where
+  module _ (now : Image) (s : Step) (archive : Root) (head : Head) (longer : Keeps dig now (plus h s) head)
+      (on : GoOn places longer.places (length h.steps) archive.page) where
     pages_on : Agree (length h.steps) (step_pages places) (step_pages longer.places)
     pages_on k within = ap (λ (p : Place). p.page) (sym (on.before k within))
 
     roots_on : Agree (length h.steps) (archive_at dig h places) (archive_at dig (plus h s) longer.places)
-    roots_on k within = λ j. record { page = (sym (on.before k within) j).archive; label = tree_label dig (sym (tree-plus h s k within) j) }
+    roots_on k within =
+        λ j. record {
+          page = (sym (on.before k within) j).archive;
+          label = tree_label dig (sym (tree-plus h s k within) j);
+        }
 
     module _ (label : archive.label ≡ tree_label dig (tree (plus h s) (suc (length h.steps)))) where
       root_on : archive_at dig (plus h s) longer.places (suc (length h.steps)) ≡ archive
       root_on = λ j. record { page = on.new j; label = sym label j }
 
-      whole_on : KeepsTrees dig now (plus h s) (step_pages longer.places) (archive_at dig (plus h s) longer.places) → (threads : ℕ) → threads ≡ length (received (plus h s) (suc (length h.steps)))
+      whole_on : KeepsTrees dig now (plus h s) (step_pages longer.places) (archive_at dig (plus h s) longer.places)
+          → (threads : ℕ) → threads ≡ length (received (plus h s) (suc (length h.steps)))
           → KeepsWhole dig now (plus h s) (next_record r head archive threads s.time)
       whole_on trees threads threads_is = record {
         steps = longer;
@@ -108,54 +120,76 @@ module _ (dig : List ℕ → List ℕ) (ps : Image) (h : History) (r : RootRecor
 
   -- ---- of events
 
-  module _ (more : Image) (events : List (List ℕ)) (time : Option ℕ) (head : Head) (longer : Keeps dig (ps ++ more) (with_events_at h events time) head) (on : GoOn places longer.places (length h.steps) r.archive.page) where
+  module _ (more : Image) (events : List (List ℕ)) (time : Option ℕ) (head : Head) (longer : Keeps dig (ps ++ more)
+      (with_events_at h events time) head) (on : GoOn places longer.places (length h.steps) r.archive.page) where
     abbrev last : Step
     last = event_step (root_of (step_at h (length h.steps))) events time
 
     same_label : r.archive.label ≡ tree_label dig (tree (with_events_at h events time) (suc (length h.steps)))
-    same_label = ap (λ (x : Root). x.label) whole.archive ∙ ap (λ (t : Tree). tree_label dig t) (sym (same_tree h events time))
+    same_label = ap (λ (x : Root). x.label) whole.archive ∙ ap (λ (t : Tree). tree_label dig t)
+        (sym (same_tree h events time))
 
     pub events_on : KeepsWhole dig (ps ++ more) (with_events_at h events time) (event_record r head time)
     events_on =
         whole_on (ps ++ more) last r.archive head longer on same_label
-        (events-keep dig ps more h last (step_pages places) (step_pages longer.places) (archive_at dig h places) (archive_at dig (with_events_at h events time) longer.places) whole.trees
-        (pages_on (ps ++ more) last r.archive head longer on) (roots_on (ps ++ more) last r.archive head longer on) refl refl refl
-        (root_on (ps ++ more) last r.archive head longer on same_label ∙ whole.archive) (archive_below (length h.steps) (omega arith)) refl)
+        (events-keep dig ps more h last (step_pages places) (step_pages longer.places) (archive_at dig h places)
+        (archive_at dig (with_events_at h events time) longer.places) whole.trees
+        (pages_on (ps ++ more) last r.archive head longer on) (roots_on (ps ++ more) last r.archive head longer on) refl
+        refl refl
+        (root_on (ps ++ more) last r.archive head longer on same_label ∙ whole.archive)
+        (archive_below (length h.steps) (omega arith)) refl)
         r.threads (whole.threads ∙ ap length (sym (none-received h last refl)))
 
 -- the step that is found, and the pages that then keep the longer history whole
-pub record AddedWhole (dig : List ℕ → List ℕ) (ps : Image) (h : History) (r : RootRecord) (events : List (List ℕ)) (time : Option ℕ) : Type 0 where
+pub record AddedWhole (dig : List ℕ → List ℕ) (ps : Image) (h : History) (r : RootRecord) (events : List (List ℕ))
+    (time : Option ℕ) : Type 0 where
   pub more : Image
   pub new : Head
   pub is : appended dig ps r.head (Events events) r.archive time ≡ Is (record { pages = ps ++ more; value = new })
   pub keeps : KeepsWhole dig (ps ++ more) (with_events_at h events time) (event_record r new time)
 
-pub added_whole : (dig : List ℕ → List ℕ) (size : (text : List ℕ) → IsDigest (dig text)) (ps : Image) (h : History) (r : RootRecord) → KeepsWhole dig ps h r → (events : List (List ℕ)) (time : Option ℕ)
-    → r.head.step < LAST_STEP → MayRecord events → IsTimeWithinLimits time → 4 + length ps < 2 ^ 47 → AddedWhole dig ps h r events time
+pub added_whole : (dig : List ℕ → List ℕ) (size : (text : List ℕ) → IsDigest (dig text)) (ps : Image) (h : History)
+    (r : RootRecord) → KeepsWhole dig ps h r → (events : List (List ℕ)) (time : Option ℕ)
+    → r.head.step < LAST_STEP → MayRecord events → IsTimeWithinLimits time → 4 + length ps < 2 ^ 47
+    → AddedWhole dig ps h r events time
 added_whole dig size ps h r whole events time short limits within room =
     let step : Step = event_step (root_of (step_at h (length h.steps))) events time in
     let own = grown dig size ps h r.head whole.steps (Events events) r.archive time short in
-    let label : r.archive.label ≡ tree_label dig (tree (plus h step) (suc (length h.steps))) = ap (λ (x : Root). x.label) whole.archive ∙ ap (λ (t : Tree). tree_label dig t) (sym (same_tree h events time)) in
-    let kept = own.keeps (record { content = limits.are; together = limits.fit; time = within }) (archive_low dig ps h r whole) room step refl refl label in
-    record { more = own.more; new = own.new; is = own.is; keeps = events_on dig ps h r whole own.more events time own.new kept.0 kept.1 }
+    let label : r.archive.label ≡ tree_label dig (tree (plus h step) (suc (length h.steps))) =
+    ap (λ (x : Root). x.label) whole.archive ∙ ap (λ (t : Tree). tree_label dig t) (sym (same_tree h events time)) in
+    let kept = own.keeps (record { content = limits.are; together = limits.fit; time = within })
+    (archive_low dig ps h r whole) room step refl refl label in
+    record {
+      more = own.more;
+      new = own.new;
+      is = own.is;
+      keeps = events_on dig ps h r whole own.more events time own.new kept.0 kept.1;
+    }
 
 -- ---- of a thread
 
--- the step that archives a thread, where pages of the grown tree stand behind the others: it is found behind these, and all of them
+-- the step that archives a thread, where pages of the grown tree stand behind the others: it is found behind these, and
+-- all of them
 -- then keep the longer history whole, which is sound where the history may archive the thread
-pub record AddedThread (dig : List ℕ → List ℕ) (ps : Image) (h : History) (r : RootRecord) (tree_pages : Image) (root : Root) (t : Thread) (time : Option ℕ) : Type 0 where
+pub record AddedThread (dig : List ℕ → List ℕ) (ps : Image) (h : History) (r : RootRecord) (tree_pages : Image)
+    (root : Root) (t : Thread) (time : Option ℕ) : Type 0 where
   pub more : Image
   pub new : Head
-  pub is : appended dig (ps ++ tree_pages) r.head (Received t) root time ≡ Is (record { pages = (ps ++ tree_pages) ++ more; value = new })
+  pub is : appended dig (ps ++ tree_pages) r.head (Received t) root time ≡ Is
+      (record { pages = (ps ++ tree_pages) ++ more; value = new })
   pub step : Step
   pub content : step.content ≡ Received t
   pub at_time : step.time ≡ time
   pub keeps : KeepsWhole dig ((ps ++ tree_pages) ++ more) (plus h step) (next_record r new root (r.threads + 1) time)
   pub sound : IsSound h → MayArchive h t time → IsSound (plus h step)
 
-module _ (dig : List ℕ → List ℕ) (size : (text : List ℕ) → IsDigest (dig text)) (ps : Image) (h : History) (r : RootRecord) (whole : KeepsWhole dig ps h r)
-    (tree_pages : Image) (root : Root) (tree_now : Tree) (t : Thread) (time : Option ℕ) (behind : 4 + length ps ≤ root.page) (stands : StandsWith dig (HasNamed (names dig ps h r whole)) (ps ++ tree_pages) root tree_now)
-    (lists : entries tree_now ≡ with_entry (entries (tree h (length h.steps))) (record { thread = t; archived = suc (length h.steps) })) (short : r.head.step < LAST_STEP) (is_thread : IsThread t)
+module _ (dig : List ℕ → List ℕ) (size : (text : List ℕ) → IsDigest (dig text)) (ps : Image) (h : History)
+    (r : RootRecord) (whole : KeepsWhole dig ps h r)
+    (tree_pages : Image) (root : Root) (tree_now : Tree) (t : Thread) (time : Option ℕ)
+    (behind : 4 + length ps ≤ root.page) (stands : StandsWith dig (HasNamed (names dig ps h r whole)) (ps ++ tree_pages)
+    root tree_now)
+    (lists : entries tree_now ≡ with_entry (entries (tree h (length h.steps)))
+    (record { thread = t; archived = suc (length h.steps) })) (short : r.head.step < LAST_STEP) (is_thread : IsThread t)
     (within : IsTimeWithinLimits time) (room : 4 + length (ps ++ tree_pages) < 2 ^ 47) where
   abbrev own_places : List Place
   own_places = whole.steps.places
@@ -164,7 +198,8 @@ module _ (dig : List ℕ → List ℕ) (size : (text : List ℕ) → IsDigest (d
   some none = absurd (omega (arith, none, behind))
 
   root_low : root.page < 4 + length (ps ++ tree_pages)
-  root_low = (some-entry dig (ps ++ tree_pages) root tree_now (stands-any dig (HasNamed (names dig ps h r whole)) (ps ++ tree_pages) root tree_now stands) some).2
+  root_low = (some-entry dig (ps ++ tree_pages) root tree_now (stands-any dig (HasNamed (names dig ps h r whole))
+      (ps ++ tree_pages) root tree_now stands) some).2
 
   base : (still : Keeps dig (ps ++ tree_pages) h r.head) × (still.places ≡ own_places)
   base = Keeps-grows dig ps tree_pages h r.head whole.steps
@@ -181,20 +216,27 @@ module _ (dig : List ℕ → List ℕ) (size : (text : List ℕ) → IsDigest (d
   has : HasGrown dig ps rest h (step_pages own_places) (archive_at dig h own_places) root tree_now t
   has = record {
     behind = let low = last_low dig ps h r whole in omega (arith, low, behind);
-    stands = subst (λ (now : Image). StandsWith dig (HasNamed (names dig ps h r whole)) now root tree_now) all_pages (kept-named dig (ps ++ tree_pages) put.more (names dig ps h r whole) root tree_now stands);
+    stands = subst (λ (now : Image). StandsWith dig (HasNamed (names dig ps h r whole)) now root tree_now) all_pages
+        (kept-named dig (ps ++ tree_pages) put.more (names dig ps h r whole) root tree_now stands);
     lists = lists;
   }
 
-  listed_now : (nodes : List NewNode) × (listed dig (ps ++ rest) (new_from (step_pages own_places) (length h.steps)) root ≡ Is nodes)
-  listed_now = grown-nodes dig ps rest h (step_pages own_places) (archive_at dig h own_places) root tree_now t time whole.trees has
+  listed_now : (nodes : List NewNode) × (listed dig (ps ++ rest) (new_from (step_pages own_places) (length h.steps))
+      root ≡ Is nodes)
+  listed_now = grown-nodes dig ps rest h (step_pages own_places) (archive_at dig h own_places) root tree_now t time
+      whole.trees has
 
   abbrev s : Step
-  s = archiving (numbered_archive dig ps (step_pages own_places) (archive_at dig h own_places) (length h.steps)) t time listed_now.0 root.page
+  s = archiving (numbered_archive dig ps (step_pages own_places) (archive_at dig h own_places) (length h.steps)) t time
+      listed_now.0 root.page
 
   label : root.label ≡ tree_label dig (tree (plus h s) (suc (length h.steps)))
-  label = stands.label ∙ ap (λ (x : Tree). tree_label dig x) (sym (grown-tree dig ps rest h (step_pages own_places) (archive_at dig h own_places) root tree_now t time whole.trees has listed_now.0 listed_now.1))
+  label = stands.label ∙ ap (λ (x : Tree). tree_label dig x)
+      (sym (grown-tree dig ps rest h (step_pages own_places) (archive_at dig h own_places) root tree_now t time
+      whole.trees has listed_now.0 listed_now.1))
 
-  kept : (longer : Keeps dig ((ps ++ tree_pages) ++ put.more) (plus h s) put.new) × GoOn base.0.places longer.places (length h.steps) root.page
+  kept : (longer : Keeps dig ((ps ++ tree_pages) ++ put.more) (plus h s) put.new) × GoOn base.0.places longer.places
+      (length h.steps) root.page
   kept = put.keeps (record { content = is_thread; together = lit≤ tt; time = within }) root_low room s refl refl label
 
   on : GoOn own_places kept.0.places (length h.steps) root.page
@@ -209,10 +251,13 @@ module _ (dig : List ℕ → List ℕ) (size : (text : List ℕ) → IsDigest (d
   root_now : archive_at dig (plus h s) kept.0.places (suc (length h.steps)) ≡ root
   root_now = root_on dig ps h r whole ((ps ++ tree_pages) ++ put.more) s root put.new kept.0 on label
 
-  trees_now : KeepsTrees dig ((ps ++ tree_pages) ++ put.more) (plus h s) (step_pages kept.0.places) (archive_at dig (plus h s) kept.0.places)
+  trees_now : KeepsTrees dig ((ps ++ tree_pages) ++ put.more) (plus h s) (step_pages kept.0.places)
+      (archive_at dig (plus h s) kept.0.places)
   trees_now =
-      subst (λ (now : Image). KeepsTrees dig now (plus h s) (step_pages kept.0.places) (archive_at dig (plus h s) kept.0.places)) (sym all_pages)
-      (archived-keeps dig ps rest h (step_pages own_places) (archive_at dig h own_places) root tree_now t time whole.trees has listed_now.0 listed_now.1
+      subst (λ (now : Image). KeepsTrees dig now (plus h s) (step_pages kept.0.places)
+      (archive_at dig (plus h s) kept.0.places)) (sym all_pages)
+      (archived-keeps dig ps rest h (step_pages own_places) (archive_at dig h own_places) root tree_now t time
+      whole.trees has listed_now.0 listed_now.1
       (step_pages kept.0.places) (archive_at dig (plus h s) kept.0.places) pages_now roots_now root_now)
 
   pub added_thread : AddedThread dig ps h r tree_pages root t time
@@ -223,8 +268,10 @@ module _ (dig : List ℕ → List ℕ) (size : (text : List ℕ) → IsDigest (d
     step = s;
     content = refl;
     at_time = refl;
-    keeps = whole_on dig ps h r whole ((ps ++ tree_pages) ++ put.more) s root put.new kept.0 on label trees_now (r.threads + 1)
+    keeps = whole_on dig ps h r whole ((ps ++ tree_pages) ++ put.more) s root put.new kept.0 on label trees_now
+        (r.threads + 1)
         (let one = one-received h s t refl in omega (arith, one, whole.threads));
-    sound = λ sound may. archived-sound dig ps rest h (step_pages own_places) (archive_at dig h own_places) root tree_now t time whole.trees has listed_now.0 listed_now.1
+    sound = λ sound may. archived-sound dig ps rest h (step_pages own_places) (archive_at dig h own_places) root
+        tree_now t time whole.trees has listed_now.0 listed_now.1
         (step_pages kept.0.places) (archive_at dig (plus h s) kept.0.places) pages_now roots_now root_now sound may;
   }

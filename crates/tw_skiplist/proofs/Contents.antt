@@ -15,12 +15,17 @@ use Rattle.tw_skiplist.proofs.Streams.{length-stream}
 
 content_records : (c : Content) → IsWithinLimits c → FitTogether (appended_events c) → MayRecord (appended_events c)
 content_records (Events events) within together = record { are = within; fit = together }
-content_records (Received t) within together = record { are = record { count = omega arith; sizes = tt; bytes = tt }; fit = omega arith }
+content_records (Received t) within together =
+    record { are = record { count = omega arith; sizes = tt; bytes = tt }; fit = omega arith }
 
-content_counts : (c : Content) (first : ℕ) → IsWithinLimits c → FitTogether (appended_events c) → (length (stream (appended_events c)) ≡ 0 → first ≡ 0) → first < 2 ^ 64
-    → HasCounts (thread_in c) (length (events_in c)) (record { page = first; size = length (stream (appended_events c)) })
-content_counts (Events events) first within together none small = (within.count, (let size = length-stream events in omega (arith, size, within.count, together), small))
-content_counts (Received t) first within together none small = ((λ j. (0, record { page = sym (none refl) j; size = 0 })), within)
+content_counts : (c : Content) (first : ℕ) → IsWithinLimits c → FitTogether (appended_events c)
+    → (length (stream (appended_events c)) ≡ 0 → first ≡ 0) → first < 2 ^ 64
+    → HasCounts (thread_in c) (length (events_in c))
+    (record { page = first; size = length (stream (appended_events c)) })
+content_counts (Events events) first within together none small =
+    (within.count, (let size = length-stream events in omega (arith, size, within.count, together), small))
+content_counts (Received t) first within together none small =
+    ((λ j. (0, record { page = sym (none refl) j; size = 0 })), within)
 
 -- ---- of a step of a history
 
@@ -28,7 +33,8 @@ pub may_record : (o : Option Step) → IfSome o MayBeKept → MayRecord (events_
 may_record None may = record { are = record { count = omega arith; sizes = tt; bytes = tt }; fit = omega arith }
 may_record (Some s) may = content_records s.content may.content may.together
 
-pub may_count : (o : Option Step) (first : ℕ) → IfSome o MayBeKept → (length (stream (events_of o)) ≡ 0 → first ≡ 0) → first < 2 ^ 64
+pub may_count : (o : Option Step) (first : ℕ) → IfSome o MayBeKept → (length (stream (events_of o)) ≡ 0 → first ≡ 0)
+    → first < 2 ^ 64
     → HasCounts (thread_of o) (length (events_of o)) (record { page = first; size = length (stream (events_of o)) })
 may_count None first may none small = (omega arith, (omega arith, small))
 may_count (Some s) first may none small = content_counts s.content first may.content may.together none small

@@ -1,5 +1,6 @@
 -- Streams that are copied, without taking their events apart.
-use Rattle.std.proofs.Common.{◌≡◌, ℕ, suc, zero, ◌+◌, ◌<◌, ◌≤◌, List, [], ◌∷◌, ◌++◌, length, take, drop, Bool, true, false, refl, ap, sym, ◌∙◌, arith, append_assoc, append-nil}
+use Rattle.std.proofs.Common.{◌≡◌, ℕ, suc, zero, ◌+◌, ◌<◌, ◌≤◌, List, [], ◌∷◌, ◌++◌, length, take, drop, Bool, true}
+use Rattle.std.proofs.Common.{false, refl, ap, sym, ◌∙◌, arith, append_assoc, append-nil}
 use Rattle.std.specs.Prelude.{None, nat_lt, if◌then◌else◌}
 use Rattle.tw_base.specs.declared.history.content.Content.TheVariants.{Events}
 use Rattle.tw_base.specs.format.Codecs.{by_kind, counted, number_codec, variant}
@@ -12,7 +13,8 @@ use Rattle.tw_steppage.specs.StepBytes.{stream}
 use Rattle.tw_steppage.specs.declared.limits.TheConstants.{MOST_STREAM_BYTES}
 use Rattle.tw_skiplist.specs.declared.info.EventsAt.{EventsAt}
 use Rattle.tw_skiplist.specs.declared.step_records.StepRecord.{StepRecord}
-use Rattle.tw_skiplist.specs.Events.{event_stream_codec, events_from, events_on, last_event_page, piece_count, piece_in, pieces_from, stream_in}
+use Rattle.tw_skiplist.specs.Events.{event_stream_codec, events_from, events_on, last_event_page, piece_count, piece_in}
+use Rattle.tw_skiplist.specs.Events.{pieces_from, stream_in}
 use Rattle.tw_skiplist.specs.ScanSteps.{HasEventAt, SpellsEvents, copied, tested}
 use Rattle.tw_skiplist.specs.StepRecords.{content_by, content_of, events_of_record}
 use Rattle.tw_skiplist.proofs.EventWords.{found-events, found-none, found-spells, written}
@@ -36,7 +38,8 @@ length-push : (es : List (List ℕ)) (e : List ℕ) → length (es ++ e ∷ []) 
 length-push [] e = refl
 length-push (x ∷ es) e = let rest = length-push es e in omega (arith, rest)
 
-pub front-more : (bytes : List ℕ) (at size index : ℕ) (front : SpellsFront bytes at index) → HasEventAt bytes at size → SpellsFront bytes (at + (4 + size)) (index + 1)
+pub front-more : (bytes : List ℕ) (at size index : ℕ) (front : SpellsFront bytes at index) → HasEventAt bytes at size
+    → SpellsFront bytes (at + (4 + size)) (index + 1)
 front-more bytes at size index front has =
     let event : List ℕ = take size (drop (at + 4) bytes) in
     record {
@@ -52,31 +55,40 @@ abbrev passed : List (List ℕ) → Found (Unit {0})
 passed events = Is tt
 
 module _ (bytes : List ℕ) (count : ℕ) where
-  pub tested-events : (events : List (List ℕ)) → SpellsEvents bytes count events → (page : ℕ) → tested page count bytes ≡ Is tt
+  pub tested-events : (events : List (List ℕ)) → SpellsEvents bytes count events → (page : ℕ) → tested page count bytes
+      ≡ Is tt
   unfolding tested
-  tested-events events s page = ap (λ (f : Found (List (List ℕ))). f >>= passed) (found-events bytes count events s page)
+  tested-events events s page = ap (λ (f : Found (List (List ℕ))). f >>= passed)
+      (found-events bytes count events s page)
 
-  pub tested-none : ((events : List (List ℕ)) → SpellsEvents bytes count events → ⊥) → (page : ℕ) → tested page count bytes ≡ Bad page
+  pub tested-none : ((events : List (List ℕ)) → SpellsEvents bytes count events → ⊥) → (page : ℕ)
+      → tested page count bytes ≡ Bad page
   unfolding tested
   tested-none none page = ap (λ (f : Found (List (List ℕ))). f >>= passed) (found-none bytes count none page)
 
 -- ---- pieces behind what is before them
 
-pieces-behind : (ps : Image) (at : EventsAt) (more number : ℕ) (before bytes : List ℕ) → pieces_from ps at more number (before ++ bytes) ≡ (pieces_from ps at more number bytes >>= (λ s. Is (before ++ s)))
+pieces-behind : (ps : Image) (at : EventsAt) (more number : ℕ) (before bytes : List ℕ) → pieces_from ps at more number
+    (before ++ bytes) ≡ (pieces_from ps at more number bytes >>= (λ s. Is (before ++ s)))
 unfolding pieces_from
 pieces-behind ps at zero number before bytes = refl
-pieces-behind ps at (suc more) number before bytes = by (λ bs. pieces-behind ps at more (suc number) before bs) (piece_in ps at number)
+pieces-behind ps at (suc more) number before bytes = by (λ bs. pieces-behind ps at more (suc number) before bs)
+    (piece_in ps at number)
   where
-    by : ((bs : List ℕ) → pieces_from ps at more (suc number) (before ++ bs) ≡ (pieces_from ps at more (suc number) bs >>= (λ s. Is (before ++ s)))) → (f : Found (List ℕ)) → ((f >>= (λ piece. Is ((before ++ bytes) ++ piece))) >>= pieces_from ps at more (suc number))
+    by : ((bs : List ℕ) → pieces_from ps at more (suc number) (before ++ bs) ≡ (pieces_from ps at more (suc number) bs
+        >>= (λ s. Is (before ++ s)))) → (f : Found (List ℕ))
+        → ((f >>= (λ piece. Is ((before ++ bytes) ++ piece))) >>= pieces_from ps at more (suc number))
         ≡ (((f >>= (λ piece. Is (bytes ++ piece))) >>= pieces_from ps at more (suc number)) >>= (λ s. Is (before ++ s)))
     by rest (Bad page) = refl
-    by rest (Is piece) = ap (pieces_from ps at more (suc number)) (append_assoc before bytes piece) ∙ rest (bytes ++ piece)
+    by rest (Is piece) = ap (pieces_from ps at more (suc number)) (append_assoc before bytes piece)
+        ∙ rest (bytes ++ piece)
 
 drop-front : (xs ys : List ℕ) → drop (length xs) (xs ++ ys) ≡ ys
 drop-front [] ys = refl
 drop-front (x ∷ xs) ys = drop-front xs ys
 
-module _ (ps : Image) (at : EventsAt) (before : List ℕ) (F : List (List ℕ) → List ℕ) (same : (events : List (List ℕ)) → length events ≡ at.count → before ++ stream events ≡ F events) where
+module _ (ps : Image) (at : EventsAt) (before : List ℕ) (F : List (List ℕ) → List ℕ) (same : (events : List (List ℕ))
+    → length events ≡ at.count → before ++ stream events ≡ F events) where
   abbrev last : ℕ
   last = last_event_page at (piece_count at.stream.size)
 
@@ -87,12 +99,14 @@ module _ (ps : Image) (at : EventsAt) (before : List ℕ) (F : List (List ℕ) �
       let spells = found-spells bytes at.count events last e in
       ap (λ (t : List ℕ). Is (before ++ t)) (sym spells.0) ∙ ap (λ (t : List ℕ). Is t) (same events spells.1)
 
-  of-stream : (f : Found (List ℕ)) → ((f >>= (λ s. Is (before ++ s))) >>= (λ now. tested last at.count (drop (length before) now) >>= (λ _. Is now)))
+  of-stream : (f : Found (List ℕ))
+      → ((f >>= (λ s. Is (before ++ s))) >>= (λ now. tested last at.count (drop (length before) now) >>= (λ _. Is now)))
       ≡ ((f >>= events_on last at.count) >>= (λ es. Is (F es)))
   unfolding tested
   of-stream (Bad page) = refl
   of-stream (Is bytes) =
-      ap (λ (t : List ℕ). (events_on last at.count t >>= passed) >>= (λ _. Is (before ++ bytes))) (drop-front before bytes) ∙ of-events bytes (events_on last at.count bytes) refl
+      ap (λ (t : List ℕ). (events_on last at.count t >>= passed) >>= (λ _. Is (before ++ bytes)))
+      (drop-front before bytes) ∙ of-events bytes (events_on last at.count bytes) refl
 
   -- what is copied is made of the events that are found
   pub copied-by : copied ps at before ≡ (events_from ps at >>= (λ events. Is (F events)))
@@ -100,32 +114,41 @@ module _ (ps : Image) (at : EventsAt) (before : List ℕ) (F : List (List ℕ) �
   copied-by = by (nat_lt MOST_STREAM_BYTES at.stream.size)
     where
       behind : pieces_from ps at (piece_count at.stream.size) 0 before ≡ (stream_in ps at >>= (λ s. Is (before ++ s)))
-      behind = ap (pieces_from ps at (piece_count at.stream.size) 0) (sym (append-nil before)) ∙ pieces-behind ps at (piece_count at.stream.size) 0 before []
+      behind = ap (pieces_from ps at (piece_count at.stream.size) 0) (sym (append-nil before)) ∙ pieces-behind ps at
+          (piece_count at.stream.size) 0 before []
 
       by : (b : Bool)
           → (if b then Bad at.page
-          else (pieces_from ps at (piece_count at.stream.size) 0 before >>= (λ now. tested last at.count (drop (length before) now) >>= (λ _. Is now))))
+          else (pieces_from ps at (piece_count at.stream.size) 0 before
+          >>= (λ now. tested last at.count (drop (length before) now) >>= (λ _. Is now))))
           ≡ ((if b then Bad at.page else (stream_in ps at >>= events_on last at.count)) >>= (λ events. Is (F events)))
       by true = refl
-      by false = ap (λ (f : Found (List ℕ)). f >>= (λ now. tested last at.count (drop (length before) now) >>= (λ _. Is now))) behind ∙ of-stream (stream_in ps at)
+      by false = ap (λ (f : Found (List ℕ)). f >>= (λ now. tested last at.count (drop (length before) now)
+          >>= (λ _. Is now))) behind ∙ of-stream (stream_in ps at)
 
 -- ---- a step's events
 
-content-text : (before : List ℕ) (events : List (List ℕ)) (count : ℕ) → length events ≡ count → (before ++ number_bytes 4 count) ++ stream events ≡ before ++ (content_codec true).write (Events events)
+content-text : (before : List ℕ) (events : List (List ℕ)) (count : ℕ) → length events ≡ count
+    → (before ++ number_bytes 4 count) ++ stream events ≡ before ++ (content_codec true).write (Events events)
 unfolding content_codec variant counted by_kind number_codec
 content-text before events count is =
-    append_assoc before (number_bytes 4 count) (stream events) ∙ ap (λ (t : List ℕ). before ++ (number_bytes 4 count ++ t)) (sym (written (length events) events))
+    append_assoc before (number_bytes 4 count) (stream events)
+    ∙ ap (λ (t : List ℕ). before ++ (number_bytes 4 count ++ t)) (sym (written (length events) events))
     ∙ ap (λ (n : ℕ). before ++ (number_bytes 4 n ++ (event_stream_codec (length events)).write events)) (sym is)
 
 pub content-copied : (ps : Image) (r : StepRecord) (before : List ℕ) → r.fields.received ≡ None
-    → copied ps (events_of_record r) (before ++ number_bytes 4 r.fields.count) ≡ (content_of ps r >>= (λ c. Is (before ++ (content_codec true).write c)))
+    → copied ps (events_of_record r) (before ++ number_bytes 4 r.fields.count)
+    ≡ (content_of ps r >>= (λ c. Is (before ++ (content_codec true).write c)))
 unfolding content_of
 content-copied ps r before none =
-    copied-by ps (events_of_record r) (before ++ number_bytes 4 r.fields.count) (λ events. before ++ (content_codec true).write (Events events)) (λ events is. content-text before events r.fields.count is)
+    copied-by ps (events_of_record r) (before ++ number_bytes 4 r.fields.count)
+    (λ events. before ++ (content_codec true).write (Events events)) (λ events is. content-text before events
+    r.fields.count is)
     ∙ by (events_from ps (events_of_record r))
     ∙ ap (λ (t : _). content_by ps r t >>= (λ c. Is (before ++ (content_codec true).write c))) (sym none)
   where
-    by : (f : Found (List (List ℕ))) → (f >>= (λ events. Is (before ++ (content_codec true).write (Events events)))) ≡ ((f >>= (λ events. Is (Events events))) >>= (λ c. Is (before ++ (content_codec true).write c)))
+    by : (f : Found (List (List ℕ))) → (f >>= (λ events. Is (before ++ (content_codec true).write (Events events))))
+        ≡ ((f >>= (λ events. Is (Events events))) >>= (λ c. Is (before ++ (content_codec true).write c)))
     by (Bad page) = refl
     by (Is events) = refl
 
@@ -133,7 +156,8 @@ content-copied ps r before none =
 pub none-counted : (ps : Image) (at : EventsAt) → at.stream.size ≡ 0 → 0 < at.count → events_from ps at ≡ Bad at.page
 unfolding events_from pieces_from
 none-counted ps at empty some =
-    ap (λ (size : ℕ). if nat_lt MOST_STREAM_BYTES size then Bad at.page else (pieces_from ps at (piece_count size) 0 [] >>= events_on (last_event_page at (piece_count size)) at.count)) empty
+    ap (λ (size : ℕ). if nat_lt MOST_STREAM_BYTES size then Bad at.page else (pieces_from ps at (piece_count size) 0 []
+    >>= events_on (last_event_page at (piece_count size)) at.count)) empty
     ∙ found-none [] at.count (λ events spells.
     let size = length-stream events in
     let none : length (stream events) ≡ 0 = ap (λ (t : List ℕ). length t) spells.stream_is in

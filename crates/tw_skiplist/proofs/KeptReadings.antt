@@ -1,5 +1,6 @@
 -- What is read of pages that keep a history is the history's.
-use Rattle.std.proofs.Common.{◌≡◌, ℕ, suc, zero, ◌+◌, ◌-◌, ◌^◌, ◌<◌, ◌≤◌, List, [], ◌∷◌, ◌++◌, length, refl, ap, sym, ◌∙◌, arith, inl, inr, append_assoc}
+use Rattle.std.proofs.Common.{◌≡◌, ℕ, suc, zero, ◌+◌, ◌-◌, ◌^◌, ◌<◌, ◌≤◌, List, [], ◌∷◌, ◌++◌, length, refl, ap, sym}
+use Rattle.std.proofs.Common.{◌∙◌, arith, inl, inr, append_assoc}
 use Rattle.std.proofs.lemmas.Bool.{cases_lt}
 use Rattle.std.proofs.lemmas.List.{append-nil}
 use Rattle.tw_disk.specs.Image.{Image}
@@ -35,7 +36,8 @@ use Rattle.tw_skiplist.proofs.KeptEvents.{events_are}
 use Rattle.tw_skiplist.proofs.Recording.{kept_info, kept_link}
 use Rattle.tw_skiplist.proofs.WalkLaws.{collected-here, collected-on, walk-here, walk-on}
 
-module _ (dig : List ℕ → List ℕ) (size : (text : List ℕ) → IsDigest (dig text)) (h : History) (places : List Place) (ps : Image) (kept : KeepsSteps dig ps h places) where
+module _ (dig : List ℕ → List ℕ) (size : (text : List ℕ) → IsDigest (dig text)) (h : History) (places : List Place)
+    (ps : Image) (kept : KeepsSteps dig ps h places) where
   abbrev to_step : ℕ → StepRef
   to_step i = link_to dig h places i
 
@@ -43,11 +45,13 @@ module _ (dig : List ℕ → List ℕ) (size : (text : List ℕ) → IsDigest (d
   page i = (place_of_step places i).page
 
   -- a link of a step that has one at the level
-  pub link_kept : (i level : ℕ) → 0 < i → i ≤ length h.steps → level ≤ top_level i → link_in ps (page i) i level ≡ Is (to_step (i - 2 ^ level))
+  pub link_kept : (i level : ℕ) → 0 < i → i ≤ length h.steps → level ≤ top_level i → link_in ps (page i) i level ≡ Is
+      (to_step (i - 2 ^ level))
   link_kept zero level some l fine = absurd (omega arith)
   link_kept (suc k) level some l fine = kept_link_in dig size h places ps kept k level (omega (arith, l)) fine
 
-  walk_kept : (d from to : ℕ) → to ≤ from → from ≤ to + d → from ≤ length h.steps → walk ps (to_step from) from to ≡ Is (to_step to)
+  walk_kept : (d from to : ℕ) → to ≤ from → from ≤ to + d → from ≤ length h.steps → walk ps (to_step from) from to ≡ Is
+      (to_step to)
   walk_kept zero from to order near l =
       let same : from ≡ to = omega (arith, order, near) in
       walk-here ps (to_step from) from to (omega (arith, near)) ∙ ap (λ (i : ℕ). Is (to_step i)) same
@@ -59,8 +63,10 @@ module _ (dig : List ℕ → List ℕ) (size : (text : List ℕ) → IsDigest (d
         | inl under ↦ (
             let less = hop-less from to under in
             walk-on ps (to_step from) from to under
-            ∙ is_on (link_in ps (page from) from (hop_level from to)) (λ next. walk ps next (hop from to) to) (to_step (hop from to)) (link_kept from (hop_level from to) (omega (arith, under)) l (hop_level-le from to))
-            ∙ walk_kept d (hop from to) to (hop-below from to under) (omega (arith, less, near)) (omega (arith, less, l)))
+            ∙ is_on (link_in ps (page from) from (hop_level from to)) (λ next. walk ps next (hop from to) to)
+            (to_step (hop from to)) (link_kept from (hop_level from to) (omega (arith, under)) l (hop_level-le from to))
+            ∙ walk_kept d (hop from to) to (hop-below from to under) (omega (arith, less, near))
+            (omega (arith, less, l)))
       ]
 
   pub walk_is : (from to : ℕ) → to ≤ from → from ≤ length h.steps → walk ps (to_step from) from to ≡ Is (to_step to)
@@ -69,28 +75,43 @@ module _ (dig : List ℕ → List ℕ) (size : (text : List ℕ) → IsDigest (d
   -- a path of the history, and the link to its lower step, which are found behind any links
   pub record Collects (from to : ℕ) : Type 0 where
     pub links : List Link
-    pub is : (before : List Link) → collect_along dig ps to (greedy_steps from to) before (to_step from) ≡ Is (record { links = before ++ links; last = to_step to })
+    pub is : (before : List Link) → collect_along dig ps to (greedy_steps from to) before (to_step from) ≡ Is
+        (record { links = before ++ links; last = to_step to })
     pub path : IsPathOf dig h links from to
 
   hop_kept : (i level : ℕ) → 0 < i → i ≤ length h.steps → level ≤ top_level i → hop_in dig ps (page i) i level
-      ≡ Is (record { link = link_record dig i (fields_at dig h places i) (links_at dig h places i) level; next = to_step (i - 2 ^ level) })
+      ≡ Is (record {
+        link = link_record dig i (fields_at dig h places i) (links_at dig h places i) level;
+        next = to_step (i - 2 ^ level);
+      })
   hop_kept zero level some l fine = absurd (omega arith)
   hop_kept (suc k) level some l fine =
-      is_on (page_of_step ps (page (suc k)) (suc k)) (λ p. Is (record { link = link_record dig (suc k) p.0 p.1 level; next = link_at_level p.1 level })) (fields_at dig h places (suc k), links_at dig h places (suc k)) (kept_page dig size h places ps kept k (omega (arith, l)))
-      ∙ ap (λ (next : StepRef). Is (record { link = link_record dig (suc k) (fields_at dig h places (suc k)) (links_at dig h places (suc k)) level; next = next }))
+      is_on (page_of_step ps (page (suc k)) (suc k))
+      (λ p. Is (record { link = link_record dig (suc k) p.0 p.1 level; next = link_at_level p.1 level }))
+      (fields_at dig h places (suc k), links_at dig h places (suc k))
+      (kept_page dig size h places ps kept k (omega (arith, l)))
+      ∙ ap (λ (next : StepRef). Is
+      (record {
+        link = link_record dig (suc k) (fields_at dig h places (suc k)) (links_at dig h places (suc k)) level;
+        next = next;
+      }))
       (get_or-links_to dig size h places no_ref (suc k) (suc (top_level (suc k))) level (omega (arith, fine)))
 
-  path_on : (from to : ℕ) → to < from → from ≤ length h.steps → (links : List Link) → IsPathOf dig h links (hop from to) to
-      → IsPathOf dig h (link_record dig from (fields_at dig h places from) (links_at dig h places from) (hop_level from to) ∷ links) from to
+  path_on : (from to : ℕ) → to < from → from ≤ length h.steps → (links : List Link) → IsPathOf dig h links (hop from to)
+      to
+      → IsPathOf dig h (link_record dig from (fields_at dig h places from) (links_at dig h places from)
+      (hop_level from to) ∷ links) from to
   path_on zero to under l links path = absurd (omega arith)
-  path_on (suc k) to under l links path = let own = kept_link dig size h places ps kept k (hop_level (suc k) to) (omega (arith, l)) in (under, own.0, own.1, path)
+  path_on (suc k) to under l links path = let own = kept_link dig size h places ps kept k (hop_level (suc k) to)
+      (omega (arith, l)) in (under, own.0, own.1, path)
 
   collected_end : (from to : ℕ) → to ≤ from → from ≤ to → Collects from to
   collected_end from to order end =
       let same : from ≡ to = omega (arith, order, end) in
       record {
         links = [];
-        is = λ before. collected-here dig ps before (to_step from) from to end ∙ (λ j. Is (record { links = sym (append-nil before) j; last = to_step (same j) }));
+        is = λ before. collected-here dig ps before (to_step from) from to end
+            ∙ (λ j. Is (record { links = sym (append-nil before) j; last = to_step (same j) }));
         path = end;
       }
 
@@ -101,16 +122,21 @@ module _ (dig : List ℕ → List ℕ) (size : (text : List ℕ) → IsDigest (d
         | inr end ↦ collected_end from to order end
         | inl under ↦ (
             let less = hop-less from to under in
-            let rest = collected_kept d (hop from to) to (hop-below from to under) (omega (arith, less, near)) (omega (arith, less, l)) in
-            let link : Link = link_record dig from (fields_at dig h places from) (links_at dig h places from) (hop_level from to) in
+            let rest = collected_kept d (hop from to) to (hop-below from to under) (omega (arith, less, near))
+            (omega (arith, less, l)) in
+            let link : Link = link_record dig from (fields_at dig h places from) (links_at dig h places from)
+            (hop_level from to) in
             record {
               links = link ∷ rest.links;
               is = λ before.
                   collected-on dig ps before (to_step from) from to under
-                  ∙ is_on (hop_in dig ps (page from) from (hop_level from to)) (λ hopped. collect_along dig ps to (greedy_steps (hop from to) to) (before ++ hopped.link ∷ []) hopped.next)
-                  (record { link = link; next = to_step (hop from to) }) (hop_kept from (hop_level from to) (omega (arith, under)) l (hop_level-le from to))
+                  ∙ is_on (hop_in dig ps (page from) from (hop_level from to)) (λ hopped. collect_along dig ps to
+                  (greedy_steps (hop from to) to) (before ++ hopped.link ∷ []) hopped.next)
+                  (record { link = link; next = to_step (hop from to) })
+                  (hop_kept from (hop_level from to) (omega (arith, under)) l (hop_level-le from to))
                   ∙ rest.is (before ++ link ∷ [])
-                  ∙ ap (λ (ls : List Link). Is (record { links = ls; last = to_step to })) (append_assoc before (link ∷ []) rest.links);
+                  ∙ ap (λ (ls : List Link). Is (record { links = ls; last = to_step to }))
+                  (append_assoc before (link ∷ []) rest.links);
               path = path_on from to under l rest.links rest.path;
             })
       ]
@@ -129,14 +155,16 @@ module _ (dig : List ℕ → List ℕ) (size : (text : List ℕ) → IsDigest (d
   tells zero some l = absurd (omega arith)
   tells (suc k) some l = record {
     info = info_record dig (page (suc k)) (suc k) (fields_at dig h places (suc k)) (links_at dig h places (suc k));
-    is = is_on (page_of_step ps (page (suc k)) (suc k)) (λ p. Is (info_record dig (page (suc k)) (suc k) p.0 p.1)) (fields_at dig h places (suc k), links_at dig h places (suc k))
+    is = is_on (page_of_step ps (page (suc k)) (suc k)) (λ p. Is (info_record dig (page (suc k)) (suc k) p.0 p.1))
+        (fields_at dig h places (suc k), links_at dig h places (suc k))
         (kept_page dig size h places ps kept k (omega (arith, l)));
     of = kept_info dig size h places ps kept k (omega (arith, l));
   }
 
 -- ---- under a head
 
-module _ (dig : List ℕ → List ℕ) (size : (text : List ℕ) → IsDigest (dig text)) (ps : Image) (h : History) (head : Head) (keeps : Keeps dig ps h head) where
+module _ (dig : List ℕ → List ℕ) (size : (text : List ℕ) → IsDigest (dig text)) (ps : Image) (h : History) (head : Head)
+    (keeps : Keeps dig ps h head) where
   abbrev places : List Place
   places = keeps.places
 
@@ -149,66 +177,81 @@ module _ (dig : List ℕ → List ℕ) (size : (text : List ℕ) → IsDigest (d
 
   down : (to : ℕ) → to ≤ head.step → walk ps (head_ref head) head.step to ≡ Is (link_to dig h places to)
   down to order =
-      ap (λ (first : StepRef). walk ps first head.step to) first_is ∙ walk_is dig size h places ps keeps.keeps head.step to order (omega (arith, keeps.step))
+      ap (λ (first : StepRef). walk ps first head.step to) first_is ∙ walk_is dig size h places ps keeps.keeps head.step
+      to order (omega (arith, keeps.step))
 
-  pub step_found : (i : ℕ) → 1 ≤ i → i ≤ head.step → (info : StepInfo) × (found_step dig ps head i ≡ Is info) × IsInfoOf dig ps h places i info
+  pub step_found : (i : ℕ) → 1 ≤ i → i ≤ head.step → (info : StepInfo) × (found_step dig ps head i ≡ Is info)
+      × IsInfoOf dig ps h places i info
   unfolding found_step
   step_found i some order =
       let told = tells dig size h places ps keeps.keeps i some (omega (arith, order, keeps.step)) in (
         told.info,
-        is_on (walk ps (head_ref head) head.step i) (λ link. info_in dig ps link.page i) (link_to dig h places i) (down i order) ∙ told.is,
+        is_on (walk ps (head_ref head) head.step i) (λ link. info_in dig ps link.page i) (link_to dig h places i)
+            (down i order) ∙ told.is,
         told.of,
       )
 
   -- a step under the link that leads to it
-  pub here_found : (link : Head) (i : ℕ) → 1 ≤ i → i ≤ head.step → link.step ≡ i → link.page ≡ (place_of_step places i).page → (info : StepInfo) × (found_step dig ps link i ≡ Is info) × IsInfoOf dig ps h places i info
+  pub here_found : (link : Head) (i : ℕ) → 1 ≤ i → i ≤ head.step → link.step ≡ i
+      → link.page ≡ (place_of_step places i).page → (info : StepInfo) × (found_step dig ps link i ≡ Is info)
+      × IsInfoOf dig ps h places i info
   unfolding found_step
   here_found link i some order at page =
       let told = tells dig size h places ps keeps.keeps i some (omega (arith, order, keeps.step)) in (
         told.info,
-        is_on (walk ps (head_ref link) link.step i) (λ l. info_in dig ps l.page i) (head_ref link) (walk-here ps (head_ref link) link.step i (omega (arith, at)))
+        is_on (walk ps (head_ref link) link.step i) (λ l. info_in dig ps l.page i) (head_ref link)
+            (walk-here ps (head_ref link) link.step i (omega (arith, at)))
             ∙ ap (λ (p : ℕ). info_in dig ps p i) page
             ∙ told.is,
         told.of,
       )
 
   -- the way between two steps
-  way_found : (n i : ℕ) → i ≤ n → n ≤ head.step → (links : List Link) × (found_way dig ps head n i ≡ Is (record { links = links; last = link_to dig h places i })) × IsPathOf dig h links n i
+  way_found : (n i : ℕ) → i ≤ n → n ≤ head.step → (links : List Link)
+      × (found_way dig ps head n i ≡ Is (record { links = links; last = link_to dig h places i })) × IsPathOf dig h
+      links n i
   unfolding found_way
   way_found n i order below =
       let way = collects dig size h places ps keeps.keeps n i order (omega (arith, below, keeps.step)) in (
         way.links,
-        is_on (walk ps (head_ref head) head.step n) (λ middle. collected dig ps middle n i) (link_to dig h places n) (down n below) ∙ way.is [],
+        is_on (walk ps (head_ref head) head.step n) (λ middle. collected dig ps middle n i) (link_to dig h places n)
+            (down n below) ∙ way.is [],
         way.path,
       )
 
-  pub link_found : (n i : ℕ) → i ≤ n → n ≤ head.step → (link : StepLink) × (found_link dig ps head n i ≡ Is link) × IsPathOf dig h link.path.links n i × (link.auth ≡ auth dig h i)
+  pub link_found : (n i : ℕ) → i ≤ n → n ≤ head.step → (link : StepLink) × (found_link dig ps head n i ≡ Is link)
+      × IsPathOf dig h link.path.links n i × (link.auth ≡ auth dig h i)
   unfolding found_link
   link_found n i order below =
       let way = way_found n i order below in
-      let ends : Collected → Found StepLink = λ way. Is (record { path = record { links = way.links }; auth = way.last.auth }) in (
+      let ends : Collected → Found StepLink =
+      λ way. Is (record { path = record { links = way.links }; auth = way.last.auth }) in (
         record { path = record { links = way.0 }; auth = auth dig h i },
         is_on (found_way dig ps head n i) ends (record { links = way.0; last = link_to dig h places i }) way.1,
         way.2,
         refl,
       )
 
-  pub path_found : (n i : ℕ) → i ≤ n → n ≤ head.step → (path : Path) × (found_skip_path dig ps head n i ≡ Is path) × IsPathOf dig h path.links n i
+  pub path_found : (n i : ℕ) → i ≤ n → n ≤ head.step → (path : Path) × (found_skip_path dig ps head n i ≡ Is path)
+      × IsPathOf dig h path.links n i
   unfolding found_skip_path
   path_found n i order below =
       let own = link_found n i order below in
       (own.0.path, is_on (found_link dig ps head n i) (λ link. Is link.path) own.0 own.1, own.2)
 
   pub proof_found : (top i : ℕ) → 1 ≤ i → i ≤ top → top ≤ head.step
-      → (proof : StepProof) × (found_proof dig ps head top i ≡ Is proof) × IsPathOf dig h proof.path.links top i × IsInfoOf dig ps h places i proof.info
+      → (proof : StepProof) × (found_proof dig ps head top i ≡ Is proof) × IsPathOf dig h proof.path.links top i
+      × IsInfoOf dig ps h places i proof.info
   unfolding found_proof
   proof_found top i some order below =
       let way = way_found top i order below in
       let told = tells dig size h places ps keeps.keeps i some (omega (arith, order, below, keeps.step)) in
-      let tell : Collected → StepInfo → Found StepProof = λ way info. Is (record { path = record { links = way.links }; info = info }) in
+      let tell : Collected → StepInfo → Found StepProof =
+      λ way info. Is (record { path = record { links = way.links }; info = info }) in
       let end : Collected = record { links = way.0; last = link_to dig h places i } in (
         record { path = record { links = way.0 }; info = told.info },
-        is_on (found_way dig ps head top i) (λ (way : Collected). info_in dig ps way.last.page i >>= tell way) end way.1 ∙ is_on (info_in dig ps (place_of_step places i).page i) (tell end) told.info told.is,
+        is_on (found_way dig ps head top i) (λ (way : Collected). info_in dig ps way.last.page i >>= tell way) end way.1
+            ∙ is_on (info_in dig ps (place_of_step places i).page i) (tell end) told.info told.is,
         way.2,
         told.of,
       )

@@ -1,5 +1,6 @@
 -- The events that a stream spells.
-use Rattle.std.proofs.Common.{◌≡◌, ℕ, suc, zero, ◌+◌, ◌<◌, ◌≤◌, List, [], ◌∷◌, ◌++◌, length, take, drop, refl, ap, sym, ◌∙◌, arith, subst, append_assoc, length-append, length-take, length-drop}
+use Rattle.std.proofs.Common.{◌≡◌, ℕ, suc, zero, ◌+◌, ◌<◌, ◌≤◌, List, [], ◌∷◌, ◌++◌, length, take, drop, refl, ap, sym}
+use Rattle.std.proofs.Common.{◌∙◌, arith, subst, append_assoc, length-append, length-take, length-drop}
 use Rattle.std.specs.Int.{to_be_bytes, from_be_bytes, w32}
 use Rattle.std.proofs.lemmas.List.{drop-drop, append-nil}
 use Rattle.std.proofs.lemmas.Nat.{from_be_bytes-to_be_bytes_4}
@@ -16,10 +17,12 @@ abbrev pub AllShort : List (List ℕ) → Type 0
 AllShort events = Each (λ event. length event ≤ MOST_EVENT_BYTES) events
 
 -- an event behind its length, and what follows it
-pub event-fields : (a b x y : List ℕ) → length a ≤ MOST_EVENT_BYTES → length b ≤ MOST_EVENT_BYTES → to_be_bytes w32 (length a) ++ (a ++ x) ≡ to_be_bytes w32 (length b) ++ (b ++ y) → (a ≡ b) × (x ≡ y)
+pub event-fields : (a b x y : List ℕ) → length a ≤ MOST_EVENT_BYTES → length b ≤ MOST_EVENT_BYTES
+    → to_be_bytes w32 (length a) ++ (a ++ x) ≡ to_be_bytes w32 (length b) ++ (b ++ y) → (a ≡ b) × (x ≡ y)
 event-fields a b x y p q same =
     let size : length a ≡ length b =
-    sym (from_be_bytes-to_be_bytes_4 (length a) (omega arith)) ∙ ap (λ (t : List ℕ). from_be_bytes w32 (take 4 t)) same ∙ from_be_bytes-to_be_bytes_4 (length b) (omega arith) in
+    sym (from_be_bytes-to_be_bytes_4 (length a) (omega arith)) ∙ ap (λ (t : List ℕ). from_be_bytes w32 (take 4 t)) same
+    ∙ from_be_bytes-to_be_bytes_4 (length b) (omega arith) in
     halves a b x y size (ap (drop 4) same)
 
 -- events that bytes spell are lists of bytes
@@ -35,7 +38,8 @@ pub record Begins (xs es : List (List ℕ)) (rest : List ℕ) : Type 0 where
   pub all : es ≡ xs ++ more
   pub rest_is : rest ≡ stream more
 
-pub begins : (xs es : List (List ℕ)) (rest : List ℕ) → AllShort xs → AllShort es → length xs ≤ length es → stream xs ++ rest ≡ stream es → Begins xs es rest
+pub begins : (xs es : List (List ℕ)) (rest : List ℕ) → AllShort xs → AllShort es → length xs ≤ length es
+    → stream xs ++ rest ≡ stream es → Begins xs es rest
 begins [] es rest p q l same = record { more = es; all = refl; rest_is = same }
 begins (x ∷ xs) [] rest p q l same = absurd (omega arith)
 begins (x ∷ xs) (e ∷ es) rest p q l same =
@@ -50,10 +54,12 @@ length-none (x ∷ xs) e = absurd (omega arith)
 
 -- ---- while a stream is taken apart
 
-module _ (bytes : List ℕ) (count at index : ℕ) (events es : List (List ℕ)) (so_far : stream events ≡ take at bytes) (within : at ≤ length bytes) (count_is : length events ≡ index)
+module _ (bytes : List ℕ) (count at index : ℕ) (events es : List (List ℕ)) (so_far : stream events ≡ take at bytes)
+    (within : at ≤ length bytes) (count_is : length events ≡ index)
     (sizes : AllShort events) (spells : SpellsEvents bytes count es) (more_to_come : index ≤ count) where
   pub rest_of : Begins events es (drop at bytes)
-  rest_of = begins events es (drop at bytes) sizes spells.limits.are.sizes (omega (arith, count_is, spells.count_is, more_to_come))
+  rest_of = begins events es (drop at bytes) sizes spells.limits.are.sizes
+      (omega (arith, count_is, spells.count_is, more_to_come))
       (ap (λ (t : List ℕ). t ++ drop at bytes) so_far ∙ take_drop at bytes ∙ sym spells.stream_is)
     where
       take_drop : (n : ℕ) (xs : List ℕ) → take n xs ++ drop n xs ≡ xs
@@ -63,7 +69,15 @@ module _ (bytes : List ℕ) (count at index : ℕ) (events es : List (List ℕ))
 
   -- where no event stands although some are to come, the bytes spell none
   pub no_event : index < count → IsNoEventAt bytes at → ⊥
-  no_event less none = first rest_of.more (omega (arith, less, count_is, spells.count_is, ap (λ (l : List (List ℕ)). length l) rest_of.all, length-append events rest_of.more)) rest_of.rest_is
+  no_event less none = first rest_of.more
+      (omega (
+        arith,
+        less,
+        count_is,
+        spells.count_is,
+        ap (λ (l : List (List ℕ)). length l) rest_of.all,
+        length-append events rest_of.more,
+      )) rest_of.rest_is
       (each_of events rest_of.more (subst AllShort rest_of.all spells.limits.are.sizes))
     where
       each_of : (xs ys : List (List ℕ)) → AllShort (xs ++ ys) → AllShort ys
@@ -77,9 +91,19 @@ module _ (bytes : List ℕ) (count at index : ℕ) (events es : List (List ℕ))
   -- when all are taken, nothing is left, and the events are these
   pub all_taken : index ≡ count → (at ≡ length bytes) × (events ≡ es)
   all_taken done =
-      let none : rest_of.more ≡ [] = length-none rest_of.more (omega (arith, done, count_is, spells.count_is, ap (λ (l : List (List ℕ)). length l) rest_of.all, length-append events rest_of.more)) in
-      let left : length (drop at bytes) ≡ 0 = ap (λ (t : List ℕ). length t) (rest_of.rest_is ∙ ap stream none) in
-      (omega (arith, left, length-drop at bytes, within), sym (rest_of.all ∙ ap (λ (m : List (List ℕ)). events ++ m) none ∙ append-nil events))
+      let none : rest_of.more ≡ [] = length-none rest_of.more
+      (omega (
+        arith,
+        done,
+        count_is,
+        spells.count_is,
+        ap (λ (l : List (List ℕ)). length l) rest_of.all,
+        length-append events rest_of.more,
+      )) in
+      let left : length (drop at bytes) ≡ 0 = ap (λ (t : List ℕ). length t) (rest_of.rest_is ∙ ap stream none) in (
+        omega (arith, left, length-drop at bytes, within),
+        sym (rest_of.all ∙ ap (λ (m : List (List ℕ)). events ++ m) none ∙ append-nil events),
+      )
 
 -- ---- one more event
 
@@ -94,11 +118,14 @@ take-nil (suc n) = refl
 pub take_on : (n m : ℕ) (xs : List ℕ) → take n xs ++ take m (drop n xs) ≡ take (n + m) xs
 take_on zero m xs = ap (λ (k : ℕ). take k xs) (let e : m ≡ 0 + m = omega arith in e)
 take_on (suc n) m [] = take-nil m ∙ sym (take-nil (suc n + m))
-take_on (suc n) m (x ∷ xs) = ap (λ (t : List ℕ). x ∷ t) (take_on n m xs) ∙ ap (λ (k : ℕ). take k (x ∷ xs)) (let e : suc (n + m) ≡ suc n + m = omega arith in e)
+take_on (suc n) m (x ∷ xs) = ap (λ (t : List ℕ). x ∷ t) (take_on n m xs) ∙ ap (λ (k : ℕ). take k (x ∷ xs))
+    (let e : suc (n + m) ≡ suc n + m = omega arith in e)
 
-module _ (bytes : List ℕ) (at size : ℕ) (events : List (List ℕ)) (event : List ℕ) (so_far : stream events ≡ take at bytes) (has : HasEventAt bytes at size) (event_is : event ≡ take size (drop (at + 4) bytes)) where
+module _ (bytes : List ℕ) (at size : ℕ) (events : List (List ℕ)) (event : List ℕ) (so_far : stream events ≡ take at
+    bytes) (has : HasEventAt bytes at size) (event_is : event ≡ take size (drop (at + 4) bytes)) where
   pub event_length : length event ≡ size
-  event_length = ap (λ (t : List ℕ). length t) event_is ∙ length-take size (drop (at + 4) bytes) ∙ (let room = has.room in omega (arith, length-drop (at + 4) bytes))
+  event_length = ap (λ (t : List ℕ). length t) event_is ∙ length-take size (drop (at + 4) bytes)
+      ∙ (let room = has.room in omega (arith, length-drop (at + 4) bytes))
 
   pub more_taken : stream (events ++ event ∷ []) ≡ take (at + (4 + size)) bytes
   more_taken =

@@ -18,7 +18,8 @@ module _ (ps : Image) (link : StepRef) (at to : ℕ) where
   unfolding walk_along
   walk-here end = ap (λ (steps : List ℕ). walk_along ps to steps link) (greedy_steps-none at to end)
 
-  pub walk-on : to < at → walk ps link at to ≡ (link_in ps link.page at (hop_level at to) >>= (λ next. walk ps next (hop at to) to))
+  pub walk-on : to < at → walk ps link at to ≡ (link_in ps link.page at (hop_level at to)
+      >>= (λ next. walk ps next (hop at to) to))
   unfolding walk_along
   walk-on under = ap (λ (steps : List ℕ). walk_along ps to steps link) (greedy_steps-more at to under)
 
@@ -27,33 +28,43 @@ pub ruleset walks = (walk-here, walk-on, hop_level-le, hop_level-short, top_leve
 
 -- the same with the records of the links
 module _ (dig : List ℕ → List ℕ) (ps : Image) (links : List Link) (link : StepRef) (at to : ℕ) where
-  pub collected-here : at ≤ to → collect_along dig ps to (greedy_steps at to) links link ≡ Is (record { links = links; last = link })
+  pub collected-here : at ≤ to → collect_along dig ps to (greedy_steps at to) links link ≡ Is
+      (record { links = links; last = link })
   unfolding collect_along
   collected-here end = ap (λ (steps : List ℕ). collect_along dig ps to steps links link) (greedy_steps-none at to end)
 
   pub collected-on : to < at → collect_along dig ps to (greedy_steps at to) links link
-      ≡ (hop_in dig ps link.page at (hop_level at to) >>= (λ hopped. collect_along dig ps to (greedy_steps (hop at to) to) (links ++ hopped.link ∷ []) hopped.next))
+      ≡ (hop_in dig ps link.page at (hop_level at to)
+      >>= (λ hopped. collect_along dig ps to (greedy_steps (hop at to) to) (links ++ hopped.link ∷ []) hopped.next))
   unfolding collect_along
   collected-on under = ap (λ (steps : List ℕ). collect_along dig ps to steps links link) (greedy_steps-more at to under)
 
-pub ruleset collects = (collected-here, collected-on, hop_level-le, hop_level-short, top_level-below, shapes-begin, shapes-on, shapes-end)
+pub ruleset collects =
+    (collected-here, collected-on, hop_level-le, hop_level-short, top_level-below, shapes-begin, shapes-on, shapes-end)
 
 -- ---- the links of one more step
 
 module _ (ps : Image) (step level : ℕ) (links : List StepRef) (link : StepRef) where
-  pub links-here : top_level step ≤ level → links_on ps step (top_level step - level) level links link ≡ Is (links ++ link ∷ [])
+  pub links-here : top_level step ≤ level → links_on ps step (top_level step - level) level links link ≡ Is
+      (links ++ link ∷ [])
   unfolding links_on
-  links-here end = ap (λ (more : ℕ). links_on ps step more level links link) (let e : top_level step - level ≡ 0 = omega arith in e)
+  links-here end = ap (λ (more : ℕ). links_on ps step more level links link) (let e : top_level step - level ≡ 0 =
+      omega arith in e)
 
   pub links-on : level < top_level step → links_on ps step (top_level step - level) level links link
-      ≡ (link_in ps link.page (step - 2 ^ level) level >>= links_on ps step (top_level step - (level + 1)) (level + 1) (links ++ link ∷ []))
+      ≡ (link_in ps link.page (step - 2 ^ level) level >>= links_on ps step (top_level step - (level + 1)) (level + 1)
+      (links ++ link ∷ []))
   unfolding links_on
   links-on under =
       let next : suc level ≡ level + 1 = omega arith in
-      ap (λ (more : ℕ). links_on ps step more level links link) (let e : top_level step - level ≡ suc (top_level step - (level + 1)) = omega (arith, under) in e)
-      ∙ ap (λ (l : ℕ). link_in ps link.page (step - 2 ^ level) level >>= links_on ps step (top_level step - (level + 1)) l (links ++ link ∷ [])) next
+      ap (λ (more : ℕ). links_on ps step more level links link)
+      (let e : top_level step - level ≡ suc (top_level step - (level + 1)) = omega (arith, under) in e)
+      ∙ ap (λ (l : ℕ). link_in ps link.page (step - 2 ^ level) level >>= links_on ps step (top_level step - (level + 1))
+      l (links ++ link ∷ [])) next
 
-pub links-begin : (ps : Image) (step : ℕ) (first : StepRef) → all_links ps step first ≡ links_on ps step (top_level step - 0) 0 [] first
-links-begin ps step first = ap (λ (more : ℕ). links_on ps step more 0 [] first) (let e : top_level step ≡ top_level step - 0 = omega arith in e)
+pub links-begin : (ps : Image) (step : ℕ) (first : StepRef) → all_links ps step first ≡ links_on ps step
+    (top_level step - 0) 0 [] first
+links-begin ps step first = ap (λ (more : ℕ). links_on ps step more 0 [] first) (let e : top_level step ≡ top_level step
+    - 0 = omega arith in e)
 
 pub ruleset links_go_on = (links-here, links-on, links-begin)

@@ -1,4 +1,5 @@
--- The existence proof that a history has of an event is accepted under the history's authenticator of the top, and is spelled.
+-- The existence proof that a history has of an event is accepted under the history's authenticator of the top, and is
+-- spelled.
 use Rattle.std.proofs.Common.{refl, ◌≡◌, ℕ, suc, zero, ◌<◌, ◌≤◌, ◌^◌, List, [], length, sym, subst, arith, lit≤}
 use Rattle.std.specs.Prelude.{slice_index_or}
 use Rattle.std.proofs.lemmas.Option.{slice_get-get_or}
@@ -33,7 +34,8 @@ from_step_1 h (suc i) index inside = omega arith
 
 -- ---- the proof that a history has
 
-module _ (dig : List ℕ → List ℕ) (h : History) (step index top : ℕ) (p : ExistenceProof) (is : IsExistenceOf dig h step index top p) where
+module _ (dig : List ℕ → List ℕ) (h : History) (step index top : ℕ) (p : ExistenceProof)
+    (is : IsExistenceOf dig h step index top p) where
   abbrev events : List (List ℕ)
   events = events_at h step
 
@@ -48,7 +50,8 @@ module _ (dig : List ℕ → List ℕ) (h : History) (step index top : ℕ) (p :
       ChecksEvent-audit_path dig events index event (slice_get-get_or events index [] is.inside) in
       subst (ShowsEvent dig p.at.opening) (sym is.event)
       (subst (λ n. ChecksEvent dig p.at.opening.event_root n index event (audit_path dig events index)) binds.count
-      (subst (λ root. ChecksEvent dig root (length events) index event (audit_path dig events index)) binds.event_root own))
+      (subst (λ root. ChecksEvent dig root (length events) index event (audit_path dig events index)) binds.event_root
+      own))
 
   -- it is accepted under the history's own authenticator of the top
   pub accepted-made : step ≤ top → IsAcceptedUnder dig (auth dig h top) p
@@ -59,13 +62,17 @@ module _ (dig : List ℕ → List ℕ) (h : History) (step index top : ℕ) (p :
   }
 
   event_within : (P : List ℕ → Type 0) → P [] → Each P events → P p.event.event
-  event_within P default all = subst (λ (e : EventPart). P e.event) (sym is.event) (Each-get_or P events index [] default all)
+  event_within P default all = subst (λ (e : EventPart). P e.event) (sym is.event)
+      (Each-get_or P events index [] default all)
 
   pub IsShaped-made : step ≤ top → IsShaped p
-  IsShaped-made order = record { at = part_shaped-made dig h step top p.at is.at from_1 order; event = shows_event.size }
+  IsShaped-made order =
+      record { at = part_shaped-made dig h step top p.at is.at from_1 order; event = shows_event.size }
 
   -- where the steps, the events and the time are within their limits
-  pub in_range-few : step ≤ top → top ≤ LAST_STEP → length events ≤ MOST_EVENTS → Each (λ event. length event ≤ MOST_EVENT_BYTES) events → IsTimeWithinLimits p.at.opening.time → IsExistenceInRange p
+  pub in_range-few : step ≤ top → top ≤ LAST_STEP → length events ≤ MOST_EVENTS
+      → Each (λ event. length event ≤ MOST_EVENT_BYTES) events → IsTimeWithinLimits p.at.opening.time
+      → IsExistenceInRange p
   in_range-few order short few sizes time = record {
     at = part_in_range-few dig h step top p.at is.at order short few time;
     index = shows_event.inside;
@@ -77,10 +84,12 @@ module _ (dig : List ℕ → List ℕ) (h : History) (step index top : ℕ) (p :
   in_range-made sound order has =
       let short = sound.length in
       let are = (sound-may_record h step sound).are in
-      in_range-few order (omega (arith, has, short)) are.count are.sizes (subst IsTimeWithinLimits is.at.opening.binds.time (sound-time h step sound))
+      in_range-few order (omega (arith, has, short)) are.count are.sizes
+      (subst IsTimeWithinLimits is.at.opening.binds.time (sound-time h step sound))
 
   -- and it has a spelling
-  pub within-made : IsSound h → step ≤ top → top ≤ length h.steps → IsExistenceInRange p × IsShaped p × (length p.event.event < 2 ^ 32)
+  pub within-made : IsSound h → step ≤ top → top ≤ length h.steps → IsExistenceInRange p × IsShaped p
+      × (length p.event.event < 2 ^ 32)
   within-made sound order has =
       let range = in_range-made sound order has in
       let small = range.event in (range, IsShaped-made order, omega (arith, small))
@@ -95,7 +104,11 @@ module _ (dig : List ℕ → List ℕ) (h : History) (step index top : ℕ) (p :
           (omega arith, omega (arith, inside)),
           (
             ((omega arith, short), (refl, event)),
-            (labels, subst (λ (e : EventPart). Each IsDigest e.path) (sym is.event) (audit_path-digests dig size are events index)),
+            (
+              labels,
+              subst (λ (e : EventPart). Each IsDigest e.path) (sym is.event)
+                  (audit_path-digests dig size are events index),
+            ),
           ),
         )
 
@@ -103,4 +116,5 @@ module _ (dig : List ℕ → List ℕ) (h : History) (step index top : ℕ) (p :
     pub spelled-made : IsSound h → step ≤ top → top ≤ length h.steps → Spells existence_layout (existence_bytes p) p
     spelled-made sound order has =
         existence-lawful.spells p
-        (existence-fits p (in_range-made sound order has) (IsShaped-made order) (part-fits-made dig h size are step top p.at is.at sound) (event-fits sound))
+        (existence-fits p (in_range-made sound order has) (IsShaped-made order)
+        (part-fits-made dig h size are step top p.at is.at sound) (event-fits sound))

@@ -3,7 +3,9 @@ use Rattle.std.proofs.Common.{◌≡◌, ℕ, ◌≤◌, List, [], ◌∷◌, �
 use Rattle.std.specs.Prelude.{Bool, true, false, Option, Some, None, is_some, OnOk, Result, Ok, Err}
 use Rattle.std.proofs.lemmas.List.{append-nil}
 use Rattle.tw_base.specs.declared.kinds.limits.TheConstants.{MOST_EVENTS}
-use Rattle.tw_base.specs.format.Codecs.{EachFits, behind, by_kind, digest_codec, each, flag_codec, labels_codec, name_codec, nothing, number_codec, optional, pair, present, seen, written, bytes_codec, many}
+use Rattle.tw_base.specs.format.Codecs.{EachFits, behind, by_kind, digest_codec, each, flag_codec, labels_codec}
+use Rattle.tw_base.specs.format.Codecs.{name_codec, nothing, number_codec, optional, pair, present, seen, written}
+use Rattle.tw_base.specs.format.Codecs.{bytes_codec, many}
 use Rattle.tw_base.specs.format.Fields.{number_bytes}
 use Rattle.tw_base.specs.history.HistoryCodec.{time_codec}
 use Rattle.tw_base.specs.history.Limits.{IsTimeWithinLimits}
@@ -11,12 +13,15 @@ use Rattle.tw_base.specs.kinds.Lists.{Each}
 use Rattle.tw_base.specs.declared.kinds.failure.NoMemory.{NoMemory as WantOfMemory}
 use Rattle.tw_base.specs.kinds.Names.{IsName}
 use Rattle.tw_base.specs.format.Taking.{Puts}
-use Rattle.tw_base.proofs.lemmas.format.CodecLaws.{Lawful, lawful, lawful-by_kind, lawful-each, lawful-flag, lawful-optional, lawful-pair, lawful-seen, lawful-written}
+use Rattle.tw_base.proofs.lemmas.format.CodecLaws.{Lawful, lawful, lawful-by_kind, lawful-each, lawful-flag}
+use Rattle.tw_base.proofs.lemmas.format.CodecLaws.{lawful-optional, lawful-pair, lawful-seen, lawful-written}
 use Rattle.tw_skipproof.specs.declared.opening.Opening.{Opening}
 use Rattle.tw_skipproof.specs.declared.path.Link.{Link}
 use Rattle.tw_skipproof.specs.declared.existence.ExistenceProof.{ExistenceProof}
 use Rattle.tw_skipproof.specs.declared.existence.Part.{Part}
-use Rattle.tw_skipproof.specs.Codecs.{count_bytes, count_codec, counted_with, event_part_codec, existence_body, existence_codec, flagged_count, link_bytes, link_codec, opening_codec, part_codec, path_codec}
+use Rattle.tw_skipproof.specs.Codecs.{count_bytes, count_codec, counted_with, event_part_codec, existence_body}
+use Rattle.tw_skipproof.specs.Codecs.{existence_codec, flagged_count, link_bytes, link_codec, opening_codec, part_codec}
+use Rattle.tw_skipproof.specs.Codecs.{path_codec}
 use Rattle.tw_skipproof.specs.Existence.{IsExistenceInRange, IsShaped}
 use Rattle.tw_skipproof.specs.Paths.{HasShape, greedy_steps, hop}
 use Rattle.tw_skipproof.specs.Spelling.{FitsAsEvent, FitsAsLink, FitsAsOpening, FitsAsPart}
@@ -24,11 +29,13 @@ use Rattle.tw_skipproof.proofs.CountWords.{timed_word, untimed_word}
 use Rattle.tw_skipproof.proofs.GreedySteps.{greedy_steps-more, greedy_steps-none}
 
 -- the count word: four bytes of which the highest bit says whether a time follows
-count-written : (least : ℕ) (c : ℕ × Option ℕ) → (flagged_count least).Fits c → (flagged_count least).write c ≡ count_bytes c.0 c.1
+count-written : (least : ℕ) (c : ℕ × Option ℕ) → (flagged_count least).Fits c → (flagged_count least).write c
+    ≡ count_bytes c.0 c.1
 unfolding by_kind flag_codec pair number_codec present nothing
 count-written least c fits = by c.0 c.1 fits
   where
-    by : (n : ℕ) (time : Option ℕ) → (flagged_count least).Fits (n, time) → (flagged_count least).write (n, time) ≡ count_bytes n time
+    by : (n : ℕ) (time : Option ℕ) → (flagged_count least).Fits (n, time) → (flagged_count least).write (n, time)
+        ≡ count_bytes n time
     by n None fits = ap (λ w. 0 ∷ w) (append-nil (number_bytes 3 n)) ∙ sym (untimed_word n (omega (arith, fits.1.0.1)))
     by n (Some time) fits = ap (λ w. w ++ number_bytes 8 time) (sym (timed_word n (omega (arith, fits.1.0.1))))
 
@@ -44,21 +51,25 @@ count-kind least false c fits = ap is_some (sym fits.1)
 flagged-lawful : (least : ℕ) → least ≤ MOST_EVENTS → Lawful (flagged_count least)
 flagged-lawful least l =
     lawful-by_kind (λ c. is_some c.1) flag_codec (counted_with least) lawful-flag
-    (λ timed _. lawful-pair (number_codec 3 least MOST_EVENTS) (λ n. optional timed time_codec) (search lawful) (λ _ _. lawful-optional time_codec (search lawful) timed))
+    (λ timed _. lawful-pair (number_codec 3 least MOST_EVENTS) (λ n. optional timed time_codec) (search lawful)
+    (λ _ _. lawful-optional time_codec (search lawful) timed))
     (λ timed c _ fits. count-kind least timed c fits)
 
 pub count-lawful : (least : ℕ) → least ≤ MOST_EVENTS → Lawful (count_codec least)
 unfolding count_codec
-count-lawful least l = lawful-written (λ c. count_bytes c.0 c.1) (flagged_count least) (count-written least) (flagged-lawful least l)
+count-lawful least l = lawful-written (λ c. count_bytes c.0 c.1) (flagged_count least) (count-written least)
+    (flagged-lawful least l)
 
 -- a count and a time in range fit
-pub count-fits : (least count : ℕ) (time : Option ℕ) → least ≤ count → count ≤ MOST_EVENTS → IsTimeWithinLimits time → (count_codec least).Fits (count, time)
+pub count-fits : (least count : ℕ) (time : Option ℕ) → least ≤ count → count ≤ MOST_EVENTS → IsTimeWithinLimits time
+    → (count_codec least).Fits (count, time)
 unfolding count_codec written by_kind flag_codec pair number_codec present nothing
 count-fits least count None low few small = (tt, ((low, few), refl))
 count-fits least count (Some t) low few small = (tt, ((low, few), (omega arith, small)))
 
 -- an opening whose digests were written fits where its labels, its count and its time do
-pub opening-put : (o : Opening) (before after : List ℕ) (r : Result (Unit {0}) WantOfMemory) → digest_codec.Fits o.event_root → digest_codec.Fits o.archive_root → digest_codec.Fits o.prev
+pub opening-put : (o : Opening) (before after : List ℕ) (r : Result (Unit {0}) WantOfMemory)
+    → digest_codec.Fits o.event_root → digest_codec.Fits o.archive_root → digest_codec.Fits o.prev
     → Puts (labels_codec (length o.others)) o.others before after r → OnOk r (FitsAsOpening o)
 unfolding opening_codec seen pair
 opening-put o before after (Ok done) root archive prev put = λ least step labels low few time.
@@ -93,14 +104,16 @@ part-lawful least l =
     search (lawful, path-lawful, last) depth 20
 
 -- the counts of a part that fits
-pub part-counts : (least : ℕ) (p : Part) → (part_codec least).Fits p → (least ≤ p.opening.count) × (p.opening.count ≤ MOST_EVENTS)
+pub part-counts : (least : ℕ) (p : Part) → (part_codec least).Fits p → (least ≤ p.opening.count)
+    × (p.opening.count ≤ MOST_EVENTS)
 unfolding part_codec opening_codec count_codec written by_kind seen pair number_codec
 part-counts least p fits = fits.1.1.1.1.1.1.0.1.0
 
 pub body-lawful : Lawful existence_body
 unfolding existence_body
 body-lawful =
-    lawful-seen _ _ _ (λ t. refl) (λ p. refl) (lawful-pair (part_codec 1) (λ at. event_part_codec at.opening.count) (part-lawful 1 (lit≤ tt))
+    lawful-seen _ _ _ (λ t. refl) (λ p. refl) (lawful-pair (part_codec 1) (λ at. event_part_codec at.opening.count)
+    (part-lawful 1 (lit≤ tt))
     (λ at fits. event-lawful at.opening.count (part-counts 1 at fits).1))
 
 pub existence-lawful : Lawful existence_codec
@@ -108,9 +121,11 @@ unfolding existence_codec
 existence-lawful = search (lawful, body-lawful)
 
 -- links of this shape fit the path
-pub path-fits : (links : List Link) (from to : ℕ) → Each FitsAsLink links → HasShape links from to → EachFits link_bytes link_codec (greedy_steps from to) links
+pub path-fits : (links : List Link) (from to : ℕ) → Each FitsAsLink links → HasShape links from to
+    → EachFits link_bytes link_codec (greedy_steps from to) links
 path-fits [] from to each shape = rw (greedy_steps-none from to shape) refl
-path-fits (l ∷ links) from to each shape = rw (greedy_steps-more from to shape.0) (each.0 from shape.1, path-fits links (hop from to) to each.1 shape.2)
+path-fits (l ∷ links) from to each shape = rw (greedy_steps-more from to shape.0)
+    (each.0 from shape.1, path-fits links (hop from to) to each.1 shape.2)
 
 -- a part in range and of its shape fits
 pub part-fits : (p : Part) → IsName p.service → Each FitsAsLink p.path.links → FitsAsOpening p.opening → FitsAsPart p
@@ -121,17 +136,22 @@ part-fits p service links opening least some range shape = (
     (shape.step, range.step),
     (
       (shape.top, range.top),
-      (path-fits p.path.links p.top p.step links shape.path, opening least p.step shape.opening some range.count range.time),
+      (
+        path-fits p.path.links p.top p.step links shape.path,
+        opening least p.step shape.opening some range.count range.time,
+      ),
     ),
   ),
 )
 
 -- and so does a proof
-pub body-fits : (p : ExistenceProof) → IsExistenceInRange p → IsShaped p → FitsAsPart p.at → FitsAsEvent p.event → existence_body.Fits p
+pub body-fits : (p : ExistenceProof) → IsExistenceInRange p → IsShaped p → FitsAsPart p.at → FitsAsEvent p.event
+    → existence_body.Fits p
 unfolding existence_body pair seen
 body-fits p range shape at event =
     (at 1 (omega (arith, range.index)) range.at shape.at, event p.at.opening.count range.index range.event shape.event)
 
-pub existence-fits : (p : ExistenceProof) → IsExistenceInRange p → IsShaped p → FitsAsPart p.at → FitsAsEvent p.event → existence_codec.Fits p
+pub existence-fits : (p : ExistenceProof) → IsExistenceInRange p → IsShaped p → FitsAsPart p.at → FitsAsEvent p.event
+    → existence_codec.Fits p
 unfolding existence_codec behind
 existence-fits p range shape at event = body-fits p range shape at event

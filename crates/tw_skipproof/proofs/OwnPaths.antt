@@ -1,5 +1,6 @@
 -- A history's own openings and paths compute its authenticators.
-use Rattle.std.proofs.Common.{◌≡◌, ℕ, suc, zero, ◌-◌, ◌<◌, ◌≤◌, ◌^◌, List, [], ◌∷◌, ◌++◌, length, get_or, drop, refl, ap, sym, ◌∙◌, subst, append_assoc, lit<, arith}
+use Rattle.std.proofs.Common.{◌≡◌, ℕ, suc, zero, ◌-◌, ◌<◌, ◌≤◌, ◌^◌, List, [], ◌∷◌, ◌++◌, length, get_or, drop, refl}
+use Rattle.std.proofs.Common.{ap, sym, ◌∙◌, subst, append_assoc, lit<, arith}
 use Rattle.std.specs.Prelude.{map, remove}
 use Rattle.std.proofs.Math.Nat.{one-le-pow}
 use Rattle.std.proofs.lemmas.List.{append-nil}
@@ -47,27 +48,34 @@ module _ (dig : List ℕ → List ℕ) (h : History) where
   own_labels i = map dig (link_texts_at dig h (auths dig h i) (suc i))
 
   labels_at-is : (i : ℕ) → labels_at dig h (suc i) ≡ own_labels i
-  labels_at-is i = ap (λ n. map dig (link_texts_at dig h (auths dig h n) (suc i))) (let e : suc i - 1 ≡ i = omega arith in e)
+  labels_at-is i = ap (λ n. map dig (link_texts_at dig h (auths dig h n) (suc i))) (let e : suc i - 1 ≡ i =
+      omega arith in e)
 
   length-own_labels : (i : ℕ) → length (own_labels i) ≡ suc (top_level (suc i))
   length-own_labels i = length-mapped dig _ ∙ length-link_texts dig _ _ (suc i) (suc (top_level (suc i)))
 
   -- a label of the step, and the authenticator that it leads to
-  own_label : (i level : ℕ) (datum below : List ℕ) → level ≤ top_level (suc i) → datum ≡ dig (datum_text_at dig h (suc i)) → below ≡ auth dig h (suc i - 2 ^ level)
+  own_label : (i level : ℕ) (datum below : List ℕ) → level ≤ top_level (suc i)
+      → datum ≡ dig (datum_text_at dig h (suc i)) → below ≡ auth dig h (suc i - 2 ^ level)
       → dig (link_text (suc i) level datum below) ≡ get_or (own_labels i) level []
   own_label i level datum below l datum_is below_is =
       let some : 1 ≤ 2 ^ level = one-le-pow level 2 (lit< tt) in
-      (λ k. dig (link_text (suc i) level (datum_is k) ((below_is ∙ sym (auths-at dig h i (suc i - 2 ^ level) (omega arith))) k)))
-      ∙ sym (label-at dig (dig (datum_text_at dig h (suc i))) (auths dig h i) (suc i) level (suc (top_level (suc i))) (omega arith))
+      (λ k. dig (link_text (suc i) level (datum_is k)
+      ((below_is ∙ sym (auths-at dig h i (suc i - 2 ^ level) (omega arith))) k)))
+      ∙ sym (label-at dig (dig (datum_text_at dig h (suc i))) (auths dig h i) (suc i) level (suc (top_level (suc i)))
+      (omega arith))
 
-  opening-of_next : (i : ℕ) (o : Opening) → IsOpeningOf dig h (suc i) o → IsOpeningAt (suc i) o × (opening_auth dig (suc i) o ≡ auth dig h (suc i))
+  opening-of_next : (i : ℕ) (o : Opening) → IsOpeningOf dig h (suc i) o → IsOpeningAt (suc i) o
+      × (opening_auth dig (suc i) o ≡ auth dig h (suc i))
   unfolding opening_auth datum_text_at
   opening-of_next i o is =
       let others : o.others ≡ drop 1 (own_labels i) = is.others ∙ ap (drop 1) (labels_at-is i) in
       let datum : dig (opening_datum_text dig (suc i) o) ≡ dig (datum_text_at dig h (suc i)) =
-      (λ k. dig (step_datum_text (sym is.binds.event_root k) (sym is.binds.archive_root k) (sym is.binds.count k) (sym is.binds.time k))) in
+      (λ k. dig (step_datum_text (sym is.binds.event_root k) (sym is.binds.archive_root k) (sym is.binds.count k)
+      (sym is.binds.time k))) in
       let before : o.prev ≡ auth dig h (suc i - 2 ^ 0) = sym is.binds.prev in
-      let first : dig (opening_link_text dig (suc i) o) ≡ get_or (own_labels i) 0 [] = own_label i 0 _ _ (omega arith) datum before in
+      let first : dig (opening_link_text dig (suc i) o) ≡ get_or (own_labels i) 0 [] = own_label i 0 _ _ (omega arith)
+      datum before in
       let all : dig (opening_link_text dig (suc i) o) ∷ o.others ≡ own_labels i =
       (λ k. first k ∷ others k) ∙ sym (first_and_rest (own_labels i) (omega (arith, length-own_labels i))) in (
         (omega arith, ap length others ∙ length-rest (own_labels i) (top_level (suc i)) (length-own_labels i)),
@@ -75,7 +83,8 @@ module _ (dig : List ℕ → List ℕ) (h : History) where
       )
 
   -- an opening of a history's step computes the step's authenticator
-  pub opening-of : (step : ℕ) (o : Opening) → 0 < step → IsOpeningOf dig h step o → IsOpeningAt step o × (opening_auth dig step o ≡ auth dig h step)
+  pub opening-of : (step : ℕ) (o : Opening) → 0 < step → IsOpeningOf dig h step o → IsOpeningAt step o
+      × (opening_auth dig step o ≡ auth dig h step)
   opening-of zero o p is = absurd (omega arith)
   opening-of (suc i) o p is = opening-of_next i o is
 
@@ -91,12 +100,15 @@ module _ (dig : List ℕ → List ℕ) (h : History) where
       let sized = length-own_labels i in
       let rest = path-of links (hop (suc i) to) to (hop-below (suc i) to is.0) is.3 in
       let others : link.others ≡ remove (own_labels i) level = is.2 ∙ ap (λ ls. remove ls level) (labels_at-is i) in
-      let label : dig (link_text (suc i) level link.datum (climbed dig links (hop (suc i) to) to (auth dig h to))) ≡ get_or (own_labels i) level [] =
+      let label : dig (link_text (suc i) level link.datum (climbed dig links (hop (suc i) to) to (auth dig h to)))
+      ≡ get_or (own_labels i) level [] =
       own_label i level _ _ fits is.1 rest.1 in
-      let count : length link.others ≡ top_level (suc i) = ap length others ∙ length-removed (own_labels i) level (top_level (suc i)) sized fits in (
+      let count : length link.others ≡ top_level (suc i) = ap length others ∙ length-removed (own_labels i) level
+      (top_level (suc i)) sized fits in (
         (is.0, count, rest.0),
         (λ k. dig (authenticator_text (suc i) (with_label (others k) level (label k))))
-            ∙ ap (λ ls. dig (authenticator_text (suc i) ls)) (with_label-removed (own_labels i) level (omega (arith, fits, sized))) ∙ sym (auth-suc dig h i),
+            ∙ ap (λ ls. dig (authenticator_text (suc i) ls)) (with_label-removed (own_labels i) level
+            (omega (arith, fits, sized))) ∙ sym (auth-suc dig h i),
       )
 
   -- ---- a path that is made link by link, from the upper step downwards
@@ -108,10 +120,14 @@ module _ (dig : List ℕ → List ℕ) (h : History) where
   pub leads-start : (from to : ℕ) → LeadsTo [] from from to
   leads-start from to = λ rest is. is
 
-  pub leads-further : (links : List Link) (link : Link) (from step to : ℕ) → to < step → link.datum ≡ dig (datum_text_at dig h step)
-      → link.others ≡ remove (labels_at dig h step) (hop_level step to) → LeadsTo links from step to → LeadsTo (links ++ link ∷ []) from (hop step to) to
+  pub leads-further : (links : List Link) (link : Link) (from step to : ℕ) → to < step
+      → link.datum ≡ dig (datum_text_at dig h step)
+      → link.others ≡ remove (labels_at dig h step) (hop_level step to) → LeadsTo links from step to
+      → LeadsTo (links ++ link ∷ []) from (hop step to) to
   leads-further links link from step to below datum others so_far = λ rest is.
-      subst (λ ls. IsPathOf dig h ls from to) (sym (append_assoc links (link ∷ []) rest)) (so_far (link ∷ rest) (below, datum, others, is))
+      subst (λ ls. IsPathOf dig h ls from to) (sym (append_assoc links (link ∷ []) rest))
+      (so_far (link ∷ rest) (below, datum, others, is))
 
-  pub leads-end : (links : List Link) (from step to : ℕ) → step ≤ to → LeadsTo links from step to → IsPathOf dig h links from to
+  pub leads-end : (links : List Link) (from step to : ℕ) → step ≤ to → LeadsTo links from step to → IsPathOf dig h links
+      from to
   leads-end links from step to end so_far = subst (λ ls. IsPathOf dig h ls from to) (append-nil links) (so_far [] end)

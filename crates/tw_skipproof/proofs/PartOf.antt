@@ -9,7 +9,8 @@ use Rattle.tw_base.specs.history.Limits.{IsTimeWithinLimits}
 use Rattle.tw_base.specs.kinds.Lists.{Each}
 use Rattle.tw_base.specs.kinds.Names.{IsName}
 use Rattle.tw_base.specs.history.Sound.{IsSound}
-use Rattle.tw_base.proofs.lemmas.kinds.DigestBytes.{Each-drop, Each-remove, IsDigest, auth-digest, dig-digest, event_root-digest, map-digests, tree_label-digest}
+use Rattle.tw_base.proofs.lemmas.kinds.DigestBytes.{Each-drop, Each-remove, IsDigest, auth-digest, dig-digest}
+use Rattle.tw_base.proofs.lemmas.kinds.DigestBytes.{event_root-digest, map-digests, tree_label-digest}
 use Rattle.tw_base.proofs.lemmas.history.SoundEvents.{sound-may_record, sound-time}
 use Rattle.tw_skipproof.specs.declared.existence.Part.{Part}
 use Rattle.tw_skipproof.specs.declared.path.Link.{Link}
@@ -43,14 +44,21 @@ module _ (dig : List ℕ → List ℕ) (h : History) (step top : ℕ) (p : Part)
     path = record {
       shape = path_shape order;
       reaches = (λ k. climbed dig p.path.links (is.at_top k) (is.at_step k) (opening_auth dig (is.at_step k) p.opening))
-          ∙ ap (climbed dig p.path.links top step) (opens from_1).1 ∙ (path-of dig h p.path.links top step order is.path).1;
+          ∙ ap (climbed dig p.path.links top step) (opens from_1).1
+          ∙ (path-of dig h p.path.links top step order is.path).1;
     };
   }
 
   -- where the steps, the events and the time are within their limits
-  pub part_in_range-few : step ≤ top → top ≤ LAST_STEP → length (events_at h step) ≤ MOST_EVENTS → IsTimeWithinLimits p.opening.time → IsPartInRange p
+  pub part_in_range-few : step ≤ top → top ≤ LAST_STEP → length (events_at h step) ≤ MOST_EVENTS
+      → IsTimeWithinLimits p.opening.time → IsPartInRange p
   part_in_range-few order short few time =
-      record { step = omega (arith, order, short, is.at_step); top = omega (arith, short, is.at_top); count = omega (arith, few, is.opening.binds.count); time = time }
+      record {
+        step = omega (arith, order, short, is.at_step);
+        top = omega (arith, short, is.at_top);
+        count = omega (arith, few, is.opening.binds.count);
+        time = time;
+      }
 
   -- so in a sound history
   pub part_in_range-made : IsSound h → step ≤ top → top ≤ length h.steps → IsPartInRange p
@@ -61,11 +69,17 @@ module _ (dig : List ℕ → List ℕ) (h : History) (step top : ℕ) (p : Part)
 
   pub part_shaped-made : 0 < step → step ≤ top → IsPartShaped p
   part_shaped-made from_1 order =
-      record { step = (opening_at from_1).0; top = omega (arith, order, from_1, is.at_top); path = path_shape order; opening = (opening_at from_1).1 }
+      record {
+        step = (opening_at from_1).0;
+        top = omega (arith, order, from_1, is.at_top);
+        path = path_shape order;
+        opening = (opening_at from_1).1;
+      }
 
 -- ---- its digests are bytes
 
-module _ (dig : List ℕ → List ℕ) (h : History) (size : (text : List ℕ) → length (dig text) ≡ 32) (are : (text : List ℕ) → AreBytes (dig text)) where
+module _ (dig : List ℕ → List ℕ) (h : History) (size : (text : List ℕ) → length (dig text) ≡ 32) (are : (text : List ℕ)
+    → AreBytes (dig text)) where
   own_labels : (n : ℕ) → Each IsDigest (labels_at dig h n)
   own_labels n = map-digests dig size are _
 
@@ -81,9 +95,11 @@ module _ (dig : List ℕ → List ℕ) (h : History) (size : (text : List ℕ) �
   )
 
   -- a path of the history has a spelling
-  pub path-fits-made : (links : List Link) (from to : ℕ) → to ≤ from → IsPathOf dig h links from to → (path_codec from to).Fits links
+  pub path-fits-made : (links : List Link) (from to : ℕ) → to ≤ from → IsPathOf dig h links from to
+      → (path_codec from to).Fits links
   unfolding path_codec each
-  path-fits-made links from to order made = path-fits links from to (links-fit links from to made) (path-of dig h links from to order made).0
+  path-fits-made links from to order made = path-fits links from to (links-fit links from to made)
+      (path-of dig h links from to order made).0
 
   opening-fits : (step : ℕ) (o : Opening) → IsOpeningOf dig h step o → FitsAsOpening o
   unfolding opening_codec seen pair bytes_codec labels_codec many
@@ -96,7 +112,10 @@ module _ (dig : List ℕ → List ℕ) (h : History) (size : (text : List ℕ) �
             count-fits least o.count o.time low few time,
             (
               subst IsDigest binds.prev (auth-digest dig size are h (step - 1)),
-              (count, subst (Each IsDigest) (sym is.others) (Each-drop IsDigest 1 (labels_at dig h step) (own_labels step))),
+              (
+                count,
+                subst (Each IsDigest) (sym is.others) (Each-drop IsDigest 1 (labels_at dig h step) (own_labels step)),
+              ),
             ),
           ),
         ),
@@ -105,4 +124,5 @@ module _ (dig : List ℕ → List ℕ) (h : History) (size : (text : List ℕ) �
   -- and so has a part of it
   pub part-fits-made : (step top : ℕ) (p : Part) → IsPartOfHistory dig h step top p → IsSound h → FitsAsPart p
   part-fits-made step top p is sound =
-      part-fits p (subst IsName (sym is.service) sound.name) (links-fit p.path.links top step is.path) (opening-fits step p.opening is.opening)
+      part-fits p (subst IsName (sym is.service) sound.name) (links-fit p.path.links top step is.path)
+      (opening-fits step p.opening is.opening)

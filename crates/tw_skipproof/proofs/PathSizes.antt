@@ -1,10 +1,12 @@
 -- How many digests a path has at most.
-use Rattle.std.proofs.Common.{◌≡◌, ℕ, suc, zero, ◌+◌, ◌-◌, ◌*◌, ◌/◌, ◌<◌, ◌≤◌, ◌^◌, ◌%◌, List, [], ◌∷◌, length, refl, ap, arith, lit<, inl, inr}
+use Rattle.std.proofs.Common.{◌≡◌, ℕ, suc, zero, ◌+◌, ◌-◌, ◌*◌, ◌/◌, ◌<◌, ◌≤◌, ◌^◌, ◌%◌, List, [], ◌∷◌, length, refl}
+use Rattle.std.proofs.Common.{ap, arith, lit<, inl, inr}
 use Rattle.std.proofs.lemmas.Bool.{cases_lt, cases_eq}
 use Rattle.std.proofs.lemmas.Nat.{shr_split}
 use Rattle.std.proofs.Math.Nat.{add-mul, div-eq_of_lt, mod-one, mul-le-mul_right, one-le-pow, pow-suc}
 use Rattle.tw_base.specs.kinds.Levels.{top_level}
-use Rattle.tw_base.proofs.lemmas.kinds.Levels.{divides-less, divides-next, top_level-divides, top_level-greatest, top_level-zero}
+use Rattle.tw_base.proofs.lemmas.kinds.Levels.{divides-less, divides-next, top_level-divides, top_level-greatest}
+use Rattle.tw_base.proofs.lemmas.kinds.Levels.{top_level-zero}
 use Rattle.tw_skipproof.specs.declared.path.Link.{Link}
 use Rattle.tw_skipproof.specs.Paths.{HasShape, hop, hop_level}
 use Rattle.tw_skipproof.proofs.Hops.{hop_level-le, hop_level-short}
@@ -35,7 +37,8 @@ weight [] = 0
 weight (link ∷ links) = suc (length link.others) + weight links
 
 -- with a power taken off that is lower than its lowest bit, a step has that bit as its lowest
-top_level-after : (from level : ℕ) → from < 2 ^ 64 → 2 ^ level ≤ from → level < top_level from → top_level (from - 2 ^ level) ≤ level
+top_level-after : (from level : ℕ) → from < 2 ^ 64 → 2 ^ level ≤ from → level < top_level from
+    → top_level (from - 2 ^ level) ≤ level
 top_level-after from level small fits lower =
     elim (cases_eq (from - 2 ^ level) 0) [
       | inl none ↦ rw none (omega (arith, top_level-zero))
@@ -44,10 +47,14 @@ top_level-after from level small fits lower =
         | inl over ↦ (
             let bit : 1 ≤ 2 ^ level = one-le-pow level 2 (lit< tt) in
             let below : from - 2 ^ level < 2 ^ 64 = omega (arith, small) in
-            let whole = divides-less from (top_level from) (suc level) lower (top_level-divides from (omega (arith, fits, bit)) small) in
-            let rest = divides-less (from - 2 ^ level) (top_level (from - 2 ^ level)) (suc level) over (top_level-divides (from - 2 ^ level) (omega (arith, some)) below) in
-            absurd (halves from (2 ^ level) (2 ^ suc level) (from / 2 ^ suc level) ((from - 2 ^ level) / 2 ^ suc level) bit fits (pow-suc 2 level)
-            (omega (arith, shr_split from (suc level), whole)) (omega (arith, shr_split (from - 2 ^ level) (suc level), rest))))
+            let whole = divides-less from (top_level from) (suc level) lower
+            (top_level-divides from (omega (arith, fits, bit)) small) in
+            let rest = divides-less (from - 2 ^ level) (top_level (from - 2 ^ level)) (suc level) over
+            (top_level-divides (from - 2 ^ level) (omega (arith, some)) below) in
+            absurd (halves from (2 ^ level) (2 ^ suc level) (from / 2 ^ suc level) ((from - 2 ^ level) / 2 ^ suc level)
+            bit fits (pow-suc 2 level)
+            (omega (arith, shr_split from (suc level), whole))
+            (omega (arith, shr_split (from - 2 ^ level) (suc level), rest))))
       ])
     ]
   where
@@ -63,7 +70,8 @@ top_level-after from level small fits lower =
         ]
 
 -- once the way left is shorter than a power that divides the step, the levels fall
-short_weight : (links : List Link) (from to k : ℕ) → from < 2 ^ 64 → HasShape links from to → from % 2 ^ k ≡ 0 → from - to < 2 ^ k
+short_weight : (links : List Link) (from to k : ℕ) → from < 2 ^ 64 → HasShape links from to → from % 2 ^ k ≡ 0
+    → from - to < 2 ^ k
     → weight links ≤ suc (top_level from) + triangle k
 short_weight [] from to k small shape divides near = omega arith
 short_weight (link ∷ links) from to k small shape divides near =
@@ -74,34 +82,42 @@ short_weight (link ∷ links) from to k small shape divides near =
     let over : from - to < 2 ^ suc level =
     elim (cases_lt (from - to) (2 ^ suc level)) [
       | inl less ↦ less
-      | inr more ↦ (let least : suc level ≤ level = hop_level-greatest from to (suc level) (omega (arith, top, lower)) more in absurd (omega (arith, least)))
+      | inr more ↦ (let least : suc level ≤ level = hop_level-greatest from to (suc level) (omega (arith, top, lower))
+          more in absurd (omega (arith, least)))
     ] in
     let rest : weight links ≤ suc (top_level (hop from to)) + triangle level =
     short_weight links (hop from to) to level (omega (arith, small)) shape.2 (hop-divides from to shape.0 small)
     (let twice = pow-suc 2 level in omega (arith, over, fits, twice)) in
-    let after : top_level (hop from to) ≤ level = top_level-after from level small (omega (arith, fits)) (omega (arith, lower, top)) in
+    let after : top_level (hop from to) ≤ level = top_level-after from level small (omega (arith, fits))
+    (omega (arith, lower, top)) in
     let wider = triangle-le (suc level) k lower in
     omega (arith, rest, after, shape.1, triangle-suc level, wider)
 
 -- a way from a step that 2 ^ k divides, and that is below 2 ^ digits
-long_weight : (links : List Link) (from to k digits : ℕ) → from < 2 ^ 64 → HasShape links from to → from % 2 ^ k ≡ 0 → from < 2 ^ digits → k ≤ digits
+long_weight : (links : List Link) (from to k digits : ℕ) → from < 2 ^ 64 → HasShape links from to → from % 2 ^ k ≡ 0
+    → from < 2 ^ digits → k ≤ digits
     → weight links + triangle k ≤ triangle digits + digits + triangle digits
-long_weight [] from to k digits small shape divides below within = let less = triangle-le k digits within in omega (arith, less)
+long_weight [] from to k digits small shape divides below within = let less = triangle-le k digits within in
+    omega (arith, less)
 long_weight (link ∷ links) from to k digits small shape divides below within =
     let positive : 0 < from = omega (arith, shape.0) in
     let level : ℕ = hop_level from to in
     let least = triangle-le k digits within in
-    let top : top_level from < digits = below_power (top_level from) digits from (top_power from positive small) below in
+    let top : top_level from < digits = below_power (top_level from) digits from (top_power from positive small)
+    below in
     elim (cases_lt (from - to) (2 ^ k)) [
-      | inl near ↦ (let few = short_weight (link ∷ links) from to k small shape divides near in omega (arith, few, least, top))
+      | inl near ↦ (let few = short_weight (link ∷ links) from to k small shape divides near in
+          omega (arith, few, least, top))
       | inr far ↦ (
           let fits = hop_level-short from to shape.0 in
-          let at_least : k ≤ level = hop_level-greatest from to k (top_level-greatest from k positive small divides) far in
+          let at_least : k ≤ level = hop_level-greatest from to k (top_level-greatest from k positive small divides)
+          far in
           let lower : level < digits = below_power level digits (from - to) fits (omega arith) in
           elim (cases_eq level (top_level from)) [
             | inl same ↦ (
                 let next : hop from to % 2 ^ suc level ≡ 0 = rw same (divides-next from positive small) in
-                let rest = long_weight links (hop from to) to (suc level) digits (omega (arith, small)) shape.2 next (omega (arith, below)) lower in
+                let rest = long_weight links (hop from to) to (suc level) digits (omega (arith, small)) shape.2 next
+                (omega (arith, below)) lower in
                 let less = triangle-le k level at_least in
                 omega (arith, rest, less, shape.1, same, triangle-suc level))
             | inr other ↦ (
@@ -109,9 +125,11 @@ long_weight (link ∷ links) from to k digits small shape divides below within =
                 let over : from - to < 2 ^ suc level =
                 elim (cases_lt (from - to) (2 ^ suc level)) [
                   | inl less ↦ less
-                  | inr more ↦ (let low : suc level ≤ level = hop_level-greatest from to (suc level) (omega (arith, under, other)) more in absurd (omega (arith, low)))
+                  | inr more ↦ (let low : suc level ≤ level = hop_level-greatest from to (suc level)
+                      (omega (arith, under, other)) more in absurd (omega (arith, low)))
                 ] in
-                let divided : from % 2 ^ suc level ≡ 0 = divides-less from (top_level from) (suc level) (omega (arith, under, other)) (top_level-divides from positive small) in
+                let divided : from % 2 ^ suc level ≡ 0 = divides-less from (top_level from) (suc level)
+                (omega (arith, under, other)) (top_level-divides from positive small) in
                 let few = short_weight (link ∷ links) from to (suc level) small shape divided over in
                 let wide = triangle-le (suc level) digits lower in
                 omega (arith, few, wide, least, top))

@@ -9,7 +9,8 @@ use Rattle.tw_skipproof.specs.HistoryProofs.{IsExistenceOf, MakesExistence}
 pub few_events : (h : History) (step : ℕ) → IsSound h → length (events_at h step) ≤ 1024
 few_events h step sound = (sound-may_record h step sound).are.count
 
-pub makes_at : (dig : List ℕ → List ℕ) (h : History) (step index top : ℕ) (bytes : List ℕ) → IsSound h → MakesExistence dig h step (min index 4294967295) top bytes
+pub makes_at : (dig : List ℕ → List ℕ) (h : History) (step index top : ℕ) (bytes : List ℕ) → IsSound h
+    → MakesExistence dig h step (min index 4294967295) top bytes
     → MakesExistence dig h step index top bytes
 makes_at dig h step index top bytes sound makes = elim (cases_lt 4294967295 index) [
   | inl more ↦

@@ -1,5 +1,6 @@
 -- What `parse` makes of a number.
-use Rattle.std.proofs.Common.{◌≡◌, ℕ, ◌<◌, ◌^◌, ◌↔◌, length, List, true, IsTrue, IsSome, Some, None, Result, Ok, Err, MatchResult, rules, arith, subst}
+use Rattle.std.proofs.Common.{◌≡◌, ℕ, ◌<◌, ◌^◌, ◌↔◌, length, List, true, IsTrue, IsSome, Some, None, Result, Ok, Err}
+use Rattle.std.proofs.Common.{MatchResult, rules, arith, subst}
 use Rattle.std.specs.Char.{is_ascii_digit}
 use Rattle.std.specs.List.{list_all}
 use Rattle.std.specs.Result.{result_ok, OkIff}
@@ -24,13 +25,15 @@ IsUtf8-is_number word number =
     IsUtf8-from_ascii word (IsAscii-from_digits word (numerals.to word (digits-is_number word number)))
 
 -- a number that `parse` takes has no more than 64 bits
-parsed : {E : Type 0} (word : List ℕ) (r : Result ℕ E) → IsTrue (is_number word) → OkIff r ((0 < length word) × (word_number word < 2 ^ 64)) (word_number word) →
+parsed : {E : Type 0} (word : List ℕ) (r : Result ℕ E) → IsTrue (is_number word)
+    → OkIff r ((0 < length word) × (word_number word < 2 ^ 64)) (word_number word) →
     IsSome (result_ok r) ↔ (IsTrue (is_number word) × (word_number word < 2 ^ 64))
 parsed word (Ok n) number digits = grind arith
 parsed word (Err e) number digits = grind arith
 
 -- `parse` gives the number where it has no more than 64 bits
-pub parse-is_number : {E : Type 0} (word : List ℕ) (r : Result ℕ E) → IsTrue (is_number word) → ParsesUnsigned 64 10 word r →
+pub parse-is_number : {E : Type 0} (word : List ℕ) (r : Result ℕ E) → IsTrue (is_number word) → ParsesUnsigned 64 10
+    word r →
     IsSome (result_ok r) ↔ (IsTrue (is_number word) × (word_number word < 2 ^ 64))
 parse-is_number word r number parses =
     parsed word r number (parse_digits numerals 64 word r parses (digits-is_number word number))

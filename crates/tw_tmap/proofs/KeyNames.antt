@@ -34,13 +34,15 @@ pub below-step : (from : List ℕ) (a b : ℕ) → KeyBelow (key from a) (key fr
 below-step from a b l = less_nat a b (ap (λ (o : Ordering). ordering_then o (nat_cmp a b)) (sym (same_name from)) ∙ l)
 
 -- what lies between two keys of one service is of it
-pub between : (from other : List ℕ) (a b c : ℕ) → KeyBelow (key from a) (key other b) → KeyBelow (key other b) (key from c) → other ≡ from
+pub between : (from other : List ℕ) (a b c : ℕ) → KeyBelow (key from a) (key other b) → KeyBelow (key other b)
+    (key from c) → other ≡ from
 between from other a b c low high = by (slice_cmp nat_cmp from other) refl low
   where
     turned : slice_cmp nat_cmp other from ≡ ordering_reverse (slice_cmp nat_cmp from other)
     turned = nat_list_cmp_total.antisymm other from
 
     by : (o : Ordering) → slice_cmp nat_cmp from other ≡ o → ordering_then o (nat_cmp a b) ≡ Less → other ≡ from
-    by Less is l = absurd (let over : Greater ≡ Less = ap (λ (o : Ordering). ordering_then o (nat_cmp b c)) (sym (turned ∙ ap ordering_reverse is)) ∙ high in cc)
+    by Less is l = absurd (let over : Greater ≡ Less = ap (λ (o : Ordering). ordering_then o (nat_cmp b c))
+        (sym (turned ∙ ap ordering_reverse is)) ∙ high in cc)
     by Equal is l = sym (slice_cmp-IsAntisymmetric nat_cmp-IsAntisymmetric from other is)
     by Greater is l = absurd (cc)

@@ -32,7 +32,8 @@ use Rattle.tw_treeproof.specs.Ways.{is_left, nearest_left, nearest_right}
 use Rattle.tw_chain.specs.Checks.{top_of, under_anchor}
 use Rattle.tw_chain.specs.Checks.Check.{AnswerOf, InOrder, NeedsAnchor}
 use Rattle.tw_chain.specs.Passing.{anchor_at}
-use Rattle.tw_chain.proofs.CheckBinds.{AreChecked, Checked, Opened, OrTheyClash, Setting, anchored-part, answer-step, each-checked, parted}
+use Rattle.tw_chain.proofs.CheckBinds.{AreChecked, Checked, Opened, OrTheyClash, Setting, anchored-part, answer-step}
+use Rattle.tw_chain.proofs.CheckBinds.{each-checked, parted}
 use Rattle.tw_chain.proofs.PieceSizes.{PartSizes, gap-sizes, opening-sizes, path-sizes}
 use Rattle.tw_tmap.specs.declared.map_file.HighFile.{HighFile}
 use Rattle.tw_tmap.specs.declared.map_file.LowFile.{LowFile}
@@ -41,18 +42,23 @@ use Rattle.tw_tmap.specs.declared.map_verdict.MapVerdict.{MapVerdict}
 use Rattle.tw_tmap.specs.declared.map_verdict.MapVerdict.TheVariants.{Yes, No, Gap}
 use Rattle.tw_tmap.specs.Binding.{BindsMap}
 use Rattle.tw_tmap.specs.Bounds.{IsBetweenSteps, high_bound, low_bound}
-use Rattle.tw_tmap.specs.Checking.{AreMapFilesAccepted, before_checks, before_told, fit, high_ask, high_checks, high_part, high_told, low_ask, low_checks, low_file_part, low_told, map_checks, map_texts, map_verdict}
+use Rattle.tw_tmap.specs.Checking.{AreMapFilesAccepted, before_checks, before_told, fit, high_ask, high_checks}
+use Rattle.tw_tmap.specs.Checking.{high_part, high_told, low_ask, low_checks, low_file_part, low_told, map_checks}
+use Rattle.tw_tmap.specs.Checking.{map_texts, map_verdict}
 use Rattle.tw_tmap.proofs.Bounded.{high-is, low-is}
 use Rattle.tw_tmap.proofs.MapChecks.{yes-accepted}
 use Rattle.tw_tmap.proofs.MapCodec.{BeforeFits, HighFits, LowFits, LowPartFits}
 
-same_history : (family : List History) (service : List ℕ) (one other : History) → HasHistory family service one → HasHistory family service other → one ≡ other
+same_history : (family : List History) (service : List ℕ) (one other : History) → HasHistory family service one
+    → HasHistory family service other → one ≡ other
 same_history family service one other is also = let same : Some one ≡ Some other = sym is ∙ also in cc
 
 -- the threads that a sound history received have steps within the format's limit
-pub received-small : (h : History) → IsSound h → (i : ℕ) → i ≤ length h.steps → (e : Entry) → In e (received h i) → e.thread.step ≤ LAST_STEP
+pub received-small : (h : History) → IsSound h → (i : ℕ) → i ≤ length h.steps → (e : Entry) → In e (received h i)
+    → e.thread.step ≤ LAST_STEP
 received-small h sound i within e there =
-    let archived : IsArchived h i e = Each-in (IsArchived h i) (entries (tree h i)) e (tree-archived h i) (tree-has_received h sound i within e there) in
+    let archived : IsArchived h i e = Each-in (IsArchived h i) (entries (tree h i)) e (tree-archived h i)
+    (tree-has_received h sound i within e there) in
     (received-sound h sound archived.0 e.thread (entry_at-parts h archived.0 e archived.2).1).0.2
 
 -- the tree proofs of empty places, for whatever is asked of keys
@@ -74,7 +80,8 @@ module _ (s : Setting) where
   step-held : (key : Key) → Checked s (NeedsAnchor key) → HasStep key
   step-held key held = by (anchor_at s.anchors key) refl held.passes held.has
     where
-      by : (o : Option Thread) → anchor_at s.anchors key ≡ o → IsSome o → HasThreads s.dig s.family (option_to_list o) → HasStep key
+      by : (o : Option Thread) → anchor_at s.anchors key ≡ o → IsSome o → HasThreads s.dig s.family (option_to_list o)
+          → HasStep key
       by None is some has = cc
       by (Some t) is some has =
           let names = anchor_of-is s.anchors key.from key.step t is in
@@ -93,7 +100,8 @@ module _ (s : Setting) where
     within : f.step ≤ length own.steps
     is : low ≡ low_bound own f.step f.peer
 
-  low-first : (f : LowFile) → f.step ≡ 1 → HasStep (record { from = f.service; step = f.top }) → f.step ≤ f.top → LowBound f 0
+  low-first : (f : LowFile) → f.step ≡ 1 → HasStep (record { from = f.service; step = f.top }) → f.step ≤ f.top
+      → LowBound f 0
   unfolding received
   low-first f first held order = record {
     own = held.history;
@@ -102,15 +110,21 @@ module _ (s : Setting) where
     is = ap (λ (step : ℕ). low_bound held.history step f.peer) (sym first);
   }
 
-  low-later : (f : LowFile) (p : LowPart) → LowPartFits f.top (f.step - 1) p → f.step ≤ f.top → AreChecked s (before_checks f p) → OrTheyClash s (LowBound f (before_told f p))
+  low-later : (f : LowFile) (p : LowPart) → LowPartFits f.top (f.step - 1) p → f.step ≤ f.top
+      → AreChecked s (before_checks f p) → OrTheyClash s (LowBound f (before_told f p))
   low-later f p fits order checked =
       let at : Part = low_file_part f p in
-      let sizes : PartSizes at = record { links = path-sizes f.top (f.step - 1) p.path.links fits.path; opening = opening-sizes 0 (f.step - 1) p.opening fits.opening } in
+      let sizes : PartSizes at =
+      record {
+        links = path-sizes f.top (f.step - 1) p.path.links fits.path;
+        opening = opening-sizes 0 (f.step - 1) p.opening fits.opening;
+      } in
       let parts = parted s (under_anchor 0 at) (AnswerOf 0 p.opening.archive_root (low_ask f) p.shown ∷ []) checked in
       let held : HasStep (top_of at) = step-held (top_of at) parts.0.1.0 in
       and_then s.dig s.texts _ _ (anchored-part s 0 at sizes parts.0)
       (λ (opened : Opened s f.service (f.step - 1) p.opening). and_then s.dig s.texts _ _
-      (answer-step s 0 f.service (f.step - 1) p.opening (low_ask f) p.shown (below-sizes (record { from = f.peer; step = 2 ^ 40 }) p.shown fits.tree) opened parts.1.0)
+      (answer-step s 0 f.service (f.step - 1) p.opening (low_ask f) p.shown
+      (below-sizes (record { from = f.peer; step = 2 ^ 40 }) p.shown fits.tree) opened parts.1.0)
       (λ answer. (
       let sound : IsSound opened.history = sound_of s.family f.service opened.history s.sound opened.has in
       inl (record {
@@ -118,7 +132,8 @@ module _ (s : Setting) where
         has_own = opened.has;
         within = (let same = same_history s.family f.service held.history opened.history held.has opened.has in
             subst (λ (h : History). f.step ≤ length h.steps) same (omega (arith, order, held.within)));
-        is = low-is opened.history sound (f.step - 1) opened.within f.peer (nearest_right (is_left (low_ask f)) (ancestors_of p.shown))
+        is = low-is opened.history sound (f.step - 1) opened.within f.peer
+            (nearest_right (is_left (low_ask f)) (ancestors_of p.shown))
             (received-small opened.history sound (f.step - 1) opened.within) answer;
       }))))
 
@@ -126,11 +141,13 @@ module _ (s : Setting) where
   low-binds f fits checked = by f.shown fits.before checked
     where
       by : (o : Option LowPart) → BeforeFits f.top f.step o
-          → AreChecked s (InOrder f.step f.top ∷ option_map_or (before_checks f) o (NeedsAnchor (record { from = f.service; step = f.top }) ∷ []))
+          → AreChecked s (InOrder f.step f.top ∷ option_map_or (before_checks f) o
+          (NeedsAnchor (record { from = f.service; step = f.top }) ∷ []))
           → OrTheyClash s (LowBound f (option_map_or (before_told f) o 0))
       by None first checked =
           let some = fits.some in
-          inl (low-first f (omega (arith, first, some)) (step-held (record { from = f.service; step = f.top }) checked.1.0) checked.0.passes)
+          inl (low-first f (omega (arith, first, some)) (step-held (record { from = f.service; step = f.top })
+          checked.1.0) checked.0.passes)
       by (Some p) later checked = low-later f p later.1 checked.0.passes checked.1
 
   -- ---- the high file
@@ -148,23 +165,27 @@ module _ (s : Setting) where
       let parts = parted s (under_anchor 1 at) (AnswerOf 1 f.opening.archive_root (high_ask f) f.shown ∷ []) checked in
       and_then s.dig s.texts _ _ (anchored-part s 1 at sizes parts.0)
       (λ (opened : Opened s f.service f.top f.opening). and_then s.dig s.texts _ _
-      (answer-step s 1 f.service f.top f.opening (high_ask f) f.shown (above-sizes (record { from = f.peer; step = f.step - 1 }) f.shown fits.tree) opened parts.1.0)
+      (answer-step s 1 f.service f.top f.opening (high_ask f) f.shown
+      (above-sizes (record { from = f.peer; step = f.step - 1 }) f.shown fits.tree) opened parts.1.0)
       (λ answer. (
       let sound : IsSound opened.history = sound_of s.family f.service opened.history s.sound opened.has in
       inl (record {
         other = opened.history;
         has_other = opened.has;
         within = opened.within;
-        is = high-is opened.history sound f.top opened.within f.peer f.step (nearest_left (is_left (high_ask f)) (ancestors_of f.shown)) fits.some answer;
+        is = high-is opened.history sound f.top opened.within f.peer f.step
+            (nearest_left (is_left (high_ask f)) (ancestors_of f.shown)) fits.some answer;
       }))))
 
   -- ---- both
 
-  both-bind : (low : LowFile) (high : HighFile) → LowFits low → HighFits high → fit low high ≡ true → AreChecked s (map_checks low high)
+  both-bind : (low : LowFile) (high : HighFile) → LowFits low → HighFits high → fit low high ≡ true
+      → AreChecked s (map_checks low high)
       → OrTheyClash s (IsBetweenSteps s.family low.service low.step low.peer (low_told low) (high_told high) high.top)
   both-bind low high low_fits high_fits fits checked =
       let parts = parted s (low_checks low) (high_checks high) checked in
-      let names = and_parts (bytes_eq low.service high.peer) (low.step == high.step && bytes_eq low.peer high.service) fits in
+      let names = and_parts (bytes_eq low.service high.peer) (low.step == high.step && bytes_eq low.peer high.service)
+      fits in
       let others = and_parts (low.step == high.step) (bytes_eq low.peer high.service) names.1 in
       let service : high.peer ≡ low.service = sym ((bytes_eq-Decides low.service high.peer).0 names.0) in
       let step : high.step ≡ low.step = sym (eqb-true low.step high.step others.0) in
@@ -184,9 +205,11 @@ module _ (s : Setting) where
             ∙ ap (λ (n : ℕ). high_bound other.other low.service n high.top) step;
       })))
 
-module _ (dig : List ℕ → List ℕ) (size : (text : List ℕ) → length (dig text) ≡ 32) (are : (text : List ℕ) → AreBytes (dig text)) (anchors : List Thread) (low : LowFile)
+module _ (dig : List ℕ → List ℕ) (size : (text : List ℕ) → length (dig text) ≡ 32) (are : (text : List ℕ)
+    → AreBytes (dig text)) (anchors : List Thread) (low : LowFile)
     (high : HighFile) (low_fits : LowFits low) (high_fits : HighFits high) where
-  accepted-binds : AreMapFilesAccepted dig anchors low high → BindsMap dig anchors low high (Yes (low_told low) (high_told high) high.top)
+  accepted-binds : AreMapFilesAccepted dig anchors low high → BindsMap dig anchors low high
+      (Yes (low_told low) (high_told high) high.top)
   accepted-binds accepted family sound has =
       let of_family : List (List ℕ) = family_texts dig family in
       let own : List (List ℕ) = map_texts dig low high in
@@ -200,13 +223,16 @@ module _ (dig : List ℕ → List ℕ) (size : (text : List ℕ) → length (dig
         texts = of_family ++ own;
         has_texts = λ t a. Among-left t of_family own a;
       } in
-      both-bind s low high low_fits high_fits accepted.0 (each-checked s (map_checks low high) accepted.1 has (λ t a. Among-right t of_family own a))
+      both-bind s low high low_fits high_fits accepted.0 (each-checked s (map_checks low high) accepted.1 has
+      (λ t a. Among-right t of_family own a))
 
   -- a verdict binds, whatever it is
-  pub verdict-binds : (verdict : MapVerdict) → verdict ≡ map_verdict dig anchors low high → BindsMap dig anchors low high verdict
+  pub verdict-binds : (verdict : MapVerdict) → verdict ≡ map_verdict dig anchors low high → BindsMap dig anchors low
+      high verdict
   verdict-binds (No reason) is = tt
   verdict-binds Gap is = tt
   verdict-binds (Yes l h upto) is =
       let yes = yes-accepted dig anchors low high l h upto (sym is) in
-      let same : Yes (low_told low) (high_told high) high.top ≡ Yes l h upto = λ k. Yes (sym yes.1 k) (sym yes.2 k) (sym yes.3 k) in
+      let same : Yes (low_told low) (high_told high) high.top ≡ Yes l h upto = λ k. Yes (sym yes.1 k) (sym yes.2 k)
+      (sym yes.3 k) in
       subst (BindsMap dig anchors low high) same (accepted-binds yes.0)

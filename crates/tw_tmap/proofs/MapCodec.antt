@@ -4,7 +4,8 @@ use Rattle.std.specs.Prelude.{Bool, true, false, Option, Some, None, MatchOption
 use Rattle.std.proofs.lemmas.Bool.{ltb-false, ltb-true}
 use Rattle.tw_base.specs.declared.kinds.limits.TheConstants.{LAST_STEP}
 use Rattle.tw_base.specs.format.Codecs.{behind, name_codec, nothing, number_codec, optional, pair, present, seen}
-use Rattle.tw_base.proofs.lemmas.format.CodecLaws.{Lawful, lawful, lawful-behind, lawful-name, lawful-optional, lawful-pair, lawful-seen}
+use Rattle.tw_base.proofs.lemmas.format.CodecLaws.{Lawful, lawful, lawful-behind, lawful-name, lawful-optional}
+use Rattle.tw_base.proofs.lemmas.format.CodecLaws.{lawful-pair, lawful-seen}
 use Rattle.tw_skipproof.specs.Codecs.{opening_codec, path_codec, step_number_codec}
 use Rattle.tw_skipproof.proofs.LawfulCodecs.{opening-lawful, path-lawful}
 use Rattle.tw_treeproof.specs.Codecs.{gap_codec}
@@ -24,15 +25,19 @@ low_part-lawful top step =
 pub low-lawful : Lawful low_codec
 unfolding low_codec
 low-lawful =
-    lawful-behind (kind_bytes 6) _ (lawful-seen _ _ _ (λ t. refl) (λ f. refl) (lawful-pair name_codec _ lawful-name (λ service _.
-    lawful-pair step_number_codec _ (search lawful) (λ step _. lawful-pair name_codec _ lawful-name (λ peer _. lawful-pair step_number_codec _ (search lawful) (λ top _.
+    lawful-behind (kind_bytes 6) _ (lawful-seen _ _ _ (λ t. refl) (λ f. refl)
+    (lawful-pair name_codec _ lawful-name (λ service _.
+    lawful-pair step_number_codec _ (search lawful) (λ step _. lawful-pair name_codec _ lawful-name
+    (λ peer _. lawful-pair step_number_codec _ (search lawful) (λ top _.
     lawful-optional (low_part_codec top (step - 1)) (low_part-lawful top (step - 1)) (nat_lt 1 step)))))))
 
 pub high-lawful : Lawful high_codec
 unfolding high_codec
 high-lawful =
-    lawful-behind (kind_bytes 7) _ (lawful-seen _ _ _ (λ t. refl) (λ f. refl) (lawful-pair name_codec _ lawful-name (λ service _.
-    lawful-pair step_number_codec _ (search lawful) (λ top _. lawful-pair name_codec _ lawful-name (λ peer _. lawful-pair step_number_codec _ (search lawful) (λ step _.
+    lawful-behind (kind_bytes 7) _ (lawful-seen _ _ _ (λ t. refl) (λ f. refl)
+    (lawful-pair name_codec _ lawful-name (λ service _.
+    lawful-pair step_number_codec _ (search lawful) (λ top _. lawful-pair name_codec _ lawful-name
+    (λ peer _. lawful-pair step_number_codec _ (search lawful) (λ step _.
     lawful-pair (opening_codec 0 top) _ (opening-lawful 0 top (lit≤ tt)) (λ opening _. gap-lawful)))))))
 
 -- ---- the fields
@@ -50,7 +55,8 @@ low_part-fields top step p fits = record { path = fits.0; opening = fits.1.0; tr
 abbrev pub BeforeFits : (top step : ℕ) → Option LowPart → Type 0
 BeforeFits top step shown = MatchOption shown (step ≤ 1) (λ p. (1 < step) × LowPartFits top (step - 1) p)
 
-before-fields : (top step : ℕ) (b : Bool) → nat_lt 1 step ≡ b → (shown : Option LowPart) → (optional b (low_part_codec top (step - 1))).Fits shown → BeforeFits top step shown
+before-fields : (top step : ℕ) (b : Bool) → nat_lt 1 step ≡ b → (shown : Option LowPart)
+    → (optional b (low_part_codec top (step - 1))).Fits shown → BeforeFits top step shown
 unfolding nothing present
 before-fields top step true is None fits = absurd fits
 before-fields top step true is (Some p) fits = (ltb-true 1 step is, low_part-fields top (step - 1) p fits)

@@ -6,7 +6,8 @@ use Rattle.tw_base.specs.declared.kinds.limits.TheConstants.{LAST_STEP}
 use Rattle.tw_base.specs.format.Codecs.{Codec, number_codec}
 use Rattle.tw_base.specs.format.Formats.{IsFront}
 use Rattle.tw_base.proofs.lemmas.format.CodecLaws.{Lawful}
-use Rattle.tw_base.proofs.lemmas.format.CodecSizes.{AtMost, at_most-behind, at_most-name, at_most-number, at_most-optional, at_most-pair, at_most-seen, word-size}
+use Rattle.tw_base.proofs.lemmas.format.CodecSizes.{AtMost, at_most-behind, at_most-name, at_most-number}
+use Rattle.tw_base.proofs.lemmas.format.CodecSizes.{at_most-optional, at_most-pair, at_most-seen, word-size}
 use Rattle.tw_skipproof.proofs.Shapes.{opening-most, path-most}
 use Rattle.tw_treeproof.proofs.LawfulCodecs.{gap-most}
 use Rattle.tw_tmap.specs.MapFiles.{high_codec, high_layout, low_codec, low_layout, low_part_codec}
@@ -15,26 +16,32 @@ use Rattle.tw_tmap.proofs.MapCodec.{high-lawful, low-lawful}
 low_part-most : (top step : ℕ) → top ≤ LAST_STEP → step ≤ LAST_STEP → AtMost (low_part_codec top step) 67405
 unfolding low_part_codec
 low_part-most top step t s =
-    at_most-seen _ _ _ 67405 (at_most-pair _ _ 53760 13645 (path-most top step (omega (arith, t))) (λ _ _. at_most-pair _ _ 1356 12289 (opening-most 0 step s) (λ _ _. gap-most)))
+    at_most-seen _ _ _ 67405 (at_most-pair _ _ 53760 13645 (path-most top step (omega (arith, t)))
+    (λ _ _. at_most-pair _ _ 1356 12289 (opening-most 0 step s) (λ _ _. gap-most)))
 
 low-most : AtMost low_codec 67458
 unfolding low_codec number_codec
 low-most =
-    at_most-behind _ _ 67453 (at_most-seen _ _ _ 67453 (at_most-pair _ _ 16 67437 at_most-name (λ _ _. at_most-pair _ _ 8 67429 (at_most-number 8 1 LAST_STEP) (λ step s.
+    at_most-behind _ _ 67453 (at_most-seen _ _ _ 67453 (at_most-pair _ _ 16 67437 at_most-name
+    (λ _ _. at_most-pair _ _ 8 67429 (at_most-number 8 1 LAST_STEP) (λ step s.
     at_most-pair _ _ 16 67413 at_most-name (λ _ _. at_most-pair _ _ 8 67405 (at_most-number 8 1 LAST_STEP) (λ top t.
-    at_most-optional (nat_lt 1 step) (low_part_codec top (step - 1)) 67405 (low_part-most top (step - 1) t.1 (omega (arith, s.1)))))))))
+    at_most-optional (nat_lt 1 step) (low_part_codec top (step - 1)) 67405
+    (low_part-most top (step - 1) t.1 (omega (arith, s.1)))))))))
 
 high-most : AtMost high_codec 13698
 unfolding high_codec number_codec
 high-most =
-    at_most-behind _ _ 13693 (at_most-seen _ _ _ 13693 (at_most-pair _ _ 16 13677 at_most-name (λ _ _. at_most-pair _ _ 8 13669 (at_most-number 8 1 LAST_STEP) (λ top t.
+    at_most-behind _ _ 13693 (at_most-seen _ _ _ 13693 (at_most-pair _ _ 16 13677 at_most-name
+    (λ _ _. at_most-pair _ _ 8 13669 (at_most-number 8 1 LAST_STEP) (λ top t.
     at_most-pair _ _ 16 13653 at_most-name (λ _ _. at_most-pair _ _ 8 13645 (at_most-number 8 1 LAST_STEP) (λ step s.
     at_most-pair _ _ 1356 12289 (opening-most 0 top t.1) (λ _ _. gap-most)))))))
 
 -- a front of a word has no more bytes than the word
-front-size : {X : Type 0} (c : Codec X) → Lawful c → (n : ℕ) → AtMost c n → (bytes : List ℕ) → IsFront c.format bytes → length bytes ≤ n
+front-size : {X : Type 0} (c : Codec X) → Lawful c → (n : ℕ) → AtMost c n → (bytes : List ℕ) → IsFront c.format bytes
+    → length bytes ≤ n
 front-size c l n most bytes front =
-    let whole = word-size c l n most (bytes ++ front.0) front.1 front.2 in omega (arith, whole, length-append bytes front.0)
+    let whole = word-size c l n most (bytes ++ front.0) front.1 front.2 in
+    omega (arith, whole, length-append bytes front.0)
 
 pub low-size : (bytes : List ℕ) → IsFront low_layout bytes → length bytes ≤ 67458
 low-size = front-size low_codec low-lawful 67458 low-most

@@ -17,7 +17,8 @@ abbrev pub Rises : List Entry → Type 0
 Rises [] = Unit {0}
 Rises (e ∷ es) = Each (λ (f : Entry). f.thread.from ≡ e.thread.from → e.thread.step < f.thread.step) es × Rises es
 
-rises-snoc : (es : List Entry) (e : Entry) → Rises es → Each (λ (f : Entry). f.thread.from ≡ e.thread.from → f.thread.step < e.thread.step) es → Rises (es ++ e ∷ [])
+rises-snoc : (es : List Entry) (e : Entry) → Rises es → Each (λ (f : Entry). f.thread.from ≡ e.thread.from
+    → f.thread.step < e.thread.step) es → Rises (es ++ e ∷ [])
 rises-snoc [] e rises below = (tt, tt)
 rises-snoc (x ∷ es) e rises below =
     (Each-append _ es (e ∷ []) rises.0 (λ same. below.0 (sym same), tt), rises-snoc es e rises.1 below.1)
@@ -27,7 +28,8 @@ module _ (h : History) (sound : IsSound h) where
       → Each (λ (e : Entry). e.thread.from ≡ t.from → e.thread.step < t.step) (received h i)
   rule-kept i None t at is = absurd (cc)
   rule-kept i (Some s) t at is =
-      let P : Thread → Type 0 = λ t. Each (λ (e : Entry). e.thread.from ≡ t.from → e.thread.step < t.step) (received h i) in
+      let P : Thread → Type 0 = λ t. Each (λ (e : Entry). e.thread.from ≡ t.from → e.thread.step < t.step)
+      (received h i) in
       subst (λ o. IfSome o P) is ((sound.steps i s at).rules StepsRise)
 
   pub received-rises : (i : ℕ) → Rises (received h i)
@@ -38,6 +40,7 @@ module _ (h : History) (sound : IsSound h) where
       let cases : (o : Option Entry) → entry_at h (suc i) ≡ o → Rises (received h i ++ option_to_list o) =
       elim [
         | None ↦ λ is. subst Rises (sym (append-nil (received h i))) before
-        | Some e ↦ λ is. rises-snoc (received h i) e before (rule-kept i (step_at h (suc i)) e.thread refl (entry_at-parts h (suc i) e is).1)
+        | Some e ↦ λ is. rises-snoc (received h i) e before (rule-kept i (step_at h (suc i)) e.thread refl
+            (entry_at-parts h (suc i) e is).1)
       ]
       in cases (entry_at h (suc i)) refl

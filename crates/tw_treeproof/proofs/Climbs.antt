@@ -9,7 +9,8 @@ use Rattle.tw_base.specs.kinds.Lists.{Each}
 use Rattle.tw_treeproof.specs.Sizes.{HaveSizes}
 use Rattle.tw_treeproof.specs.Ways.{IsNotAsked, climbed_tree, is_left, over_text}
 
-rest-from : (up : List Ancestor) (i : ℕ) (a : Ancestor) → i < length up → a ≡ get_or up i a → drop i up ≡ a ∷ drop (i + 1) up
+rest-from : (up : List Ancestor) (i : ℕ) (a : Ancestor) → i < length up → a ≡ get_or up i a → drop i up ≡ a ∷ drop
+    (i + 1) up
 rest-from up i a l is = drop_more up i a l ∙ ap (λ x. x ∷ drop (i + 1) up) (sym is)
 
 module _ (dig : List ℕ → List ℕ) (ask : Ask) (up : List Ancestor) (place : List ℕ) where
@@ -22,17 +23,20 @@ module _ (dig : List ℕ → List ℕ) (ask : Ask) (up : List Ancestor) (place :
   begins = record { label = refl; sizes = λ all. all }
 
   pub climbs : (i : ℕ) (label : List ℕ) (a : Ancestor) → i < length up → a ≡ get_or up i a → Climbing i label
-      → (above : List ℕ) → HasBytes 32 a.other → IsFit a.entry → above ≡ dig (over_text (is_left ask) a label) → Climbing (i + 1) above
+      → (above : List ℕ) → HasBytes 32 a.other → IsFit a.entry → above ≡ dig (over_text (is_left ask) a label)
+      → Climbing (i + 1) above
   unfolding climbed_tree
   climbs i label a l is so_far above other fits made =
       let rest = rest-from up i a l is in
       let Q : List Ancestor → Type 0 = HaveSizes in
       record {
-        label = ap (climbed_tree dig (is_left ask) (drop (i + 1) up)) made ∙ ap (λ x. climbed_tree dig (is_left ask) x label) (sym rest) ∙ so_far.label;
+        label = ap (climbed_tree dig (is_left ask) (drop (i + 1) up)) made
+            ∙ ap (λ x. climbed_tree dig (is_left ask) x label) (sym rest) ∙ so_far.label;
         sizes = λ all. so_far.sizes (subst Q (sym rest) ((other, fits), all));
       }
 
-  pub climbed_all : (i : ℕ) (label : List ℕ) → length up ≤ i → Climbing i label → (label ≡ climbed_tree dig (is_left ask) up place) × HaveSizes up
+  pub climbed_all : (i : ℕ) (label : List ℕ) → length up ≤ i → Climbing i label
+      → (label ≡ climbed_tree dig (is_left ask) up place) × HaveSizes up
   unfolding climbed_tree
   climbed_all i label l so_far =
       let none = drop_all i up l in

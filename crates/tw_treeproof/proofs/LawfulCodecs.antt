@@ -3,7 +3,9 @@ use Rattle.std.proofs.Common.{◌≡◌, ℕ, suc, ◌+◌, ◌-◌, ◌≤◌, 
 use Rattle.tw_base.specs.declared.history.tree_proof.TreeProof.TheVariants.{Present}
 use Rattle.tw_base.specs.format.Codecs.{Codec, many, number_codec, pair}
 use Rattle.tw_base.proofs.lemmas.format.CodecLaws.{Lawful, lawful, lawful-by_kind, lawful-variant}
-use Rattle.tw_base.proofs.lemmas.format.CodecSizes.{AtMost, at_most-by_kind, at_most-bytes, at_most-variant, at_most-counted, at_most-many, at_most-number, at_most-pair, at_most-seen}
+use Rattle.tw_base.proofs.lemmas.format.CodecSizes.{AtMost, at_most-by_kind, at_most-bytes, at_most-variant}
+use Rattle.tw_base.proofs.lemmas.format.CodecSizes.{at_most-counted, at_most-many, at_most-number, at_most-pair}
+use Rattle.tw_base.proofs.lemmas.format.CodecSizes.{at_most-seen}
 use Rattle.tw_base.proofs.lemmas.history.EntryCodecLaws.{entry-lawful, entry-most}
 use Rattle.tw_base.proofs.lemmas.format.TakeLaws.{ManyTaken}
 use Rattle.tw_treeproof.specs.declared.limits.TheConstants.{MOST_ABOVE_ENTRY}
@@ -24,7 +26,8 @@ pub present-lawful : Lawful present_codec
 unfolding present_codec
 present-lawful =
     lawful-variant (λ t. Present t.0 t.1.0 t.1.1) parts_of _ (λ t. refl)
-    (lawful-by_kind (λ (t : PresentParts). length t.1.1) (number_codec 1 0 MOST_ABOVE_ENTRY) parts_codec (search lawful) (λ n _. parts-lawful n) (λ n t _ fits. parts-count n t fits))
+    (lawful-by_kind (λ (t : PresentParts). length t.1.1) (number_codec 1 0 MOST_ABOVE_ENTRY) parts_codec (search lawful)
+    (λ n _. parts-lawful n) (λ n t _ fits. parts-count n t fits))
 
 pub gap-lawful : Lawful gap_codec
 unfolding gap_codec
@@ -32,8 +35,10 @@ gap-lawful = search (lawful, ancestor-lawful) depth 20
 
 module _ {X : Type 0} where
   -- so many are left that one can be taken
-  pub one_left : (c : Codec X) (bytes : List ℕ) (start n i at : ℕ) (xs : List X) → i + 1 ≤ n → ManyTaken c bytes start n (n - i) xs at → ManyTaken c bytes start n (suc (n - (i + 1))) xs at
-  one_left c bytes start n i at xs l t = let P : ℕ → Type 0 = λ left. ManyTaken c bytes start n left xs at in subst P (let e : n - i ≡ suc (n - (i + 1)) = omega (arith, l) in e) t
+  pub one_left : (c : Codec X) (bytes : List ℕ) (start n i at : ℕ) (xs : List X) → i + 1 ≤ n → ManyTaken c bytes start n
+      (n - i) xs at → ManyTaken c bytes start n (suc (n - (i + 1))) xs at
+  one_left c bytes start n i at xs l t = let P : ℕ → Type 0 = λ left. ManyTaken c bytes start n left xs at in
+      subst P (let e : n - i ≡ suc (n - (i + 1)) = omega (arith, l) in e) t
 
 -- ---- sizes
 

@@ -1,5 +1,6 @@
 -- The proof that a tree has: it checks under the tree's label, shows the tree's answer, and has a spelling.
-use Rattle.std.proofs.Common.{◌≡◌, ℕ, ◌+◌, ◌≤◌, List, [], ◌∷◌, ◌++◌, length, Bool, true, false, refl, ap, sym, ◌∙◌, subst, arith}
+use Rattle.std.proofs.Common.{◌≡◌, ℕ, ◌+◌, ◌≤◌, List, [], ◌∷◌, ◌++◌, length, Bool, true, false, refl, ap, sym, ◌∙◌}
+use Rattle.std.proofs.Common.{subst, arith}
 use Rattle.std.proofs.Math.Nat.{le-max_left, le-max_right}
 use Rattle.std.proofs.lemmas.List.{length-append}
 use Rattle.tw_base.specs.declared.history.thread.Entry.{Entry}
@@ -16,7 +17,8 @@ use Rattle.tw_base.specs.history.Tree.Tree.{Empty, Branch}
 use Rattle.tw_base.proofs.lemmas.kinds.ListLemmas.{Each-append, Each-parts}
 use Rattle.tw_base.specs.history.EntryCodec.{entry_codec}
 use Rattle.tw_treeproof.specs.declared.limits.TheConstants.{MOST_ABOVE_PLACE}
-use Rattle.tw_treeproof.specs.Answers.{Checks, IsAnswer, ancestors_of, asks_entry, is_of_entry, place_text, shown_answer}
+use Rattle.tw_treeproof.specs.Answers.{Checks, IsAnswer, ancestors_of, asks_entry, is_of_entry, place_text}
+use Rattle.tw_treeproof.specs.Answers.{shown_answer}
 use Rattle.tw_treeproof.specs.Codecs.{ancestor_codec, gap_codec, present_codec, tree_proof_codec}
 use Rattle.tw_treeproof.specs.Making.{IsSo, ancestor, height, place_of_ask, proof_at, proof_of, way_up}
 use Rattle.tw_treeproof.specs.Ways.{IsNotAsked, climbed_tree, has_asked_key, is_left}
@@ -28,7 +30,8 @@ module _ (dig : List ℕ → List ℕ) where
   at-ancestors Empty up = refl
   at-ancestors (Branch l e r) up = refl
 
-  at-kind : (ask : Ask) (place : Tree) (up : List Ancestor) → IsAt ask place → is_of_entry (proof_at dig place up) ≡ asks_entry ask
+  at-kind : (ask : Ask) (place : Tree) (up : List Ancestor) → IsAt ask place → is_of_entry (proof_at dig place up)
+      ≡ asks_entry ask
   at-kind (Present e) Empty up at = absurd at
   at-kind (Present e) (Branch l f r) up at = refl
   at-kind (Absent key) Empty up at = refl
@@ -38,10 +41,12 @@ module _ (dig : List ℕ → List ℕ) where
   at-kind (Above key) Empty up at = refl
   at-kind (Above key) (Branch l f r) up at = absurd at
 
-  at-label : (ask : Ask) (place : Tree) (up : List Ancestor) → IsAt ask place → dig (place_text ask (proof_at dig place up)) ≡ tree_label dig place
+  at-label : (ask : Ask) (place : Tree) (up : List Ancestor) → IsAt ask place
+      → dig (place_text ask (proof_at dig place up)) ≡ tree_label dig place
   unfolding tree_label
   at-label (Present e) Empty up at = absurd at
-  at-label (Present e) (Branch l f r) up at = ap (λ x. dig (entry_text (tree_label dig l) x (tree_label dig r))) (sym at)
+  at-label (Present e) (Branch l f r) up at = ap (λ x. dig (entry_text (tree_label dig l) x (tree_label dig r)))
+      (sym at)
   at-label (Absent key) Empty up at = refl
   at-label (Absent key) (Branch l f r) up at = absurd at
   at-label (Below key) Empty up at = refl
@@ -49,7 +54,8 @@ module _ (dig : List ℕ → List ℕ) where
   at-label (Above key) Empty up at = refl
   at-label (Above key) (Branch l f r) up at = absurd at
 
-  pub own-checks : (t : Tree) (ask : Ask) → IsRising (entries t) → IsSo (entries t) ask → Checks dig (tree_label dig t) ask (proof_of dig t ask)
+  pub own-checks : (t : Tree) (ask : Ask) → IsRising (entries t) → IsSo (entries t) ask → Checks dig (tree_label dig t)
+      ask (proof_of dig t ask)
   own-checks t ask rising so =
       let at = at-place t ask rising so in
       let same = at-ancestors (place_of_ask ask t) (way_up dig ask t) in
@@ -58,20 +64,24 @@ module _ (dig : List ℕ → List ℕ) where
         free = subst (Each (IsNotAsked ask)) (sym same) (way-free dig ask t);
         label =
             ap (λ up. climbed_tree dig (is_left ask) up (dig (place_text ask (proof_of dig t ask)))) same
-            ∙ ap (climbed_tree dig (is_left ask) (way_up dig ask t)) (at-label ask (place_of_ask ask t) (way_up dig ask t) at)
+            ∙ ap (climbed_tree dig (is_left ask) (way_up dig ask t))
+            (at-label ask (place_of_ask ask t) (way_up dig ask t) at)
             ∙ way-climbs dig ask t;
       }
 
   -- what the nodes above the place show is so of the entries
-  pub way-answers : (t : Tree) (ask : Ask) → IsRising (entries t) → IsSo (entries t) ask → IsAnswer (entries t) ask (shown_answer ask (way_up dig ask t))
+  pub way-answers : (t : Tree) (ask : Ask) → IsRising (entries t) → IsSo (entries t) ask → IsAnswer (entries t) ask
+      (shown_answer ask (way_up dig ask t))
   way-answers t (Present e) rising so = so
   way-answers t (Absent key) rising so = so
   way-answers t (Below key) rising so = last-found dig key t rising
   way-answers t (Above key) rising so = first-found dig key t rising
 
-  pub own-answers : (t : Tree) (ask : Ask) → IsRising (entries t) → IsSo (entries t) ask → IsAnswer (entries t) ask (shown_answer ask (ancestors_of (proof_of dig t ask)))
+  pub own-answers : (t : Tree) (ask : Ask) → IsRising (entries t) → IsSo (entries t) ask → IsAnswer (entries t) ask
+      (shown_answer ask (ancestors_of (proof_of dig t ask)))
   own-answers t ask rising so =
-      subst (λ up. IsAnswer (entries t) ask (shown_answer ask up)) (sym (at-ancestors (place_of_ask ask t) (way_up dig ask t))) (way-answers t ask rising so)
+      subst (λ up. IsAnswer (entries t) ask (shown_answer ask up))
+      (sym (at-ancestors (place_of_ask ask t) (way_up dig ask t))) (way-answers t ask rising so)
 
   -- the way down to the place, and what is below it, is no longer than the tree is high
   way-short : (ask : Ask) (t : Tree) → length (way_up dig ask t) + height (place_of_ask ask t) ≤ height t
@@ -82,17 +92,33 @@ module _ (dig : List ℕ → List ℕ) where
       Short : Tree → Type 0
       Short t = length (way_up dig ask t) + height (place_of_ask ask t) ≤ height t
 
-      along : (up : List Ancestor) (place : Tree) → way_up dig ask (Branch l e r) ≡ up → place_of_ask ask (Branch l e r) ≡ place → length up + height place ≤ height (Branch l e r) → Short (Branch l e r)
-      along up place ways places short = subst (λ u. length u + height (place_of_ask ask (Branch l e r)) ≤ height (Branch l e r)) (sym ways) (subst (λ p. length up + height p ≤ height (Branch l e r)) (sym places) short)
+      along : (up : List Ancestor) (place : Tree) → way_up dig ask (Branch l e r) ≡ up → place_of_ask ask (Branch l e r)
+          ≡ place → length up + height place ≤ height (Branch l e r) → Short (Branch l e r)
+      along up place ways places short = subst (λ u. length u + height (place_of_ask ask (Branch l e r)) ≤ height
+          (Branch l e r)) (sym ways) (subst (λ p. length up + height p ≤ height (Branch l e r)) (sym places) short)
 
-      by : (meets left : Bool) → has_asked_key ask e ≡ meets → is_left ask e ≡ left → Short l → Short r → Short (Branch l e r)
-      by true left is way one other = let here = way-here dig ask l e r is in along [] (Branch l e r) here.0 here.1 (omega arith)
+      by : (meets left : Bool) → has_asked_key ask e ≡ meets → is_left ask e ≡ left → Short l → Short r
+          → Short (Branch l e r)
+      by true left is way one other = let here = way-here dig ask l e r is in along [] (Branch l e r) here.0 here.1
+          (omega arith)
       by false true is way one other =
           let down = way-left dig ask l e r is way in
-          along (way_up dig ask l ++ ancestor dig e r ∷ []) (place_of_ask ask l) down.0 down.1 (omega (arith, one, length-append (way_up dig ask l) (ancestor dig e r ∷ []), le-max_left (height l) (height r)))
+          along (way_up dig ask l ++ ancestor dig e r ∷ []) (place_of_ask ask l) down.0 down.1
+          (omega (
+            arith,
+            one,
+            length-append (way_up dig ask l) (ancestor dig e r ∷ []),
+            le-max_left (height l) (height r),
+          ))
       by false false is way one other =
           let down = way-right dig ask l e r is way in
-          along (way_up dig ask r ++ ancestor dig e l ∷ []) (place_of_ask ask r) down.0 down.1 (omega (arith, other, length-append (way_up dig ask r) (ancestor dig e l ∷ []), le-max_right (height l) (height r)))
+          along (way_up dig ask r ++ ancestor dig e l ∷ []) (place_of_ask ask r) down.0 down.1
+          (omega (
+            arith,
+            other,
+            length-append (way_up dig ask r) (ancestor dig e l ∷ []),
+            le-max_right (height l) (height r),
+          ))
 
   module _ (size : (text : List ℕ) → length (dig text) ≡ 32) (bytes : (text : List ℕ) → AreBytes (dig text)) where
     label-fits : (t : Tree) → (length (tree_label dig t) ≡ 32) × AreBytes (tree_label dig t)
@@ -114,15 +140,21 @@ module _ (dig : List ℕ → List ℕ) where
         Fit : List Ancestor → Type 0
         Fit = Each ancestor_codec.Fits
 
-        by : (meets left : Bool) → has_asked_key ask e ≡ meets → is_left ask e ≡ left → Fit (way_up dig ask l) → Fit (way_up dig ask r) → entry_codec.Fits e → Fit (way_up dig ask (Branch l e r))
+        by : (meets left : Bool) → has_asked_key ask e ≡ meets → is_left ask e ≡ left → Fit (way_up dig ask l)
+            → Fit (way_up dig ask r) → entry_codec.Fits e → Fit (way_up dig ask (Branch l e r))
         by true left is way one other here = subst Fit (sym (way-here dig ask l e r is).0) tt
-        by false true is way one other here = subst Fit (sym (way-left dig ask l e r is way).0) (Each-append ancestor_codec.Fits (way_up dig ask l) (ancestor dig e r ∷ []) one (node-fits e r here, tt))
-        by false false is way one other here = subst Fit (sym (way-right dig ask l e r is way).0) (Each-append ancestor_codec.Fits (way_up dig ask r) (ancestor dig e l ∷ []) other (node-fits e l here, tt))
+        by false true is way one other here = subst Fit (sym (way-left dig ask l e r is way).0)
+            (Each-append ancestor_codec.Fits (way_up dig ask l) (ancestor dig e r ∷ []) one (node-fits e r here, tt))
+        by false false is way one other here = subst Fit (sym (way-right dig ask l e r is way).0)
+            (Each-append ancestor_codec.Fits (way_up dig ask r) (ancestor dig e l ∷ []) other (node-fits e l here, tt))
 
-    at-fits : (ask : Ask) (place : Tree) (up : List Ancestor) → IsAt ask place → length up + height place ≤ MOST_ABOVE_PLACE → Each ancestor_codec.Fits up → (tree_proof_codec (asks_entry ask)).Fits (proof_at dig place up)
+    at-fits : (ask : Ask) (place : Tree) (up : List Ancestor) → IsAt ask place → length up + height place
+        ≤ MOST_ABOVE_PLACE → Each ancestor_codec.Fits up → (tree_proof_codec (asks_entry ask)).Fits
+        (proof_at dig place up)
     unfolding present_codec gap_codec variant by_kind counted pair many number_codec bytes_codec height
     at-fits (Present e) Empty up at short all = absurd at
-    at-fits (Present e) (Branch l f r) up at short all = (refl, ((omega arith, omega (arith, short)), (label-fits l, (label-fits r, (refl, all)))))
+    at-fits (Present e) (Branch l f r) up at short all =
+        (refl, ((omega arith, omega (arith, short)), (label-fits l, (label-fits r, (refl, all)))))
     at-fits (Absent key) Empty up at short all = (refl, ((omega arith, omega (arith, short)), (refl, all)))
     at-fits (Absent key) (Branch l f r) up at short all = absurd at
     at-fits (Below key) Empty up at short all = (refl, ((omega arith, omega (arith, short)), (refl, all)))
@@ -130,7 +162,9 @@ module _ (dig : List ℕ → List ℕ) where
     at-fits (Above key) Empty up at short all = (refl, ((omega arith, omega (arith, short)), (refl, all)))
     at-fits (Above key) (Branch l f r) up at short all = absurd at
 
-    pub own-fits : (t : Tree) (ask : Ask) → IsRising (entries t) → IsSo (entries t) ask → height t ≤ MOST_ABOVE_PLACE → Each entry_codec.Fits (entries t)
+    pub own-fits : (t : Tree) (ask : Ask) → IsRising (entries t) → IsSo (entries t) ask → height t ≤ MOST_ABOVE_PLACE
+        → Each entry_codec.Fits (entries t)
         → (tree_proof_codec (asks_entry ask)).Fits (proof_of dig t ask)
     own-fits t ask rising so low all =
-        at-fits ask (place_of_ask ask t) (way_up dig ask t) (at-place t ask rising so) (omega (arith, way-short ask t, low)) (way-fits ask t all)
+        at-fits ask (place_of_ask ask t) (way_up dig ask t) (at-place t ask rising so)
+        (omega (arith, way-short ask t, low)) (way-fits ask t all)

@@ -17,11 +17,13 @@ use Rattle.tw_base.specs.history.Tree.Tree.{Empty, Branch}
 use Rattle.tw_base.proofs.lemmas.kinds.ListLemmas.{Each-append}
 use Rattle.tw_base.proofs.lemmas.history.Asked.{above-left, above-right, below-left, below-right, cut, or-none}
 use Rattle.tw_treeproof.specs.Making.{ancestor, place_of_ask, way_up}
-use Rattle.tw_treeproof.specs.Ways.{IsNotAsked, climbed_tree, has_asked_key, is_left, nearest_left, nearest_right, over_text}
+use Rattle.tw_treeproof.specs.Ways.{IsNotAsked, climbed_tree, has_asked_key, is_left, nearest_left, nearest_right}
+use Rattle.tw_treeproof.specs.Ways.{over_text}
 use Rattle.tw_treeproof.proofs.Places.{down-here, down-left, down-right}
 
 module _ (dig : List ℕ → List ℕ) where
-  climb-one : (left : Entry → Bool) (up : List Ancestor) (a : Ancestor) (below : List ℕ) → climbed_tree dig left (up ++ a ∷ []) below ≡ dig (over_text left a (climbed_tree dig left up below))
+  climb-one : (left : Entry → Bool) (up : List Ancestor) (a : Ancestor) (below : List ℕ) → climbed_tree dig left
+      (up ++ a ∷ []) below ≡ dig (over_text left a (climbed_tree dig left up below))
   unfolding climbed_tree
   climb-one left [] a below = refl
   climb-one left (b ∷ up) a below = climb-one left up a (dig (over_text left b below))
@@ -30,53 +32,70 @@ module _ (dig : List ℕ → List ℕ) where
   unfolding climbed_tree
   climb-none left below = refl
 
-  label-branch : (l : Tree) (e : Entry) (r : Tree) → dig (entry_text (tree_label dig l) e (tree_label dig r)) ≡ tree_label dig (Branch l e r)
+  label-branch : (l : Tree) (e : Entry) (r : Tree) → dig (entry_text (tree_label dig l) e (tree_label dig r))
+      ≡ tree_label dig (Branch l e r)
   unfolding tree_label
   label-branch l e r = refl
 
   -- the ways down from a node
   module _ (ask : Ask) (l : Tree) (e : Entry) (r : Tree) where
-    pub way-here : has_asked_key ask e ≡ true → (way_up dig ask (Branch l e r) ≡ []) × (place_of_ask ask (Branch l e r) ≡ Branch l e r)
+    pub way-here : has_asked_key ask e ≡ true → (way_up dig ask (Branch l e r) ≡ [])
+        × (place_of_ask ask (Branch l e r) ≡ Branch l e r)
     unfolding way_up place_of_ask
     way-here is = (down-here _ (is_left ask e) _ _ _ is, down-here _ (is_left ask e) _ _ _ is)
 
     pub way-left : has_asked_key ask e ≡ false → is_left ask e ≡ true
-        → (way_up dig ask (Branch l e r) ≡ way_up dig ask l ++ ancestor dig e r ∷ []) × (place_of_ask ask (Branch l e r) ≡ place_of_ask ask l)
+        → (way_up dig ask (Branch l e r) ≡ way_up dig ask l ++ ancestor dig e r ∷ [])
+        × (place_of_ask ask (Branch l e r) ≡ place_of_ask ask l)
     unfolding way_up place_of_ask
     way-left is way = (down-left _ _ _ _ _ is way, down-left _ _ _ _ _ is way)
 
     pub way-right : has_asked_key ask e ≡ false → is_left ask e ≡ false
-        → (way_up dig ask (Branch l e r) ≡ way_up dig ask r ++ ancestor dig e l ∷ []) × (place_of_ask ask (Branch l e r) ≡ place_of_ask ask r)
+        → (way_up dig ask (Branch l e r) ≡ way_up dig ask r ++ ancestor dig e l ∷ [])
+        × (place_of_ask ask (Branch l e r) ≡ place_of_ask ask r)
     unfolding way_up place_of_ask
     way-right is way = (down-right _ _ _ _ _ is way, down-right _ _ _ _ _ is way)
 
   -- the labels lead from the place up to the tree
-  pub way-climbs : (ask : Ask) (t : Tree) → climbed_tree dig (is_left ask) (way_up dig ask t) (tree_label dig (place_of_ask ask t)) ≡ tree_label dig t
+  pub way-climbs : (ask : Ask) (t : Tree) → climbed_tree dig (is_left ask) (way_up dig ask t)
+      (tree_label dig (place_of_ask ask t)) ≡ tree_label dig t
   unfolding climbed_tree way_up place_of_ask tree_label
   way-climbs ask Empty = refl
-  way-climbs ask (Branch l e r) = by (has_asked_key ask e) (is_left ask e) refl refl (way-climbs ask l) (way-climbs ask r)
+  way-climbs ask (Branch l e r) = by (has_asked_key ask e) (is_left ask e) refl refl (way-climbs ask l)
+      (way-climbs ask r)
     where
       Leads : Tree → Type 0
-      Leads t = climbed_tree dig (is_left ask) (way_up dig ask t) (tree_label dig (place_of_ask ask t)) ≡ tree_label dig t
+      Leads t = climbed_tree dig (is_left ask) (way_up dig ask t) (tree_label dig (place_of_ask ask t)) ≡ tree_label
+          dig t
 
       -- along these nodes and from this place
-      along : (up : List Ancestor) (place : Tree) → way_up dig ask (Branch l e r) ≡ up → place_of_ask ask (Branch l e r) ≡ place
-          → climbed_tree dig (is_left ask) up (tree_label dig place) ≡ tree_label dig (Branch l e r) → Leads (Branch l e r)
-      along up place ways places leads = ap (λ u. climbed_tree dig (is_left ask) u (tree_label dig (place_of_ask ask (Branch l e r)))) ways ∙ ap (λ p. climbed_tree dig (is_left ask) up (tree_label dig p)) places ∙ leads
+      along : (up : List Ancestor) (place : Tree) → way_up dig ask (Branch l e r) ≡ up → place_of_ask ask (Branch l e r)
+          ≡ place
+          → climbed_tree dig (is_left ask) up (tree_label dig place) ≡ tree_label dig (Branch l e r)
+          → Leads (Branch l e r)
+      along up place ways places leads = ap (λ u. climbed_tree dig (is_left ask) u
+          (tree_label dig (place_of_ask ask (Branch l e r)))) ways
+          ∙ ap (λ p. climbed_tree dig (is_left ask) up (tree_label dig p)) places ∙ leads
 
-      by : (meets left : Bool) → has_asked_key ask e ≡ meets → is_left ask e ≡ left → Leads l → Leads r → Leads (Branch l e r)
-      by true left is way one other = let here = way-here ask l e r is in along [] (Branch l e r) here.0 here.1 (climb-none (is_left ask) (tree_label dig (Branch l e r)))
+      by : (meets left : Bool) → has_asked_key ask e ≡ meets → is_left ask e ≡ left → Leads l → Leads r
+          → Leads (Branch l e r)
+      by true left is way one other = let here = way-here ask l e r is in along [] (Branch l e r) here.0 here.1
+          (climb-none (is_left ask) (tree_label dig (Branch l e r)))
       by false true is way one other =
           let down = way-left ask l e r is way in
           along (way_up dig ask l ++ ancestor dig e r ∷ []) (place_of_ask ask l) down.0 down.1
           (climb-one (is_left ask) (way_up dig ask l) (ancestor dig e r) (tree_label dig (place_of_ask ask l))
-          ∙ ap (λ b. dig (if b then entry_text (climbed_tree dig (is_left ask) (way_up dig ask l) (tree_label dig (place_of_ask ask l))) e (tree_label dig r) else entry_text (tree_label dig r) e (climbed_tree dig (is_left ask) (way_up dig ask l) (tree_label dig (place_of_ask ask l))))) way
+          ∙ ap (λ b. dig (if b then entry_text (climbed_tree dig (is_left ask) (way_up dig ask l)
+          (tree_label dig (place_of_ask ask l))) e (tree_label dig r) else entry_text (tree_label dig r) e
+          (climbed_tree dig (is_left ask) (way_up dig ask l) (tree_label dig (place_of_ask ask l))))) way
           ∙ ap (λ x. dig (entry_text x e (tree_label dig r))) one ∙ label-branch l e r)
       by false false is way one other =
           let down = way-right ask l e r is way in
           along (way_up dig ask r ++ ancestor dig e l ∷ []) (place_of_ask ask r) down.0 down.1
           (climb-one (is_left ask) (way_up dig ask r) (ancestor dig e l) (tree_label dig (place_of_ask ask r))
-          ∙ ap (λ b. dig (if b then entry_text (climbed_tree dig (is_left ask) (way_up dig ask r) (tree_label dig (place_of_ask ask r))) e (tree_label dig l) else entry_text (tree_label dig l) e (climbed_tree dig (is_left ask) (way_up dig ask r) (tree_label dig (place_of_ask ask r))))) way
+          ∙ ap (λ b. dig (if b then entry_text (climbed_tree dig (is_left ask) (way_up dig ask r)
+          (tree_label dig (place_of_ask ask r))) e (tree_label dig l) else entry_text (tree_label dig l) e
+          (climbed_tree dig (is_left ask) (way_up dig ask r) (tree_label dig (place_of_ask ask r))))) way
           ∙ ap (λ x. dig (entry_text (tree_label dig l) e x)) other ∙ label-branch l e r)
 
   -- no node above the place has the asked key
@@ -85,37 +104,52 @@ module _ (dig : List ℕ → List ℕ) where
   way-free ask Empty = tt
   way-free ask (Branch l e r) = by (has_asked_key ask e) (is_left ask e) refl refl (way-free ask l) (way-free ask r)
     where
-      by : (meets left : Bool) → has_asked_key ask e ≡ meets → is_left ask e ≡ left → Each (IsNotAsked ask) (way_up dig ask l) → Each (IsNotAsked ask) (way_up dig ask r) → Each (IsNotAsked ask) (way_up dig ask (Branch l e r))
+      by : (meets left : Bool) → has_asked_key ask e ≡ meets → is_left ask e ≡ left → Each (IsNotAsked ask)
+          (way_up dig ask l) → Each (IsNotAsked ask) (way_up dig ask r) → Each (IsNotAsked ask)
+          (way_up dig ask (Branch l e r))
       by true left is way one other = subst (Each (IsNotAsked ask)) (sym (way-here ask l e r is).0) tt
-      by false true is way one other = subst (Each (IsNotAsked ask)) (sym (way-left ask l e r is way).0) (Each-append (IsNotAsked ask) (way_up dig ask l) (ancestor dig e r ∷ []) one (is, tt))
-      by false false is way one other = subst (Each (IsNotAsked ask)) (sym (way-right ask l e r is way).0) (Each-append (IsNotAsked ask) (way_up dig ask r) (ancestor dig e l ∷ []) other (is, tt))
+      by false true is way one other = subst (Each (IsNotAsked ask)) (sym (way-left ask l e r is way).0)
+          (Each-append (IsNotAsked ask) (way_up dig ask l) (ancestor dig e r ∷ []) one (is, tt))
+      by false false is way one other = subst (Each (IsNotAsked ask)) (sym (way-right ask l e r is way).0)
+          (Each-append (IsNotAsked ask) (way_up dig ask r) (ancestor dig e l ∷ []) other (is, tt))
 
-  right-one : (left : Entry → Bool) (up : List Ancestor) (a : Ancestor) → nearest_right left (up ++ a ∷ []) ≡ option_or (nearest_right left up) (if left a.entry then None else Some a.entry)
+  right-one : (left : Entry → Bool) (up : List Ancestor) (a : Ancestor) → nearest_right left (up ++ a ∷ []) ≡ option_or
+      (nearest_right left up) (if left a.entry then None else Some a.entry)
   right-one left [] a = refl
   right-one left (b ∷ up) a = by (left b.entry) refl (right-one left up a)
     where
       last : Option Entry
       last = if left a.entry then None else Some a.entry
 
-      by : (c : Bool) → left b.entry ≡ c → nearest_right left (up ++ a ∷ []) ≡ option_or (nearest_right left up) (if left a.entry then None else Some a.entry)
-          → (if left b.entry then nearest_right left (up ++ a ∷ []) else Some b.entry) ≡ option_or (if left b.entry then nearest_right left up else Some b.entry) (if left a.entry then None else Some a.entry)
-      by true is rest = ap (λ c. if c then nearest_right left (up ++ a ∷ []) else Some b.entry) is ∙ rest ∙ sym (ap (λ c. option_or (if c then nearest_right left up else Some b.entry) last) is)
-      by false is rest = ap (λ c. if c then nearest_right left (up ++ a ∷ []) else Some b.entry) is ∙ sym (ap (λ c. option_or (if c then nearest_right left up else Some b.entry) last) is)
+      by : (c : Bool) → left b.entry ≡ c → nearest_right left (up ++ a ∷ []) ≡ option_or (nearest_right left up)
+          (if left a.entry then None else Some a.entry)
+          → (if left b.entry then nearest_right left (up ++ a ∷ []) else Some b.entry) ≡ option_or
+          (if left b.entry then nearest_right left up else Some b.entry) (if left a.entry then None else Some a.entry)
+      by true is rest = ap (λ c. if c then nearest_right left (up ++ a ∷ []) else Some b.entry) is ∙ rest
+          ∙ sym (ap (λ c. option_or (if c then nearest_right left up else Some b.entry) last) is)
+      by false is rest = ap (λ c. if c then nearest_right left (up ++ a ∷ []) else Some b.entry) is
+          ∙ sym (ap (λ c. option_or (if c then nearest_right left up else Some b.entry) last) is)
 
-  left-one : (left : Entry → Bool) (up : List Ancestor) (a : Ancestor) → nearest_left left (up ++ a ∷ []) ≡ option_or (nearest_left left up) (if left a.entry then Some a.entry else None)
+  left-one : (left : Entry → Bool) (up : List Ancestor) (a : Ancestor) → nearest_left left (up ++ a ∷ []) ≡ option_or
+      (nearest_left left up) (if left a.entry then Some a.entry else None)
   left-one left [] a = refl
   left-one left (b ∷ up) a = by (left b.entry) refl (left-one left up a)
     where
       last : Option Entry
       last = if left a.entry then Some a.entry else None
 
-      by : (c : Bool) → left b.entry ≡ c → nearest_left left (up ++ a ∷ []) ≡ option_or (nearest_left left up) (if left a.entry then Some a.entry else None)
-          → (if left b.entry then Some b.entry else nearest_left left (up ++ a ∷ [])) ≡ option_or (if left b.entry then Some b.entry else nearest_left left up) (if left a.entry then Some a.entry else None)
-      by true is rest = ap (λ c. if c then Some b.entry else nearest_left left (up ++ a ∷ [])) is ∙ sym (ap (λ c. option_or (if c then Some b.entry else nearest_left left up) last) is)
-      by false is rest = ap (λ c. if c then Some b.entry else nearest_left left (up ++ a ∷ [])) is ∙ rest ∙ sym (ap (λ c. option_or (if c then Some b.entry else nearest_left left up) last) is)
+      by : (c : Bool) → left b.entry ≡ c → nearest_left left (up ++ a ∷ []) ≡ option_or (nearest_left left up)
+          (if left a.entry then Some a.entry else None)
+          → (if left b.entry then Some b.entry else nearest_left left (up ++ a ∷ [])) ≡ option_or
+          (if left b.entry then Some b.entry else nearest_left left up) (if left a.entry then Some a.entry else None)
+      by true is rest = ap (λ c. if c then Some b.entry else nearest_left left (up ++ a ∷ [])) is
+          ∙ sym (ap (λ c. option_or (if c then Some b.entry else nearest_left left up) last) is)
+      by false is rest = ap (λ c. if c then Some b.entry else nearest_left left (up ++ a ∷ [])) is ∙ rest
+          ∙ sym (ap (λ c. option_or (if c then Some b.entry else nearest_left left up) last) is)
 
   -- the nearest node at which the way to the key's place goes right has the last entry below the key
-  pub last-found : (key : Key) (t : Tree) → IsRising (entries t) → last_below (entries t) key ≡ nearest_right (is_left (Below key)) (way_up dig (Below key) t)
+  pub last-found : (key : Key) (t : Tree) → IsRising (entries t) → last_below (entries t) key ≡ nearest_right
+      (is_left (Below key)) (way_up dig (Below key) t)
   unfolding way_up
   last-found key Empty rising = refl
   last-found key (Branch l e r) rising =
@@ -131,20 +165,27 @@ module _ (dig : List ℕ → List ℕ) where
       by : (b : Bool) → is_lt (key_cmp (key_of e) key) ≡ b → Finds l → Finds r → Finds (Branch l e r)
       by true is one other =
           below-right key (entries l) e (entries r) rising is ∙ ap (λ o. option_or o (Some e)) other
-          ∙ sym (ap (λ b. option_or (nearest_right left (way_up dig (Below key) r)) (if not b then None else Some e)) is)
-          ∙ sym (right-one left (way_up dig (Below key) r) (ancestor dig e l)) ∙ sym (ap (nearest_right left) (way-right (Below key) l e r refl (ap not is)).0)
+          ∙ sym (ap (λ b. option_or (nearest_right left (way_up dig (Below key) r)) (if not b then None else Some e))
+          is)
+          ∙ sym (right-one left (way_up dig (Below key) r) (ancestor dig e l))
+          ∙ sym (ap (nearest_right left) (way-right (Below key) l e r refl (ap not is)).0)
       by false is one other =
-          below-left key (entries l) e (entries r) is ∙ one ∙ sym (or-none (nearest_right left (way_up dig (Below key) l)))
-          ∙ sym (ap (λ b. option_or (nearest_right left (way_up dig (Below key) l)) (if not b then None else Some e)) is)
-          ∙ sym (right-one left (way_up dig (Below key) l) (ancestor dig e r)) ∙ sym (ap (nearest_right left) (way-left (Below key) l e r refl (ap not is)).0)
+          below-left key (entries l) e (entries r) is ∙ one
+          ∙ sym (or-none (nearest_right left (way_up dig (Below key) l)))
+          ∙ sym (ap (λ b. option_or (nearest_right left (way_up dig (Below key) l)) (if not b then None else Some e))
+          is)
+          ∙ sym (right-one left (way_up dig (Below key) l) (ancestor dig e r))
+          ∙ sym (ap (nearest_right left) (way-left (Below key) l e r refl (ap not is)).0)
 
   -- and the nearest at which it goes left the first entry above it
-  pub first-found : (key : Key) (t : Tree) → IsRising (entries t) → first_above (entries t) key ≡ nearest_left (is_left (Above key)) (way_up dig (Above key) t)
+  pub first-found : (key : Key) (t : Tree) → IsRising (entries t) → first_above (entries t) key ≡ nearest_left
+      (is_left (Above key)) (way_up dig (Above key) t)
   unfolding way_up
   first-found key Empty rising = refl
   first-found key (Branch l e r) rising =
       let parts = cut (entries l) e (entries r) rising in
-      by (is_lt (key_cmp key (key_of e))) refl (first-found key l parts.front_rises) (first-found key r parts.back_rises)
+      by (is_lt (key_cmp key (key_of e))) refl (first-found key l parts.front_rises)
+      (first-found key r parts.back_rises)
     where
       left : Entry → Bool
       left = is_left (Above key)
@@ -156,8 +197,11 @@ module _ (dig : List ℕ → List ℕ) where
       by true is one other =
           above-left key (entries l) e (entries r) is ∙ ap (λ o. option_or o (Some e)) one
           ∙ sym (ap (λ b. option_or (nearest_left left (way_up dig (Above key) l)) (if b then Some e else None)) is)
-          ∙ sym (left-one left (way_up dig (Above key) l) (ancestor dig e r)) ∙ sym (ap (nearest_left left) (way-left (Above key) l e r refl is).0)
+          ∙ sym (left-one left (way_up dig (Above key) l) (ancestor dig e r))
+          ∙ sym (ap (nearest_left left) (way-left (Above key) l e r refl is).0)
       by false is one other =
-          above-right key (entries l) e (entries r) rising is ∙ other ∙ sym (or-none (nearest_left left (way_up dig (Above key) r)))
+          above-right key (entries l) e (entries r) rising is ∙ other
+          ∙ sym (or-none (nearest_left left (way_up dig (Above key) r)))
           ∙ sym (ap (λ b. option_or (nearest_left left (way_up dig (Above key) r)) (if b then Some e else None)) is)
-          ∙ sym (left-one left (way_up dig (Above key) r) (ancestor dig e l)) ∙ sym (ap (nearest_left left) (way-right (Above key) l e r refl is).0)
+          ∙ sym (left-one left (way_up dig (Above key) r) (ancestor dig e l))
+          ∙ sym (ap (nearest_left left) (way-right (Above key) l e r refl is).0)

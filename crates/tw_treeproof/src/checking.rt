@@ -16,7 +16,10 @@ ghost use Rattle.tw_treeproof.specs.declared.shown.Shown.TheVariants.{Wrong};
 
 use crate::shown::Shown;
 use crate::way::{goes_left, meets};
-use tw_base::{Ancestor, Ask, Digest, Entry, Hasher, Transcript, TreeProof, Unwritten, empty_tree_told, tree_node_told};
+use tw_base::{
+    Ancestor, Ask, Digest, Entry, Hasher, Transcript, TreeProof, Unwritten, empty_tree_told,
+    tree_node_told,
+};
 
 /// The label of the asked place, whose text is handed on.
 fn place_label<T: Transcript>(ask: &Ask, proof: &TreeProof, texts: &mut T) -> Digest

@@ -14,7 +14,8 @@ use Rattle.tw_chain.specs.declared.proof.PrecedenceProof.{PrecedenceProof}
 use Rattle.tw_chain.specs.declared.proof.Proof.{Proof}
 use Rattle.tw_chain.specs.declared.proof.Proof.TheVariants.{Exists, Precedes, Archived, Absent, Linked}
 use Rattle.tw_chain.specs.Accepting.{carried}
-use Rattle.tw_chain.specs.Checks.{Check, bind_checks, bind_of, end_of_order, hop_checks, hops_checks, link_checks, opening_checks, opening_root, start_of, tail_checks}
+use Rattle.tw_chain.specs.Checks.{Check, bind_checks, bind_of, end_of_order, hop_checks, hops_checks, link_checks}
+use Rattle.tw_chain.specs.Checks.{opening_checks, opening_root, start_of, tail_checks}
 use Rattle.tw_chain.specs.Checks.Check.{CarriesThread}
 use Rattle.tw_chain.specs.Passing.{carried_by}
 use Rattle.tw_chain.specs.Proofs.{kinds_codec, precedence_body, proof_codec, proof_layout}
@@ -27,7 +28,9 @@ carried_of = flat_map carried_by
 carried-bind : (part : ℕ) (hop : HopPart) → length (carried_of (bind_checks part hop)) ≤ 1
 carried-bind part hop = by (hop.bind == 0)
   where
-    by : (carries : Bool) → length (carried_of (if carries then CarriesThread hop.entry.thread ∷ [] else link_checks part (bind_of hop))) ≤ 1
+    by : (carries : Bool)
+        → length (carried_of (if carries then CarriesThread hop.entry.thread ∷ [] else link_checks part (bind_of hop)))
+        ≤ 1
     by true = omega arith
     by false = omega arith
 
@@ -41,7 +44,8 @@ carried-hop part step root hop =
     let few = carried-bind part hop in
     omega (arith, few, ap length same)
 
-carried-hops : (part step : ℕ) (root : List ℕ) (hops : List HopPart) → length (carried_of (hops_checks part step root hops)) ≤ length hops
+carried-hops : (part step : ℕ) (root : List ℕ) (hops : List HopPart)
+    → length (carried_of (hops_checks part step root hops)) ≤ length hops
 carried-hops part step root [] = omega arith
 carried-hops part step root (hop ∷ hops) =
     let here : List Check = hop_checks part step root hop in
@@ -69,7 +73,8 @@ most-hops p fits = fits.1.1.0.1
 -- a proof that bytes spell carries at most as many threads as there may be hops
 pub few-carried : (bytes : List ℕ) (p : Proof) → Spells proof_layout bytes p → length (carried p) ≤ MOST_HOPS
 few-carried bytes (Exists p) spelled = omega arith
-few-carried bytes (Precedes p) spelled = omega (arith, carried-chain p, most-hops p (spelled-fits proof_codec proof-lawful bytes (Precedes p) spelled))
+few-carried bytes (Precedes p) spelled =
+    omega (arith, carried-chain p, most-hops p (spelled-fits proof_codec proof-lawful bytes (Precedes p) spelled))
 few-carried bytes (Archived p) spelled = omega arith
 few-carried bytes (Absent p) spelled = omega arith
 few-carried bytes (Linked p) spelled = omega arith

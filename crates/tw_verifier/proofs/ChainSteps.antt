@@ -35,43 +35,71 @@ module _ (dig : List ℕ → List ℕ) (anchors : List Thread) where
         ∙ ap (λ n. here ++ (after ++ tail_checks n last tail)) part
 
     found-hop : reason_with dig anchors c.found (behind_checks c (hop ∷ hops) tail)
-        ≡ reason_with dig anchors (reason_with dig anchors c.found here) (behind_checks (with_hop dig anchors c hop more) hops tail)
+        ≡ reason_with dig anchors (reason_with dig anchors c.found here)
+        (behind_checks (with_hop dig anchors c hop more) hops tail)
     found-hop =
         ap (reason_with dig anchors c.found) behind-hop
-        ∙ ap (lower_of c.found) (found-append dig anchors here (behind_checks (with_hop dig anchors c hop more) hops tail))
-        ∙ sym (lower-assoc c.found (found_in dig anchors here) (found_in dig anchors (behind_checks (with_hop dig anchors c hop more) hops tail)))
+        ∙ ap (lower_of c.found) (found-append dig anchors here (behind_checks (with_hop dig anchors c hop more) hops
+        tail))
+        ∙ sym (lower-assoc c.found (found_in dig anchors here)
+        (found_in dig anchors (behind_checks (with_hop dig anchors c hop more) hops tail)))
 
-    hops-hop : (one : Hop) (onward : List Hop) → (onward ++ one ∷ []) ++ reverse c.hops ≡ onward ++ reverse (c.hops ++ one ∷ [])
-    hops-hop one onward = append_assoc onward (one ∷ []) (reverse c.hops) ∙ ap (λ r. onward ++ r) (sym (reverse-append c.hops (one ∷ [])))
+    hops-hop : (one : Hop) (onward : List Hop) → (onward ++ one ∷ []) ++ reverse c.hops ≡ onward ++ reverse
+        (c.hops ++ one ∷ [])
+    hops-hop one onward = append_assoc onward (one ∷ []) (reverse c.hops) ∙ ap (λ r. onward ++ r)
+        (sym (reverse-append c.hops (one ∷ [])))
 
     carried-hop : c.carried ++ flat_map carried_by (behind_checks c (hop ∷ hops) tail)
-        ≡ (c.carried ++ flat_map carried_by here) ++ flat_map carried_by (behind_checks (with_hop dig anchors c hop more) hops tail)
+        ≡ (c.carried ++ flat_map carried_by here) ++ flat_map carried_by
+        (behind_checks (with_hop dig anchors c hop more) hops tail)
     carried-hop =
         ap (λ (cs : List Check). c.carried ++ flat_map carried_by cs) behind-hop
-        ∙ ap (λ r. c.carried ++ r) (flat_map-append carried_by here (behind_checks (with_hop dig anchors c hop more) hops tail))
-        ∙ sym (append_assoc c.carried (flat_map carried_by here) (flat_map carried_by (behind_checks (with_hop dig anchors c hop more) hops tail)))
+        ∙ ap (λ r. c.carried ++ r) (flat_map-append carried_by here (behind_checks (with_hop dig anchors c hop more)
+        hops tail))
+        ∙ sym (append_assoc c.carried (flat_map carried_by here)
+        (flat_map carried_by (behind_checks (with_hop dig anchors c hop more) hops tail)))
 
     abbrev judgement : (claim : Claim) (found : Option Reason) (hops : List Hop) (carried : List Thread) → Judgement
-    judgement claim found hops carried = record { found = found; report = record { claim = claim; hops = hops; carried = carried } }
+    judgement claim found hops carried =
+        record { found = found; report = record { claim = claim; hops = hops; carried = carried } }
 
-    pub closed-hop : closed dig anchors c (hop ∷ hops) tail ≡ closed dig anchors (with_hop dig anchors c hop more) hops tail
+    pub closed-hop : closed dig anchors c (hop ∷ hops) tail ≡ closed dig anchors (with_hop dig anchors c hop more) hops
+        tail
     closed-hop =
-        let one : Hop = record { from = hop.entry.thread.from; step = hop.entry.thread.step; by = c.known.from; archived = hop.entry.archived } in
+        let one : Hop =
+        record {
+          from = hop.entry.thread.from;
+          step = hop.entry.thread.step;
+          by = c.known.from;
+          archived = hop.entry.archived;
+        } in
         let claim : Claim = (closed dig anchors c (hop ∷ hops) tail).report.claim in
-        ap (λ f. judgement claim f ((hops_to hop.entry.thread.from hops ++ one ∷ []) ++ reverse c.hops) (reverse (c.carried ++ flat_map carried_by (behind_checks c (hop ∷ hops) tail)))) found-hop
-        ∙ ap (λ hs. judgement claim (reason_with dig anchors (reason_with dig anchors c.found here) (behind_checks (with_hop dig anchors c hop more) hops tail)) hs (reverse (c.carried ++ flat_map carried_by (behind_checks c (hop ∷ hops) tail))))
+        ap (λ f. judgement claim f ((hops_to hop.entry.thread.from hops ++ one ∷ []) ++ reverse c.hops)
+        (reverse (c.carried ++ flat_map carried_by (behind_checks c (hop ∷ hops) tail)))) found-hop
+        ∙ ap (λ hs. judgement claim (reason_with dig anchors (reason_with dig anchors c.found here)
+        (behind_checks (with_hop dig anchors c hop more) hops tail)) hs
+        (reverse (c.carried ++ flat_map carried_by (behind_checks c (hop ∷ hops) tail))))
         (hops-hop one (hops_to hop.entry.thread.from hops))
-        ∙ ap (λ cs. judgement claim (reason_with dig anchors (reason_with dig anchors c.found here) (behind_checks (with_hop dig anchors c hop more) hops tail)) (hops_to hop.entry.thread.from hops ++ reverse (c.hops ++ one ∷ [])) (reverse cs)) carried-hop
+        ∙ ap (λ cs. judgement claim (reason_with dig anchors (reason_with dig anchors c.found here)
+        (behind_checks (with_hop dig anchors c hop more) hops tail)) (hops_to hop.entry.thread.from hops ++ reverse
+        (c.hops ++ one ∷ [])) (reverse cs)) carried-hop
 
   module _ (c : Chain) (tail : Tail) where
     abbrev ended : (found : Option Reason) (carried : List Thread) → Judgement
     ended found carried = record {
       found = found;
-      report = record { claim = (closed dig anchors c [] tail).report.claim; hops = reverse c.hops; carried = reverse carried };
+      report = record {
+        claim = (closed dig anchors c [] tail).report.claim;
+        hops = reverse c.hops;
+        carried = reverse carried;
+      };
     }
 
     -- with no hop to come it is the tail that is left
-    pub closed-ended : ended (reason_with dig anchors c.found (tail_checks c.part c.known tail)) c.carried ≡ closed dig anchors c [] tail
+    pub closed-ended : ended (reason_with dig anchors c.found (tail_checks c.part c.known tail)) c.carried ≡ closed dig
+        anchors c [] tail
     closed-ended =
-        ap (λ (n : ℕ). ended (reason_with dig anchors c.found (tail_checks n c.known tail)) c.carried) (sym (add-zero c.part))
-        ∙ ap (ended (reason_with dig anchors c.found (tail_checks (c.part + 0) c.known tail))) (sym (append-nil c.carried))
+        ap (λ (n : ℕ). ended (reason_with dig anchors c.found (tail_checks n c.known tail)) c.carried)
+        (sym (add-zero c.part))
+        ∙ ap (ended (reason_with dig anchors c.found (tail_checks (c.part + 0) c.known tail)))
+        (sym (append-nil c.carried))

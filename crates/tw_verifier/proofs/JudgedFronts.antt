@@ -56,11 +56,13 @@ module _ {X Y : Type 0} (f : Format X) (view : X → Y) where
 
 module _ (dig : List ℕ → List ℕ) (anchors : List Thread) (bytes : List ℕ) where
   -- a word with its judgement is that of a proof
-  pub judged-word : (j : Judgement) → Spells (judged_layout dig anchors) bytes j → (p : Proof) × Spells proof_layout bytes p × (judgement_of dig anchors p ≡ j)
+  pub judged-word : (j : Judgement) → Spells (judged_layout dig anchors) bytes j → (p : Proof) × Spells proof_layout
+      bytes p × (judgement_of dig anchors p ≡ j)
   unfolding judged_layout
   judged-word j spelled = viewed-word proof_layout (judgement_of dig anchors) bytes j spelled
 
-  pub word-judged : (p : Proof) → Spells proof_layout bytes p → Spells (judged_layout dig anchors) bytes (judgement_of dig anchors p)
+  pub word-judged : (p : Proof) → Spells proof_layout bytes p → Spells (judged_layout dig anchors) bytes
+      (judgement_of dig anchors p)
   unfolding judged_layout
   word-judged p spelled = word-viewed proof_layout (judgement_of dig anchors) bytes p spelled
 
@@ -83,4 +85,5 @@ module _ (dig : List ℕ → List ℕ) (anchors : List Thread) (bytes : List ℕ
 -- no bytes are a front of a word
 pub judged-starts : (dig : List ℕ → List ℕ) (anchors : List Thread) → StaysFront (judged_layout dig anchors) [] 0
 unfolding judged_layout
-judged-starts dig anchors = starts (judged_layout dig anchors) (goes_on-then proof_layout (λ p. Done (judgement_of dig anchors p)) proof-lawful.goes (λ p. tt))
+judged-starts dig anchors = starts (judged_layout dig anchors)
+    (goes_on-then proof_layout (λ p. Done (judgement_of dig anchors p)) proof-lawful.goes (λ p. tt))

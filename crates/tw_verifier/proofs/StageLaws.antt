@@ -7,7 +7,9 @@ use Rattle.tw_base.specs.declared.history.thread.Entry.{Entry}
 use Rattle.tw_base.specs.declared.history.thread.Key.{Key}
 use Rattle.tw_base.specs.declared.history.thread.Thread.{Thread}
 use Rattle.tw_base.specs.declared.history.tree_proof.TreeProof.{TreeProof}
-use Rattle.tw_base.specs.format.Codecs.{Codec, behind, bytes_codec, digest_codec, each, each_format, labels_codec, many, name_codec, number_codec, optional, pair, seen, sized_codec, by_kind, counted, variant}
+use Rattle.tw_base.specs.format.Codecs.{Codec, behind, bytes_codec, digest_codec, each, each_format, labels_codec, many}
+use Rattle.tw_base.specs.format.Codecs.{name_codec, number_codec, optional, pair, seen, sized_codec, by_kind, counted}
+use Rattle.tw_base.specs.format.Codecs.{variant}
 use Rattle.tw_base.specs.format.Fields.{byte_then, bytes, name, name_part, number, text}
 use Rattle.tw_base.specs.history.EntryCodec.{entry_codec}
 use Rattle.tw_base.specs.format.Formats.{Format, GoesOn, IsFront, IsPlace, SpellsNothing, then_by}
@@ -18,7 +20,8 @@ use Rattle.tw_base.proofs.lemmas.format.CodecLaws.{Lawful, goes-then, lawful, la
 use Rattle.tw_skipproof.specs.declared.existence.Part.{Part}
 use Rattle.tw_skipproof.specs.declared.opening.Opening.{Opening}
 use Rattle.tw_skipproof.specs.declared.path.Link.{Link}
-use Rattle.tw_skipproof.specs.Codecs.{event_part_codec, link_codec, opening_codec, path_codec, proof_magic, step_number_codec}
+use Rattle.tw_skipproof.specs.Codecs.{event_part_codec, link_codec, opening_codec, path_codec, proof_magic}
+use Rattle.tw_skipproof.specs.Codecs.{step_number_codec}
 use Rattle.tw_skipproof.proofs.LawfulCodecs.{event-lawful, opening-few, opening-lawful, path-lawful}
 use Rattle.tw_treeproof.specs.Codecs.{ancestor_codec, gap_codec, present_codec}
 use Rattle.tw_treeproof.proofs.LawfulCodecs.{ancestor-lawful, gap-lawful, present-lawful}
@@ -42,7 +45,12 @@ use Rattle.tw_verifier.specs.declared.stage.Way.TheVariants as way
 use Rattle.tw_verifier.specs.Chaining.{behind_chain}
 use Rattle.tw_chain.specs.Checks.{last_hop_thread}
 use Rattle.tw_chain.specs.Proofs.{following, hop_bytes, hop_codec, key_codec, kind_codec, last_step, tail_codec}
-use Rattle.tw_verifier.specs.Stages.{behind_absent, behind_archived, behind_before, behind_entry, behind_event, behind_first, behind_kind, behind_link, behind_only, behind_opening, behind_part, behind_path, behind_second, behind_shown, behind_tree, chain_with, counted_hops, event_stage, gap_head, head_stage, kind_head, least_of, least_opened, link_head, link_stage, nodes_of, part_head, part_stage, path_of, present_head, rest, step_opened}
+use Rattle.tw_verifier.specs.Stages.{behind_absent, behind_archived, behind_before, behind_entry, behind_event}
+use Rattle.tw_verifier.specs.Stages.{behind_first, behind_kind, behind_link, behind_only, behind_opening, behind_part}
+use Rattle.tw_verifier.specs.Stages.{behind_path, behind_second, behind_shown, behind_tree, chain_with, counted_hops}
+use Rattle.tw_verifier.specs.Stages.{event_stage, gap_head, head_stage, kind_head, least_of, least_opened, link_head}
+use Rattle.tw_verifier.specs.Stages.{link_stage, nodes_of, part_head, part_stage, path_of, present_head, rest}
+use Rattle.tw_verifier.specs.Stages.{step_opened}
 use Rattle.tw_chain.proofs.ProofCodec.{hop-lawful, hop-written, key-lawful, tail-lawful}
 
 -- ---- segments
@@ -128,28 +136,42 @@ step-lawful = search lawful
 -- ---- what follows
 
 module _ {Z : Type 0} where
-  pub path-goes : (links : List Link) (at to : ℕ) (next : List Link → Format Z) → ((ls : List Link) → GoesOn (next ls)) → GoesOn (path_of links at to next)
+  pub path-goes : (links : List Link) (at to : ℕ) (next : List Link → Format Z) → ((ls : List Link) → GoesOn (next ls))
+      → GoesOn (path_of links at to next)
   unfolding path_codec each
-  path-goes links at to next goes = goes-then (path_codec at to).format _ (path-lawful at to).goes (λ word more s. goes (links ++ more))
+  path-goes links at to next goes = goes-then (path_codec at to).format _ (path-lawful at to).goes
+      (λ word more s. goes (links ++ more))
 
-  pub opening-goes : (least step : ℕ) (next : Opening → Format Z) → least ≤ MOST_EVENTS → ((o : Opening) → o.count ≤ MOST_EVENTS → GoesOn (next o)) → GoesOn (then_by (opening_codec least step).format next)
+  pub opening-goes : (least step : ℕ) (next : Opening → Format Z) → least ≤ MOST_EVENTS
+      → ((o : Opening) → o.count ≤ MOST_EVENTS → GoesOn (next o))
+      → GoesOn (then_by (opening_codec least step).format next)
   opening-goes least step next few goes =
-      goes-then (opening_codec least step).format next (opening-lawful least step few).goes (λ word o s. goes o (opening-few least step o ((opening-lawful least step few).words word o s).1))
+      goes-then (opening_codec least step).format next (opening-lawful least step few).goes
+      (λ word o s. goes o (opening-few least step o ((opening-lawful least step few).words word o s).1))
 
-  pub part-goes : (least : ℕ) (next : Part → Format Z) → least ≤ MOST_EVENTS → ((at : Part) → at.opening.count ≤ MOST_EVENTS → GoesOn (next at)) → (service : List ℕ) (step top : ℕ)
+  pub part-goes : (least : ℕ) (next : Part → Format Z) → least ≤ MOST_EVENTS
+      → ((at : Part) → at.opening.count ≤ MOST_EVENTS → GoesOn (next at)) → (service : List ℕ) (step top : ℕ)
       → GoesOn (part_stage least next service step top)
   part-goes least next few goes service step top =
-      path-goes [] top step _ (λ links. opening-goes least step _ few (λ o small. goes (record { service = service; step = step; top = top; path = record { links = links }; opening = o }) small))
+      path-goes [] top step _ (λ links. opening-goes least step _ few
+      (λ o small. goes
+      (record { service = service; step = step; top = top; path = record { links = links }; opening = o }) small))
 
-  pub head-goes : (least : ℕ) (next : Part → Format Z) → least ≤ MOST_EVENTS → ((at : Part) → at.opening.count ≤ MOST_EVENTS → GoesOn (next at)) → GoesOn (head_stage least next)
-  head-goes least next few goes = goes-then part_head.format _ part-lawful.goes (λ word t s. part-goes least next few goes t.0 t.1.0 t.1.1)
+  pub head-goes : (least : ℕ) (next : Part → Format Z) → least ≤ MOST_EVENTS
+      → ((at : Part) → at.opening.count ≤ MOST_EVENTS → GoesOn (next at)) → GoesOn (head_stage least next)
+  head-goes least next few goes = goes-then part_head.format _ part-lawful.goes
+      (λ word t s. part-goes least next few goes t.0 t.1.0 t.1.1)
 
-  pub event-goes : (next : Part → EventPart → Format Z) (at : Part) → at.opening.count ≤ MOST_EVENTS → ((e : EventPart) → GoesOn (next at e)) → GoesOn (event_stage next at)
-  event-goes next at few goes = goes-then (event_part_codec at.opening.count).format (next at) (event-lawful at.opening.count few).goes (λ word e s. goes e)
+  pub event-goes : (next : Part → EventPart → Format Z) (at : Part) → at.opening.count ≤ MOST_EVENTS
+      → ((e : EventPart) → GoesOn (next at e)) → GoesOn (event_stage next at)
+  event-goes next at few goes = goes-then (event_part_codec at.opening.count).format (next at)
+      (event-lawful at.opening.count few).goes (λ word e s. goes e)
 
-  optional-goes : (is : Bool) (step : ℕ) (next : Option Opening → Format Z) → ((o : Option Opening) → GoesOn (next o)) → GoesOn (then_by (optional is (opening_codec 0 step)).format next)
+  optional-goes : (is : Bool) (step : ℕ) (next : Option Opening → Format Z) → ((o : Option Opening) → GoesOn (next o))
+      → GoesOn (then_by (optional is (opening_codec 0 step)).format next)
   optional-goes is step next goes =
-      goes-then (optional is (opening_codec 0 step)).format next (lawful-optional (opening_codec 0 step) (opening-lawful 0 step (lit≤ tt)) is).goes (λ word o s. goes o)
+      goes-then (optional is (opening_codec 0 step)).format next
+      (lawful-optional (opening_codec 0 step) (opening-lawful 0 step (lit≤ tt)) is).goes (λ word o s. goes o)
 
 hops-goes : (more : ℕ) → GoesOn (each_format hop_bytes hop_codec (following more))
 unfolding each
@@ -160,13 +182,16 @@ module _ (dig : List ℕ → List ℕ) (anchors : List Thread) where
   unfolding behind_chain
   chain-goes c =
       goes-then (each_format hop_bytes hop_codec (following c.more)) _ (hops-goes c.more) (λ word hops s.
-      goes-then (tail_codec (last_hop_thread c.known hops).step).format _ (tail-lawful (last_hop_thread c.known hops).step).goes (λ word tail t. tt))
+      goes-then (tail_codec (last_hop_thread c.known hops).step).format _
+      (tail-lawful (last_hop_thread c.known hops).step).goes (λ word tail t. tt))
 
-  pub before-goes : (head : Part) (e : EventPart) (hops : ℕ) (before : Option Opening) → GoesOn (behind_before dig anchors head e hops before)
+  pub before-goes : (head : Part) (e : EventPart) (hops : ℕ) (before : Option Opening)
+      → GoesOn (behind_before dig anchors head e hops before)
   unfolding each
   before-goes head e hops before =
       goes-then (each hop_bytes hop_codec (following hops)).format _ (hops-goes hops) (λ word list s.
-      goes-then (tail_codec (last_step (head.step - 1) list)).format _ (tail-lawful (last_step (head.step - 1) list)).goes (λ word tail t. tt))
+      goes-then (tail_codec (last_step (head.step - 1) list)).format _
+      (tail-lawful (last_step (head.step - 1) list)).goes (λ word tail t. tt))
 
   second-goes : (hops : ℕ) (head : Part) (e : EventPart) → GoesOn (behind_second dig anchors hops head e)
   second-goes hops head e = optional-goes (nat_lt 0 hops) (head.step - 1) _ (before-goes head e hops)
@@ -176,22 +201,28 @@ module _ (dig : List ℕ → List ℕ) (anchors : List Thread) where
   role-goes (role.Second hops) at e = second-goes hops.count at e
   role-goes (role.First onward) at e = tt
 
-  link-goes : (c : Chain) (entry : Entry) (shown : TreeProof) (bind : ℕ) (links : List Link) → GoesOn (behind_link dig anchors c entry shown bind links)
-  link-goes c entry shown bind links = optional-goes (nat_lt 0 (c.more - 1)) entry.thread.step _ (λ o. chain-goes (chain_with dig anchors c entry shown bind links o))
+  link-goes : (c : Chain) (entry : Entry) (shown : TreeProof) (bind : ℕ) (links : List Link)
+      → GoesOn (behind_link dig anchors c entry shown bind links)
+  link-goes c entry shown bind links = optional-goes (nat_lt 0 (c.more - 1)) entry.thread.step _
+      (λ o. chain-goes (chain_with dig anchors c entry shown bind links o))
 
-  pub bind-goes : (c : Chain) (entry : Entry) (shown : TreeProof) (bind : ℕ) → GoesOn (path_of [] bind entry.thread.step (behind_link dig anchors c entry shown bind))
+  pub bind-goes : (c : Chain) (entry : Entry) (shown : TreeProof) (bind : ℕ)
+      → GoesOn (path_of [] bind entry.thread.step (behind_link dig anchors c entry shown bind))
   bind-goes c entry shown bind = path-goes [] bind entry.thread.step _ (link-goes c entry shown bind)
 
   shown-goes : (c : Chain) (entry : Entry) (shown : TreeProof) → GoesOn (behind_shown dig anchors c entry shown)
-  shown-goes c entry shown = goes-then (number_codec 8 0 LAST_STEP).format _ bind-lawful.goes (λ word bind s. bind-goes c entry shown bind)
+  shown-goes c entry shown = goes-then (number_codec 8 0 LAST_STEP).format _ bind-lawful.goes
+      (λ word bind s. bind-goes c entry shown bind)
 
   pub tree-goes : (a : Asked) (shown : TreeProof) → GoesOn (behind_tree dig anchors a shown)
   tree-goes (asked.Archived at entry) shown = tt
   tree-goes (asked.Absent at key) shown = tt
   tree-goes (asked.Hop h) shown = shown-goes h.further.onward.chain.value h.entry shown
 
-  pub nodes-goes : (next : TreeProof → Format Judgement) → ((shown : TreeProof) → GoesOn (next shown)) → (shown : TreeProof) (more : ℕ) → GoesOn (nodes_of dig anchors next shown more)
-  nodes-goes next goes shown more = goes-then (many more ancestor_codec).format _ (nodes-lawful more).goes (λ word up s. goes _)
+  pub nodes-goes : (next : TreeProof → Format Judgement) → ((shown : TreeProof) → GoesOn (next shown))
+      → (shown : TreeProof) (more : ℕ) → GoesOn (nodes_of dig anchors next shown more)
+  nodes-goes next goes shown more = goes-then (many more ancestor_codec).format _ (nodes-lawful more).goes
+      (λ word up s. goes _)
     where
       nodes-lawful : (more : ℕ) → Lawful (many more ancestor_codec)
       nodes-lawful more = search (lawful, ancestor-lawful)
@@ -204,14 +235,17 @@ module _ (dig : List ℕ → List ℕ) (anchors : List Thread) where
 
   pub entry-goes : (s : Shower) (entry : Entry) → GoesOn (behind_entry dig anchors s entry)
   entry-goes (shower.At r) entry = archived-goes r.part entry
-  entry-goes (shower.Behind f) entry = goes-then present_codec.format _ present-lawful.goes (λ word shown s. shown-goes f.onward.chain.value entry shown)
+  entry-goes (shower.Behind f) entry = goes-then present_codec.format _ present-lawful.goes
+      (λ word shown s. shown-goes f.onward.chain.value entry shown)
 
   pub goal-goes : (g : Goal) (at : Part) → at.opening.count ≤ MOST_EVENTS → GoesOn (behind_part dig anchors g at)
   goal-goes (goal.Event r) at few = event-goes (behind_event dig anchors r) at few (role-goes r at)
-  goal-goes goal.Archived at few = goes-then entry_codec.format _ entry-lawful.goes (λ word entry s. archived-goes at entry)
+  goal-goes goal.Archived at few = goes-then entry_codec.format _ entry-lawful.goes
+      (λ word entry s. archived-goes at entry)
   goal-goes goal.Absent at few = goes-then key_codec.format _ key-lawful.goes (λ word key s. absent-goes at key)
 
-  pub opened-goes : (o : Opens) (opening : Opening) → opening.count ≤ MOST_EVENTS → GoesOn (behind_opening dig anchors o opening)
+  pub opened-goes : (o : Opens) (opening : Opening) → opening.count ≤ MOST_EVENTS
+      → GoesOn (behind_opening dig anchors o opening)
   opened-goes (opens.Part g under links) opening few = goal-goes g _ few
   opened-goes (opens.Before s) opening few = before-goes s.head.part s.event s.hops.count (Some opening)
   opened-goes (opens.Hop h links) opening few = chain-goes _
@@ -224,7 +258,8 @@ module _ (dig : List ℕ → List ℕ) (anchors : List Thread) where
   pub goal-head-goes : (g : Goal) → GoesOn (head_stage (least_of g) (behind_part dig anchors g))
   goal-head-goes g = head-goes (least_of g) (behind_part dig anchors g) (least-few g) (goal-goes g)
 
-  pub goal-part-goes : (g : Goal) (service : List ℕ) (step top : ℕ) → GoesOn (part_stage (least_of g) (behind_part dig anchors g) service step top)
+  pub goal-part-goes : (g : Goal) (service : List ℕ) (step top : ℕ)
+      → GoesOn (part_stage (least_of g) (behind_part dig anchors g) service step top)
   goal-part-goes g = part-goes (least_of g) (behind_part dig anchors g) (least-few g) (goal-goes g)
 
   pub way-goes : (w : Way) (links : List Link) → GoesOn (behind_path dig anchors w links)
@@ -236,7 +271,8 @@ module _ (dig : List ℕ → List ℕ) (anchors : List Thread) where
   linked-goes = goes-then link_head.format _ head-lawful.goes (λ word t s. path-goes [] t.1.1.0 t.1.0 _ (λ links. tt))
 
   pub counted-goes : (hops : ℕ) → GoesOn (head_stage 1 (event_stage (behind_second dig anchors hops)))
-  counted-goes hops = head-goes 1 _ (lit≤ tt) (λ at few. event-goes (behind_second dig anchors hops) at few (second-goes hops at))
+  counted-goes hops = head-goes 1 _ (lit≤ tt) (λ at few. event-goes (behind_second dig anchors hops) at few
+      (second-goes hops at))
 
   pub hops-number : Lawful (number_codec 1 0 MOST_HOPS)
   hops-number = search lawful
@@ -248,11 +284,13 @@ module _ (dig : List ℕ → List ℕ) (anchors : List Thread) where
   pub kind-goes : (kind : ℕ) → GoesOn (behind_kind dig anchors kind)
   kind-goes kind =
       chosen (kind == 1) _ _ (head-goes 1 _ (lit≤ tt) (λ at few. event-goes (behind_only dig anchors) at few (λ e. tt)))
-      (chosen (kind == 2) _ _ (goes-then (number_codec 1 0 MOST_HOPS).format _ hops-number.goes (λ word hops s. counted-goes hops))
+      (chosen (kind == 2) _ _ (goes-then (number_codec 1 0 MOST_HOPS).format _ hops-number.goes
+      (λ word hops s. counted-goes hops))
       (chosen (kind == 3) _ _ (goal-head-goes goal.Archived)
       (chosen (kind == 4) _ _ (goal-head-goes goal.Absent) linked-goes)))
 
-  pub first-goes : (c : Chain) (service : List ℕ) (step top : ℕ) → GoesOn (part_stage 1 (event_stage (behind_first dig anchors c)) service step top)
+  pub first-goes : (c : Chain) (service : List ℕ) (step top : ℕ)
+      → GoesOn (part_stage 1 (event_stage (behind_first dig anchors c)) service step top)
   first-goes c = part-goes 1 _ (lit≤ tt) (λ at few. event-goes (behind_first dig anchors c) at few (λ e. tt))
 
 -- ---- sizes of what is taken
@@ -295,20 +333,25 @@ unfolding gap_codec variant counted by_kind number_codec number
 gap-nothing x s = s
 
 -- no bytes end a proof but behind the whole
-pub unfinished : (dig : List ℕ → List ℕ) (anchors : List Thread) (s : Stage) → ((j : Judgement) → s ≡ stage.Done j → ⊥) → SpellsNothing (rest dig anchors s) []
+pub unfinished : (dig : List ℕ → List ℕ) (anchors : List Thread) (s : Stage) → ((j : Judgement) → s ≡ stage.Done j → ⊥)
+    → SpellsNothing (rest dig anchors s) []
 unfinished dig anchors stage.Begun not = nothing-first kind_head.format _ kind-nothing
-unfinished dig anchors stage.Counted not = nothing-first (number_codec 1 0 MOST_HOPS).format _ (number-nothing 0 MOST_HOPS)
+unfinished dig anchors stage.Counted not = nothing-first (number_codec 1 0 MOST_HOPS).format _
+    (number-nothing 0 MOST_HOPS)
 unfinished dig anchors (stage.Head g) not = nothing-first part_head.format _ part-nothing
 unfinished dig anchors stage.LinkHead not = nothing-first link_head.format _ head-nothing
 unfinished dig anchors (stage.Path p) not = nothing-first (link_codec p.at).format _ (link-nothing p.at)
-unfinished dig anchors (stage.Opening o) not = nothing-first (opening_codec (least_opened o) (step_opened o)).format _ (opening-nothing (least_opened o) (step_opened o))
-unfinished dig anchors (stage.Event e) not = nothing-first (event_part_codec e.at.part.opening.count).format _ (event-nothing e.at.part.opening.count)
+unfinished dig anchors (stage.Opening o) not = nothing-first (opening_codec (least_opened o) (step_opened o)).format _
+    (opening-nothing (least_opened o) (step_opened o))
+unfinished dig anchors (stage.Event e) not = nothing-first (event_part_codec e.at.part.opening.count).format _
+    (event-nothing e.at.part.opening.count)
 unfinished dig anchors (stage.Entry s) not = nothing-first entry_codec.format _ entry-nothing
 unfinished dig anchors (stage.Key r) not = nothing-first key_codec.format _ key-nothing
 unfinished dig anchors (stage.Tree (asked.Archived at entry)) not = nothing-first present_codec.format _ present-nothing
 unfinished dig anchors (stage.Tree (asked.Absent at key)) not = nothing-first gap_codec.format _ gap-nothing
 unfinished dig anchors (stage.Tree (asked.Hop h)) not = nothing-first present_codec.format _ present-nothing
 unfinished dig anchors (stage.Nodes c) not = nothing-first ancestor_codec.format _ ancestor-nothing
-unfinished dig anchors (stage.Bind h shown) not = nothing-first (number_codec 8 0 LAST_STEP).format _ (step-nothing 0 LAST_STEP)
+unfinished dig anchors (stage.Bind h shown) not = nothing-first (number_codec 8 0 LAST_STEP).format _
+    (step-nothing 0 LAST_STEP)
 unfinished dig anchors (stage.Tail onward) not = nothing-first step_number_codec.format _ (step-nothing 1 LAST_STEP)
 unfinished dig anchors (stage.Done j) not = absurd (not j refl)

@@ -1,10 +1,16 @@
 -- Where a form stops ends the longest front of the words that is the front of words of the form.
-use Rattle.std.proofs.Common.{◌≡◌, ℕ, zero, suc, ◌+◌, ◌-◌, ◌≤◌, List, [], ◌∷◌, ◌++◌, length, take, min, refl, ap, ◌∙◌, sym, subst, Bool, true, false, arith, append-nil, length-append, length-take-le, leb, cond, eqb, eq-eqb, eqb-true, codes, replicate, Option, Some, None, Ok, Err, IsOk, ◌⊎◌, if◌then◌else◌, inl, inr}
+use Rattle.std.proofs.Common.{◌≡◌, ℕ, zero, suc, ◌+◌, ◌-◌, ◌≤◌, List, [], ◌∷◌, ◌++◌, length, take, min, refl, ap, ◌∙◌}
+use Rattle.std.proofs.Common.{sym, subst, Bool, true, false, arith, append-nil, length-append, length-take-le, leb}
+use Rattle.std.proofs.Common.{cond, eqb, eq-eqb, eqb-true, codes, replicate, Option, Some, None, Ok, Err, IsOk, ◌⊎◌}
+use Rattle.std.proofs.Common.{if◌then◌else◌, inl, inr}
 use Rattle.std.proofs.lemmas.Bool.{cases_lt}
 use Rattle.std.specs.Str.{bytes_eq}
 use Rattle.std.proofs.lemmas.Slice.Eq.{bytes_eq-Decides}
 use Rattle.hex.proofs.OnLiterals.{hex_on_literals}
-use Rattle.tw_words.specs.Forms.{Form, WordsReading, any_paths, at_most_paths, choose_form, count_paths, digest_form, digest_value, either, either_reading, end, form_named, give, go_on, maybe_up_to, maybe_number, name_form, name_value, next, no_words, number_form, number_value, path, path_value, paths, then_form}
+use Rattle.tw_words.specs.Forms.{Form, WordsReading, any_paths, at_most_paths, choose_form, count_paths, digest_form}
+use Rattle.tw_words.specs.Forms.{digest_value, either, either_reading, end, form_named, give, go_on, maybe_up_to}
+use Rattle.tw_words.specs.Forms.{maybe_number, name_form, name_value, next, no_words, number_form, number_value, path}
+use Rattle.tw_words.specs.Forms.{path_value, paths, then_form}
 use Rattle.tw_words.specs.declared.command.Command.{Command}
 
 unwrapped : {X : Type 0} (x y : X) → Some x ≡ Some y → x ≡ y
@@ -60,12 +66,16 @@ exact-end command = record { sample = []; had = refl; stops = stops }
 
 module _ {V : Type 0} (part : List ℕ → Option V) (form : V → Form) where
   -- no word of these, since the first has no value
-  stops-none : (word : List ℕ) (words sample : List (List ℕ)) (left : ℕ) → part word ≡ None → IsOk (then_form part form sample)
+  stops-none : (word : List ℕ) (words sample : List (List ℕ)) (left : ℕ) → part word ≡ None
+      → IsOk (then_form part form sample)
       → then_form part form (word ∷ words) ≡ Err left → Stops (then_form part form) (word ∷ words) left
   unfolding next
   stops-none word words sample left none had e = record {
     front = 0;
-    size = omega (arith, unwrapped-err (suc (length words)) left (subst (λ o. then_form (λ w. o) form (word ∷ words) ≡ Err left) none e));
+    size = omega (
+      arith,
+      unwrapped-err (suc (length words)) left (subst (λ o. then_form (λ w. o) form (word ∷ words) ≡ Err left) none e),
+    );
     rest = sample;
     good = had;
     longest = λ n rest within ok. shorter n rest ok;
@@ -73,10 +83,12 @@ module _ {V : Type 0} (part : List ℕ → Option V) (form : V → Form) where
     where
       shorter : (n : ℕ) (rest : List (List ℕ)) → IsOk (then_form part form (take n (word ∷ words) ++ rest)) → n ≤ 0
       shorter zero rest ok = omega arith
-      shorter (suc n) rest ok = absurd (no (subst (λ o. IsOk (then_form (λ w. o) form (word ∷ (take n words ++ rest)))) none ok))
+      shorter (suc n) rest ok =
+          absurd (no (subst (λ o. IsOk (then_form (λ w. o) form (word ∷ (take n words ++ rest)))) none ok))
 
   -- one word more than the form of the first word's value has of the others
-  stops-some : (word : List ℕ) (words : List (List ℕ)) (left : ℕ) (v : V) → part word ≡ Some v → Stops (form v) words left
+  stops-some : (word : List ℕ) (words : List (List ℕ)) (left : ℕ) (v : V) → part word ≡ Some v → Stops (form v) words
+      left
       → Stops (then_form part form) (word ∷ words) left
   unfolding next
   stops-some word words left v some inner = record {
@@ -87,13 +99,15 @@ module _ {V : Type 0} (part : List ℕ → Option V) (form : V → Form) where
     longest = longer;
   }
     where
-      longer : (n : ℕ) (rest : List (List ℕ)) → n ≤ suc (length words) → IsOk (then_form part form (take n (word ∷ words) ++ rest)) → n ≤ suc inner.front
+      longer : (n : ℕ) (rest : List (List ℕ)) → n ≤ suc (length words)
+          → IsOk (then_form part form (take n (word ∷ words) ++ rest)) → n ≤ suc inner.front
       longer zero rest within ok = omega arith
       longer (suc n) rest within ok =
           let behind = subst (λ o. IsOk (then_form (λ w. o) form (word ∷ (take n words ++ rest)))) some ok in
           omega (arith, inner.longest n rest (omega (arith, within)) behind)
 
-  pub exact-then : (word : List ℕ) (v : V) → part word ≡ Some v → ((word : List ℕ) (v : V) → part word ≡ Some v → IsExact (form v))
+  pub exact-then : (word : List ℕ) (v : V) → part word ≡ Some v → ((word : List ℕ) (v : V) → part word ≡ Some v
+      → IsExact (form v))
       → IsExact (then_form part form)
   unfolding next
   exact-then first v fits exact = record { sample = sample; had = had; stops = stops }
@@ -107,7 +121,8 @@ module _ {V : Type 0} (part : List ℕ → Option V) (form : V → Form) where
       had : IsOk (then_form part form sample)
       had = rw fits inner.had
 
-      stops : (words : List (List ℕ)) (left : ℕ) → then_form part form words ≡ Err left → Stops (then_form part form) words left
+      stops : (words : List (List ℕ)) (left : ℕ) → then_form part form words ≡ Err left → Stops (then_form part form)
+          words left
       stops [] left e = record {
         front = 0;
         size = let same : 0 ≡ left = cc in omega (arith, same);
@@ -130,8 +145,10 @@ pub exact-name : (form : List ℕ → Form) → ((v : List ℕ) → IsExact (for
 exact-name form exact = exact-then name_value form (codes "s") _ refl (λ word v is. exact v)
 
 -- a number of one digit
-pub exact-number : (least most : ℕ) (form : ℕ → Form) → number_value least most (codes "1") ≡ Some 1 → ((n : ℕ) → IsExact (form n)) → IsExact (number_form least most form)
-exact-number least most form fits exact = exact-then (number_value least most) form (codes "1") 1 fits (λ word n is. exact n)
+pub exact-number : (least most : ℕ) (form : ℕ → Form) → number_value least most (codes "1") ≡ Some 1
+    → ((n : ℕ) → IsExact (form n)) → IsExact (number_form least most form)
+exact-number least most form fits exact = exact-then (number_value least most) form (codes "1") 1 fits
+    (λ word n is. exact n)
 
 pub exact-digest : (form : List ℕ → Form) → ((v : List ℕ) → IsExact (form v)) → IsExact (digest_form form)
 unfolding hex_on_literals
@@ -143,17 +160,21 @@ abbrev pub EachExact : List (List ℕ × Form) → Type 0
 EachExact [] = Unit {0}
 EachExact (row ∷ rows) = IsExact row.1 × EachExact rows
 
-exact_named : (rows : List (List ℕ × Form)) → EachExact rows → (word : List ℕ) (form : Form) → form_named rows word ≡ Some form → IsExact form
+exact_named : (rows : List (List ℕ × Form)) → EachExact rows → (word : List ℕ) (form : Form) → form_named rows word
+    ≡ Some form → IsExact form
 exact_named [] each word form is = absurd (cc)
 exact_named (row ∷ rows) each word form is = by (bytes_eq word row.0) is (exact_named rows each.1 word form)
   where
-    by : (b : Bool) → (if b then Some row.1 else form_named rows word) ≡ Some form → (form_named rows word ≡ Some form → IsExact form) → IsExact form
+    by : (b : Bool) → (if b then Some row.1 else form_named rows word) ≡ Some form
+        → (form_named rows word ≡ Some form → IsExact form) → IsExact form
     by true same others = subst IsExact (unwrapped row.1 form same) each.0
     by false same others = others same
 
-pub exact-choose : (key : List ℕ) (form : Form) (rows : List (List ℕ × Form)) → EachExact ((key, form) ∷ rows) → IsExact (choose_form ((key, form) ∷ rows))
+pub exact-choose : (key : List ℕ) (form : Form) (rows : List (List ℕ × Form)) → EachExact ((key, form) ∷ rows)
+    → IsExact (choose_form ((key, form) ∷ rows))
 exact-choose key form rows each =
-    let named : form_named ((key, form) ∷ rows) key ≡ Some form = ap (λ b. if b then Some form else form_named rows key) (same_bytes key) in
+    let named : form_named ((key, form) ∷ rows) key ≡ Some form = ap (λ b. if b then Some form else form_named rows key)
+    (same_bytes key) in
     exact-then (form_named ((key, form) ∷ rows)) (λ f. f) key form named (exact_named ((key, form) ∷ rows) each)
 
 -- ---- two forms
@@ -169,7 +190,8 @@ record AreLeft (one other : WordsReading Command) (left : ℕ) : Type 0 where
 are_left : (one other : WordsReading Command) (left : ℕ) → either_reading one other ≡ Err left → AreLeft one other left
 are_left (Ok command) other left e = absurd (cc)
 are_left (Err first) (Ok command) left e = absurd (cc)
-are_left (Err first) (Err second) left e = record { first = first; second = second; is_first = refl; is_second = refl; least = cc }
+are_left (Err first) (Err second) left e =
+    record { first = first; second = second; is_first = refl; is_second = refl; least = cc }
 
 from_one : (one other : WordsReading Command) → IsOk one → IsOk (either_reading one other)
 from_one (Ok command) other ok = refl
@@ -190,8 +212,10 @@ exact-either one other exact exact-other = record { sample = exact.sample; had =
   where
     -- the form that has the longer front
     stops-by : (words : List (List ℕ)) (left : ℕ) (first : Stops one words left ⊎ Stops other words left)
-        → ((n : ℕ) (rest : List (List ℕ)) → n ≤ length words → IsOk (one (take n words ++ rest)) → n + left ≤ length words)
-        → ((n : ℕ) (rest : List (List ℕ)) → n ≤ length words → IsOk (other (take n words ++ rest)) → n + left ≤ length words)
+        → ((n : ℕ) (rest : List (List ℕ)) → n ≤ length words → IsOk (one (take n words ++ rest))
+        → n + left ≤ length words)
+        → ((n : ℕ) (rest : List (List ℕ)) → n ≤ length words → IsOk (other (take n words ++ rest))
+        → n + left ≤ length words)
         → Stops (either one other) words left
     stops-by words left (inl s) no-longer no-longer-other = record {
       front = s.front;
@@ -238,7 +262,8 @@ module _ (most : ℕ) (fits : number_value 0 most (codes "1") ≡ Some 1) (comma
   same word words = by (number_value 0 most word) words
     where
       by : (o : Option ℕ) (words : List (List ℕ))
-          → give command (go_on (next (λ w. o) (word ∷ words)) (λ number behind. give (λ done. Some number) (no_words behind)))
+          → give command (go_on (next (λ w. o) (word ∷ words)) (λ number behind. give (λ done. Some number)
+          (no_words behind)))
           ≡ then_form (λ w. o) (λ n. end (command (Some n))) (word ∷ words)
       by None words = refl
       by (Some n) [] = refl
@@ -255,7 +280,8 @@ module _ (most : ℕ) (fits : number_value 0 most (codes "1") ≡ Some 1) (comma
       had_by [] ok = refl
       had_by (word ∷ words) ok = subst IsOk (sym (same word words)) ok
 
-      stops : (words : List (List ℕ)) (left : ℕ) → maybe_up_to most command words ≡ Err left → Stops (maybe_up_to most command) words left
+      stops : (words : List (List ℕ)) (left : ℕ) → maybe_up_to most command words ≡ Err left
+          → Stops (maybe_up_to most command) words left
       stops [] left e = absurd (cc)
       stops (word ∷ words) left e = record {
         front = s.front;
@@ -268,9 +294,11 @@ module _ (most : ℕ) (fits : number_value 0 most (codes "1") ≡ Some 1) (comma
           s : Stops there (word ∷ words) left
           s = exact.stops (word ∷ words) left (sym (same word words) ∙ e)
 
-          longer : (n : ℕ) (rest : List (List ℕ)) → n ≤ suc (length words) → IsOk (maybe_up_to most command (take n (word ∷ words) ++ rest)) → n ≤ s.front
+          longer : (n : ℕ) (rest : List (List ℕ)) → n ≤ suc (length words)
+              → IsOk (maybe_up_to most command (take n (word ∷ words) ++ rest)) → n ≤ s.front
           longer zero rest within ok = omega arith
-          longer (suc n) rest within ok = s.longest (suc n) rest within (subst IsOk (same word (take n words ++ rest)) ok)
+          longer (suc n) rest within ok = s.longest (suc n) rest within (subst IsOk (same word (take n words ++ rest))
+              ok)
 
 -- ---- paths
 
@@ -288,23 +316,28 @@ count_paths-take words zero h = refl
 count_paths-take [] (suc k) h = absurd (omega (arith, h))
 count_paths-take (word ∷ words) (suc k) h = by (leb 1 (length word)) h (count_paths-take words k)
   where
-    by : (b : Bool) → suc k ≤ cond b (suc (count_paths words)) 0 → (k ≤ count_paths words → count_paths (take k words) ≡ k)
+    by : (b : Bool) → suc k ≤ cond b (suc (count_paths words)) 0
+        → (k ≤ count_paths words → count_paths (take k words) ≡ k)
         → cond b (suc (count_paths (take k words))) 0 ≡ suc k
     by true h others = ap suc (others (omega (arith, h)))
     by false h others = absurd (omega (arith, h))
 
 -- a front of words that are paths is of paths
-count_paths-front : (words rest : List (List ℕ)) (n : ℕ) → n ≤ length words → count_paths (take n words ++ rest) ≡ n + length rest → n ≤ count_paths words
+count_paths-front : (words rest : List (List ℕ)) (n : ℕ) → n ≤ length words → count_paths (take n words ++ rest) ≡ n
+    + length rest → n ≤ count_paths words
 count_paths-front words rest zero within all = omega arith
 count_paths-front [] rest (suc n) within all = absurd (omega (arith, within))
-count_paths-front (word ∷ words) rest (suc n) within all = by (leb 1 (length word)) all (count_paths-front words rest n (omega (arith, within)))
+count_paths-front (word ∷ words) rest (suc n) within all = by (leb 1 (length word)) all
+    (count_paths-front words rest n (omega (arith, within)))
   where
     by : (b : Bool) → cond b (suc (count_paths (take n words ++ rest))) 0 ≡ suc n + length rest
-        → (count_paths (take n words ++ rest) ≡ n + length rest → n ≤ count_paths words) → suc n ≤ cond b (suc (count_paths words)) 0
+        → (count_paths (take n words ++ rest) ≡ n + length rest → n ≤ count_paths words)
+        → suc n ≤ cond b (suc (count_paths words)) 0
     by true all others = let h = others (omega (arith, all)) in omega (arith, h)
     by false all others = absurd (omega (arith, all))
 
--- at most so many paths, by the words: of each front of them there may be as many, and what is too many for them is so for longer ones
+-- at most so many paths, by the words: of each front of them there may be as many, and what is too many for them is so
+-- for longer ones
 module _ (most : List (List ℕ) → ℕ) (command : List (List ℕ) → Command) where
   form : Form
   form words = at_most_paths (most words) command words
@@ -320,11 +353,13 @@ module _ (most : List (List ℕ) → ℕ) (command : List (List ℕ) → Command
   unfolding form paths
   taken-ok words ok = by (eqb (min (most words) (count_paths words)) (length words)) refl ok
     where
-      by : (b : Bool) → eqb (min (most words) (count_paths words)) (length words) ≡ b → IsOk (reading b words) → min (most words) (count_paths words) ≡ length words
+      by : (b : Bool) → eqb (min (most words) (count_paths words)) (length words) ≡ b → IsOk (reading b words)
+          → min (most words) (count_paths words) ≡ length words
       by true is ok = eqb-true _ _ is
       by false is ok = absurd (no ok)
 
-  taken-left : (words : List (List ℕ)) (left : ℕ) → form words ≡ Err left → left ≡ length words - min (most words) (count_paths words)
+  taken-left : (words : List (List ℕ)) (left : ℕ) → form words ≡ Err left → left ≡ length words - min (most words)
+      (count_paths words)
   unfolding form paths
   taken-left words left e = by (eqb (min (most words) (count_paths words)) (length words)) e
     where
@@ -333,7 +368,8 @@ module _ (most : List (List ℕ) → ℕ) (command : List (List ℕ) → Command
       by false e = cc
 
   exact-most : ((words : List (List ℕ)) (k : ℕ) → k ≤ length words → k ≤ most words → k ≤ most (take k words))
-      → ((words rest : List (List ℕ)) (n : ℕ) → n ≤ length words → n ≤ most (take n words ++ rest) → n ≤ most words) → IsExact form
+      → ((words rest : List (List ℕ)) (n : ℕ) → n ≤ length words → n ≤ most (take n words ++ rest) → n ≤ most words)
+      → IsExact form
   exact-most front whole = record { sample = []; had = ok-taken [] (omega arith); stops = stops }
     where
       stops : (words : List (List ℕ)) (left : ℕ) → form words ≡ Err left → Stops form words left
@@ -352,23 +388,32 @@ module _ (most : List (List ℕ) → ℕ) (command : List (List ℕ) → Command
           fewer = omega (arith, count_paths-le words)
 
           all : min (most (take k words)) (count_paths (take k words)) ≡ length (take k words)
-          all = omega (arith, front words k fewer (omega arith), count_paths-take words k (omega arith), length-take-le k words fewer)
+          all = omega (
+            arith,
+            front words k fewer (omega arith),
+            count_paths-take words k (omega arith),
+            length-take-le k words fewer,
+          )
 
-          longer : (n : ℕ) (rest : List (List ℕ)) → n ≤ length words → IsOk (form (take n words ++ rest)) → n ≤ min (most words) (count_paths words)
+          longer : (n : ℕ) (rest : List (List ℕ)) → n ≤ length words → IsOk (form (take n words ++ rest))
+              → n ≤ min (most words) (count_paths words)
           longer n rest within ok =
               let whole-taken = taken-ok (take n words ++ rest) ok in
               let size = length-append (take n words) rest in
               let taken-size = length-take-le n words within in
               let counted = count_paths-le (take n words ++ rest) in
               let allowed = whole words rest n within (omega (arith, whole-taken, size, taken-size)) in
-              let paths-front = count_paths-front words rest n within (omega (arith, whole-taken, size, taken-size, counted)) in
+              let paths-front = count_paths-front words rest n within
+              (omega (arith, whole-taken, size, taken-size, counted)) in
               omega (arith, allowed, paths-front)
 
 pub exact-paths : (most : ℕ) (command : List (List ℕ) → Command) → IsExact (at_most_paths most command)
 unfolding form
-exact-paths most command = exact-most (λ words. most) command (λ words k within below. below) (λ words rest n within below. below)
+exact-paths most command = exact-most (λ words. most) command (λ words k within below. below)
+    (λ words rest n within below. below)
 
 pub exact-any : (command : List (List ℕ) → Command) → IsExact (any_paths command)
 unfolding form
 exact-any command =
-    exact-most length command (λ words k within below. let size = length-take-le k words within in omega (arith, size)) (λ words rest n within below. within)
+    exact-most length command (λ words k within below. let size = length-take-le k words within in omega (arith, size))
+    (λ words rest n within below. within)

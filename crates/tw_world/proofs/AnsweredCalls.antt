@@ -21,7 +21,8 @@ use Rattle.tw_msg.specs.declared.receipt.Receipt.{Receipt}
 use Rattle.tw_msg.proofs.MessageCodec.{message-lawful}
 use Rattle.tw_service.specs.Adding.{AppendsEvents, Receives, ReceivesBytes}
 use Rattle.tw_service.specs.EventSteps.{with_events_at}
-use Rattle.tw_service.specs.Machine.{AnswersByMachine, Call, IsStepOf, NextOf, RepliesTo, Reply, append_table, last_thread, receipt_by}
+use Rattle.tw_service.specs.Machine.{AnswersByMachine, Call, IsStepOf, NextOf, RepliesTo, Reply, append_table}
+use Rattle.tw_service.specs.Machine.{last_thread, receipt_by}
 use Rattle.tw_service.specs.Machine.Call.{Append, Receive}
 use Rattle.tw_service.specs.Machine.Reply.{OfReceipt, OfThread, Refused}
 use Rattle.tw_service.specs.Receiving.{RefusesNoMessage}
@@ -38,7 +39,8 @@ use Rattle.tw_world.specs.declared.told.Answer.TheVariants as answer
 pub stands-own : (image : Image) (name : List ℕ) (h : History) → StandsFor sha256 image name h → StandsAs h image
 stands-own image name h s = subst (λ n. StandsFor sha256 image n h) (sym s.named) s
 
-pub stands-one : (image : Image) (name : List ℕ) (h next : History) → StandsForOneOf sha256 name h next image → StandsAs h image ⊎ StandsAs next image
+pub stands-one : (image : Image) (name : List ℕ) (h next : History) → StandsForOneOf sha256 name h next image
+    → StandsAs h image ⊎ StandsAs next image
 stands-one image name h next (inl s) = inl (stands-own image name h s)
 stands-one image name h next (inr s) = inr (stands-own image name next s)
 
@@ -52,7 +54,8 @@ if-ok (Err e) P Q to is = is
 module _ {H : Type 0} {g : _} {k : _} (given : Given) (h : History) (new : Service MemDisk H g k) where
   -- a refusal, which the machine answers; or a disk fault
   from-refusal : {T : Type 0} (call : Call) (reply : T → Reply) (r : Refusal) (o : Option Answer) → AnswersRefusal r o
-      → AnswersByMachine sha256 h call reply (Err r) (Serves sha256 mem_disk_view new) → (IsStepOf sha256 h call (Refused r) h → TakesGiven given h (Refused r) h)
+      → AnswersByMachine sha256 h call reply (Err r) (Serves sha256 mem_disk_view new)
+      → (IsStepOf sha256 h call (Refused r) h → TakesGiven given h (Refused r) h)
       → (r ≡ DiskFault → Answered given h new None) → Answered given h new o
   from-refusal call reply (BadPage page) o after answers takes fault = absurd answers
   from-refusal call reply Reopen o after answers takes fault = absurd answers
@@ -63,21 +66,27 @@ module _ {H : Type 0} {g : _} {k : _} (given : Given) (h : History) (new : Servi
       (record { next = h; named = refl; reply = Refused r; takes = takes answers.0; is = refl; serves = answers.1 })
 
 -- what was served, and what any call of it leaves
-module _ {H : Type 0} {g : _} {k : _} (old new : Service MemDisk H g k) (h : History) (served : Serves sha256 mem_disk_view old h) (whole : has_failed old ≡ false) where
+module _ {H : Type 0} {g : _} {k : _} (old new : Service MemDisk H g k) (h : History)
+    (served : Serves sha256 mem_disk_view old h) (whole : has_failed old ≡ false) where
   -- ---- appending
 
   module _ (events : List (List ℕ)) where
-    by-table : (o : Option Refusal) → MatchOption o (IfErr (fails Thread DiskFault) IsFault) (λ refusal. fails Thread DiskFault ≡ Err refusal) → Of NoFault o → o ≡ None
+    by-table : (o : Option Refusal) → MatchOption o (IfErr (fails Thread DiskFault) IsFault)
+        (λ refusal. fails Thread DiskFault ≡ Err refusal) → Of NoFault o → o ≡ None
     by-table None is never = refl
     by-table (Some r) is never = absurd (never (is_disk_fault Thread r (sym is)))
 
-    append-none : MatchOption (append_refusal (has_failed old) (steps_of old) (clock_of old) events None) (IfErr (fails Thread DiskFault) IsFault) (λ refusal. fails Thread DiskFault ≡ Err refusal)
+    append-none : MatchOption (append_refusal (has_failed old) (steps_of old) (clock_of old) events None)
+        (IfErr (fails Thread DiskFault) IsFault) (λ refusal. fails Thread DiskFault ≡ Err refusal)
         → None ≡ append_table h events None
     append-none table =
-        let none = by-table (append_refusal (has_failed old) (steps_of old) (clock_of old) events None) table (append_no_fault (has_failed old) (steps_of old) (clock_of old) events None) in
-        sym none ∙ (λ j. append_refusal (whole j) (served.keeps.whole.steps.step j) (served.keeps.whole.time j) events None)
+        let none = by-table (append_refusal (has_failed old) (steps_of old) (clock_of old) events None) table
+        (append_no_fault (has_failed old) (steps_of old) (clock_of old) events None) in
+        sym none ∙ (λ j. append_refusal (whole j) (served.keeps.whole.steps.step j) (served.keeps.whole.time j) events
+        None)
 
-    append-fault : AppendsEvents sha256 mem_disk_view events None old new (Err DiskFault) → Answered (OfEvents events) h new None
+    append-fault : AppendsEvents sha256 mem_disk_view events None old new (Err DiskFault) → Answered (OfEvents events) h
+        new None
     append-fault a =
         let s = a.steps h served in
         let next : History = with_events_at h events None in
@@ -86,15 +95,20 @@ module _ {H : Type 0} {g : _} {k : _} (old new : Service MemDisk H g k) (h : His
           next = next;
           named = refl;
           is_next = inr (OfThread (last_thread sha256 next), (None, refl, tt, step));
-          leaves = λ c may. stands-one c (name_of old) h next (subst (λ (x : History). StandsForOneOf sha256 (name_of old) h x c) s.is_next (s.any_moment.now c may));
+          leaves = λ c may. stands-one c (name_of old) h next
+              (subst (λ (x : History). StandsForOneOf sha256 (name_of old) h x c) s.is_next (s.any_moment.now c may));
         }
 
-    pub append-answered : (r : Refusal) (o : Option Answer) → AnswersRefusal r o → AppendsEvents sha256 mem_disk_view events None old new (Err r) → Answered (OfEvents events) h new o
+    pub append-answered : (r : Refusal) (o : Option Answer) → AnswersRefusal r o → AppendsEvents sha256 mem_disk_view
+        events None old new (Err r) → Answered (OfEvents events) h new o
     append-answered r o after a =
-        from-refusal (OfEvents events) h new (Append events None) OfThread r o after ((a.steps h served).machine whole) (λ step. (None, refl, tt, step))
-        (λ is. append-fault (subst (λ (x : Refusal). AppendsEvents sha256 mem_disk_view events None old new (Err x)) is a))
+        from-refusal (OfEvents events) h new (Append events None) OfThread r o after ((a.steps h served).machine whole)
+        (λ step. (None, refl, tt, step))
+        (λ is. append-fault (subst (λ (x : Refusal). AppendsEvents sha256 mem_disk_view events None old new (Err x)) is
+        a))
 
-    pub append-done : (t : Thread) (n : ℕ) → AppendsEvents sha256 mem_disk_view events None old new (Ok t) → ((x : History) → Serves sha256 mem_disk_view new x → n ≡ length x.steps)
+    pub append-done : (t : Thread) (n : ℕ) → AppendsEvents sha256 mem_disk_view events None old new (Ok t)
+        → ((x : History) → Serves sha256 mem_disk_view new x → n ≡ length x.steps)
         → Answered (OfEvents events) h new (Some (answer.Stepped n))
     append-done t n a counts =
         let s = a.steps h served in
@@ -110,20 +124,26 @@ module _ {H : Type 0} {g : _} {k : _} (old new : Service MemDisk H g k) (h : His
   -- ---- receiving
 
   module _ (bytes : List ℕ) where
-    takes : (m : Message) → Spells message_layout bytes m → (reply : Reply) (next : History) → IsStepOf sha256 h (Receive m None) reply next → TakesGiven (OfBytes bytes) h reply next
+    takes : (m : Message) → Spells message_layout bytes m → (reply : Reply) (next : History)
+        → IsStepOf sha256 h (Receive m None) reply next → TakesGiven (OfBytes bytes) h reply next
     takes m spells reply next step = (None, refl, tt, inl (m, spells, step))
 
-    next-of : (m : Message) → Spells message_layout bytes m → (next : History) → NextOf sha256 (Receive m None) h next → IsNextOf (OfBytes bytes) h next
+    next-of : (m : Message) → Spells message_layout bytes m → (next : History) → NextOf sha256 (Receive m None) h next
+        → IsNextOf (OfBytes bytes) h next
     next-of m spells next (inl same) = inl same
     next-of m spells next (inr more) =
         let reply : Reply = OfReceipt (receipt_by sha256 next (suc (length h.steps)) m.thread) in
-        inr (reply, takes m spells reply next (subst (RepliesTo sha256 h m None reply next) (sym more.0) (more.1, more.2, refl)))
+        inr (
+          reply,
+          takes m spells reply next (subst (RepliesTo sha256 h m None reply next) (sym more.0) (more.1, more.2, refl)),
+        )
 
     next-named : (m : Message) (next : History) → NextOf sha256 (Receive m None) h next → next.name ≡ h.name
     next-named m next (inl same) = ap (λ (x : History). x.name) same
     next-named m next (inr more) = let made = more.1 in ap (λ (x : History). x.name) made.1
 
-    receive-fault : (m : Message) → Spells message_layout bytes m → Receives sha256 mem_disk_view m None old new (Err DiskFault) → Answered (OfBytes bytes) h new None
+    receive-fault : (m : Message) → Spells message_layout bytes m → Receives sha256 mem_disk_view m None old new
+        (Err DiskFault) → Answered (OfBytes bytes) h new None
     receive-fault m spells a =
         let s = a.steps h served in
         record {
@@ -134,17 +154,21 @@ module _ {H : Type 0} {g : _} {k : _} (old new : Service MemDisk H g k) (h : His
         }
 
     -- a message that was received
-    received : (m : Message) → Spells message_layout bytes m → (r : Refusal) (o : Option Answer) → AnswersRefusal r o → Receives sha256 mem_disk_view m None old new (Err r)
+    received : (m : Message) → Spells message_layout bytes m → (r : Refusal) (o : Option Answer) → AnswersRefusal r o
+        → Receives sha256 mem_disk_view m None old new (Err r)
         → Answered (OfBytes bytes) h new o
     received m spells r o after a =
-        from-refusal (OfBytes bytes) h new (Receive m None) OfReceipt r o after ((a.steps h served).machine whole) (takes m spells (Refused r) h)
-        (λ is. receive-fault m spells (subst (λ (x : Refusal). Receives sha256 mem_disk_view m None old new (Err x)) is a))
+        from-refusal (OfBytes bytes) h new (Receive m None) OfReceipt r o after ((a.steps h served).machine whole)
+        (takes m spells (Refused r) h)
+        (λ is. receive-fault m spells (subst (λ (x : Refusal). Receives sha256 mem_disk_view m None old new (Err x)) is
+        a))
 
     no-memory : (r : Refusal) (o : Option Answer) → r ≡ NoMemory → AnswersRefusal r o → Answered (OfBytes bytes) h new o
     no-memory r o is after = absurd (subst (λ (x : Refusal). AnswersRefusal x o) is after)
 
     -- bytes that are no message
-    malformed : SpellsNothing message_layout bytes → (r : Refusal) (o : Option Answer) (place : ℕ) → r ≡ Malformed place → IsPlace message_layout bytes place
+    malformed : SpellsNothing message_layout bytes → (r : Refusal) (o : Option Answer) (place : ℕ) → r ≡ Malformed place
+        → IsPlace message_layout bytes place
         → AnswersRefusal r o → new ≡ old → Answered (OfBytes bytes) h new o
     malformed nothing r o place is at after same =
         let told : o ≡ Some (answer.Refused (Malformed place)) = subst (λ (x : Refusal). AnswersRefusal x o) is after in
@@ -162,7 +186,8 @@ module _ {H : Type 0} {g : _} {k : _} (old new : Service MemDisk H g k) (h : His
     message-or-none : ((m : Message) × Spells message_layout bytes m) ⊎ SpellsNothing message_layout bytes
     message-or-none = by (read_at message_layout bytes 0) refl
       where
-        by : (read : Result (Placed Message) ℕ) → read_at message_layout bytes 0 ≡ read → ((m : Message) × Spells message_layout bytes m) ⊎ SpellsNothing message_layout bytes
+        by : (read : Result (Placed Message) ℕ) → read_at message_layout bytes 0 ≡ read
+            → ((m : Message) × Spells message_layout bytes m) ⊎ SpellsNothing message_layout bytes
         by (Ok p) is =
             elim (cases_lt p.after (length bytes)) [
               | inl less ↦ inr (whole-longer message_layout bytes p.after p.value is less).0
@@ -170,20 +195,25 @@ module _ {H : Type 0} {g : _} {k : _} (old new : Service MemDisk H g k) (h : His
             ]
         by (Err place) is = inr (whole-stops message_layout message-lawful.goes bytes place is).0
 
-    pub receive-answered : (r : Refusal) (o : Option Answer) → AnswersRefusal r o → ReceivesBytes sha256 mem_disk_view bytes None old new (Err r) → Answered (OfBytes bytes) h new o
+    pub receive-answered : (r : Refusal) (o : Option Answer) → AnswersRefusal r o → ReceivesBytes sha256 mem_disk_view
+        bytes None old new (Err r) → Answered (OfBytes bytes) h new o
     receive-answered r o after a =
         elim message-or-none [
           | inl m ↦ elim (a.message m.0 m.1) [
             | inl none ↦ no-memory r o (same-refusal Receipt r NoMemory none.1) after
             | inr taken ↦ received m.0 m.1 r o after taken
           ]
-          | inr nothing ↦ elim (subst (λ (b : Bool). RefusesNoMessage b bytes (fails Receipt r)) whole (a.malformed nothing).0) [
-            | inl none ↦ no-memory r o (same-refusal Receipt r NoMemory none) after
-            | inr told ↦ malformed nothing r o told.0 (same-refusal Receipt r (Malformed told.0) told.1) told.2 after (a.malformed nothing).1
-          ]
+          | inr nothing ↦ elim (subst (λ (b : Bool). RefusesNoMessage b bytes (fails Receipt r)) whole
+              (a.malformed nothing).0) [
+                | inl none ↦ no-memory r o (same-refusal Receipt r NoMemory none) after
+                | inr told ↦ malformed nothing r o told.0 (same-refusal Receipt r (Malformed told.0) told.1) told.2
+                    after
+                    (a.malformed nothing).1
+              ]
         ]
 
-    pub receive-done : (receipt : Receipt) → ReceivesBytes sha256 mem_disk_view bytes None old new (Ok receipt) → Answered (OfBytes bytes) h new (Some (answer.Archived receipt.by.step))
+    pub receive-done : (receipt : Receipt) → ReceivesBytes sha256 mem_disk_view bytes None old new (Ok receipt)
+        → Answered (OfBytes bytes) h new (Some (answer.Archived receipt.by.step))
     receive-done receipt a =
         elim message-or-none [
           | inl m ↦ elim (a.message m.0 m.1) [
@@ -197,8 +227,9 @@ module _ {H : Type 0} {g : _} {k : _} (old new : Service MemDisk H g k) (h : His
               serves = s.done.1;
             })
           ]
-          | inr nothing ↦ elim (subst (λ (b : Bool). RefusesNoMessage b bytes (Ok receipt)) whole (a.malformed nothing).0) [
-            | inl none ↦ cc
-            | inr told ↦ (let no = told.1 in cc)
-          ]
+          | inr nothing ↦ elim (subst (λ (b : Bool). RefusesNoMessage b bytes (Ok receipt)) whole
+              (a.malformed nothing).0) [
+                | inl none ↦ cc
+                | inr told ↦ (let no = told.1 in cc)
+              ]
         ]

@@ -17,9 +17,11 @@ use Rattle.tw_world.specs.declared.told.Told.{Told}
 use Rattle.tw_world.specs.declared.told.Told.TheVariants.{Crashed, Plain, Stopped}
 use Rattle.tw_world.proofs.Resting.{stands-closed, stands-each}
 
-module _ {H : Type 0} {g : _} {k : _} (given : Given) (h : History) (service : Service MemDisk H g k) (after : MemDisk) (steps : ℕ) (told : Told) where
+module _ {H : Type 0} {g : _} {k : _} (given : Given) (h : History) (service : Service MemDisk H g k) (after : MemDisk)
+    (steps : ℕ) (told : Told) where
   -- no crash waited
-  pub ends-plain : (a : Answer) → told ≡ Plain a → ((x : History) → Serves sha256 mem_disk_view service x → RestsAs after steps x) → Answered given h service (Some a) → LineEnds given false h told after steps
+  pub ends-plain : (a : Answer) → told ≡ Plain a → ((x : History) → Serves sha256 mem_disk_view service x
+      → RestsAs after steps x) → Answered given h service (Some a) → LineEnds given false h told after steps
   ends-plain a is rests answered =
       record {
         next = answered.next;
@@ -29,32 +31,38 @@ module _ {H : Type 0} {g : _} {k : _} (given : Given) (h : History) (service : S
       }
 
   module _ (disk : MemDisk) (closed : disk ≡ disk_of service)
-      (stands : (x : History) → Serves sha256 mem_disk_view service x → IsAtRest (mem_disk_view disk) (λ i. StandsFor sha256 i (name_of service) x))
-      (reopens : (one other : History) → ((c : Image) → (mem_disk_view disk).may_leave c → StandsAs one c ⊎ StandsAs other c) → RestsAs after steps one ⊎ RestsAs after steps other) where
+      (stands : (x : History) → Serves sha256 mem_disk_view service x → IsAtRest (mem_disk_view disk)
+      (λ i. StandsFor sha256 i (name_of service) x))
+      (reopens : (one other : History) → ((c : Image) → (mem_disk_view disk).may_leave c → StandsAs one c
+      ⊎ StandsAs other c) → RestsAs after steps one ⊎ RestsAs after steps other) where
     -- it was opened again as this history
     as-one : (x : History) → RestsAs after steps x ⊎ RestsAs after steps x → RestsAs after steps x
     as-one x (inl r) = r
     as-one x (inr r) = r
 
     -- a crash waited, and came after the answer
-    answered-crash : (a : Answer) → told ≡ Crashed a steps → Answered given h service (Some a) → LineEnds given true h told after steps
+    answered-crash : (a : Answer) → told ≡ Crashed a steps → Answered given h service (Some a) → LineEnds given true h
+        told after steps
     answered-crash a is answered =
         let next : History = answered.next in
         let good : StandsForGood disk next = stands-closed disk (name_of service) next (stands next answered.serves) in
-        let rests : RestsAs after steps next = as-one next (reopens next next (λ c may. inl (stands-each disk next good c may))) in
+        let rests : RestsAs after steps next =
+        as-one next (reopens next next (λ c may. inl (stands-each disk next good c may))) in
         record {
           next = next;
           named = answered.named;
           goes = inl (
             answered.reply,
             answered.takes,
-            inl (is ∙ ap (λ x. Crashed x steps) answered.is ∙ ap (Crashed (answer_to_reply (own_answer given next answered.reply) answered.reply)) rests.0),
+            inl (is ∙ ap (λ x. Crashed x steps) answered.is
+                ∙ ap (Crashed (answer_to_reply (own_answer given next answered.reply) answered.reply)) rests.0),
           );
           rests = rests;
         }
 
     -- nothing was done
-    undone : told ≡ Stopped steps → (x : History) → x ≡ h → RestsAs after steps x → LineEnds given true h told after steps
+    undone : told ≡ Stopped steps → (x : History) → x ≡ h → RestsAs after steps x → LineEnds given true h told after
+        steps
     undone is x same rests = record {
       next = x;
       named = ap (λ (y : History). y.name) same;
@@ -72,10 +80,17 @@ module _ {H : Type 0} {g : _} {k : _} (given : Given) (h : History) (service : S
           | inl rests ↦ undone is h refl rests
           | inr rests ↦ elim answered.is_next [
             | inl same ↦ undone is next same rests
-            | inr replied ↦ record { next = next; named = answered.named; goes = inl (replied.0, replied.1, inr (is ∙ ap Stopped rests.0)); rests = rests }
+            | inr replied ↦
+                record {
+                  next = next;
+                  named = answered.named;
+                  goes = inl (replied.0, replied.1, inr (is ∙ ap Stopped rests.0));
+                  rests = rests;
+                }
           ]
         ]
 
-    pub ends-crashed : (answer : Option Answer) → told ≡ crash_told answer steps → Answered given h service answer → LineEnds given true h told after steps
+    pub ends-crashed : (answer : Option Answer) → told ≡ crash_told answer steps → Answered given h service answer
+        → LineEnds given true h told after steps
     ends-crashed (Some a) is answered = answered-crash a is answered
     ends-crashed None is answered = stopped-crash is answered

@@ -1,5 +1,6 @@
 -- The files of some numbers, and the proofs that they are.
-use Rattle.std.proofs.Common.{◌≡◌, ℕ, suc, zero, ◌+◌, ◌<◌, List, [], ◌∷◌, ◌++◌, length, take, get_or, refl, ap, sym, ◌∙◌, subst, inl, inr, add-one, arith}
+use Rattle.std.proofs.Common.{◌≡◌, ℕ, suc, zero, ◌+◌, ◌<◌, List, [], ◌∷◌, ◌++◌, length, take, get_or, refl, ap, sym}
+use Rattle.std.proofs.Common.{◌∙◌, subst, inl, inr, add-one, arith}
 use Rattle.std.specs.Prelude.{IsSome, Option, Some, None}
 use Rattle.std.proofs.Math.Seq.{take-suc}
 use Rattle.tw_base.specs.format.Formats.{Spells}
@@ -9,7 +10,8 @@ use Rattle.tw_world.specs.Players.{AreFiled, AreProofsOfNumbers}
 use Rattle.tw_world.specs.Runs.{AreFiles, AreProofs}
 use Rattle.tw_world.specs.Worlds.{World, numbered}
 
-pub proofs-more : (files : List (Option (List ℕ))) (proofs : List Proof) (bytes : List ℕ) (p : Proof) → AreProofs files proofs → Spells proof_layout bytes p
+pub proofs-more : (files : List (Option (List ℕ))) (proofs : List Proof) (bytes : List ℕ) (p : Proof)
+    → AreProofs files proofs → Spells proof_layout bytes p
     → AreProofs (files ++ Some bytes ∷ []) (proofs ++ p ∷ [])
 proofs-more [] [] bytes p are spells = (spells, tt)
 proofs-more [] (q ∷ proofs) bytes p are spells = absurd are
@@ -21,7 +23,8 @@ not-some : IsSome {T = Option (List ℕ)} None → ⊥
 not-some is = cc
 
 module _ (w : World) where
-  pub files-more : (numbers : List ℕ) (files : List (Option (List ℕ))) (n : ℕ) (file : Option (List ℕ)) → AreFiles w numbers files → numbered w.files n ≡ Some file
+  pub files-more : (numbers : List ℕ) (files : List (Option (List ℕ))) (n : ℕ) (file : Option (List ℕ))
+      → AreFiles w numbers files → numbered w.files n ≡ Some file
       → AreFiles w (numbers ++ n ∷ []) (files ++ file ∷ [])
   files-more [] [] n file are is = (is, tt)
   files-more [] (f ∷ files) n file are is = absurd are
@@ -29,10 +32,12 @@ module _ (w : World) where
   files-more (k ∷ numbers) (f ∷ files) n file are is = (are.0, files-more numbers files n file are.1 is)
 
   -- the first so many, and the next one
-  pub files-next : (numbers : List ℕ) (i d : ℕ) (files : List (Option (List ℕ))) (file : Option (List ℕ)) → i < length numbers → AreFiles w (take i numbers) files
+  pub files-next : (numbers : List ℕ) (i d : ℕ) (files : List (Option (List ℕ))) (file : Option (List ℕ))
+      → i < length numbers → AreFiles w (take i numbers) files
       → numbered w.files (get_or numbers i d) ≡ Some file → AreFiles w (take (i + 1) numbers) (files ++ file ∷ [])
   files-next numbers i d files file within are is =
-      subst (λ ns. AreFiles w ns (files ++ file ∷ [])) (sym (ap (λ j. take j numbers) (add-one i) ∙ take-suc numbers i d within))
+      subst (λ ns. AreFiles w ns (files ++ file ∷ []))
+      (sym (ap (λ j. take j numbers) (add-one i) ∙ take-suc numbers i d within))
       (files-more (take i numbers) files (get_or numbers i d) file are is)
 
   some-file : (o : Option (Option (List ℕ))) → IsSome o → (file : Option (List ℕ)) × (o ≡ Some file)
@@ -46,9 +51,12 @@ module _ (w : World) where
       let rest = files-there numbers all.1 in (first.0 ∷ rest.0, (first.1, rest.1))
 
   -- one of them wasn't made
-  pub files-without : (numbers : List ℕ) (i d : ℕ) → i < length numbers → numbered w.files (get_or numbers i d) ≡ Some None → AreFiled w numbers → AreProofsOfNumbers w numbers None
+  pub files-without : (numbers : List ℕ) (i d : ℕ) → i < length numbers → numbered w.files (get_or numbers i d) ≡ Some
+      None → AreFiled w numbers → AreProofsOfNumbers w numbers None
   files-without [] i d within is all = absurd (omega (arith, within))
-  files-without (n ∷ numbers) zero d within is all = let rest = files-there numbers all.1 in (None ∷ rest.0, (is, rest.1), inl refl)
+  files-without (n ∷ numbers) zero d within is all = let rest = files-there numbers all.1 in
+      (None ∷ rest.0, (is, rest.1), inl refl)
   files-without (n ∷ numbers) (suc i) d within is all =
       let first = some-file (numbered w.files n) all.0 in
-      let rest = files-without numbers i d (omega (arith, within)) is all.1 in (first.0 ∷ rest.0, (first.1, rest.1), inr rest.2)
+      let rest = files-without numbers i d (omega (arith, within)) is all.1 in
+      (first.0 ∷ rest.0, (first.1, rest.1), inr rest.2)

@@ -1,5 +1,6 @@
 -- Services that are played, and the members of a world that they are.
-use Rattle.std.proofs.Common.{◌≡◌, ℕ, suc, zero, ◌+◌, ◌<◌, List, [], ◌∷◌, ◌++◌, length, drop, get_or, refl, ap, sym, ◌∙◌, subst, Bool, true, false, add-one, arith}
+use Rattle.std.proofs.Common.{◌≡◌, ℕ, suc, zero, ◌+◌, ◌<◌, List, [], ◌∷◌, ◌++◌, length, drop, get_or, refl, ap, sym}
+use Rattle.std.proofs.Common.{◌∙◌, subst, Bool, true, false, add-one, arith}
 use Rattle.std.specs.Prelude.{Some, None, slice_get, slice_set, if◌then◌else◌}
 use Rattle.std.specs.Str.{bytes_eq}
 use Rattle.std.proofs.Math.Seq.{drop-cons}
@@ -17,15 +18,18 @@ pub record Found (host : Host) (members : List Member) (name : List ℕ) : Type 
   pub there : member_of members name ≡ Some member
   pub is : IsHostOf host member
 
-found-first : (b : Bool) (one : Member) (members : List Member) (name : List ℕ) (m : Member) → b ≡ true → m ≡ one → (if b then Some one else member_of members name) ≡ Some m
+found-first : (b : Bool) (one : Member) (members : List Member) (name : List ℕ) (m : Member) → b ≡ true → m ≡ one
+    → (if b then Some one else member_of members name) ≡ Some m
 found-first true one members name m e is = ap Some (sym is)
 found-first false one members name m e is = cc
 
-found-later : (b : Bool) (one : Member) (members : List Member) (name : List ℕ) (m : Member) → b ≡ false → member_of members name ≡ Some m → (if b then Some one else member_of members name) ≡ Some m
+found-later : (b : Bool) (one : Member) (members : List Member) (name : List ℕ) (m : Member) → b ≡ false
+    → member_of members name ≡ Some m → (if b then Some one else member_of members name) ≡ Some m
 found-later true one members name m e is = cc
 found-later false one members name m e is = is
 
-pub find-member : (hosts : List Host) (members : List Member) (name : List ℕ) (at : ℕ) (host : Host) → AreHostsOf hosts members → IsFirst hosts name at → slice_get hosts at ≡ Some host
+pub find-member : (hosts : List Host) (members : List Member) (name : List ℕ) (at : ℕ) (host : Host)
+    → AreHostsOf hosts members → IsFirst hosts name at → slice_get hosts at ≡ Some host
     → Found host members name
 find-member [] members name at host are first there = absurd first
 find-member (x ∷ hosts) [] name at host are first there = absurd are
@@ -48,7 +52,8 @@ find-member (x ∷ hosts) (m ∷ members) name (suc at) host are first there =
     }
 
 -- the service in another state is the member in its place
-pub put-host : (hosts : List Host) (members : List Member) (name : List ℕ) (at : ℕ) (new : Host) (n : Member) → AreHostsOf hosts members → IsFirst hosts name at
+pub put-host : (hosts : List Host) (members : List Member) (name : List ℕ) (at : ℕ) (new : Host) (n : Member)
+    → AreHostsOf hosts members → IsFirst hosts name at
     → IsHostOf new n → n.history.name ≡ name → AreHostsOf (slice_set hosts at new) (put_member members n)
 put-host [] members name at new n are first is named = absurd first
 put-host (x ∷ hosts) [] name at new n are first is named = absurd are
@@ -56,40 +61,51 @@ put-host (x ∷ hosts) (m ∷ members) name zero new n are first is named =
     let own : x.name ≡ name = first in
     let test : bytes_eq m.history.name n.history.name ≡ true =
     ap (λ k. bytes_eq k n.history.name) (sym are.0.holds.named ∙ own ∙ sym named) ∙ is_same n.history.name in
-    subst (λ (b : Bool). AreHostsOf (new ∷ hosts) (if b then n ∷ members else m ∷ put_member members n)) (sym test) (is, are.1)
+    subst (λ (b : Bool). AreHostsOf (new ∷ hosts) (if b then n ∷ members else m ∷ put_member members n)) (sym test)
+    (is, are.1)
 put-host (x ∷ hosts) (m ∷ members) name (suc at) new n are first is named =
     let test : bytes_eq m.history.name n.history.name ≡ false =
     ap (λ k. bytes_eq k n.history.name) (sym are.0.holds.named) ∙ ap (bytes_eq x.name) named ∙ first.0 in
-    subst (λ (b : Bool). AreHostsOf (x ∷ slice_set hosts at new) (if b then n ∷ members else m ∷ put_member members n)) (sym test)
+    subst (λ (b : Bool). AreHostsOf (x ∷ slice_set hosts at new) (if b then n ∷ members else m ∷ put_member members n))
+    (sym test)
     (are.0, put-host hosts members name at new n are.1 first.1 is named)
 
 -- one service more
-pub add-host : (hosts : List Host) (members : List Member) (new : Host) (n : Member) → AreHostsOf hosts members → IsHostOf new n → AreHostsOf (hosts ++ new ∷ []) (members ++ n ∷ [])
+pub add-host : (hosts : List Host) (members : List Member) (new : Host) (n : Member) → AreHostsOf hosts members
+    → IsHostOf new n → AreHostsOf (hosts ++ new ∷ []) (members ++ n ∷ [])
 add-host [] [] new n are is = (is, tt)
 add-host [] (m ∷ members) new n are is = absurd are
 add-host (x ∷ hosts) [] new n are is = absurd are
 add-host (x ∷ hosts) (m ∷ members) new n are is = (are.0, add-host hosts members new n are.1 is)
 
 -- the service in another state that is the same member too
-pub keep-host : (hosts : List Host) (members : List Member) (at : ℕ) (host new : Host) → AreHostsOf hosts members → slice_get hosts at ≡ Some host
+pub keep-host : (hosts : List Host) (members : List Member) (at : ℕ) (host new : Host) → AreHostsOf hosts members
+    → slice_get hosts at ≡ Some host
     → ((m : Member) → IsHostOf host m → IsHostOf new m) → AreHostsOf (slice_set hosts at new) members
 keep-host [] members at host new are there to = absurd (not-there there)
   where
     not-there : None ≡ Some host → ⊥
     not-there e = cc
 keep-host (x ∷ hosts) [] at host new are there to = absurd are
-keep-host (x ∷ hosts) (m ∷ members) zero host new are there to = (to m (subst (λ (y : Host). IsHostOf y m) (same-host x host there) are.0), are.1)
-keep-host (x ∷ hosts) (m ∷ members) (suc at) host new are there to = (are.0, keep-host hosts members at host new are.1 there to)
+keep-host (x ∷ hosts) (m ∷ members) zero host new are there to =
+    (to m (subst (λ (y : Host). IsHostOf y m) (same-host x host there) are.0), are.1)
+keep-host (x ∷ hosts) (m ∷ members) (suc at) host new are there to =
+    (are.0, keep-host hosts members at host new are.1 there to)
 
 -- where no service has the name so far, the first one does that is found among those behind
-pub first-later : (hosts : List Host) (name : List ℕ) (i : ℕ) (d : Host) → i < length hosts → bytes_eq (get_or hosts i d).name name ≡ false
-    → ((k : ℕ) → IsFirst (drop i hosts) name k → IsFirst hosts name (i + k)) → (k : ℕ) → IsFirst (drop (i + 1) hosts) name k → IsFirst hosts name (i + 1 + k)
+pub first-later : (hosts : List Host) (name : List ℕ) (i : ℕ) (d : Host) → i < length hosts
+    → bytes_eq (get_or hosts i d).name name ≡ false
+    → ((k : ℕ) → IsFirst (drop i hosts) name k → IsFirst hosts name (i + k)) → (k : ℕ) → IsFirst (drop (i + 1) hosts)
+    name k → IsFirst hosts name (i + 1 + k)
 first-later hosts name i d within other before k first =
     let split : drop i hosts ≡ get_or hosts i d ∷ drop (i + 1) hosts =
     drop-cons hosts i d within ∙ ap (λ j. get_or hosts i d ∷ drop j hosts) (sym (add-one i)) in
-    subst (IsFirst hosts name) (omega arith) (before (suc k) (subst (λ (hs : List Host). IsFirst hs name (suc k)) (sym split) (other, first)))
+    subst (IsFirst hosts name) (omega arith)
+    (before (suc k) (subst (λ (hs : List Host). IsFirst hs name (suc k)) (sym split) (other, first)))
 
-pub first-here : (hosts : List Host) (name : List ℕ) (i : ℕ) (d : Host) → i < length hosts → (get_or hosts i d).name ≡ name
+pub first-here : (hosts : List Host) (name : List ℕ) (i : ℕ) (d : Host) → i < length hosts → (get_or hosts i d).name
+    ≡ name
     → ((k : ℕ) → IsFirst (drop i hosts) name k → IsFirst hosts name (i + k)) → IsFirst hosts name i
 first-here hosts name i d within same before =
-    subst (IsFirst hosts name) (omega arith) (before zero (subst (λ (hs : List Host). IsFirst hs name zero) (sym (drop-cons hosts i d within)) same))
+    subst (IsFirst hosts name) (omega arith)
+    (before zero (subst (λ (hs : List Host). IsFirst hs name zero) (sym (drop-cons hosts i d within)) same))

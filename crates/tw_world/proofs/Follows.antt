@@ -1,5 +1,6 @@
 -- What is played follows the world on, where a service goes on or is asked.
-use Rattle.std.proofs.Common.{◌≡◌, ℕ, suc, zero, ◌+◌, ◌<◌, List, [], ◌∷◌, length, get_or, refl, ap, sym, ◌∙◌, subst, arith}
+use Rattle.std.proofs.Common.{◌≡◌, ℕ, suc, zero, ◌+◌, ◌<◌, List, [], ◌∷◌, length, get_or, refl, ap, sym, ◌∙◌, subst}
+use Rattle.std.proofs.Common.{arith}
 use Rattle.std.proofs.lemmas.List.{map-set}
 use Rattle.std.proofs.lemmas.Option.{slice_get-get_or, slice_get-map}
 use Rattle.std.specs.Vec.{with_item}
@@ -35,7 +36,8 @@ pub record IsServedAt (old new : Player) (name : List ℕ) (at : ℕ) (host one 
 abbrev pub with_host : Player → (at : ℕ) → Host → Player
 with_host p at one = record p { hosts = with_item p.hosts at one }
 
-pub served-at : (old : Player) (name : List ℕ) (at : ℕ) (host one : Host) → (at < length old.hosts.items) × IsFirst old.hosts.items name at
+pub served-at : (old : Player) (name : List ℕ) (at : ℕ) (host one : Host) → (at < length old.hosts.items)
+    × IsFirst old.hosts.items name at
     → host ≡ get_or old.hosts.items at host → IsServedAt old (with_host old at one) name at host one
 served-at old name at host one found is = record {
   first = found.1;
@@ -52,27 +54,34 @@ host-there (x ∷ hosts) zero within = (x, refl)
 host-there (x ∷ hosts) (suc at) within = host-there hosts at (omega (arith, within))
 
 -- the world's message at a place
-pub message-there : (p : Player) (w : World) (index : ℕ) (kept : KeptMail) → PlayerFollows p w → index < length p.messages.items → kept ≡ get_or p.messages.items index kept
+pub message-there : (p : Player) (w : World) (index : ℕ) (kept : KeptMail) → PlayerFollows p w
+    → index < length p.messages.items → kept ≡ get_or p.messages.items index kept
     → slice_get w.messages index ≡ Some (mail_kept kept)
 message-there p w index kept f within is =
     ap (λ (ms : List Mail). slice_get ms index) (sym f.messages) ∙ slice_get-map mail_kept p.messages.items index
     ∙ ap (option_map mail_kept) (slice_get-get_or p.messages.items index kept within ∙ ap Some (sym is))
 
 -- the world's file at a place
-pub file-there : (p : Player) (w : World) (index : ℕ) (file : Option (List ℕ)) → p.files.items ≡ w.files → index < length p.files.items → file ≡ get_or p.files.items index file
+pub file-there : (p : Player) (w : World) (index : ℕ) (file : Option (List ℕ)) → p.files.items ≡ w.files
+    → index < length p.files.items → file ≡ get_or p.files.items index file
     → slice_get w.files index ≡ Some file
 file-there p w index file same within is =
-    ap (λ (fs : List (Option (List ℕ))). slice_get fs index) (sym same) ∙ slice_get-get_or p.files.items index file within ∙ ap Some (sym is)
+    ap (λ (fs : List (Option (List ℕ))). slice_get fs index) (sym same) ∙ slice_get-get_or p.files.items index file
+    within ∙ ap Some (sym is)
 
 -- the world's messages without the one at a place
-pub message-lost : (p : Player) (w : World) (index number : ℕ) → PlayerFollows p w → index + 1 ≡ number → map mail_kept (slice_set p.messages.items index Dropped) ≡ (without_message w number).messages
+pub message-lost : (p : Player) (w : World) (index number : ℕ) → PlayerFollows p w → index + 1 ≡ number
+    → map mail_kept (slice_set p.messages.items index Dropped) ≡ (without_message w number).messages
 message-lost p w index number f at =
-    map-set mail_kept p.messages.items index Dropped ∙ ap (λ (ms : List Mail). slice_set ms index (mail_kept Dropped)) f.messages
+    map-set mail_kept p.messages.items index Dropped ∙ ap (λ (ms : List Mail). slice_set ms index (mail_kept Dropped))
+    f.messages
     ∙ ap (λ i. slice_set w.messages i (mail_kept Dropped)) (omega (arith, at))
 
-module _ (old new : Player) (name : List ℕ) (at : ℕ) (host one : Host) (served : IsServedAt old new name at host one) (w : World) (f : PlayerFollows old w) where
+module _ (old new : Player) (name : List ℕ) (at : ℕ) (host one : Host) (served : IsServedAt old new name at host one)
+    (w : World) (f : PlayerFollows old w) where
   -- it is another member of the name
-  pub follows-put : (n : Member) → IsHostOf one n → n.history.name ≡ name → PlayerFollows new (after_line (with_member w n))
+  pub follows-put : (n : Member) → IsHostOf one n → n.history.name ≡ name
+      → PlayerFollows new (after_line (with_member w n))
   follows-put n is same = record {
     hosts = subst (λ (hosts : List Host). AreHostsOf hosts (with_member w n).members) (sym served.hosts)
         (put-host old.hosts.items w.members name at one n f.hosts served.first is same);
@@ -84,15 +93,18 @@ module _ (old new : Player) (name : List ℕ) (at : ℕ) (host one : Host) (serv
   -- it is the same member
   pub follows-kept : ((m : Member) → IsHostOf host m → IsHostOf one m) → PlayerFollows new w
   follows-kept to = record {
-    hosts = subst (λ (hosts : List Host). AreHostsOf hosts w.members) (sym served.hosts) (keep-host old.hosts.items w.members at host one f.hosts served.there to);
+    hosts = subst (λ (hosts : List Host). AreHostsOf hosts w.members) (sym served.hosts)
+        (keep-host old.hosts.items w.members at host one f.hosts served.there to);
     messages = ap (map mail_kept) served.messages ∙ f.messages;
     files = served.files ∙ f.files;
     anchors = served.anchors ∙ f.anchors;
   }
 
   -- a line that only asked
-  pub follows-asked : (question : Question) (given : Result (List ℕ) Refusal) → ((h : History) → HoldsHistory host h → GivesReply h question given × HoldsHistory one h)
-      → one.crash ≡ host.crash → (m : Member) × IsMember w name m × GivesReply m.history question given × PlayerFollows new w
+  pub follows-asked : (question : Question) (given : Result (List ℕ) Refusal)
+      → ((h : History) → HoldsHistory host h → GivesReply h question given × HoldsHistory one h)
+      → one.crash ≡ host.crash → (m : Member) × IsMember w name m × GivesReply m.history question given × PlayerFollows
+      new w
   follows-asked question given gives crash =
       let found = find-member old.hosts.items w.members name at host f.hosts served.first served.there in (
         found.member,
@@ -103,23 +115,28 @@ module _ (old new : Player) (name : List ℕ) (at : ℕ) (host one : Host) (serv
 
   -- a line that may have added a step
   pub follows-moved : (given : Given) (told : Told)
-      → ((h : History) → HoldsHistory host h → (next : History) × GoesOnByReply given (is_some host.crash) h next told × HoldsHistory one next) → one.name ≡ host.name → one.crash ≡ None
-      → (m : Member) × IsMember w name m × ((next : World) × Moves (TakesGiven given) (own_answer given) w m told next × PlayerFollows new next)
+      → ((h : History) → HoldsHistory host h → (next : History) × GoesOnByReply given (is_some host.crash) h next told
+      × HoldsHistory one next) → one.name ≡ host.name → one.crash ≡ None
+      → (m : Member) × IsMember w name m × ((next : World) × Moves (TakesGiven given) (own_answer given) w m told next
+      × PlayerFollows new next)
   follows-moved given told goes same crash =
       let found = find-member old.hosts.items w.members name at host f.hosts served.first served.there in
       let m : Member = found.member in
       let gone = goes m.history found.is.holds in
       let next : History = gone.0 in
-      let moved = goes-moves given w m next told (subst (λ b. GoesOnByReply given b m.history next told) found.is.waits gone.1) in
+      let moved = goes-moves given w m next told (subst (λ b. GoesOnByReply given b m.history next told) found.is.waits
+      gone.1) in
       let is = moved.2 in
       let n : Member = is.member in
       let holds : HoldsHistory one n.history = subst (HoldsHistory one) (sym is.history) gone.2 in
-      let names : n.history.name ≡ name = sym holds.named ∙ same ∙ found.is.holds.named ∙ named w.members name m found.there in (
+      let names : n.history.name ≡ name = sym holds.named ∙ same ∙ found.is.holds.named ∙ named w.members name m
+      found.there in (
         m,
         found.there,
         (
           moved.0,
           moved.1,
-          subst (PlayerFollows new) (sym is.is) (follows-put n (record { holds = holds; waits = ap is_some crash ∙ sym is.waits }) names),
+          subst (PlayerFollows new) (sym is.is)
+              (follows-put n (record { holds = holds; waits = ap is_some crash ∙ sym is.waits }) names),
         ),
       )

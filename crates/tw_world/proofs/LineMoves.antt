@@ -14,13 +14,18 @@ pub record IsMovedTo (w : World) (next : History) (after : World) : Type 0 where
   pub waits : member.waits ≡ false
   pub is : after ≡ after_line (with_member w member)
 
-pub goes-moves : (given : Given) (w : World) (m : Member) (next : History) (told : Told) → GoesOnByReply given m.waits m.history next told
+pub goes-moves : (given : Given) (w : World) (m : Member) (next : History) (told : Told) → GoesOnByReply given m.waits
+    m.history next told
     → (after : World) × Moves (TakesGiven given) (own_answer given) w m told after × IsMovedTo w next after
 goes-moves given w m next told (inl replied) = (
   after_line (moved w m next),
   inl (record { reply = replied.0; history = next; replies = replied.1; tells = replied.2; becomes = refl }),
   record {
-    member = record { history = next; births = m.births ++ replicate (length next.steps - length m.history.steps) w.place; waits = false };
+    member = record {
+      history = next;
+      births = m.births ++ replicate (length next.steps - length m.history.steps) w.place;
+      waits = false;
+    };
     history = refl;
     waits = refl;
     is = refl;

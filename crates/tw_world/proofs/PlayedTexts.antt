@@ -1,5 +1,6 @@
 -- The text of what was played, by what its printers tell.
-use Rattle.std.proofs.Common.{◌≡◌, ℕ, suc, ◌+◌, ◌<◌, List, [], ◌∷◌, ◌++◌, length, drop, get_or, refl, ap, sym, ◌∙◌, codes, add-one}
+use Rattle.std.proofs.Common.{◌≡◌, ℕ, suc, ◌+◌, ◌<◌, List, [], ◌∷◌, ◌++◌, length, drop, get_or, refl, ap, sym, ◌∙◌}
+use Rattle.std.proofs.Common.{codes, add-one}
 use Rattle.std.proofs.Math.Seq.{drop-cons}
 use Rattle.serde_json.specs.Data.{Data, Members, member, no_members, number, object, put, unsigned}
 use Rattle.serde_json.specs.Written.{compact_text}
@@ -21,7 +22,8 @@ AreCounted [] [] = Unit {0}
 AreCounted (host ∷ hosts) (h ∷ fam) = (host.name ≡ h.name) × (host.steps ≡ length h.steps) × AreCounted hosts fam
 AreCounted _ _ = ⊥
 
-pub counted-steps : (hosts : List Host) (fam : List History) (named : Members) → AreCounted hosts fam → with_counted named hosts ≡ with_steps named fam
+pub counted-steps : (hosts : List Host) (fam : List History) (named : Members) → AreCounted hosts fam
+    → with_counted named hosts ≡ with_steps named fam
 unfolding with_counted with_steps
 counted-steps [] [] named are = refl
 counted-steps [] (h ∷ fam) named are = absurd are
@@ -33,11 +35,14 @@ counted-steps (host ∷ hosts) (h ∷ fam) named are =
 
 -- ---- the text
 
-pub played-text : (script : List NumberedLine) (told : List Told) (counts : Counts) (hosts : List Host) (fam : List History) (text : List ℕ) → AreCounted hosts fam
-    → counts ≡ counts_of told → text ≡ told_lines script told ++ compact_text (hosts_summary counts hosts) ++ codes "\n" → text ≡ replayed_text script told fam
+pub played-text : (script : List NumberedLine) (told : List Told) (counts : Counts) (hosts : List Host)
+    (fam : List History) (text : List ℕ) → AreCounted hosts fam
+    → counts ≡ counts_of told → text ≡ told_lines script told ++ compact_text (hosts_summary counts hosts) ++ codes "\n"
+    → text ≡ replayed_text script told fam
 played-text script told counts hosts fam text are same is =
     is ∙ ap (λ (cs : Counts). told_lines script told ++ compact_text (hosts_summary cs hosts) ++ codes "\n") same
-    ∙ ap (λ (ms : Members). told_lines script told ++ compact_text (of_members ms) ++ codes "\n") (counted-steps hosts fam no_members are)
+    ∙ ap (λ (ms : Members). told_lines script told ++ compact_text (of_members ms) ++ codes "\n")
+    (counted-steps hosts fam no_members are)
   where
     of_members : Members → Data
     of_members ms =
@@ -49,7 +54,8 @@ played-text script told counts hosts fam text are same is =
 
 -- ---- line after line
 
-told_lines-cons : (l : NumberedLine) (lines : List NumberedLine) (t : Told) (told : List Told) → told_lines (l ∷ lines) (t ∷ told) ≡ told_line l.number t ++ told_lines lines told
+told_lines-cons : (l : NumberedLine) (lines : List NumberedLine) (t : Told) (told : List Told) → told_lines (l ∷ lines)
+    (t ∷ told) ≡ told_line l.number t ++ told_lines lines told
 unfolding told_lines
 told_lines-cons l lines t told = refl
 
@@ -58,9 +64,11 @@ unfolding told_lines
 told_lines-none [] = refl
 told_lines-none (t ∷ told) = refl
 
-pub told_lines-drop : (lines : List NumberedLine) (told : List Told) (i : ℕ) (l : NumberedLine) (t : Told) → i < length lines → i < length told
+pub told_lines-drop : (lines : List NumberedLine) (told : List Told) (i : ℕ) (l : NumberedLine) (t : Told)
+    → i < length lines → i < length told
     → get_or lines i l ≡ l → get_or told i t ≡ t
-    → told_lines (drop i lines) (drop i told) ≡ told_line l.number t ++ told_lines (drop (i + 1) lines) (drop (i + 1) told)
+    → told_lines (drop i lines) (drop i told) ≡ told_line l.number t ++ told_lines (drop (i + 1) lines)
+    (drop (i + 1) told)
 told_lines-drop lines told i l t within there at is =
     ap (λ ls. told_lines ls (drop i told)) (drop-cons lines i l within ∙ ap (λ x. x ∷ drop (suc i) lines) at)
     ∙ ap (told_lines (l ∷ drop (suc i) lines)) (drop-cons told i t there ∙ ap (λ x. x ∷ drop (suc i) told) is)

@@ -22,8 +22,10 @@ stands-same old new h same stands = record {
 }
 
 -- what is left by a crash is one of what it might leave
-pub stands-left : (disk : MemDisk) (may_leave : Image → Type 0) (one other : History) → IsAtRest (mem_disk_view disk) may_leave
-    → ((c : Image) → may_leave c → StandsAs one c ⊎ StandsAs other c) → StandsForGood disk one ⊎ StandsForGood disk other
+pub stands-left : (disk : MemDisk) (may_leave : Image → Type 0) (one other : History) → IsAtRest (mem_disk_view disk)
+    may_leave
+    → ((c : Image) → may_leave c → StandsAs one c ⊎ StandsAs other c) → StandsForGood disk one ⊎ StandsForGood disk
+    other
 stands-left disk may_leave one other rest all =
     elim (all rest.image rest.has) [
       | inl s ↦ inl (record { image = rest.image; told = rest.told; only = rest.only; has = s })
@@ -31,11 +33,13 @@ stands-left disk may_leave one other rest all =
     ]
 
 -- whatever a crash may leave of a disk that stands for a history for good stands for it
-pub stands-each : (disk : MemDisk) (h : History) → StandsForGood disk h → (c : Image) → (mem_disk_view disk).may_leave c → StandsAs h c
+pub stands-each : (disk : MemDisk) (h : History) → StandsForGood disk h → (c : Image) → (mem_disk_view disk).may_leave c
+    → StandsAs h c
 stands-each disk h stands c may = subst (StandsAs h) (sym (stands.only c may)) stands.has
 
 -- a disk that was closed
-pub stands-closed : (disk : MemDisk) (name : List ℕ) (h : History) → IsAtRest (mem_disk_view disk) (λ i. StandsFor sha256 i name h) → StandsForGood disk h
+pub stands-closed : (disk : MemDisk) (name : List ℕ) (h : History) → IsAtRest (mem_disk_view disk)
+    (λ i. StandsFor sha256 i name h) → StandsForGood disk h
 stands-closed disk name h rest = record {
   image = rest.image;
   told = rest.told;
@@ -44,5 +48,12 @@ stands-closed disk name h rest = record {
 }
 
 -- so is what is left by a crash of such a disk
-pub stands-left_one : (old new : MemDisk) (h : History) → IsAtRest (mem_disk_view new) (mem_disk_view old).may_leave → StandsForGood old h → StandsForGood new h
-stands-left_one old new h rest stands = record { image = rest.image; told = rest.told; only = rest.only; has = stands-each old h stands rest.image rest.has }
+pub stands-left_one : (old new : MemDisk) (h : History) → IsAtRest (mem_disk_view new) (mem_disk_view old).may_leave
+    → StandsForGood old h → StandsForGood new h
+stands-left_one old new h rest stands =
+    record {
+      image = rest.image;
+      told = rest.told;
+      only = rest.only;
+      has = stands-each old h stands rest.image rest.has;
+    }

@@ -1,5 +1,6 @@
 -- What is told of a line of a world, by what its service gives, its message is, or its files are.
-use Rattle.std.proofs.Common.{◌≡◌, ◌⊎◌, ℕ, ◌+◌, ◌≤◌, List, length, refl, ap, sym, ◌∙◌, subst, inl, inr, Bool, true, false, arith}
+use Rattle.std.proofs.Common.{◌≡◌, ◌⊎◌, ℕ, ◌+◌, ◌≤◌, List, length, refl, ap, sym, ◌∙◌, subst, inl, inr, Bool, true}
+use Rattle.std.proofs.Common.{false, arith}
 use Rattle.std.specs.Prelude.{Ok, Option, Some, None, Err, MatchOption, ◌&&◌, slice_get, nat_le, if◌then◌else◌}
 use Rattle.std.proofs.Common.{add-one}
 use Rattle.std.proofs.lemmas.Bool.{le-leb, leb-true}
@@ -35,31 +36,47 @@ use Rattle.tw_world.specs.declared.told.Told.TheVariants.{Plain}
 use Rattle.tw_world.proofs.Members.{named}
 
 -- what has a number stands at the place before it
-pub numbered-at : {X : Type 0} (xs : List X) (index number : ℕ) → index + 1 ≡ number → numbered xs number ≡ slice_get xs index
+pub numbered-at : {X : Type 0} (xs : List X) (index number : ℕ) → index + 1 ≡ number → numbered xs number ≡ slice_get xs
+    index
 numbered-at xs index number is = ap (numbered xs) (sym is ∙ add-one index)
 
 module _ (w : World) where
   -- ---- messages
 
-  pub told-delivered : (name : List ℕ) (number index : ℕ) (m : Member) (mail : Mail) (told : Told) (next : World) → IsMember w name m → index + 1 ≡ number
-      → slice_get w.messages index ≡ Some mail → IsDelivered sha256 claims_none w mail m told next → IsLineTold sha256 claims_none w (Deliver number name) told next
+  pub told-delivered : (name : List ℕ) (number index : ℕ) (m : Member) (mail : Mail) (told : Told) (next : World)
+      → IsMember w name m → index + 1 ≡ number
+      → slice_get w.messages index ≡ Some mail → IsDelivered sha256 claims_none w mail m told next
+      → IsLineTold sha256 claims_none w (Deliver number name) told next
   told-delivered name number index m mail told next is at there delivered =
-      let found : numbered w.messages number ≡ Some mail = numbered-at w.messages index number at ∙ there in
-      (m, is, subst (λ (o : Option Mail). MatchOption o ⊥ (λ mail. IsDelivered sha256 claims_none w mail m told next)) (sym found) delivered)
+      let found : numbered w.messages number ≡ Some mail = numbered-at w.messages index number at ∙ there in (
+        m,
+        is,
+        subst (λ (o : Option Mail). MatchOption o ⊥ (λ mail. IsDelivered sha256 claims_none w mail m told next))
+            (sym found) delivered,
+      )
 
-  pub told-lost : (number index : ℕ) (mail : Mail) (lost : Answer) → index + 1 ≡ number → slice_get w.messages index ≡ Some mail → loss_answer mail ≡ Some lost
+  pub told-lost : (number index : ℕ) (mail : Mail) (lost : Answer) → index + 1 ≡ number → slice_get w.messages index
+      ≡ Some mail → loss_answer mail ≡ Some lost
       → IsLineTold sha256 claims_none w (Lose number) (Plain lost) (after_line (without_message w number))
-  told-lost number index mail lost at there is =
-      (mail, numbered-at w.messages index number at ∙ there, subst (λ (o : Option Answer). MatchOption o ⊥ (λ l. Plain lost ≡ Plain l)) (sym is) refl, refl)
+  told-lost number index mail lost at there is = (
+    mail,
+    numbered-at w.messages index number at ∙ there,
+    subst (λ (o : Option Answer). MatchOption o ⊥ (λ l. Plain lost ≡ Plain l)) (sym is) refl,
+    refl,
+  )
 
   -- ---- files
 
-  pub told-verified : (number index : ℕ) (bytes : List ℕ) (verdict : Verdict) → index + 1 ≡ number → slice_get w.files index ≡ Some (Some bytes)
-      → IsVerdict sha256 w.anchors false bytes verdict → IsLineTold sha256 claims_none w (Verify number) (Plain (verdict_answer verdict)) (after_line w)
+  pub told-verified : (number index : ℕ) (bytes : List ℕ) (verdict : Verdict) → index + 1 ≡ number
+      → slice_get w.files index ≡ Some (Some bytes)
+      → IsVerdict sha256 w.anchors false bytes verdict → IsLineTold sha256 claims_none w (Verify number)
+      (Plain (verdict_answer verdict)) (after_line w)
   told-verified number index bytes verdict at there is = (
     refl,
-    subst (λ (o : Option (Option (List ℕ))). MatchOption o ⊥ (λ file. MatchOption file (Plain (verdict_answer verdict) ≡ Plain answer.Nothing)
-        (λ bytes. (v : Verdict) × IsVerdict sha256 w.anchors false bytes v × (Plain (verdict_answer verdict) ≡ Plain (verdict_answer v)))))
+    subst (λ (o : Option (Option (List ℕ))). MatchOption o ⊥
+        (λ file. MatchOption file (Plain (verdict_answer verdict) ≡ Plain answer.Nothing)
+        (λ bytes. (v : Verdict) × IsVerdict sha256 w.anchors false bytes v
+        × (Plain (verdict_answer verdict) ≡ Plain (verdict_answer v)))))
         (sym (numbered-at w.files index number at ∙ there)) (verdict, is, refl),
   )
 
@@ -70,7 +87,8 @@ not-both e = cc
 
 -- a step from 1 on has an authenticator under the last one, or is refused, and then there is no such step
 link-cases : (h : History) (step : ℕ) → 1 ≤ step
-    → (HasStep h step × (history_refusal h (Link step None) ≡ None)) ⊎ ((HasStep h step → ⊥) × (history_refusal h (Link step None) ≡ Some (NoStep (length h.steps))))
+    → (HasStep h step × (history_refusal h (Link step None) ≡ None))
+    ⊎ ((HasStep h step → ⊥) × (history_refusal h (Link step None) ≡ Some (NoStep (length h.steps))))
 unfolding question_refusal pages_refusal link_refusal
 link-cases h step one = by (nat_le step last) refl
   where
@@ -87,10 +105,15 @@ link-cases h step one = by (nat_le step last) refl
         let within : step ≤ last = leb-true step last e in
         inl (
           (one, within),
-          ap (λ b. told b (nat_le 1 last) (nat_le last last)) e ∙ ap (λ b. told true b (nat_le last last)) (le-leb 1 last (omega (arith, one, within)))
+          ap (λ b. told b (nat_le 1 last) (nat_le last last)) e ∙ ap (λ b. told true b (nat_le last last))
+              (le-leb 1 last (omega (arith, one, within)))
               ∙ ap (told true true) (le-leb last last (omega arith)),
         )
-    by false e = inr ((λ has. not-both (sym (le-leb step last has.1) ∙ e)), ap (λ b. told b (nat_le 1 last) (nat_le last last)) e)
+    by false e =
+        inr (
+          (λ has. not-both (sym (le-leb step last has.1) ∙ e)),
+          ap (λ b. told b (nat_le 1 last) (nat_le last last)) e,
+        )
 
 no-bytes : (bytes : List ℕ) (refusal : Refusal) → OfBytes bytes ≡ Refused refusal → ⊥
 no-bytes bytes refusal e = cc
@@ -106,32 +129,50 @@ same-link one other e = cc
 
 module _ (w : World) (name : List ℕ) (step : ℕ) (m : Member) (is : IsMember w name m) (one : 1 ≤ step) where
   -- what the machine replies, where the history refuses this
-  replies : (reply : Reply) (o : Option Refusal) → history_refusal m.history (Link step None) ≡ o → IsStepOf sha256 m.history (Ask (Link step None)) reply m.history
-      → MatchOption o ((bytes : List ℕ) × Makes sha256 m.history (Link step None) bytes × (reply ≡ OfBytes bytes)) (λ refusal. reply ≡ Refused refusal)
+  replies : (reply : Reply) (o : Option Refusal) → history_refusal m.history (Link step None) ≡ o
+      → IsStepOf sha256 m.history (Ask (Link step None)) reply m.history
+      → MatchOption o ((bytes : List ℕ) × Makes sha256 m.history (Link step None) bytes × (reply ≡ OfBytes bytes))
+      (λ refusal. reply ≡ Refused refusal)
   replies reply o e stepped =
-      subst (λ (x : Option Refusal). MatchOption x ((bytes : List ℕ) × Makes sha256 m.history (Link step None) bytes × (reply ≡ OfBytes bytes)) (λ refusal. reply ≡ Refused refusal)) e stepped.1
+      subst (λ (x : Option Refusal). MatchOption x ((bytes : List ℕ) × Makes sha256 m.history (Link step None) bytes
+      × (reply ≡ OfBytes bytes)) (λ refusal. reply ≡ Refused refusal)) e stepped.1
 
   -- the authenticator that a proof of the history's own tells
-  linked-thread : (bytes : List ℕ) (link : LinkProof) → Makes sha256 m.history (Link step None) bytes → Spells proof_layout bytes (Linked link)
+  linked-thread : (bytes : List ℕ) (link : LinkProof) → Makes sha256 m.history (Link step None) bytes
+      → Spells proof_layout bytes (Linked link)
       → thread_of link ≡ record { from = name; step = step; auth = auth sha256 m.history step }
   unfolding Makes
   linked-thread bytes link makes spells =
       let made : MakesLink sha256 m.history step (length m.history.steps) bytes = makes in
       let owns = made.2 in
-      let same : link ≡ made.0 = same-link link made.0 ((unambiguous proof_codec proof-lawful).one_value bytes (Linked link) (Linked made.0) spells made.1) in
-      ap thread_of_link same ∙ ap (λ n. record { from = n; step = made.0.step; auth = made.0.auth }) (owns.service ∙ named w.members name m is)
-      ∙ ap (λ n. record { from = name; step = n; auth = made.0.auth }) owns.at_step ∙ ap (λ a. record { from = name; step = step; auth = a }) owns.given
+      let same : link ≡ made.0 = same-link link made.0 ((unambiguous proof_codec proof-lawful).one_value bytes
+      (Linked link) (Linked made.0) spells made.1) in
+      ap thread_of_link same ∙ ap (λ n. record { from = n; step = made.0.step; auth = made.0.auth })
+      (owns.service ∙ named w.members name m is)
+      ∙ ap (λ n. record { from = name; step = n; auth = made.0.auth }) owns.at_step
+      ∙ ap (λ a. record { from = name; step = step; auth = a }) owns.given
 
   -- the authenticator that a proof tells is held
-  pub told-anchored : (bytes : List ℕ) (link : LinkProof) → GivesReply m.history (Link step None) (Ok bytes) → Spells proof_layout bytes (Linked link)
-      → IsLineTold sha256 claims_none w (Anchor name step) (Plain answer.Done) (after_line (with_anchor w (thread_of_link link)))
+  pub told-anchored : (bytes : List ℕ) (link : LinkProof) → GivesReply m.history (Link step None) (Ok bytes)
+      → Spells proof_layout bytes (Linked link)
+      → IsLineTold sha256 claims_none w (Anchor name step) (Plain answer.Done)
+      (after_line (with_anchor w (thread_of_link link)))
   told-anchored bytes link gives spells =
       elim (link-cases m.history step one) [
         | inl has ↦
             let made = replies (OfBytes bytes) None has.1 gives in
-            let makes = subst (Makes sha256 m.history (Link step None)) (same-bytes made.0 bytes (sym made.2)) made.1 in
-            (m, is, inl (has.0, refl, ap (λ (t : Thread). after_line (with_anchor w t)) (linked-thread bytes link makes spells)))
-        | inr none ↦ absurd (no-bytes bytes (NoStep (length m.history.steps)) (replies (OfBytes bytes) (Some (NoStep (length m.history.steps))) none.1 gives))
+            let makes = subst (Makes sha256 m.history (Link step None)) (same-bytes made.0 bytes (sym made.2))
+            made.1 in (
+              m,
+              is,
+              inl (
+                has.0,
+                refl,
+                ap (λ (t : Thread). after_line (with_anchor w t)) (linked-thread bytes link makes spells),
+              ),
+            )
+        | inr none ↦ absurd (no-bytes bytes (NoStep (length m.history.steps))
+            (replies (OfBytes bytes) (Some (NoStep (length m.history.steps))) none.1 gives))
       ]
 
   -- there is no such step
@@ -139,8 +180,10 @@ module _ (w : World) (name : List ℕ) (step : ℕ) (m : Member) (is : IsMember 
       → IsLineTold sha256 claims_none w (Anchor name step) (Plain (answer.Refused refusal)) (after_line w)
   told-unanchored refusal gives =
       elim (link-cases m.history step one) [
-        | inl has ↦ (let made = replies (Refused refusal) None has.1 gives in absurd (no-bytes made.0 refusal (sym made.2)))
+        | inl has ↦ (let made = replies (Refused refusal) None has.1 gives in
+            absurd (no-bytes made.0 refusal (sym made.2)))
         | inr none ↦
-            let same = same-refused refusal (NoStep (length m.history.steps)) (replies (Refused refusal) (Some (NoStep (length m.history.steps))) none.1 gives) in
+            let same = same-refused refusal (NoStep (length m.history.steps))
+            (replies (Refused refusal) (Some (NoStep (length m.history.steps))) none.1 gives) in
             (m, is, inr (none.0, ap (λ (r : Refusal). Plain (answer.Refused r)) same, refl))
       ]

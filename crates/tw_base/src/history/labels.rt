@@ -9,8 +9,9 @@ ghost use Rattle.tw_base.specs.kinds.Digests.{AllDigests};
 
 use crate::history::thread::Entry;
 use crate::history::told_labels::{
-    authenticator_told, datum_told, empty_tree_told, event_leaf_told, event_node_told, genesis_told, link_label_told, no_events_told, step_datum_told,
-    timed_datum_told, tree_node_told,
+    authenticator_told, datum_told, empty_tree_told, event_leaf_told, event_node_told,
+    genesis_told, link_label_told, no_events_told, step_datum_told, timed_datum_told,
+    tree_node_told,
 };
 use crate::kinds::digest::Digest;
 use crate::kinds::hasher::Hasher;
@@ -59,7 +60,13 @@ pub fn timed_datum<H: Hasher>(
     ensures event_root_size { length event_root.now ≡ 32 }
     ensures archive_root_size { length archive_root.now ≡ 32 }
 {
-    timed_datum_told(event_root, archive_root, count, time, &mut Unwritten::<H>::new())
+    timed_datum_told(
+        event_root,
+        archive_root,
+        count,
+        time,
+        &mut Unwritten::<H>::new(),
+    )
 }
 
 /// The datum of a step, which has a time or none.
@@ -75,7 +82,13 @@ pub fn step_datum<H: Hasher>(
     ensures archive_root_size { length archive_root.now ≡ 32 }
     ensures time_size { IfSome time (λ t. t < 2 ^ 64) }
 {
-    step_datum_told(event_root, archive_root, count, time, &mut Unwritten::<H>::new())
+    step_datum_told(
+        event_root,
+        archive_root,
+        count,
+        time,
+        &mut Unwritten::<H>::new(),
+    )
 }
 
 /// The authenticator of a step from 1 on, over the labels of its links from level 0 on, at most 40.

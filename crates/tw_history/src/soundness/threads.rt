@@ -108,4 +108,3 @@ fn events_law(events: &[Bytes])
         see_bytes(event.as_slice());
     }
 }
-

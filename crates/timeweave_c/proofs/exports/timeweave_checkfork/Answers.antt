@@ -8,7 +8,8 @@ pub returns-in-Ok : goal.returns-in-Ok
 returns-in-Ok c = record {
   text = c.in-Ok.told.text;
   told =
-      subst (λ (status : ℕ). IsForkTold anchors_name c.args.evidence.now c.args.anchors.now status c.in-Ok.told.text) (sym c.tell.ensures.status) c.in-Ok.ensures;
+      subst (λ (status : ℕ). IsForkTold anchors_name c.args.evidence.now c.args.anchors.now status c.in-Ok.told.text)
+      (sym c.tell.ensures.status) c.in-Ok.ensures;
   size_is = c.tell.ensures.size ∙ ap length c.as_slice.ensures;
   after_is = c.tell.ensures.text ∙ ap (λ (text : List ℕ). put_in text c.args.out.now) c.as_slice.ensures;
 }

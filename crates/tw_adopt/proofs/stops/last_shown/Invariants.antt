@@ -6,5 +6,6 @@ use Rattle.tw_adopt.proofs.stops.last_shown.Given as goal
 abbrev pub invariant-loop-one : goal.invariant-loop-one
 invariant-loop-one l = record {
   within : l.last ≤ l.count;
-  all : Each (λ (t : Receiving). t.entry.thread.step ≤ l.count → t.entry.thread.step ≤ l.last) (take l.one-index l.shown);
+  all : Each (λ (t : Receiving). t.entry.thread.step ≤ l.count → t.entry.thread.step ≤ l.last)
+      (take l.one-index l.shown);
 }

@@ -7,5 +7,6 @@ abbrev pub invariant-loop-one : goal.invariant-loop-one
 invariant-loop-one l = record {
   beyond : l.after < l.next;
   within : l.next ≤ l.last;
-  between : Each (λ (t : Receiving). t.entry.thread.step < l.next → t.entry.thread.step ≤ l.after) (take l.one-index l.shown);
+  between : Each (λ (t : Receiving). t.entry.thread.step < l.next → t.entry.thread.step ≤ l.after)
+      (take l.one-index l.shown);
 }

@@ -13,8 +13,10 @@ loop-event-preserved c =
     record {
       first = grind (arith, common_steps);
       bytes = subst (Each AreBytes) (sym (take_more c.args.events.now i event c.loop-event-test.true))
-          (Each-append AreBytes _ _ c.loop-event.invariant.bytes (subst AreBytes (c.as_slice.ensures ∙ c.event-item.is) c.event_size-size.ensures.bytes, tt));
+          (Each-append AreBytes _ _ c.loop-event.invariant.bytes
+          (subst AreBytes (c.as_slice.ensures ∙ c.event-item.is) c.event_size-size.ensures.bytes, tt));
     }
 
 pub returns-clause-bytes : goal.returns-clause-bytes
-returns-clause-bytes c = λ none. subst (Each AreBytes) (take_all c.loop-event.event-index c.args.events.now c.loop-event-test.false) c.loop-event.invariant.bytes
+returns-clause-bytes c = λ none. subst (Each AreBytes) (take_all c.loop-event.event-index c.args.events.now
+    c.loop-event-test.false) c.loop-event.invariant.bytes

@@ -20,15 +20,19 @@ use Rattle.tw_answers.proofs.FoundAnswers.{fault_own, of_disk, same_sort, table_
 use Rattle.tw_answers.proofs.proving.make_proof.Goals as goal
 
 -- what follows the step and its path
-abbrev events_then : (dig : List ℕ → List ℕ) (ps : Image) (name : List ℕ) (index top : ℕ) → StepProof → Found (Result (List ℕ) Refusal)
-events_then dig ps name index top proof = events_of_info ps proof.info >>= (λ events. Is (Ok (event_proof_bytes dig name top index proof events)))
+abbrev events_then : (dig : List ℕ → List ℕ) (ps : Image) (name : List ℕ) (index top : ℕ) → StepProof
+    → Found (Result (List ℕ) Refusal)
+events_then dig ps name index top proof = events_of_info ps proof.info
+    >>= (λ events. Is (Ok (event_proof_bytes dig name top index proof events)))
 
 -- where the proof is there, what the table of events comes to
-step_told : (dig : List ℕ → List ℕ) (ps : Image) (name : List ℕ) (head : Head) (step index top : ℕ) (proof : StepProof) (o : Option Refusal) → found_proof dig ps head top step ≡ Is proof → event_refusal proof.info.count index ≡ o
+step_told : (dig : List ℕ → List ℕ) (ps : Image) (name : List ℕ) (head : Head) (step index top : ℕ) (proof : StepProof)
+    (o : Option Refusal) → found_proof dig ps head top step ≡ Is proof → event_refusal proof.info.count index ≡ o
     → event_proof dig ps name head step index top ≡ unless o (events_then dig ps name index top proof)
 unfolding event_proof
 step_told dig ps name head step index top proof o found is =
-    is_on (found_proof dig ps head top step) (λ proof. unless (event_refusal proof.info.count index) (events_then dig ps name index top proof)) proof found
+    is_on (found_proof dig ps head top step) (λ proof. unless (event_refusal proof.info.count index)
+    (events_then dig ps name index top proof)) proof found
     ∙ ap (λ (q : Option Refusal). unless q (events_then dig ps name index top proof)) is
 
 pub returns-in-Some : goal.returns-in-Some
@@ -39,11 +43,16 @@ returns-in-Some g c =
     record {
       reads = record {
         answer = λ ps told.
-            table_found c.in-Some.refusal (event_proof g.H.Hasher.dig ps c.args.name.now c.args.head.now c.args.step c.args.index c.args.top) (no_event_told c.in-Some.refusal none).0
-            (step_told g.H.Hasher.dig ps c.args.name.now c.args.head.now c.args.step c.args.index c.args.top c.in_ok-proof.proof _ (reads.answer ps told) (sym is));
+            table_found c.in-Some.refusal (event_proof g.H.Hasher.dig ps c.args.name.now c.args.head.now c.args.step
+            c.args.index c.args.top) (no_event_told c.in-Some.refusal none).0
+            (step_told g.H.Hasher.dig ps c.args.name.now c.args.head.now c.args.step c.args.index c.args.top
+            c.in_ok-proof.proof _ (reads.answer ps told) (sym is));
         own = inr none;
         kept = reads_weaker g.P.Pages.view g.P.Pages.same _ _ _ _ (λ good. refl) reads.kept;
-        faults = record { later = reads.faults.later; rose = λ failed. absurd ((no_event_told c.in-Some.refusal none).0 (of_disk c.in-Some.refusal failed)) };
+        faults = record {
+          later = reads.faults.later;
+          rose = λ failed. absurd ((no_event_told c.in-Some.refusal none).0 (of_disk c.in-Some.refusal failed));
+        };
       };
     }
 
@@ -62,11 +71,16 @@ returns-in_err-events g c =
     let before = c.in_ok-proof.ensures.reads in
     let whole : Image → Found (Result (List ℕ) Refusal) = λ ps. event_proof dig ps name head step index top in
     record {
-      reads = as_or service_refusals g.P.Pages.view g.P.Pages.same _ _ (λ bytes. Ok bytes) (λ bytes. bytes) result _ whole _ handed (fault_own result fault handed c.in_err-events.ensures.reads.own)
-          (stopped list_faults service_refusals g.P.Pages.view g.P.Pages.same g.met.P.Pages.same_on _ _ _ _ (λ bytes. Ok bytes) (λ ps. events_of_info ps proof.info) whole fault (list_refusal fault) result
-          (reads_weaker g.P.Pages.view g.P.Pages.same _ _ _ _ (λ good. refl) before.kept) before.faults.later (same_sort fault) handed
+      reads = as_or service_refusals g.P.Pages.view g.P.Pages.same _ _ (λ bytes. Ok bytes) (λ bytes. bytes) result _
+          whole _ handed (fault_own result fault handed c.in_err-events.ensures.reads.own)
+          (stopped list_faults service_refusals g.P.Pages.view g.P.Pages.same g.met.P.Pages.same_on _ _ _ _
+          (λ bytes. Ok bytes) (λ ps. events_of_info ps proof.info) whole fault (list_refusal fault) result
+          (reads_weaker g.P.Pages.view g.P.Pages.same _ _ _ _ (λ good. refl) before.kept) before.faults.later
+          (same_sort fault) handed
           (λ ps told page bad.
-          step_told dig ps name head step index top proof _ (before.answer ps told) (sym (sym c.in_default.is ∙ c.event_refusal.ensures.answer))
-          ∙ bad_ends (events_of_info ps proof.info) (λ events. Is (Ok (event_proof_bytes dig name top index proof events))) page bad)
+          step_told dig ps name head step index top proof _ (before.answer ps told)
+          (sym (sym c.in_default.is ∙ c.event_refusal.ensures.answer))
+          ∙ bad_ends (events_of_info ps proof.info)
+          (λ events. Is (Ok (event_proof_bytes dig name top index proof events))) page bad)
           c.in_err-events.ensures.reads);
     }

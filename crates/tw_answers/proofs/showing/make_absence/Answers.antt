@@ -16,11 +16,14 @@ use Rattle.tw_answers.proofs.HandedOn.{handed-answer, handed-failed, handed-own}
 use Rattle.tw_answers.proofs.showing.make_absence.Goals as goal
 
 -- where the step is found, what is shown in its archive is written
-step_told : (dig : List ℕ → List ℕ) (ps : Image) (name : List ℕ) (head : Head) (step : ℕ) (key : Key) (top : ℕ) (proof : StepProof) → found_proof dig ps head top step ≡ Is proof
-    → absence_proof dig ps name head step key top ≡ (found_absence_of dig ps proof.info.archive key >>= written_found (absence_bytes name key top proof))
+step_told : (dig : List ℕ → List ℕ) (ps : Image) (name : List ℕ) (head : Head) (step : ℕ) (key : Key) (top : ℕ)
+    (proof : StepProof) → found_proof dig ps head top step ≡ Is proof
+    → absence_proof dig ps name head step key top ≡ (found_absence_of dig ps proof.info.archive key >>= written_found
+    (absence_bytes name key top proof))
 unfolding absence_proof
 step_told dig ps name head step key top proof is =
-    is_on (found_proof dig ps head top step) (λ proof. found_absence_of dig ps proof.info.archive key >>= written_found (absence_bytes name key top proof)) proof is
+    is_on (found_proof dig ps head top step) (λ proof. found_absence_of dig ps proof.info.archive key >>= written_found
+    (absence_bytes name key top proof)) proof is
 
 pub returns-in_err-tree : goal.returns-in_err-tree
 returns-in_err-tree g c =
@@ -37,13 +40,17 @@ returns-in_err-tree g c =
     record {
       reads = record {
         answer = λ ps told.
-            subst (AnswersOr service_refusals (λ (b : List ℕ). b) result) (sym (step_told dig ps name c.args.head.now c.args.step key top proof (before.answer ps told)))
-            (handed-answer (absence_bytes name key top proof) result fault (found_absence_of dig ps proof.info.archive key) handed (reads.answer ps (before.kept.list_kept ∙ told)));
+            subst (AnswersOr service_refusals (λ (b : List ℕ). b) result)
+            (sym (step_told dig ps name c.args.head.now c.args.step key top proof (before.answer ps told)))
+            (handed-answer (absence_bytes name key top proof) result fault (found_absence_of dig ps proof.info.archive
+            key) handed (reads.answer ps (before.kept.list_kept ∙ told)));
         own = handed-own result fault (λ why. IsFault why ⊎ IsHasThread why) handed reads.own;
-        kept = only_reads_on g.P.Pages.view g.P.Pages.same _ _ _ _ _ _ g.met.P.Pages.same_on (λ good. refl) (λ good. sym (handed-failed result fault handed) ∙ good) before.kept reads.kept;
+        kept = only_reads_on g.P.Pages.view g.P.Pages.same _ _ _ _ _ _ g.met.P.Pages.same_on (λ good. refl)
+            (λ good. sym (handed-failed result fault handed) ∙ good) before.kept reads.kept;
         faults = record {
           later = omega (arith, before.faults.later, reads.faults.later);
-          rose = λ failed. let rose = reads.faults.rose (sym (handed-failed result fault handed) ∙ failed) in omega (arith, before.faults.later, rose);
+          rose = λ failed. let rose = reads.faults.rose (sym (handed-failed result fault handed) ∙ failed) in
+              omega (arith, before.faults.later, rose);
         };
       };
     }
@@ -61,10 +68,12 @@ returns g c =
       reads = record {
         answer = λ ps told.
             step_told dig ps name c.args.head.now c.args.step key top proof (before.answer ps told)
-            ∙ is_on (found_absence_of dig ps proof.info.archive key) (written_found (absence_bytes name key top proof)) (Ok c.in_ok-tree.tree) (reads.answer ps (before.kept.list_kept ∙ told))
+            ∙ is_on (found_absence_of dig ps proof.info.archive key) (written_found (absence_bytes name key top proof))
+            (Ok c.in_ok-tree.tree) (reads.answer ps (before.kept.list_kept ∙ told))
             ∙ ap (λ (b : List ℕ). Is (Ok b)) (sym c.in_ok-write_absence.ensures);
         own = tt;
-        kept = only_reads_on g.P.Pages.view g.P.Pages.same _ _ _ _ _ _ g.met.P.Pages.same_on (λ good. refl) (λ good. refl) before.kept reads.kept;
+        kept = only_reads_on g.P.Pages.view g.P.Pages.same _ _ _ _ _ _ g.met.P.Pages.same_on (λ good. refl)
+            (λ good. refl) before.kept reads.kept;
         faults = record { later = omega (arith, before.faults.later, reads.faults.later); rose = λ failed. cc };
       };
     }

@@ -6,16 +6,20 @@ use Rattle.tw_app.proofs.MapRuns.{between}
 use Rattle.tw_app.proofs.ending.run.Goals as goal
 
 pub returns-clause-accepted : goal.returns-clause-accepted
-returns-clause-accepted g c = accepted g.D.Disk.view g.met.D.Disk.only_now g.met.D.Disk.as_it_reads _ _ c.run_to_the_end.ensures
+returns-clause-accepted g c = accepted g.D.Disk.view g.met.D.Disk.only_now g.met.D.Disk.as_it_reads _ _
+    c.run_to_the_end.ensures
 
 pub returns-clause-statuses : goal.returns-clause-statuses
-returns-clause-statuses g c = statuses g.D.Disk.view g.met.D.Disk.only_now g.met.D.Disk.as_it_reads _ _ c.run_to_the_end.ensures
+returns-clause-statuses g c = statuses g.D.Disk.view g.met.D.Disk.only_now g.met.D.Disk.as_it_reads _ _
+    c.run_to_the_end.ensures
 
 pub returns-clause-crash : goal.returns-clause-crash
-returns-clause-crash g c = crash g.D.Disk.view g.met.D.Disk.only_now g.met.D.Disk.as_it_reads _ _ c.run_to_the_end.ensures
+returns-clause-crash g c = crash g.D.Disk.view g.met.D.Disk.only_now g.met.D.Disk.as_it_reads _ _
+    c.run_to_the_end.ensures
 
 pub returns-clause-unwritten : goal.returns-clause-unwritten
-returns-clause-unwritten g c = unwritten g.D.Disk.view g.met.D.Disk.only_now g.met.D.Disk.as_it_reads _ _ c.run_to_the_end.ensures
+returns-clause-unwritten g c = unwritten g.D.Disk.view g.met.D.Disk.only_now g.met.D.Disk.as_it_reads _ _
+    c.run_to_the_end.ensures
 
 pub returns-clause-stands : goal.returns-clause-stands
 returns-clause-stands g c = stands g.D.Disk.view _ _ c.run_to_the_end.ensures
@@ -23,10 +27,12 @@ returns-clause-stands g c = stands g.D.Disk.view _ _ c.run_to_the_end.ensures
 pub returns-clause-clash : goal.returns-clause-clash
 returns-clause-clash g c = λ tenth.
     let run = c.run_to_the_end.ensures in
-    clashes g.D.Disk.view _ _ run tenth (clash g.D.Disk.view g.met.D.Disk.only_now g.met.D.Disk.as_it_reads _ _ run tenth)
+    clashes g.D.Disk.view _ _ run tenth (clash g.D.Disk.view g.met.D.Disk.only_now g.met.D.Disk.as_it_reads _ _ run
+    tenth)
 
 pub returns-clause-finds : goal.returns-clause-finds
-returns-clause-finds g c = λ bytes anchors family is. finds g.D.Disk.view _ _ bytes anchors family is c.run_to_the_end.ensures
+returns-clause-finds g c = λ bytes anchors family is. finds g.D.Disk.view _ _ bytes anchors family is
+    c.run_to_the_end.ensures
 
 pub returns-clause-between : goal.returns-clause-between
 returns-clause-between g c = between g.D.Disk.view _ _ c.run_to_the_end.ensures

@@ -8,4 +8,5 @@ use Rattle.tw_atlas.proofs.checking.none_better.Given as goal
 
 abbrev pub invariant-loop-k : goal.invariant-loop-k
 invariant-loop-k l =
-    none_better (suc l.k) (map (λ (leg : Leg). target leg.hop) (drop l.k l.legs)) l.arrival ≡ none_better 0 (stops l.start l.legs) l.arrival
+    none_better (suc l.k) (map (λ (leg : Leg). target leg.hop) (drop l.k l.legs)) l.arrival ≡ none_better 0
+    (stops l.start l.legs) l.arrival

@@ -6,4 +6,5 @@ use Rattle.tw_atlas.proofs.ordering.different_hops.Goals as goal
 
 pub returns : goal.returns
 returns c =
-    c.hops_between.ensures (ordered c.args.hops.now) (c.in_ok-all.ensures ∙ ap (λ (hs : List Hop). hop_entries (ordered hs)) c.as_slice.ensures)
+    c.hops_between.ensures (ordered c.args.hops.now)
+    (c.in_ok-all.ensures ∙ ap (λ (hs : List Hop). hop_entries (ordered hs)) c.as_slice.ensures)

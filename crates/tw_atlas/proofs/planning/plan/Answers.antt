@@ -10,7 +10,8 @@ use Rattle.tw_atlas.proofs.planning.plan.Goals as goal
 
 pub legs_in_rounds-requires-clause-ordered : goal.legs_in_rounds-requires-clause-ordered
 legs_in_rounds-requires-clause-ordered c =
-    subst (IsStrictlySortedBy hop_cmp) (sym (c.deref.ensures.value ∙ c.in_ok-different.ensures)) (ordered-sorted c.args.hops.now)
+    subst (IsStrictlySortedBy hop_cmp) (sym (c.deref.ensures.value ∙ c.in_ok-different.ensures))
+    (ordered-sorted c.args.hops.now)
 
 pub returns : goal.returns
 returns c =
@@ -18,4 +19,5 @@ returns c =
     let hops : c.deref.result.now ≡ ordered c.args.hops.now = c.deref.ensures.value ∙ c.in_ok-different.ensures in
     planned c.args.hops.now start c.in_ok-planned.planned.legs c.in_ok-arrivals.arrivals
     (c.in_ok-planned.ensures.legs ∙ ap (λ (hs : List Hop). rounds (length hs) start [] hs) hops)
-    (subst (λ (at : List Key). AreArrivals at c.in_ok-arrivals.arrivals) (c.deref-2.ensures.value ∙ c.in_ok-planned.ensures.stops) c.in_ok-arrivals.ensures)
+    (subst (λ (at : List Key). AreArrivals at c.in_ok-arrivals.arrivals)
+    (c.deref-2.ensures.value ∙ c.in_ok-planned.ensures.stops) c.in_ok-arrivals.ensures)

@@ -6,5 +6,6 @@ use Rattle.tw_atlas.proofs.reading.next_receipt.Goals as goal
 
 pub returns-clause-reads : goal.returns-clause-reads
 returns-clause-reads c =
-    takes-front receipt_codec receipt-lawful (λ (r : Receipt). r) c.args.bytes.now c.take_receipt-read.new.at c.take_receipt-read.result c.front_to.result
+    takes-front receipt_codec receipt-lawful (λ (r : Receipt). r) c.args.bytes.now c.take_receipt-read.new.at
+    c.take_receipt-read.result c.front_to.result
     c.take_receipt-read.ensures.takes c.front_to.ensures

@@ -9,5 +9,6 @@ use Rattle.tw_atlas.proofs.rounds.first_from.Goals as goal
 
 pub returns-clause-split : goal.returns-clause-split
 returns-clause-split c =
-    IsPartitionPoint-from_clause (λ (hop : Hop). is_lt (key_cmp (source hop) c.args.stop.now)) c.args.hops.now c.partition_point.result c.partition_point.ensures.partitioned
+    IsPartitionPoint-from_clause (λ (hop : Hop). is_lt (key_cmp (source hop) c.args.stop.now)) c.args.hops.now
+    c.partition_point.result c.partition_point.ensures.partitioned
     (partitioned c.args.hops.now c.args.stop.now c.requires) (λ a r f k. search rules)

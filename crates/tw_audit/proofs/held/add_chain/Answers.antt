@@ -13,5 +13,6 @@ returns c =
     let anchors = c.args.anchors.now in
     on_ok_weaker c.add_hops.result (λ added.
     added ∙ (λ k. c.in_ok-add_anchor.ensures k ++ flat_map (held_of_hop anchors) (c.as_slice.ensures k))
-    ∙ append_assoc c.args.threads.now (option_to_list (anchor_of anchors p.head.service p.head.top)) (flat_map (held_of_hop anchors) p.hops)
+    ∙ append_assoc c.args.threads.now (option_to_list (anchor_of anchors p.head.service p.head.top))
+    (flat_map (held_of_hop anchors) p.hops)
     ∙ ap (λ ts. c.args.threads.now ++ ts) (held-precedes anchors p)) c.add_hops.ensures

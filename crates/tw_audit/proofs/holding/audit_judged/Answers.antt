@@ -7,6 +7,8 @@ use Rattle.tw_audit.proofs.holding.audit_judged.Goals as goal
 pub returns-in-Yes : goal.returns-in-Yes
 returns-in-Yes g c = record {
   answer =
-      verdict-audit g.H.Hasher.dig c.args.histories.now c.args.anchors.now c.args.bytes.now c.in-Yes.report c.hold_bytes.result
-      (subst (λ (v : Verdict). IsVerdict g.H.Hasher.dig c.args.anchors.now false c.args.bytes.now v) c.in-Yes.is c.requires) c.hold_bytes.ensures;
+      verdict-audit g.H.Hasher.dig c.args.histories.now c.args.anchors.now c.args.bytes.now c.in-Yes.report
+      c.hold_bytes.result
+      (subst (λ (v : Verdict). IsVerdict g.H.Hasher.dig c.args.anchors.now false c.args.bytes.now v) c.in-Yes.is
+      c.requires) c.hold_bytes.ensures;
 }

@@ -11,4 +11,5 @@ hold-requires g c = proof-shaped c.args.bytes.now c.in-Ok.proof c.in-Ok.ensures
 pub returns-in-Ok : goal.returns-in-Ok
 returns-in-Ok g c = λ p spells is_report.
     let same = same_proof c.args.bytes.now p c.in-Ok.proof spells c.in-Ok.ensures in
-    subst (λ q. IsAuditAnswer g.H.Hasher.dig c.args.histories.now c.args.anchors.now q c.hold.result) (sym same) (c.hold.ensures (is_report ∙ ap report_of same))
+    subst (λ q. IsAuditAnswer g.H.Hasher.dig c.args.histories.now c.args.anchors.now q c.hold.result) (sym same)
+    (c.hold.ensures (is_report ∙ ap report_of same))

@@ -8,4 +8,5 @@ pub returns-in-Ok : goal.returns-in-Ok
 returns-in-Ok g c =
     IfOk-weaker c.into_pair.result _ _ (λ pair is covered took.
     is (audited_texts g.H.Hasher.dig c.args.histories.now c.args.proof.now) covered
-    (c.hash_proof.ensures.behind (family_texts g.H.Hasher.dig c.args.histories.now) (c.in-Ok.ensures.took.behind [] took))) c.into_pair.ensures
+    (c.hash_proof.ensures.behind (family_texts g.H.Hasher.dig c.args.histories.now)
+    (c.in-Ok.ensures.took.behind [] took))) c.into_pair.ensures

@@ -13,5 +13,6 @@ loop-i-preserved c = λ k less same.
           let at : k + 1 ≡ c.loop-i.i = omega (arith, less, past) in
           let behind : c.loop-i.i - 1 ≡ k = omega (arith, at) in
           subst (λ j. contains (slice_cmp nat_cmp) c.note.new.self.keys (get_or c.args.keys.now j []) ≡ true) (sym at)
-          (c.in_ok-note.ensures.same (ap (λ j. get_or c.args.keys.now j []) behind ∙ same ∙ ap (λ j. get_or c.args.keys.now j []) at))
+          (c.in_ok-note.ensures.same (ap (λ j. get_or c.args.keys.now j []) behind ∙ same
+          ∙ ap (λ j. get_or c.args.keys.now j []) at))
     ]

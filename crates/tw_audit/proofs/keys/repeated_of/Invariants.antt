@@ -6,4 +6,5 @@ use Rattle.tw_audit.proofs.keys.repeated_of.Given as goal
 
 abbrev pub invariant-loop-i : goal.invariant-loop-i
 invariant-loop-i l =
-    (k : ℕ) → k + 1 < l.i → get_or l.keys k [] ≡ get_or l.keys (k + 1) [] → contains (slice_cmp nat_cmp) l.repeated.keys (get_or l.keys (k + 1) []) ≡ true
+    (k : ℕ) → k + 1 < l.i → get_or l.keys k [] ≡ get_or l.keys (k + 1) [] → contains (slice_cmp nat_cmp) l.repeated.keys
+    (get_or l.keys (k + 1) []) ≡ true

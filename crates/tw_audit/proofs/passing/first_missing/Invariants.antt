@@ -8,4 +8,5 @@ use Rattle.tw_audit.proofs.passing.first_missing.Given as goal
 
 abbrev pub invariant-loop-thread : goal.invariant-loop-thread
 invariant-loop-thread l = (dig : List ℕ → List ℕ) (family : List History) → AnswersAll dig family l.held l.passed
-    → find (λ (t : Thread). not (agrees_with dig family t)) (drop l.thread-index l.held) ≡ find (λ (t : Thread). not (agrees_with dig family t)) l.held
+    → find (λ (t : Thread). not (agrees_with dig family t)) (drop l.thread-index l.held) ≡ find
+    (λ (t : Thread). not (agrees_with dig family t)) l.held

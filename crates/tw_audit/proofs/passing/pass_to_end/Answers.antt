@@ -11,9 +11,13 @@ loop-at-preserved g c =
     record {
       inside = c.next_stop-next.ensures.within;
       passed = c.in_ok-pass_steps.ensures.passed;
-      stops = stops-more g.T.Transcript.dig h c.args.held.now c.loop-at.stops.items c.push.new.self.items c.loop-at.at next c.auth_passed.result c.loop-at.invariant.stops
-          c.next_stop-next.ensures.beyond (c.auth_passed.ensures g.T.Transcript.dig h next c.in_ok-pass_steps.ensures.passed)
-          (subst (λ (name : List ℕ). Each (λ (t : Thread). t.from ≡ name → t.step < next → t.step ≤ c.loop-at.at) c.args.held.now) c.service.ensures c.next_stop-next.ensures.between)
+      stops = stops-more g.T.Transcript.dig h c.args.held.now c.loop-at.stops.items c.push.new.self.items c.loop-at.at
+          next c.auth_passed.result c.loop-at.invariant.stops
+          c.next_stop-next.ensures.beyond (c.auth_passed.ensures g.T.Transcript.dig h next
+          c.in_ok-pass_steps.ensures.passed)
+          (subst (λ (name : List ℕ). Each (λ (t : Thread). t.from ≡ name → t.step < next → t.step ≤ c.loop-at.at)
+          c.args.held.now) c.service.ensures c.next_stop-next.ensures.between)
           c.in_ok-push.ensures.items;
-      took = handed-on g.T.Transcript.dig h g.T.Transcript.took _ _ _ 0 c.loop-at.at next c.loop-at.invariant.took c.in_ok-pass_steps.ensures.took;
+      took = handed-on g.T.Transcript.dig h g.T.Transcript.took _ _ _ 0 c.loop-at.at next c.loop-at.invariant.took
+          c.in_ok-pass_steps.ensures.took;
     }

@@ -14,7 +14,8 @@ use Rattle.tw_audit.proofs.ShapeLaws.{chain-shapes}
 use Rattle.tw_audit.proofs.proofs.hash_precedence.Goals as goal
 
 pub hash_hops-requires : goal.hash_hops-requires
-hash_hops-requires g c = subst (Each IsHopShaped) (sym c.as_slice.ensures) (chain-shapes c.args.proof.now c.requires).hops
+hash_hops-requires g c = subst (Each IsHopShaped) (sym c.as_slice.ensures)
+    (chain-shapes c.args.proof.now c.requires).hops
 
 pub hash_part-requires-clause-labels : goal.hash_part-requires-clause-labels
 hash_part-requires-clause-labels g c = (chain-shapes c.args.proof.now c.requires).tail.labels
@@ -22,10 +23,12 @@ hash_part-requires-clause-labels g c = (chain-shapes c.args.proof.now c.requires
 pub hash_part-requires-clause-shape : goal.hash_part-requires-clause-shape
 hash_part-requires-clause-shape g c =
     let p = c.args.proof.now in
-    subst (λ n. HasShape p.tail.path.links n p.tail.step) (sym c.end_step.ensures) (chain-shapes p c.requires).tail.links.shape
+    subst (λ n. HasShape p.tail.path.links n p.tail.step) (sym c.end_step.ensures)
+    (chain-shapes p c.requires).tail.links.shape
 
 pub hash_part-requires-clause-top : goal.hash_part-requires-clause-top
-hash_part-requires-clause-top g c = subst (λ n. n ≤ LAST_STEP) (sym c.end_step.ensures) (chain-shapes c.args.proof.now c.requires).tail.links.from_within
+hash_part-requires-clause-top g c = subst (λ n. n ≤ LAST_STEP) (sym c.end_step.ensures)
+    (chain-shapes c.args.proof.now c.requires).tail.links.from_within
 
 pub root_over_told-requires-clause-inside : goal.root_over_told-requires-clause-inside
 root_over_told-requires-clause-inside g c = (chain-shapes c.args.proof.now c.requires).first.inside
@@ -52,6 +55,14 @@ returns g c =
     (hands-same g.T.Transcript.took _ _ _ _ (ap (λ n. opened_texts dig n p.before) before) c.hash_opened.ensures))
     (hands-same g.T.Transcript.took _ _ _ _ (ap (flat_map (hop_texts dig)) c.as_slice.ensures) c.hash_hops.ensures))
     (hands-same g.T.Transcript.took _ _ _ _
-    (ap (λ n. part_texts dig (record { service = (end_of_order p).from; step = p.tail.step; top = n; path = p.tail.path; opening = p.tail.opening })
+    (ap (λ n. part_texts dig
+    (record {
+      service = (end_of_order p).from;
+      step = p.tail.step;
+      top = n;
+      path = p.tail.path;
+      opening = p.tail.opening;
+    })
     ++ audit_texts dig p.tail.opening.count p.tail.event.index p.tail.event.event p.tail.event.path) end)
-    (hands-then g.T.Transcript.took _ _ _ _ _ (c.hash_part.ensures (end_of_order p).from) c.root_over_told.ensures.took)))
+    (hands-then g.T.Transcript.took _ _ _ _ _ (c.hash_part.ensures (end_of_order p).from)
+    c.root_over_told.ensures.took)))

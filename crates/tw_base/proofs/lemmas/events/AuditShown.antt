@@ -1,5 +1,6 @@
 -- The standard's path shows the event under the standard's root.
-use Rattle.std.proofs.Common.{◌≡◌, ℕ, suc, zero, ◌+◌, ◌-◌, ◌<◌, ◌≤◌, List, [], ◌∷◌, ◌++◌, length, get_or, refl, ap, sym, ◌∙◌, arith, inl, inr}
+use Rattle.std.proofs.Common.{◌≡◌, ℕ, suc, zero, ◌+◌, ◌-◌, ◌<◌, ◌≤◌, List, [], ◌∷◌, ◌++◌, length, get_or, refl, ap, sym}
+use Rattle.std.proofs.Common.{◌∙◌, arith, inl, inr}
 use Rattle.std.specs.Prelude.{Some, slice_get}
 use Rattle.std.proofs.lemmas.Bool.{cases_lt}
 use Rattle.std.proofs.lemmas.Option.{get_or_from_slice_get, slice_get_within}
@@ -9,8 +10,11 @@ use Rattle.tw_base.specs.declared.events.side.Side.TheVariants.{Left, Right}
 use Rattle.tw_base.specs.kinds.Texts.{event_leaf_text, event_node_text}
 use Rattle.tw_base.specs.events.AuditPath.{ChecksEvent, path_length, path_sides, root_above}
 use Rattle.tw_base.specs.events.EventTree.{audit_path, event_root, largest_power_below, left_half, right_half}
-use Rattle.tw_base.proofs.lemmas.events.EventTrees.{audit_path-left, audit_path-right, by_halves, event_root-more, event_root-one, largest_power_below-less, length-left_half, length-right_half}
-use Rattle.tw_base.proofs.lemmas.events.AuditPaths.{length-audit_path, path_sides-few, path_sides-left, path_sides-right}
+use Rattle.tw_base.proofs.lemmas.events.EventTrees.{audit_path-left, audit_path-right, by_halves, event_root-more}
+use Rattle.tw_base.proofs.lemmas.events.EventTrees.{event_root-one, largest_power_below-less, length-left_half}
+use Rattle.tw_base.proofs.lemmas.events.EventTrees.{length-right_half}
+use Rattle.tw_base.proofs.lemmas.events.AuditPaths.{length-audit_path, path_sides-few, path_sides-left}
+use Rattle.tw_base.proofs.lemmas.events.AuditPaths.{path_sides-right}
 use Rattle.tw_base.proofs.lemmas.events.Upwards.{root_above-last, root_above-none}
 
 module _ (dig : List ℕ → List ℕ) where
@@ -21,7 +25,8 @@ module _ (dig : List ℕ → List ℕ) where
   Leads n = (events : List (List ℕ)) (index : ℕ) → length events ≡ n → index < n
       → root_above dig (path_sides n index) (audit_path dig events index) (leaf_at events index) ≡ event_root dig events
 
-  one : (events : List (List ℕ)) (index : ℕ) → length events ≡ 1 → index < 1 → leaf_at events index ≡ event_root dig events
+  one : (events : List (List ℕ)) (index : ℕ) → length events ≡ 1 → index < 1 → leaf_at events index ≡ event_root dig
+      events
   one [] index n inside = absurd (omega arith)
   one (d ∷ f ∷ ds) index n inside = absurd (omega arith)
   one (d ∷ []) zero n inside = sym (event_root-one dig d)
@@ -34,7 +39,8 @@ module _ (dig : List ℕ → List ℕ) where
       ∙ root_above-none dig (audit_path dig events index) (leaf_at events index)
       ∙ one events index (omega arith) (omega arith)
 
-  fits : (n : ℕ) (events : List (List ℕ)) (index : ℕ) → length events ≡ n → length (path_sides n index) ≡ length (audit_path dig events index)
+  fits : (n : ℕ) (events : List (List ℕ)) (index : ℕ) → length events ≡ n → length (path_sides n index) ≡ length
+      (audit_path dig events index)
   unfolding path_length
   fits n events index e = ap (λ c. length (path_sides c index)) (sym e) ∙ sym (length-audit_path dig events index)
 
@@ -52,12 +58,17 @@ module _ (dig : List ℕ → List ℕ) where
             let path : List (List ℕ) = audit_path dig (left_half events) index in
             let sides : List Side = path_sides (largest_power_below n) index in
             let leaf_is : leaf_at events index ≡ leaf_at (left_half events) index =
-            ap (λ x. dig (event_leaf_text x)) (sym (get_or-take (largest_power_below (length events)) events index [] (omega arith))) in
-            ap (λ s. root_above dig s (audit_path dig events index) (leaf_at events index)) (path_sides-left n index more less)
-            ∙ ap (λ p. root_above dig (sides ++ Right ∷ []) p (leaf_at events index)) (audit_path-left dig events index more' (omega arith))
-            ∙ root_above-last dig sides Right path (event_root dig (right_half events)) (leaf_at events index) (fits (largest_power_below n) (left_half events) index first)
+            ap (λ x. dig (event_leaf_text x))
+            (sym (get_or-take (largest_power_below (length events)) events index [] (omega arith))) in
+            ap (λ s. root_above dig s (audit_path dig events index) (leaf_at events index))
+            (path_sides-left n index more less)
+            ∙ ap (λ p. root_above dig (sides ++ Right ∷ []) p (leaf_at events index))
+            (audit_path-left dig events index more' (omega arith))
+            ∙ root_above-last dig sides Right path (event_root dig (right_half events)) (leaf_at events index)
+            (fits (largest_power_below n) (left_half events) index first)
             ∙ ap (λ x. dig (event_node_text (root_above dig sides path x) (event_root dig (right_half events)))) leaf_is
-            ∙ ap (λ x. dig (event_node_text x (event_root dig (right_half events)))) (left (left_half events) index first less)
+            ∙ ap (λ x. dig (event_node_text x (event_root dig (right_half events))))
+            (left (left_half events) index first less)
             ∙ sym (event_root-more dig events more'))
         | inr past ↦ (
             let below : ℕ = index - largest_power_below n in
@@ -65,13 +76,18 @@ module _ (dig : List ℕ → List ℕ) where
             let sides : List Side = path_sides (n - largest_power_below n) below in
             let at : largest_power_below (length events) + below ≡ index = omega arith in
             let leaf_is : leaf_at events index ≡ leaf_at (right_half events) below =
-            ap (λ i. leaf_at events i) (sym at) ∙ ap (λ x. dig (event_leaf_text x)) (sym (get_or-drop (largest_power_below (length events)) events below [])) in
-            ap (λ s. root_above dig s (audit_path dig events index) (leaf_at events index)) (path_sides-right n index more past)
-            ∙ ap (λ p. root_above dig (sides ++ Left ∷ []) p (leaf_at events index)) (audit_path-right dig events index more' (omega arith)
+            ap (λ i. leaf_at events i) (sym at) ∙ ap (λ x. dig (event_leaf_text x))
+            (sym (get_or-drop (largest_power_below (length events)) events below [])) in
+            ap (λ s. root_above dig s (audit_path dig events index) (leaf_at events index))
+            (path_sides-right n index more past)
+            ∙ ap (λ p. root_above dig (sides ++ Left ∷ []) p (leaf_at events index))
+            (audit_path-right dig events index more' (omega arith)
             ∙ ap (λ x. audit_path dig (right_half events) (index - x) ++ event_root dig (left_half events) ∷ []) same)
-            ∙ root_above-last dig sides Left path (event_root dig (left_half events)) (leaf_at events index) (fits (n - largest_power_below n) (right_half events) below rest)
+            ∙ root_above-last dig sides Left path (event_root dig (left_half events)) (leaf_at events index)
+            (fits (n - largest_power_below n) (right_half events) below rest)
             ∙ ap (λ x. dig (event_node_text (event_root dig (left_half events)) (root_above dig sides path x))) leaf_is
-            ∙ ap (λ x. dig (event_node_text (event_root dig (left_half events)) x)) (right (right_half events) below rest (omega arith))
+            ∙ ap (λ x. dig (event_node_text (event_root dig (left_half events)) x))
+            (right (right_half events) below rest (omega arith))
             ∙ sym (event_root-more dig events more'))
       ]
 
@@ -80,13 +96,16 @@ module _ (dig : List ℕ → List ℕ) where
   unfolding Leads
   path-leads n = by_halves Leads few many n
 
-  pub ChecksEvent-audit_path : (events : List (List ℕ)) (index : ℕ) (event : List ℕ) → slice_get events index ≡ Some event
+  pub ChecksEvent-audit_path : (events : List (List ℕ)) (index : ℕ) (event : List ℕ) → slice_get events index ≡ Some
+      event
       → ChecksEvent dig (event_root dig events) (length events) index event (audit_path dig events index)
   ChecksEvent-audit_path events index event there =
       let inside : index < length events = slice_get_within events index event there in
       record {
         inside = inside;
         size = length-audit_path dig events index;
-        reaches = ap (λ x. root_above dig (path_sides (length events) index) (audit_path dig events index) (dig (event_leaf_text x)))
-            (sym (get_or_from_slice_get events index event [] there)) ∙ path-leads (length events) events index refl inside;
+        reaches = ap (λ x. root_above dig (path_sides (length events) index) (audit_path dig events index)
+            (dig (event_leaf_text x)))
+            (sym (get_or_from_slice_get events index event [] there)) ∙ path-leads (length events) events index refl
+            inside;
       }

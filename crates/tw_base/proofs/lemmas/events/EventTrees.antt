@@ -1,12 +1,15 @@
 -- The equations of the event tree, without the bound on splits, and what its texts hold.
-use Rattle.std.proofs.Common.{◌≡◌, ℕ, suc, zero, ◌+◌, ◌-◌, ◌*◌, ◌<◌, ◌≤◌, ◌^◌, List, [], ◌∷◌, ◌++◌, length, take, drop, refl, ap, sym, ◌∙◌, subst, arith, lit<, inl, inr}
+use Rattle.std.proofs.Common.{◌≡◌, ℕ, suc, zero, ◌+◌, ◌-◌, ◌*◌, ◌<◌, ◌≤◌, ◌^◌, List, [], ◌∷◌, ◌++◌, length, take, drop}
+use Rattle.std.proofs.Common.{refl, ap, sym, ◌∙◌, subst, arith, lit<, inl, inr}
 use Rattle.std.specs.Prelude.{nat_lt, if◌then◌else◌}
 use Rattle.std.proofs.lemmas.Bool.{cases_lt, lt-ltb, le-ltb}
 use Rattle.std.proofs.lemmas.List.{length-take-le, length-drop}
 use Rattle.std.proofs.Math.Nat.{le_trans, one-le-pow, pow-le-pow_right, pow-suc}
 use Rattle.tw_base.specs.kinds.Clash.{Among, Within}
 use Rattle.tw_base.specs.kinds.Texts.{event_leaf_text, event_node_text, no_events_text}
-use Rattle.tw_base.specs.events.EventTree.{audit_path, event_leaf_texts, event_node_texts, event_root, event_texts, largest_power_below, left_half, node_texts_within, path_within, power_below, right_half, tree_hash}
+use Rattle.tw_base.specs.events.EventTree.{audit_path, event_leaf_texts, event_node_texts, event_root, event_texts}
+use Rattle.tw_base.specs.events.EventTree.{largest_power_below, left_half, node_texts_within, path_within, power_below}
+use Rattle.tw_base.specs.events.EventTree.{right_half, tree_hash}
 use Rattle.tw_base.proofs.lemmas.kinds.Clashes.{Among-left, Among-right}
 
 le_pow : (n : ℕ) → n ≤ 2 ^ n
@@ -30,7 +33,8 @@ power_below-at (suc top) level n few b =
           ∙ power_below-at top level n (omega arith) b)
       | inr same ↦ (
           let e : level ≡ suc top = omega arith in
-          ap (λ t. if t then 2 ^ suc top else power_below top n) (lt-ltb (2 ^ suc top) n (subst (λ l. 2 ^ l < n) e b.below))
+          ap (λ t. if t then 2 ^ suc top else power_below top n)
+          (lt-ltb (2 ^ suc top) n (subst (λ l. 2 ^ l < n) e b.below))
           ∙ ap (λ l. 2 ^ l) (sym e))
     ]
 
@@ -55,10 +59,12 @@ le_power level n less = omega (arith, le_pow level)
 -- it is the only one
 pub largest_power_below-at : (level n : ℕ) → 2 ^ level < n → n ≤ 2 * 2 ^ level → largest_power_below n ≡ 2 ^ level
 unfolding largest_power_below
-largest_power_below-at level n below next = power_below-at n level n (le_power level n below) (record { below = below; next = next })
+largest_power_below-at level n below next = power_below-at n level n (le_power level n below)
+    (record { below = below; next = next })
 
 pub largest_power_below-less : (n : ℕ) → 1 < n → largest_power_below n < n
-largest_power_below-less n more = let k = largest_power_below-is n more in let e = k.1 in let b = k.2.below in omega arith
+largest_power_below-less n more = let k = largest_power_below-is n more in let e = k.1 in let b = k.2.below in
+    omega arith
 
 pub largest_power_below-some : (n : ℕ) → 1 < n → 0 < largest_power_below n
 largest_power_below-some n more =
@@ -68,7 +74,8 @@ largest_power_below-some n more =
     omega arith
 
 -- a fact of a count from the facts of its halves
-pub by_halves : (P : ℕ → Type 0) → ((n : ℕ) → n ≤ 1 → P n) → ((n : ℕ) → 1 < n → P (largest_power_below n) → P (n - largest_power_below n) → P n) → (n : ℕ) → P n
+pub by_halves : (P : ℕ → Type 0) → ((n : ℕ) → n ≤ 1 → P n) → ((n : ℕ) → 1 < n → P (largest_power_below n)
+    → P (n - largest_power_below n) → P n) → (n : ℕ) → P n
 by_halves P few more n = below (suc n) n (omega arith)
   where
     below : (m n : ℕ) → n < m → P n
@@ -79,19 +86,24 @@ by_halves P few more n = below (suc n) n (omega arith)
           | inl two ↦ (
               let k_less = largest_power_below-less n two in
               let k_some = largest_power_below-some n two in
-              more n two (below m (largest_power_below n) (omega arith)) (below m (n - largest_power_below n) (omega arith)))
+              more n two (below m (largest_power_below n) (omega arith))
+              (below m (n - largest_power_below n) (omega arith)))
         ]
 
-pub length-left_half : (events : List (List ℕ)) → 1 < length events → length (left_half events) ≡ largest_power_below (length events)
-length-left_half events more = let k = largest_power_below-less (length events) more in length-take-le (largest_power_below (length events)) events (omega arith)
+pub length-left_half : (events : List (List ℕ)) → 1 < length events → length (left_half events) ≡ largest_power_below
+    (length events)
+length-left_half events more = let k = largest_power_below-less (length events) more in
+    length-take-le (largest_power_below (length events)) events (omega arith)
 
-pub length-right_half : (events : List (List ℕ)) → length (right_half events) ≡ length events - largest_power_below (length events)
+pub length-right_half : (events : List (List ℕ)) → length (right_half events) ≡ length events - largest_power_below
+    (length events)
 length-right_half events = length-drop (largest_power_below (length events)) events
 
 -- where a list of more than one event is made from its halves, splits past its number of events change nothing
 enough : {X : Type 0} (f : ℕ → List (List ℕ) → X) (join : List (List ℕ) → X → X → X)
     → ((a b : ℕ) (events : List (List ℕ)) → length events ≤ 1 → f a events ≡ f b events)
-    → ((splits : ℕ) (events : List (List ℕ)) → 1 < length events → f (suc splits) events ≡ join events (f splits (left_half events)) (f splits (right_half events)))
+    → ((splits : ℕ) (events : List (List ℕ)) → 1 < length events → f (suc splits) events ≡ join events
+    (f splits (left_half events)) (f splits (right_half events)))
     → (a b : ℕ) (events : List (List ℕ)) → length events ≤ a → length events ≤ b → f a events ≡ f b events
 enough {X} f join few more a b events m n = by_halves P small large (length events) a b events refl m n
   where
@@ -112,33 +124,41 @@ enough {X} f join few more a b events m n = by_halves P small large (length even
         let first : f a (left_half events) ≡ f b (left_half events) =
         left a b (left_half events) (length-left_half events two' ∙ same) (omega arith) (omega arith) in
         let second : f a (right_half events) ≡ f b (right_half events) =
-        right a b (right_half events) (length-right_half events ∙ ap (λ x. x - largest_power_below (length events)) e ∙ ap (λ x. n - x) same) (omega arith) (omega arith) in
-        more a events two' ∙ ap (λ x. join events x (f a (right_half events))) first ∙ ap (λ y. join events (f b (left_half events)) y) second ∙ sym (more b events two')
+        right a b (right_half events) (length-right_half events ∙ ap (λ x. x - largest_power_below (length events)) e
+        ∙ ap (λ x. n - x) same) (omega arith) (omega arith) in
+        more a events two' ∙ ap (λ x. join events x (f a (right_half events))) first
+        ∙ ap (λ y. join events (f b (left_half events)) y) second ∙ sym (more b events two')
 
 -- so a list's halves may be taken with their own number of events
 halved : {X : Type 0} (f : ℕ → List (List ℕ) → X) (join : List (List ℕ) → X → X → X)
     → ((a b : ℕ) (events : List (List ℕ)) → length events ≤ 1 → f a events ≡ f b events)
-    → ((splits : ℕ) (events : List (List ℕ)) → 1 < length events → f (suc splits) events ≡ join events (f splits (left_half events)) (f splits (right_half events)))
+    → ((splits : ℕ) (events : List (List ℕ)) → 1 < length events → f (suc splits) events ≡ join events
+    (f splits (left_half events)) (f splits (right_half events)))
     → (events : List (List ℕ)) → 1 < length events
-    → f (length events) events ≡ join events (f (length (left_half events)) (left_half events)) (f (length (right_half events)) (right_half events))
+    → f (length events) events ≡ join events (f (length (left_half events)) (left_half events))
+    (f (length (right_half events)) (right_half events))
 halved {X} f join few more events two =
     let all : ℕ = length (left_half events) + length (right_half events) in
     enough f join few more (length events) (suc (length events)) events (omega arith) (omega arith)
     ∙ more (length events) events two
     ∙ ap (λ x. join events x (f (length events) (right_half events)))
-    (enough f join few more (length events) (length (left_half events)) (left_half events) (omega (arith, length-left_half events two, largest_power_below-less (length events) two)) (omega arith))
+    (enough f join few more (length events) (length (left_half events)) (left_half events)
+    (omega (arith, length-left_half events two, largest_power_below-less (length events) two)) (omega arith))
     ∙ ap (λ y. join events (f (length (left_half events)) (left_half events)) y)
-    (enough f join few more (length events) (length (right_half events)) (right_half events) (omega (arith, length-right_half events)) (omega arith))
+    (enough f join few more (length events) (length (right_half events)) (right_half events)
+    (omega (arith, length-right_half events)) (omega arith))
 
 module _ (dig : List ℕ → List ℕ) where
-  tree_hash-few : (a b : ℕ) (events : List (List ℕ)) → length events ≤ 1 → tree_hash dig a events ≡ tree_hash dig b events
+  tree_hash-few : (a b : ℕ) (events : List (List ℕ)) → length events ≤ 1 → tree_hash dig a events ≡ tree_hash dig b
+      events
   unfolding tree_hash
   tree_hash-few a b [] h = refl
   tree_hash-few a b (e ∷ []) h = refl
   tree_hash-few a b (e ∷ f ∷ es) h = absurd (omega arith)
 
   tree_hash-more : (splits : ℕ) (events : List (List ℕ)) → 1 < length events
-      → tree_hash dig (suc splits) events ≡ dig (event_node_text (tree_hash dig splits (left_half events)) (tree_hash dig splits (right_half events)))
+      → tree_hash dig (suc splits) events ≡ dig (event_node_text (tree_hash dig splits (left_half events))
+      (tree_hash dig splits (right_half events)))
   unfolding tree_hash
   tree_hash-more splits [] h = absurd (omega arith)
   tree_hash-more splits (e ∷ []) h = absurd (omega arith)
@@ -153,11 +173,14 @@ module _ (dig : List ℕ → List ℕ) where
   event_root-one event = refl
 
   pub event_root-more : (events : List (List ℕ)) → 1 < length events
-      → event_root dig events ≡ dig (event_node_text (event_root dig (left_half events)) (event_root dig (right_half events)))
+      → event_root dig events ≡ dig (event_node_text (event_root dig (left_half events))
+      (event_root dig (right_half events)))
   unfolding event_root
-  event_root-more events h = halved (tree_hash dig) (λ events x y. dig (event_node_text x y)) tree_hash-few tree_hash-more events h
+  event_root-more events h = halved (tree_hash dig) (λ events x y. dig (event_node_text x y)) tree_hash-few
+      tree_hash-more events h
 
-  path-few : (a b : ℕ) (events : List (List ℕ)) → length events ≤ 1 → path_within dig a events ≡ path_within dig b events
+  path-few : (a b : ℕ) (events : List (List ℕ)) → length events ≤ 1 → path_within dig a events ≡ path_within dig b
+      events
   unfolding path_within
   path-few a b [] h = refl
   path-few a b (e ∷ []) h = refl
@@ -169,14 +192,16 @@ module _ (dig : List ℕ → List ℕ) where
       else y (index - largest_power_below (length events)) ++ event_root dig (left_half events) ∷ []
 
   path-more : (splits : ℕ) (events : List (List ℕ)) → 1 < length events
-      → path_within dig (suc splits) events ≡ path_join events (path_within dig splits (left_half events)) (path_within dig splits (right_half events))
+      → path_within dig (suc splits) events ≡ path_join events (path_within dig splits (left_half events))
+      (path_within dig splits (right_half events))
   unfolding path_within path_join
   path-more splits [] h = absurd (omega arith)
   path-more splits (e ∷ []) h = absurd (omega arith)
   path-more splits (e ∷ f ∷ es) h = refl
 
   path-halved : (events : List (List ℕ)) (index : ℕ) → 1 < length events
-      → audit_path dig events index ≡ path_join events (audit_path dig (left_half events)) (audit_path dig (right_half events)) index
+      → audit_path dig events index ≡ path_join events (audit_path dig (left_half events))
+      (audit_path dig (right_half events)) index
   unfolding audit_path
   path-halved events index h = ap (λ p. p index) (halved (path_within dig) path_join path-few path-more events h)
 
@@ -188,25 +213,31 @@ module _ (dig : List ℕ → List ℕ) where
   unfolding audit_path path_within
   audit_path-one event index = refl
 
-  pub audit_path-left : (events : List (List ℕ)) (index : ℕ) → 1 < length events → index < largest_power_below (length events)
+  pub audit_path-left : (events : List (List ℕ)) (index : ℕ) → 1 < length events → index < largest_power_below
+      (length events)
       → audit_path dig events index ≡ audit_path dig (left_half events) index ++ event_root dig (right_half events) ∷ []
   unfolding path_join
   audit_path-left events index h less =
       path-halved events index h
       ∙ ap (λ t. if t then audit_path dig (left_half events) index ++ event_root dig (right_half events) ∷ []
-      else audit_path dig (right_half events) (index - largest_power_below (length events)) ++ event_root dig (left_half events) ∷ [])
+      else audit_path dig (right_half events) (index - largest_power_below (length events)) ++ event_root dig
+      (left_half events) ∷ [])
       (lt-ltb index (largest_power_below (length events)) less)
 
-  pub audit_path-right : (events : List (List ℕ)) (index : ℕ) → 1 < length events → largest_power_below (length events) ≤ index
-      → audit_path dig events index ≡ audit_path dig (right_half events) (index - largest_power_below (length events)) ++ event_root dig (left_half events) ∷ []
+  pub audit_path-right : (events : List (List ℕ)) (index : ℕ) → 1 < length events → largest_power_below (length events)
+      ≤ index
+      → audit_path dig events index ≡ audit_path dig (right_half events) (index - largest_power_below (length events))
+      ++ event_root dig (left_half events) ∷ []
   unfolding path_join
   audit_path-right events index h past =
       path-halved events index h
       ∙ ap (λ t. if t then audit_path dig (left_half events) index ++ event_root dig (right_half events) ∷ []
-      else audit_path dig (right_half events) (index - largest_power_below (length events)) ++ event_root dig (left_half events) ∷ [])
+      else audit_path dig (right_half events) (index - largest_power_below (length events)) ++ event_root dig
+      (left_half events) ∷ [])
       (le-ltb index (largest_power_below (length events)) past)
 
-  texts-few : (a b : ℕ) (events : List (List ℕ)) → length events ≤ 1 → node_texts_within dig a events ≡ node_texts_within dig b events
+  texts-few : (a b : ℕ) (events : List (List ℕ)) → length events ≤ 1 → node_texts_within dig a events
+      ≡ node_texts_within dig b events
   unfolding node_texts_within
   texts-few a b [] h = refl
   texts-few a b (e ∷ []) h = refl
@@ -218,7 +249,8 @@ module _ (dig : List ℕ → List ℕ) where
 
   texts-more : (splits : ℕ) (events : List (List ℕ)) → 1 < length events
       → node_texts_within dig (suc splits) events
-      ≡ node_texts_within dig splits (left_half events) ++ (node_texts_within dig splits (right_half events) ++ top_text events ∷ [])
+      ≡ node_texts_within dig splits (left_half events) ++ (node_texts_within dig splits (right_half events) ++ top_text
+      events ∷ [])
   unfolding node_texts_within
   texts-more splits [] h = absurd (omega arith)
   texts-more splits (e ∷ []) h = absurd (omega arith)
@@ -231,12 +263,15 @@ module _ (dig : List ℕ → List ℕ) where
   event_node_texts-few (e ∷ f ∷ es) h = absurd (omega arith)
 
   pub event_node_texts-more : (events : List (List ℕ)) → 1 < length events
-      → event_node_texts dig events ≡ event_node_texts dig (left_half events) ++ (event_node_texts dig (right_half events) ++ top_text events ∷ [])
+      → event_node_texts dig events ≡ event_node_texts dig (left_half events)
+      ++ (event_node_texts dig (right_half events) ++ top_text events ∷ [])
   unfolding event_node_texts
-  event_node_texts-more events h = halved (node_texts_within dig) (λ events x y. x ++ (y ++ top_text events ∷ [])) texts-few texts-more events h
+  event_node_texts-more events h = halved (node_texts_within dig) (λ events x y. x ++ (y ++ top_text events ∷ []))
+      texts-few texts-more events h
 
   -- a root has the size of a digest
-  pub length-event_root : (size : (text : List ℕ) → length (dig text) ≡ 32) (events : List (List ℕ)) → length (event_root dig events) ≡ 32
+  pub length-event_root : (size : (text : List ℕ) → length (dig text) ≡ 32) (events : List (List ℕ))
+      → length (event_root dig events) ≡ 32
   length-event_root size events =
       elim (cases_lt 1 (length events)) [
         | inl more ↦ ap length (event_root-more events more) ∙ size _
@@ -248,7 +283,8 @@ module _ (dig : List ℕ → List ℕ) where
       small (e ∷ []) h = ap length (event_root-one e) ∙ size _
       small (e ∷ f ∷ es) h = absurd (omega arith)
 
-  pub event_texts-some : (events : List (List ℕ)) → 0 < length events → event_texts dig events ≡ event_leaf_texts events ++ event_node_texts dig events
+  pub event_texts-some : (events : List (List ℕ)) → 0 < length events → event_texts dig events ≡ event_leaf_texts events
+      ++ event_node_texts dig events
   unfolding event_texts
   event_texts-some [] h = absurd (omega arith)
   event_texts-some (e ∷ es) h = refl
@@ -264,7 +300,8 @@ leaves-drop zero events text p = p
 leaves-drop (suc n) [] text p = p
 leaves-drop (suc n) (e ∷ es) text p = inr (leaves-drop n es text p)
 
-either : (text : List ℕ) (xs ys : List (List ℕ)) → Among text (xs ++ ys) → (zs : List (List ℕ)) → Within xs zs → Within ys zs → Among text zs
+either : (text : List ℕ) (xs ys : List (List ℕ)) → Among text (xs ++ ys) → (zs : List (List ℕ)) → Within xs zs
+    → Within ys zs → Among text zs
 either text [] ys a zs p q = q text a
 either text (x ∷ xs) ys (inl e) zs p q = p text (inl e)
 either text (x ∷ xs) ys (inr a) zs p q = either text xs ys a zs (λ t b. p t (inr b)) q
@@ -275,20 +312,25 @@ module _ (dig : List ℕ → List ℕ) where
   leaves-within [] text a = absurd a
   leaves-within (e ∷ es) text a = Among-left text (event_leaf_texts (e ∷ es)) _ a
 
-  nodes-within : (events : List (List ℕ)) → 0 < length events → Within (event_node_texts dig events) (event_texts dig events)
-  nodes-within events h text a = subst (Among text) (sym (event_texts-some dig events h)) (Among-right text (event_leaf_texts events) _ a)
+  nodes-within : (events : List (List ℕ)) → 0 < length events → Within (event_node_texts dig events)
+      (event_texts dig events)
+  nodes-within events h text a = subst (Among text) (sym (event_texts-some dig events h))
+      (Among-right text (event_leaf_texts events) _ a)
 
   -- the texts of each half are among those of the whole, and so is the root's
-  pub event_texts-left : (events : List (List ℕ)) → 1 < length events → Within (event_texts dig (left_half events)) (event_texts dig events)
+  pub event_texts-left : (events : List (List ℕ)) → 1 < length events → Within (event_texts dig (left_half events))
+      (event_texts dig events)
   event_texts-left events h text a =
       let k = largest_power_below-some (length events) h in
       let n = length-left_half events h in
       either text (event_leaf_texts (left_half events)) (event_node_texts dig (left_half events))
       (subst (Among text) (event_texts-some dig (left_half events) (omega arith)) a) (event_texts dig events)
       (λ t b. leaves-within events t (leaves-take (largest_power_below (length events)) events t b))
-      (λ t b. nodes-within events (omega arith) t (subst (Among t) (sym (event_node_texts-more dig events h)) (Among-left t (event_node_texts dig (left_half events)) _ b)))
+      (λ t b. nodes-within events (omega arith) t (subst (Among t) (sym (event_node_texts-more dig events h))
+      (Among-left t (event_node_texts dig (left_half events)) _ b)))
 
-  pub event_texts-right : (events : List (List ℕ)) → 1 < length events → Within (event_texts dig (right_half events)) (event_texts dig events)
+  pub event_texts-right : (events : List (List ℕ)) → 1 < length events → Within (event_texts dig (right_half events))
+      (event_texts dig events)
   event_texts-right events h text a =
       let k = largest_power_below-less (length events) h in
       let n = length-right_half events in
@@ -296,12 +338,16 @@ module _ (dig : List ℕ → List ℕ) where
       (subst (Among text) (event_texts-some dig (right_half events) (omega arith)) a) (event_texts dig events)
       (λ t b. leaves-within events t (leaves-drop (largest_power_below (length events)) events t b))
       (λ t b. nodes-within events (omega arith) t (subst (Among t) (sym (event_node_texts-more dig events h))
-      (Among-right t (event_node_texts dig (left_half events)) _ (Among-left t (event_node_texts dig (right_half events)) _ b))))
+      (Among-right t (event_node_texts dig (left_half events)) _
+      (Among-left t (event_node_texts dig (right_half events)) _ b))))
 
-  pub event_texts-top : (events : List (List ℕ)) → 1 < length events → Among (top_text dig events) (event_texts dig events)
+  pub event_texts-top : (events : List (List ℕ)) → 1 < length events → Among (top_text dig events)
+      (event_texts dig events)
   event_texts-top events h =
-      nodes-within events (omega arith) _ (subst (Among (top_text dig events)) (sym (event_node_texts-more dig events h))
-      (Among-right _ (event_node_texts dig (left_half events)) _ (Among-right _ (event_node_texts dig (right_half events)) _ (inl refl))))
+      nodes-within events (omega arith) _
+      (subst (Among (top_text dig events)) (sym (event_node_texts-more dig events h))
+      (Among-right _ (event_node_texts dig (left_half events)) _
+      (Among-right _ (event_node_texts dig (right_half events)) _ (inl refl))))
 
   pub event_texts-leaf : (event : List ℕ) → Among (event_leaf_text event) (event_texts dig (event ∷ []))
   event_texts-leaf event = leaves-within (event ∷ []) _ (inl refl)

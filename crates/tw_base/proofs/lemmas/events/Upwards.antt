@@ -21,20 +21,25 @@ has_last (x ∷ y ∷ path) (suc n) e =
     let size : length rest.front ≡ n = rest.size in
     record { front = x ∷ rest.front; last = rest.last; whole = ap (λ p. x ∷ p) rest.whole; size = omega arith }
 
-pub AllDigests-front : (front : List (List ℕ)) (last : List ℕ) → AllDigests (front ++ last ∷ []) → AllDigests front × HasBytes 32 last
+pub AllDigests-front : (front : List (List ℕ)) (last : List ℕ) → AllDigests (front ++ last ∷ []) → AllDigests front
+    × HasBytes 32 last
 AllDigests-front [] last sizes = (tt, sizes.0)
 AllDigests-front (x ∷ front) last sizes = let rest = AllDigests-front front last sizes.1 in ((sizes.0, rest.0), rest.1)
 
 module _ (dig : List ℕ → List ℕ) where
-  pub root_above-last : (sides : List Side) (side : Side) (path : List (List ℕ)) (label reached : List ℕ) → length sides ≡ length path
-      → root_above dig (sides ++ side ∷ []) (path ++ label ∷ []) reached ≡ dig (node_text_beside side label (root_above dig sides path reached))
+  pub root_above-last : (sides : List Side) (side : Side) (path : List (List ℕ)) (label reached : List ℕ)
+      → length sides ≡ length path
+      → root_above dig (sides ++ side ∷ []) (path ++ label ∷ []) reached ≡ dig
+      (node_text_beside side label (root_above dig sides path reached))
   unfolding root_above
   root_above-last [] side [] label reached n = refl
   root_above-last [] side (l ∷ path) label reached n = absurd (omega arith)
   root_above-last (s ∷ sides) side [] label reached n = absurd (omega arith)
-  root_above-last (s ∷ sides) side (l ∷ path) label reached n = root_above-last sides side path label (dig (node_text_beside s l reached)) (omega arith)
+  root_above-last (s ∷ sides) side (l ∷ path) label reached n = root_above-last sides side path label
+      (dig (node_text_beside s l reached)) (omega arith)
 
-  pub node_texts_above-last : (sides : List Side) (side : Side) (path : List (List ℕ)) (label reached : List ℕ) → length sides ≡ length path
+  pub node_texts_above-last : (sides : List Side) (side : Side) (path : List (List ℕ)) (label reached : List ℕ)
+      → length sides ≡ length path
       → node_texts_above dig (sides ++ side ∷ []) (path ++ label ∷ []) reached
       ≡ node_texts_above dig sides path reached ++ node_text_beside side label (root_above dig sides path reached) ∷ []
   unfolding root_above node_texts_above
@@ -42,19 +47,23 @@ module _ (dig : List ℕ → List ℕ) where
   node_texts_above-last [] side (l ∷ path) label reached n = absurd (omega arith)
   node_texts_above-last (s ∷ sides) side [] label reached n = absurd (omega arith)
   node_texts_above-last (s ∷ sides) side (l ∷ path) label reached n =
-      ap (λ ts. node_text_beside s l reached ∷ ts) (node_texts_above-last sides side path label (dig (node_text_beside s l reached)) (omega arith))
+      ap (λ ts. node_text_beside s l reached ∷ ts) (node_texts_above-last sides side path label
+      (dig (node_text_beside s l reached)) (omega arith))
 
   pub root_above-none : (path : List (List ℕ)) (reached : List ℕ) → root_above dig [] path reached ≡ reached
   unfolding root_above
   root_above-none path reached = refl
 
-  pub root_above-no_label : (side : Side) (sides : List Side) (reached : List ℕ) → root_above dig (side ∷ sides) [] reached ≡ reached
+  pub root_above-no_label : (side : Side) (sides : List Side) (reached : List ℕ) → root_above dig (side ∷ sides) []
+      reached ≡ reached
   unfolding root_above
   root_above-no_label side sides reached = refl
 
-  pub length-root_above : (size : (text : List ℕ) → length (dig text) ≡ 32) (sides : List Side) (path : List (List ℕ)) (reached : List ℕ)
+  pub length-root_above : (size : (text : List ℕ) → length (dig text) ≡ 32) (sides : List Side) (path : List (List ℕ))
+      (reached : List ℕ)
       → length reached ≡ 32 → length (root_above dig sides path reached) ≡ 32
   unfolding root_above
   length-root_above size [] path reached n = n
   length-root_above size (s ∷ sides) [] reached n = n
-  length-root_above size (s ∷ sides) (l ∷ path) reached n = length-root_above size sides path (dig (node_text_beside s l reached)) (size _)
+  length-root_above size (s ∷ sides) (l ∷ path) reached n = length-root_above size sides path
+      (dig (node_text_beside s l reached)) (size _)

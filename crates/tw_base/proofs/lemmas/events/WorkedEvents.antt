@@ -2,7 +2,8 @@
 -- the weak digest.
 use Rattle.std.proofs.Common.{◌≡◌, ℕ, List, [], ◌∷◌, refl}
 use Rattle.std.specs.Prelude.{replicate}
-use Rattle.tw_base.specs.events.EventTree.{audit_path, event_node_texts, event_root, event_texts, largest_power_below, node_texts_within, path_within, power_below, tree_hash}
+use Rattle.tw_base.specs.events.EventTree.{audit_path, event_node_texts, event_root, event_texts, largest_power_below}
+use Rattle.tw_base.specs.events.EventTree.{node_texts_within, path_within, power_below, tree_hash}
 use Rattle.tw_base.specs.kinds.Texts.{event_leaf_text, event_node_text, no_events_text}
 use Rattle.tw_base.specs.events.AuditPath.{path_sides, sides_within}
 use Rattle.tw_base.specs.declared.events.side.Side.TheVariants.{Left, Right}
@@ -15,7 +16,8 @@ module _ (dig : List ℕ → List ℕ) where
   abbrev pub node : List ℕ → List ℕ → List ℕ
   node left right = dig (event_node_text left right)
 
-  pub root_of_three : (d0 d1 d2 : List ℕ) → event_root dig (d0 ∷ d1 ∷ d2 ∷ []) ≡ node (node (leaf d0) (leaf d1)) (leaf d2)
+  pub root_of_three : (d0 d1 d2 : List ℕ) → event_root dig (d0 ∷ d1 ∷ d2 ∷ []) ≡ node (node (leaf d0) (leaf d1))
+      (leaf d2)
   unfolding event_root tree_hash largest_power_below power_below
   root_of_three d0 d1 d2 = refl
 

@@ -1,20 +1,30 @@
 -- The laws of a codec, field by field.
-use Rattle.std.proofs.Common.{◌≡◌, ℕ, suc, zero, ◌<◌, ◌≤◌, ◌^◌, List, [], ◌∷◌, ◌++◌, length, flat_map, refl, ap, sym, ◌∙◌, subst, inl, inr}
-use Rattle.std.specs.Prelude.{Result, Ok, Err, Option, Some, None, MatchOption, nat_le, nat_lt, ◌&&◌, ◌||◌, ◌==◌, Bool, true, false, if◌then◌else◌}
+use Rattle.std.proofs.Common.{◌≡◌, ℕ, suc, zero, ◌<◌, ◌≤◌, ◌^◌, List, [], ◌∷◌, ◌++◌, length, flat_map, refl, ap, sym}
+use Rattle.std.proofs.Common.{◌∙◌, subst, inl, inr}
+use Rattle.std.specs.Prelude.{Result, Ok, Err, Option, Some, None, MatchOption, nat_le, nat_lt, ◌&&◌, ◌||◌, ◌==◌, Bool}
+use Rattle.std.specs.Prelude.{true, false, if◌then◌else◌}
 use Rattle.std.specs.Option.{option_map_or}
 use Rattle.std.proofs.lemmas.List.{append-nil}
 use Rattle.std.proofs.lemmas.Bool.{and_parts, eqb-true, leb-true, ltb-true, or_cases}
 use Rattle.tw_base.specs.kinds.Bytes.{AreBytes}
-use Rattle.tw_base.specs.format.Codecs.{Codec, EachFits, HasBytes, IsUnambiguous, before, behind, by_kind, bytes_codec, choose, counted, each, each_format, flag_codec, labels_codec, many, name_codec, nothing, number_codec, optional, pair, present, seen, sized_codec, text_codec, variant, written}
+use Rattle.tw_base.specs.format.Codecs.{Codec, EachFits, HasBytes, IsUnambiguous, before, behind, by_kind, bytes_codec}
+use Rattle.tw_base.specs.format.Codecs.{choose, counted, each, each_format, flag_codec, labels_codec, many, name_codec}
+use Rattle.tw_base.specs.format.Codecs.{nothing, number_codec, optional, pair, present, seen, sized_codec, text_codec}
+use Rattle.tw_base.specs.format.Codecs.{variant, written}
 use Rattle.tw_base.specs.format.Formats.{Format, GoesOn, Placed, Spells, read_at, then_by, ◌>>=◌}
 use Rattle.tw_base.specs.format.Formats.Format.{Done, Byte}
 use Rattle.tw_base.specs.format.Fields.{bytes, flag, repeated, text}
 use Rattle.tw_base.specs.kinds.Lists.{Each}
 use Rattle.tw_base.specs.kinds.Names.{IsName}
 use Rattle.tw_base.proofs.lemmas.kinds.ByteLemmas.{AreBytes-at}
-use Rattle.tw_base.proofs.lemmas.format.FormatLaws.{AllWords, all_words-done, all_words-then, goes_on-then, no_longer_word, one_spelling, one_value, read_at-done, read_at-spells, read_at-then, spells_then, whole-stops}
+use Rattle.tw_base.proofs.lemmas.format.FormatLaws.{AllWords, all_words-done, all_words-then, goes_on-then}
+use Rattle.tw_base.proofs.lemmas.format.FormatLaws.{no_longer_word, one_spelling, one_value, read_at-done}
+use Rattle.tw_base.proofs.lemmas.format.FormatLaws.{read_at-spells, read_at-then, spells_then, whole-stops}
 use Rattle.tw_base.proofs.lemmas.format.NumberLaws.{goes_on-number, number_spelled, number_spells}
-use Rattle.tw_base.proofs.lemmas.format.FieldLaws.{byte_then-parts, bytes-spells, bytes-written, goes_on-bytes, goes_on-name, goes_on-repeated, goes_on-text, length-bytes, name-spells, name-word, name-written, repeated-cons, repeated-nil, text-spells, text-word, text-written}
+use Rattle.tw_base.proofs.lemmas.format.FieldLaws.{byte_then-parts, bytes-spells, bytes-written, goes_on-bytes}
+use Rattle.tw_base.proofs.lemmas.format.FieldLaws.{goes_on-name, goes_on-repeated, goes_on-text, length-bytes}
+use Rattle.tw_base.proofs.lemmas.format.FieldLaws.{name-spells, name-word, name-written, repeated-cons, repeated-nil}
+use Rattle.tw_base.proofs.lemmas.format.FieldLaws.{text-spells, text-word, text-written}
 
 pub record Lawful {X : Type 0} (c : Codec X) : Type 0 where
   -- every front that is let through goes on to a word
@@ -89,7 +99,8 @@ unfolding text_codec
 lawful-text magic = record {
   goes = goes_on-text magic;
   reads = λ whole at. refl;
-  words = λ word x s. (let same : word ≡ x = text-written magic word x s in (same, sym (text-word magic word x s) ∙ same));
+  words = λ word x s. (let same : word ≡ x = text-written magic word x s in
+      (same, sym (text-word magic word x s) ∙ same));
   spells = λ x f. (let P : List ℕ → Type 0 = λ t. Spells (text magic) t t in subst P f (text-spells magic));
 }
 
@@ -119,41 +130,53 @@ lawful-flag = record {
 
 module _ {X Y : Type 0} where
   -- what follows a field has to go on only behind the words of the field
-  pub goes-then : (f : Format X) (next : X → Format Y) → GoesOn f → ((word : List ℕ) (x : X) → Spells f word x → GoesOn (next x)) → GoesOn (then_by f next)
+  pub goes-then : (f : Format X) (next : X → Format Y) → GoesOn f → ((word : List ℕ) (x : X) → Spells f word x
+      → GoesOn (next x)) → GoesOn (then_by f next)
   goes-then (Done x) next g h = h [] x refl
-  goes-then (Byte test more) next g h = (g.0, λ b yes. goes-then (more b) next (g.1 b yes) (λ word x s. h (b ∷ word) x (yes, s)))
+  goes-then (Byte test more) next g h =
+      (g.0, λ b yes. goes-then (more b) next (g.1 b yes) (λ word x s. h (b ∷ word) x (yes, s)))
 
   -- and is read only behind a value that fits
   reads-then : (c : Codec X) (next : X → Format Y) (read : X → List ℕ → ℕ → Result (Placed Y) ℕ) → Lawful c
       → ((x : X) → c.Fits x → (whole : List ℕ) (at : ℕ) → read_at (next x) whole at ≡ read x whole at)
-      → (whole : List ℕ) (at : ℕ) → read_at (then_by c.format next) whole at ≡ (c.read whole at >>= (λ x. read x.value whole x.after))
+      → (whole : List ℕ) (at : ℕ) → read_at (then_by c.format next) whole at
+      ≡ (c.read whole at >>= (λ x. read x.value whole x.after))
   reads-then c next read l h whole at =
-      read_at-then c.format next whole at ∙ on (read_at c.format whole at) refl ∙ ap (λ r. r >>= (λ x. read x.value whole x.after)) (l.reads whole at)
+      read_at-then c.format next whole at ∙ on (read_at c.format whole at) refl
+      ∙ ap (λ r. r >>= (λ x. read x.value whole x.after)) (l.reads whole at)
     where
-      on : (r : Result (Placed X) ℕ) → read_at c.format whole at ≡ r → (r >>= (λ x. read_at (next x.value) whole x.after)) ≡ (r >>= (λ x. read x.value whole x.after))
-      on (Ok x) e = let is = read_at-spells c.format whole at x.after x.value e in h x.value (l.words is.0 x.value is.4).1 whole x.after
+      on : (r : Result (Placed X) ℕ) → read_at c.format whole at ≡ r
+          → (r >>= (λ x. read_at (next x.value) whole x.after)) ≡ (r >>= (λ x. read x.value whole x.after))
+      on (Ok x) e = let is = read_at-spells c.format whole at x.after x.value e in
+          h x.value (l.words is.0 x.value is.4).1 whole x.after
       on (Err place) e = refl
 
 module _ {X Y : Type 0} where
-  pub lawful-pair : (c : Codec X) (next : X → Codec Y) → Lawful c → ((x : X) → c.Fits x → Lawful (next x)) → Lawful (pair c next)
+  pub lawful-pair : (c : Codec X) (next : X → Codec Y) → Lawful c → ((x : X) → c.Fits x → Lawful (next x))
+      → Lawful (pair c next)
   unfolding pair
   lawful-pair c next l h = record {
-    goes = goes-then c.format _ l.goes (λ word x s. goes_on-then (next x).format _ (h x (l.words word x s).1).goes (λ y. tt));
-    reads = reads-then c _ _ l (λ x fits whole at. let more = (h x fits).reads in simp (read_at-then, read_at-done, more));
+    goes = goes-then c.format _ l.goes (λ word x s. goes_on-then (next x).format _ (h x (l.words word x s).1).goes
+        (λ y. tt));
+    reads = reads-then c _ _ l (λ x fits whole at. let more = (h x fits).reads in
+        simp (read_at-then, read_at-done, more));
     words =
         all_words-then c.format _ _ (λ one x s.
         all_words-then (next x).format _ _ (λ other y t.
         let first = l.words one x s in
         let last = (h x first.1).words other y t in
-        let word : one ++ (other ++ []) ≡ c.write x ++ (next x).write y = (λ k. first.0 k ++ (append-nil other ∙ last.0) k) in
+        let word : one ++ (other ++ []) ≡ c.write x ++ (next x).write y =
+        (λ k. first.0 k ++ (append-nil other ∙ last.0) k) in
         all_words-done (x, y) _ (word, (first.1, last.1))));
     spells = λ p f. (
         let P : List ℕ → Type 0 = λ w. Spells (then_by (next p.0).format (λ y. Done (p.0, y))) w p in
         spells_then c.format _ (c.write p.0) _ p.0 p (l.spells p.0 f.0)
-        (subst P (append-nil ((next p.0).write p.1)) (spells_then (next p.0).format _ ((next p.0).write p.1) [] p.1 p ((h p.0 f.0).spells p.1 f.1) refl)));
+        (subst P (append-nil ((next p.0).write p.1)) (spells_then (next p.0).format _ ((next p.0).write p.1) [] p.1 p
+        ((h p.0 f.0).spells p.1 f.1) refl)));
   }
 
-  pub lawful-seen : (to : X → Y) (from : Y → X) (c : Codec X) → ((x : X) → from (to x) ≡ x) → ((y : Y) → to (from y) ≡ y) → Lawful c → Lawful (seen to from c)
+  pub lawful-seen : (to : X → Y) (from : Y → X) (c : Codec X) → ((x : X) → from (to x) ≡ x)
+      → ((y : Y) → to (from y) ≡ y) → Lawful c → Lawful (seen to from c)
   unfolding seen
   lawful-seen to from c back forth l = record {
     goes = goes_on-then c.format _ l.goes (λ x. tt);
@@ -165,14 +188,16 @@ module _ {X Y : Type 0} where
         all_words-done (to x) _ (word, subst c.Fits (sym (back x)) is.1));
     spells = λ y f. (
         let P : List ℕ → Type 0 = λ w. Spells (then_by c.format (λ x. Done (to x))) w y in
-        subst P (append-nil (c.write (from y))) (spells_then c.format _ (c.write (from y)) [] (from y) y (l.spells (from y) f) (forth y)));
+        subst P (append-nil (c.write (from y))) (spells_then c.format _ (c.write (from y)) [] (from y) y
+        (l.spells (from y) f) (forth y)));
   }
 
   module _ (to : X → Y) (fields : Y → Option X) (c : Codec X) where
     abbrev FitsAs : Y → Option X → Type 0
     FitsAs y o = MatchOption o ⊥ (λ x. (to x ≡ y) × c.Fits x)
 
-    spells-fields : Lawful c → (y : Y) (o : Option X) → FitsAs y o → Spells (then_by c.format (λ x. Done (to x))) (option_map_or c.write o []) y
+    spells-fields : Lawful c → (y : Y) (o : Option X) → FitsAs y o → Spells (then_by c.format (λ x. Done (to x)))
+        (option_map_or c.write o []) y
     spells-fields l y None f = absurd f
     spells-fields l y (Some x) f =
         let P : List ℕ → Type 0 = λ w. Spells (then_by c.format (λ z. Done (to z))) w y in
@@ -186,12 +211,14 @@ module _ {X Y : Type 0} where
       words =
           all_words-then c.format _ _ (λ one x s.
           let is = l.words one x s in
-          let word : one ++ [] ≡ option_map_or c.write (fields (to x)) [] = append-nil one ∙ is.0 ∙ sym (ap (λ o. option_map_or c.write o []) (back x)) in
+          let word : one ++ [] ≡ option_map_or c.write (fields (to x)) [] = append-nil one ∙ is.0
+          ∙ sym (ap (λ o. option_map_or c.write o []) (back x)) in
           all_words-done (to x) _ (word, subst (FitsAs (to x)) (sym (back x)) (refl, is.1)));
       spells = λ y f. spells-fields l y (fields y) f;
     }
 
-  pub lawful-by_kind : (kind_of : Y → X) (c : Codec X) (next : X → Codec Y) → Lawful c → ((x : X) → c.Fits x → Lawful (next x))
+  pub lawful-by_kind : (kind_of : Y → X) (c : Codec X) (next : X → Codec Y) → Lawful c
+      → ((x : X) → c.Fits x → Lawful (next x))
       → ((x : X) (y : Y) → c.Fits x → (next x).Fits y → kind_of y ≡ x) → Lawful (by_kind kind_of c next)
   unfolding by_kind
   lawful-by_kind kind_of c next l h kind = record {
@@ -203,12 +230,14 @@ module _ {X Y : Type 0} where
         let last = (h x first.1).words other y t in
         let P : X → Type 0 = λ k. (one ++ other ≡ c.write k ++ (next k).write y) × (c.Fits k × (next k).Fits y) in
         subst P (sym (kind x y first.1 last.1)) ((λ k. first.0 k ++ last.0 k), (first.1, last.1)));
-    spells = λ y f. spells_then c.format _ (c.write (kind_of y)) _ (kind_of y) y (l.spells (kind_of y) f.0) ((h (kind_of y) f.0).spells y f.1);
+    spells = λ y f. spells_then c.format _ (c.write (kind_of y)) _ (kind_of y) y (l.spells (kind_of y) f.0)
+        ((h (kind_of y) f.0).spells y f.1);
   }
 
 pub lawful-sized : (width least most : ℕ) → least ≤ most → most < 256 ^ width → Lawful (sized_codec width least most)
 unfolding sized_codec bytes_codec
-lawful-sized width least most r fits = lawful-by_kind length (number_codec width least most) bytes_codec (lawful-number width least most r fits) (λ n _. lawful-bytes n) (λ n bs _ is. is.0)
+lawful-sized width least most r fits = lawful-by_kind length (number_codec width least most) bytes_codec
+    (lawful-number width least most r fits) (λ n _. lawful-bytes n) (λ n bs _ is. is.0)
 
 module _ {X : Type 0} where
   pub lawful-choose : (b : Bool) (one other : Codec X) → Lawful one → Lawful other → Lawful (choose b one other)
@@ -224,7 +253,8 @@ module _ {X : Type 0} where
     spells = λ y f. f;
   }
 
-  pub lawful-written : (write : X → List ℕ) (c : Codec X) → ((x : X) → c.Fits x → c.write x ≡ write x) → Lawful c → Lawful (written write c)
+  pub lawful-written : (write : X → List ℕ) (c : Codec X) → ((x : X) → c.Fits x → c.write x ≡ write x) → Lawful c
+      → Lawful (written write c)
   unfolding written
   lawful-written write c same l = record {
     goes = l.goes;
@@ -254,11 +284,13 @@ module _ {X : Type 0} where
         all_words-then c.format _ _ (λ one x s.
         all_words-then (text last) _ _ (λ other t u.
         let first = l.words one x s in
-        let word : one ++ (other ++ []) ≡ c.write x ++ last = (λ k. first.0 k ++ (append-nil other ∙ text-word last other t u) k) in
+        let word : one ++ (other ++ []) ≡ c.write x ++ last =
+        (λ k. first.0 k ++ (append-nil other ∙ text-word last other t u) k) in
         all_words-done x _ (word, first.1)));
     spells = λ x f. (
         let P : List ℕ → Type 0 = λ w. Spells (then_by (text last) (λ t. Done x)) w x in
-        spells_then c.format _ (c.write x) _ x x (l.spells x f) (subst P (append-nil last) (spells_then (text last) _ last [] last x (text-spells last) refl)));
+        spells_then c.format _ (c.write x) _ x x (l.spells x f)
+        (subst P (append-nil last) (spells_then (text last) _ last [] last x (text-spells last) refl)));
   }
 
 module _ {X : Type 0} (c : Codec X) (l : Lawful c) where
@@ -287,7 +319,8 @@ module _ {X : Type 0} (c : Codec X) (l : Lawful c) where
 
 -- ---- so many values
 module _ {X : Type 0} (c : Codec X) (l : Lawful c) where
-  many-words : (n : ℕ) → AllWords (repeated n c.format) (λ word xs. (word ≡ flat_map c.write xs) × ((length xs ≡ n) × Each c.Fits xs))
+  many-words : (n : ℕ) → AllWords (repeated n c.format) (λ word xs. (word ≡ flat_map c.write xs)
+      × ((length xs ≡ n) × Each c.Fits xs))
   unfolding repeated
   many-words zero = all_words-done [] _ (refl, (refl, tt))
   many-words (suc n) =
@@ -295,12 +328,14 @@ module _ {X : Type 0} (c : Codec X) (l : Lawful c) where
       all_words-then (repeated n c.format) _ _ (λ other xs t.
       let first = l.words one x s in
       let last = many-words n other xs t in
-      let word : one ++ (other ++ []) ≡ c.write x ++ flat_map c.write xs = (λ k. first.0 k ++ (append-nil other ∙ last.0) k) in
+      let word : one ++ (other ++ []) ≡ c.write x ++ flat_map c.write xs =
+      (λ k. first.0 k ++ (append-nil other ∙ last.0) k) in
       all_words-done (x ∷ xs) _ (word, (ap suc last.1.0, (first.1, last.1.1)))))
 
   many-spell : (xs : List X) → Each c.Fits xs → Spells (repeated (length xs) c.format) (flat_map c.write xs) xs
   many-spell [] each = repeated-nil c.format
-  many-spell (x ∷ xs) each = repeated-cons (length xs) c.format (c.write x) (flat_map c.write xs) x xs (l.spells x each.0) (many-spell xs each.1)
+  many-spell (x ∷ xs) each = repeated-cons (length xs) c.format (c.write x) (flat_map c.write xs) x xs
+      (l.spells x each.0) (many-spell xs each.1)
 
   pub lawful-many : (n : ℕ) → Lawful (many n c)
   unfolding many
@@ -308,43 +343,52 @@ module _ {X : Type 0} (c : Codec X) (l : Lawful c) where
     goes = goes_on-repeated n c.format l.goes;
     reads = λ whole at. refl;
     words = many-words n;
-    spells = λ xs f. (let P : ℕ → Type 0 = λ m. Spells (repeated m c.format) (flat_map c.write xs) xs in subst P f.0 (many-spell xs f.1));
+    spells = λ xs f. (let P : ℕ → Type 0 = λ m. Spells (repeated m c.format) (flat_map c.write xs) xs in
+        subst P f.0 (many-spell xs f.1));
   }
 
   pub lawful-counted : (width least most : ℕ) → least ≤ most → most < 256 ^ width → Lawful (counted width least most c)
   unfolding counted many
   lawful-counted width least most r fits =
-      lawful-by_kind length (number_codec width least most) _ (lawful-number width least most r fits) (λ n _. lawful-many n) (λ n xs _ is. is.0)
+      lawful-by_kind length (number_codec width least most) _ (lawful-number width least most r fits)
+      (λ n _. lawful-many n) (λ n xs _ is. is.0)
 
 pub lawful-labels : (n : ℕ) → Lawful (labels_codec n)
 unfolding labels_codec
 lawful-labels n = lawful-many (bytes_codec 32) (lawful-bytes 32) n
 
 -- ---- a value for each of these; the function writes those that fit
-module _ {A X : Type 0} (write : X → List ℕ) (f : A → Codec X) (h : (a : A) → Lawful (f a)) (same : (a : A) (x : X) → (f a).Fits x → (f a).write x ≡ write x) where
+module _ {A X : Type 0} (write : X → List ℕ) (f : A → Codec X) (h : (a : A) → Lawful (f a)) (same : (a : A) (x : X)
+    → (f a).Fits x → (f a).write x ≡ write x) where
   each-goes : (params : List A) → GoesOn (each_format write f params)
   each-goes [] = tt
-  each-goes (a ∷ rest) = goes_on-then (f a).format _ (h a).goes (λ x. goes_on-then (each_format write f rest) _ (each-goes rest) (λ xs. tt))
+  each-goes (a ∷ rest) = goes_on-then (f a).format _ (h a).goes (λ x. goes_on-then (each_format write f rest) _
+      (each-goes rest) (λ xs. tt))
 
-  each-words : (params : List A) → AllWords (each_format write f params) (λ word xs. (word ≡ flat_map write xs) × EachFits write f params xs)
+  each-words : (params : List A) → AllWords (each_format write f params) (λ word xs. (word ≡ flat_map write xs)
+      × EachFits write f params xs)
   each-words [] = all_words-done [] _ (refl, refl)
   each-words (a ∷ rest) =
       all_words-then (f a).format _ _ (λ one x s.
       all_words-then (each_format write f rest) _ _ (λ other xs t.
       let first = (h a).words one x s in
       let last = each-words rest other xs t in
-      let word : one ++ (other ++ []) ≡ write x ++ flat_map write xs = (λ k. (first.0 ∙ same a x first.1) k ++ (append-nil other ∙ last.0) k) in
+      let word : one ++ (other ++ []) ≡ write x ++ flat_map write xs =
+      (λ k. (first.0 ∙ same a x first.1) k ++ (append-nil other ∙ last.0) k) in
       all_words-done (x ∷ xs) _ (word, (first.1, last.1))))
 
-  each-spell : (params : List A) (xs : List X) → EachFits write f params xs → Spells (each_format write f params) (flat_map write xs) xs
-  each-spell [] xs fits = let P : List X → Type 0 = λ ys. Spells (each_format write f []) (flat_map write ys) ys in subst P fits refl
+  each-spell : (params : List A) (xs : List X) → EachFits write f params xs → Spells (each_format write f params)
+      (flat_map write xs) xs
+  each-spell [] xs fits = let P : List X → Type 0 = λ ys. Spells (each_format write f []) (flat_map write ys) ys in
+      subst P fits refl
   each-spell (a ∷ rest) [] fits = absurd fits
   each-spell (a ∷ rest) (x ∷ xs) fits =
       let P : List ℕ → Type 0 = λ w. Spells (then_by (each_format write f rest) (λ ys. Done (x ∷ ys))) w (x ∷ xs) in
       let Q : List ℕ → Type 0 = λ w. Spells (each_format write f (a ∷ rest)) (w ++ flat_map write xs) (x ∷ xs) in
       subst Q (same a x fits.0)
       (spells_then (f a).format _ ((f a).write x) _ x (x ∷ xs) ((h a).spells x fits.0)
-      (subst P (append-nil (flat_map write xs)) (spells_then (each_format write f rest) _ (flat_map write xs) [] xs (x ∷ xs) (each-spell rest xs fits.1) refl)))
+      (subst P (append-nil (flat_map write xs)) (spells_then (each_format write f rest) _ (flat_map write xs) [] xs
+      (x ∷ xs) (each-spell rest xs fits.1) refl)))
 
   pub lawful-each : (params : List A) → Lawful (each write f params)
   unfolding each
@@ -356,21 +400,47 @@ module _ {A X : Type 0} (write : X → List ℕ) (f : A → Codec X) (h : (a : A
   }
 
 -- the same where the range is of numerals, or its end is
-in_range : (width least most : ℕ) → (nat_le least most && nat_lt most (256 ^ width)) ≡ true → (least ≤ most) × (most < 256 ^ width)
+in_range : (width least most : ℕ) → (nat_le least most && nat_lt most (256 ^ width)) ≡ true → (least ≤ most)
+    × (most < 256 ^ width)
 in_range width least most is =
-    let parts = and_parts (nat_le least most) (nat_lt most (256 ^ width)) is in (leb-true least most parts.0, ltb-true most (256 ^ width) parts.1)
+    let parts = and_parts (nat_le least most) (nat_lt most (256 ^ width)) is in
+    (leb-true least most parts.0, ltb-true most (256 ^ width) parts.1)
 
-pub lawful-numeral : (width least most : ℕ) → (nat_le least most && nat_lt most (256 ^ width)) ≡ true → Lawful (number_codec width least most)
+pub lawful-numeral : (width least most : ℕ) → (nat_le least most && nat_lt most (256 ^ width)) ≡ true
+    → Lawful (number_codec width least most)
 lawful-numeral width least most is = let r = in_range width least most is in lawful-number width least most r.0 r.1
 
-pub lawful-numeral_from : (width least most : ℕ) → least ≤ most → nat_lt most (256 ^ width) ≡ true → Lawful (number_codec width least most)
+pub lawful-numeral_from : (width least most : ℕ) → least ≤ most → nat_lt most (256 ^ width) ≡ true
+    → Lawful (number_codec width least most)
 lawful-numeral_from width least most l is = lawful-number width least most l (ltb-true most (256 ^ width) is)
 
-pub lawful-sized_numeral : (width least most : ℕ) → (nat_le least most && nat_lt most (256 ^ width)) ≡ true → Lawful (sized_codec width least most)
+pub lawful-sized_numeral : (width least most : ℕ) → (nat_le least most && nat_lt most (256 ^ width)) ≡ true
+    → Lawful (sized_codec width least most)
 lawful-sized_numeral width least most is = let r = in_range width least most is in lawful-sized width least most r.0 r.1
 
-pub lawful-counted_numeral : {X : Type 0} (c : Codec X) → Lawful c → (width least most : ℕ) → (nat_le least most && nat_lt most (256 ^ width)) ≡ true → Lawful (counted width least most c)
-lawful-counted_numeral c l width least most is = let r = in_range width least most is in lawful-counted c l width least most r.0 r.1
+pub lawful-counted_numeral : {X : Type 0} (c : Codec X) → Lawful c → (width least most : ℕ)
+    → (nat_le least most && nat_lt most (256 ^ width)) ≡ true → Lawful (counted width least most c)
+lawful-counted_numeral c l width least most is = let r = in_range width least most is in lawful-counted c l width least
+    most r.0 r.1
 
 -- with them `search` finds the laws of a layout
-pub ruleset lawful = (lawful-seen, lawful-variant, lawful-choose, lawful-pair, lawful-behind, lawful-before, lawful-bytes, lawful-counted_numeral, lawful-flag, lawful-labels, lawful-many, lawful-name, lawful-numeral, lawful-numeral_from, lawful-sized_numeral, lawful-number, lawful-optional, lawful-text)
+pub ruleset lawful = (
+  lawful-seen,
+  lawful-variant,
+  lawful-choose,
+  lawful-pair,
+  lawful-behind,
+  lawful-before,
+  lawful-bytes,
+  lawful-counted_numeral,
+  lawful-flag,
+  lawful-labels,
+  lawful-many,
+  lawful-name,
+  lawful-numeral,
+  lawful-numeral_from,
+  lawful-sized_numeral,
+  lawful-number,
+  lawful-optional,
+  lawful-text,
+)

@@ -14,7 +14,8 @@ module _ (bytes : List ℕ) (at : ℕ) where
   pub flag-short : at ≡ length bytes → read_at flag bytes at ≡ Err at
   unfolding read_at flag
   flag-short e =
-      ap placed (ap (λ bs. front flag bs at) (drop_all at bytes (omega (arith, e))) ∙ front-nil is_flag (λ b. Done (b == 128)) at)
+      ap placed (ap (λ bs. front flag bs at) (drop_all at bytes (omega (arith, e))) ∙ front-nil is_flag
+      (λ b. Done (b == 128)) at)
 
   module _ (b : ℕ) (l : at < length bytes) (read : b ≡ get_or bytes at 0) where
     begins : drop at bytes ≡ b ∷ drop (at + 1) bytes
@@ -22,9 +23,12 @@ module _ (bytes : List ℕ) (at : ℕ) where
 
     pub flag-stops : (b == 0 || b == 128) ≡ false → read_at flag bytes at ≡ Err at
     unfolding read_at flag
-    flag-stops fails = ap placed (ap (λ bs. front flag bs at) begins ∙ front-stops is_flag (λ b. Done (b == 128)) b (drop (at + 1) bytes) at fails)
+    flag-stops fails = ap placed (ap (λ bs. front flag bs at) begins ∙ front-stops is_flag (λ b. Done (b == 128)) b
+        (drop (at + 1) bytes) at fails)
 
-    pub flag-found : (b == 0 || b == 128) ≡ true → read_at flag bytes at ≡ Ok (record { value = b == 128; after = at + 1 })
+    pub flag-found : (b == 0 || b == 128) ≡ true → read_at flag bytes at ≡ Ok
+        (record { value = b == 128; after = at + 1 })
     unfolding read_at flag
     flag-found passes =
-        ap placed (ap (λ bs. front flag bs at) begins ∙ front-byte is_flag (λ b. Done (b == 128)) b (drop (at + 1) bytes) at passes ∙ front-done (b == 128) (drop (at + 1) bytes) (at + 1))
+        ap placed (ap (λ bs. front flag bs at) begins ∙ front-byte is_flag (λ b. Done (b == 128)) b
+        (drop (at + 1) bytes) at passes ∙ front-done (b == 128) (drop (at + 1) bytes) (at + 1))

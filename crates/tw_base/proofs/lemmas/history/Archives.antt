@@ -1,5 +1,6 @@
 -- The archive of a sound history has exactly the threads received so far.
-use Rattle.std.proofs.Common.{◌≡◌, ◌≢◌, ℕ, suc, zero, ◌≤◌, List, [], ◌∷◌, length, refl, ap, sym, ◌∙◌, subst, arith, inl, inr}
+use Rattle.std.proofs.Common.{◌≡◌, ◌≢◌, ℕ, suc, zero, ◌≤◌, List, [], ◌∷◌, length, refl, ap, sym, ◌∙◌, subst, arith, inl}
+use Rattle.std.proofs.Common.{inr}
 use Rattle.std.specs.Prelude.{Option, Some, None, slice_get}
 use Rattle.std.specs.Option.{option_to_list}
 use Rattle.std.proofs.lemmas.Bool.{cases_lt}
@@ -13,18 +14,23 @@ use Rattle.tw_base.specs.history.Tree.{entries, forest, tree, IsRising}
 use Rattle.tw_base.specs.history.Rules.Rule.{HoldsAllThreads}
 use Rattle.tw_base.specs.history.Sound.{IsSound}
 use Rattle.tw_base.proofs.lemmas.history.Keys.{KeyBelow-irrefl}
-use Rattle.tw_base.proofs.lemmas.kinds.ListLemmas.{Apart, Each-in, Each-map, In-cases_append, In-left, In-right, pigeonhole}
+use Rattle.tw_base.proofs.lemmas.kinds.ListLemmas.{Apart, Each-in, Each-map, In-cases_append, In-left, In-right}
+use Rattle.tw_base.proofs.lemmas.kinds.ListLemmas.{pigeonhole}
 use Rattle.tw_base.proofs.lemmas.history.Trees.{IsArchived, tree-archived, tree-rises}
 
 rising-apart : (es : List Entry) → IsRising es → Apart es
 rising-apart [] rising = tt
-rising-apart (e ∷ es) rising =
-    (Each-map _ _ es (λ f below same. KeyBelow-irrefl (key_of f) (subst (λ x. KeyBelow (key_of x) (key_of f)) same below)) rising.0, rising-apart es rising.1)
+rising-apart (e ∷ es) rising = (
+  Each-map _ _ es (λ f below same. KeyBelow-irrefl (key_of f) (subst (λ x. KeyBelow (key_of x) (key_of f)) same below))
+      rising.0,
+  rising-apart es rising.1,
+)
 
 -- each thread received up to step i is in the list
 pub received-has : (h : History) (i k : ℕ) (e : Entry) → k ≤ i → entry_at h k ≡ Some e → In e (received h i)
 unfolding received
-received-has h zero k e within at = let zeroth : k ≡ zero = omega arith in let none : entry_at h zero ≡ Some e = subst (λ n. entry_at h n ≡ Some e) zeroth at in cc
+received-has h zero k e within at = let zeroth : k ≡ zero = omega arith in let none : entry_at h zero ≡ Some e =
+    subst (λ n. entry_at h n ≡ Some e) zeroth at in cc
 received-has h (suc i) k e within at =
     elim (cases_lt i k) [
       | inl more ↦ (let last : k ≡ suc i = omega arith in
@@ -41,7 +47,8 @@ module _ (h : History) (sound : IsSound h) where
     where
       by : (s : Option Step) → step_at h (suc i) ≡ s → length (entries (tree h (suc i))) ≡ length (received h (suc i))
       by None none = elim ((slice_get_cases h.steps i).1) [
-        | inl there ↦ (let some : slice_get h.steps i ≡ Some there.0 = there.2 in let never : None ≡ Some there.0 = sym none ∙ some in cc)
+        | inl there ↦ (let some : slice_get h.steps i ≡ Some there.0 = there.2 in let never : None ≡ Some there.0 =
+            sym none ∙ some in cc)
         | inr past ↦ absurd (omega (arith, past.0))
       ]
       by (Some s) is = (sound.steps i s is).rules HoldsAllThreads
@@ -54,8 +61,10 @@ module _ (h : History) (sound : IsSound h) where
       (same_length i inside) e (received-has h i k e within at)
 
   -- where no entry of the archive has the key, no step so far received a thread of that key
-  pub tree-lacks : (i : ℕ) (key : Key) → i ≤ length h.steps → Each (λ f. key_of f ≢ key) (entries (tree h i)) → (k : ℕ) (e : Entry) → k ≤ i → entry_at h k ≡ Some e → key_of e ≢ key
-  tree-lacks i key inside absent k e within at = Each-in _ (entries (tree h i)) e absent (tree-has i k e inside within at)
+  pub tree-lacks : (i : ℕ) (key : Key) → i ≤ length h.steps → Each (λ f. key_of f ≢ key) (entries (tree h i))
+      → (k : ℕ) (e : Entry) → k ≤ i → entry_at h k ≡ Some e → key_of e ≢ key
+  tree-lacks i key inside absent k e within at = Each-in _ (entries (tree h i)) e absent
+      (tree-has i k e inside within at)
 
 -- what the list has was received at or below step i
 received-archived : (h : History) (i : ℕ) (e : Entry) → In e (received h i) → IsArchived h i e
@@ -73,10 +82,13 @@ received-archived h (suc i) e has =
     here (Some f) is (inr q) = absurd q
 
 -- and the archive after step i has what was received so far
-pub tree-has_received : (h : History) → IsSound h → (i : ℕ) → i ≤ length h.steps → (e : Entry) → In e (received h i) → In e (entries (tree h i))
-tree-has_received h sound i inside e has = let at = received-archived h i e has in tree-has h sound i at.0 e inside at.1 at.2
+pub tree-has_received : (h : History) → IsSound h → (i : ℕ) → i ≤ length h.steps → (e : Entry) → In e (received h i)
+    → In e (entries (tree h i))
+tree-has_received h sound i inside e has = let at = received-archived h i e has in tree-has h sound i at.0 e inside at.1
+    at.2
 
 -- and nothing else
 pub tree-only_received : (h : History) (i : ℕ) (e : Entry) → In e (entries (tree h i)) → In e (received h i)
 tree-only_received h i e has =
-    let at = Each-in (IsArchived h i) (entries (tree h i)) e (tree-archived h i) has in received-has h i at.0 e at.1 at.2
+    let at = Each-in (IsArchived h i) (entries (tree h i)) e (tree-archived h i) has in received-has h i at.0 e at.1
+    at.2

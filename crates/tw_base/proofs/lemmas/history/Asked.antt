@@ -27,7 +27,12 @@ cut [] e back rising = record { lower = tt; upper = rising.0; front_rises = tt; 
 cut (f ∷ front) e back rising =
     let rest = cut front e back rising.1 in
     let above = Each-parts (λ g. KeyBelow (key_of f) (key_of g)) front (e ∷ back) rising.0 in
-    record { lower = (above.1.0, rest.lower); upper = rest.upper; front_rises = (above.0, rest.front_rises); back_rises = rest.back_rises }
+    record {
+      lower = (above.1.0, rest.lower);
+      upper = rest.upper;
+      front_rises = (above.0, rest.front_rises);
+      back_rises = rest.back_rises;
+    }
 
 pub find-none : (test : Entry → Bool) (es : List Entry) → Each (λ f. test f ≡ false) es → find test es ≡ None
 find-none test [] all = refl
@@ -41,61 +46,81 @@ module _ (key : Key) where
   abbrev IsKey : Entry → Bool
   IsKey f = is_eq (key_cmp key (key_of f))
 
-  lacks_above : (e : Entry) (back : List Entry) → KeyBelow key (key_of e) → Each (λ f. KeyBelow (key_of e) (key_of f)) back → Each (λ f. IsKey f ≡ false) back
-  lacks_above e back less all = Each-map _ (λ f. IsKey f ≡ false) back (λ f more. eq-below key (key_of f) (KeyBelow-trans key (key_of e) (key_of f) less more)) all
+  lacks_above : (e : Entry) (back : List Entry) → KeyBelow key (key_of e) → Each (λ f. KeyBelow (key_of e) (key_of f))
+      back → Each (λ f. IsKey f ≡ false) back
+  lacks_above e back less all = Each-map _ (λ f. IsKey f ≡ false) back
+      (λ f more. eq-below key (key_of f) (KeyBelow-trans key (key_of e) (key_of f) less more)) all
 
   -- below the key there is none of it
-  lacks_below : (e : Entry) (front : List Entry) → is_lt (key_cmp key (key_of e)) ≡ false → Each (λ f. KeyBelow (key_of f) (key_of e)) front → Each (λ f. IsKey f ≡ false) front
+  lacks_below : (e : Entry) (front : List Entry) → is_lt (key_cmp key (key_of e)) ≡ false
+      → Each (λ f. KeyBelow (key_of f) (key_of e)) front → Each (λ f. IsKey f ≡ false) front
   lacks_below e front never all =
-      Each-map _ (λ f. IsKey f ≡ false) front (λ f less. eq-above key (key_of f) (below-other (key_of f) (key_of e) key less never)) all
+      Each-map _ (λ f. IsKey f ≡ false) front
+      (λ f less. eq-above key (key_of f) (below-other (key_of f) (key_of e) key less never)) all
 
-  pub with-less : (front : List Entry) (e : Entry) (back : List Entry) → IsRising (front ++ e ∷ back) → key_cmp key (key_of e) ≡ Less → entry_with (front ++ e ∷ back) key ≡ entry_with front key
+  pub with-less : (front : List Entry) (e : Entry) (back : List Entry) → IsRising (front ++ e ∷ back)
+      → key_cmp key (key_of e) ≡ Less → entry_with (front ++ e ∷ back) key ≡ entry_with front key
   with-less front e back rising less =
-      let none = find-none IsKey (e ∷ back) (eq-below key (key_of e) less, lacks_above e back less (cut front e back rising).upper) in
+      let none = find-none IsKey (e ∷ back)
+      (eq-below key (key_of e) less, lacks_above e back less (cut front e back rising).upper) in
       find-append IsKey front (e ∷ back) ∙ ap (option_or (find IsKey front)) none ∙ or-none (find IsKey front)
 
-  past_front : (front : List Entry) (e : Entry) (back : List Entry) → IsRising (front ++ e ∷ back) → is_lt (key_cmp key (key_of e)) ≡ false → entry_with (front ++ e ∷ back) key ≡ entry_with (e ∷ back) key
+  past_front : (front : List Entry) (e : Entry) (back : List Entry) → IsRising (front ++ e ∷ back)
+      → is_lt (key_cmp key (key_of e)) ≡ false → entry_with (front ++ e ∷ back) key ≡ entry_with (e ∷ back) key
   past_front front e back rising never =
-      find-append IsKey front (e ∷ back) ∙ ap (λ o. option_or o (find IsKey (e ∷ back))) (find-none IsKey front (lacks_below e front never (cut front e back rising).lower))
+      find-append IsKey front (e ∷ back) ∙ ap (λ o. option_or o (find IsKey (e ∷ back)))
+      (find-none IsKey front (lacks_below e front never (cut front e back rising).lower))
 
-  pub with-equal : (front : List Entry) (e : Entry) (back : List Entry) → IsRising (front ++ e ∷ back) → key_cmp key (key_of e) ≡ Equal → entry_with (front ++ e ∷ back) key ≡ Some e
+  pub with-equal : (front : List Entry) (e : Entry) (back : List Entry) → IsRising (front ++ e ∷ back)
+      → key_cmp key (key_of e) ≡ Equal → entry_with (front ++ e ∷ back) key ≡ Some e
   with-equal front e back rising same =
       past_front front e back rising (ap is_lt same) ∙ ap (λ b. cond b (Some e) (find IsKey back)) (ap is_eq same)
 
-  pub with-more : (front : List Entry) (e : Entry) (back : List Entry) → IsRising (front ++ e ∷ back) → key_cmp key (key_of e) ≡ Greater → entry_with (front ++ e ∷ back) key ≡ entry_with back key
+  pub with-more : (front : List Entry) (e : Entry) (back : List Entry) → IsRising (front ++ e ∷ back)
+      → key_cmp key (key_of e) ≡ Greater → entry_with (front ++ e ∷ back) key ≡ entry_with back key
   with-more front e back rising more =
       past_front front e back rising (ap is_lt more) ∙ ap (λ b. cond b (Some e) (find IsKey back)) (ap is_eq more)
 
   abbrev IsLower : Entry → Bool
   IsLower f = is_lt (key_cmp (key_of f) key)
 
-  pub below-left : (front : List Entry) (e : Entry) (back : List Entry) → IsLower e ≡ false → last_below (front ++ e ∷ back) key ≡ last_below front key
+  pub below-left : (front : List Entry) (e : Entry) (back : List Entry) → IsLower e ≡ false
+      → last_below (front ++ e ∷ back) key ≡ last_below front key
   below-left [] e back never = ap (λ b. if b then option_or (last_below back key) (Some e) else None) never
-  below-left (f ∷ front) e back never = ap (λ o. if IsLower f then option_or o (Some f) else None) (below-left front e back never)
+  below-left (f ∷ front) e back never = ap (λ o. if IsLower f then option_or o (Some f) else None)
+      (below-left front e back never)
 
   some_or : (o : Option Entry) (e f : Entry) → option_or (option_or o (Some e)) (Some f) ≡ option_or o (Some e)
   some_or None e f = refl
   some_or (Some g) e f = refl
 
-  last-right : (front : List Entry) (e : Entry) (back : List Entry) → Each (λ f. KeyBelow (key_of f) (key_of e)) front → IsLower e ≡ true → last_below (front ++ e ∷ back) key ≡ option_or (last_below back key) (Some e)
+  last-right : (front : List Entry) (e : Entry) (back : List Entry) → Each (λ f. KeyBelow (key_of f) (key_of e)) front
+      → IsLower e ≡ true → last_below (front ++ e ∷ back) key ≡ option_or (last_below back key) (Some e)
   last-right [] e back lower sure = ap (λ b. if b then option_or (last_below back key) (Some e) else None) sure
   last-right (f ∷ front) e back lower sure =
-      let here = lt-below (key_of f) key (KeyBelow-trans (key_of f) (key_of e) key lower.0 (below-lt (key_of e) key sure)) in
+      let here = lt-below (key_of f) key (KeyBelow-trans (key_of f) (key_of e) key lower.0
+      (below-lt (key_of e) key sure)) in
       ap (λ b. if b then option_or (last_below (front ++ e ∷ back) key) (Some f) else None) here
       ∙ ap (λ o. option_or o (Some f)) (last-right front e back lower.1 sure) ∙ some_or (last_below back key) e f
 
-  pub below-right : (front : List Entry) (e : Entry) (back : List Entry) → IsRising (front ++ e ∷ back) → IsLower e ≡ true → last_below (front ++ e ∷ back) key ≡ option_or (last_below back key) (Some e)
+  pub below-right : (front : List Entry) (e : Entry) (back : List Entry) → IsRising (front ++ e ∷ back)
+      → IsLower e ≡ true → last_below (front ++ e ∷ back) key ≡ option_or (last_below back key) (Some e)
   below-right front e back rising sure = last-right front e back (cut front e back rising).lower sure
 
   abbrev IsUpper : Entry → Bool
   IsUpper f = is_lt (key_cmp key (key_of f))
 
-  pub above-left : (front : List Entry) (e : Entry) (back : List Entry) → IsUpper e ≡ true → first_above (front ++ e ∷ back) key ≡ option_or (first_above front key) (Some e)
+  pub above-left : (front : List Entry) (e : Entry) (back : List Entry) → IsUpper e ≡ true
+      → first_above (front ++ e ∷ back) key ≡ option_or (first_above front key) (Some e)
   above-left front e back sure =
-      find-append IsUpper front (e ∷ back) ∙ ap (λ b. option_or (find IsUpper front) (cond b (Some e) (find IsUpper back))) sure
+      find-append IsUpper front (e ∷ back)
+      ∙ ap (λ b. option_or (find IsUpper front) (cond b (Some e) (find IsUpper back))) sure
 
-  pub above-right : (front : List Entry) (e : Entry) (back : List Entry) → IsRising (front ++ e ∷ back) → IsUpper e ≡ false → first_above (front ++ e ∷ back) key ≡ first_above back key
+  pub above-right : (front : List Entry) (e : Entry) (back : List Entry) → IsRising (front ++ e ∷ back)
+      → IsUpper e ≡ false → first_above (front ++ e ∷ back) key ≡ first_above back key
   above-right front e back rising never =
-      let lower = Each-map _ (λ f. IsUpper f ≡ false) front (λ f less. lt-above key (key_of f) (below-other (key_of f) (key_of e) key less never)) (cut front e back rising).lower in
-      find-append IsUpper front (e ∷ back) ∙ ap (λ o. option_or o (find IsUpper (e ∷ back))) (find-none IsUpper front lower)
+      let lower = Each-map _ (λ f. IsUpper f ≡ false) front (λ f less. lt-above key (key_of f)
+      (below-other (key_of f) (key_of e) key less never)) (cut front e back rising).lower in
+      find-append IsUpper front (e ∷ back) ∙ ap (λ o. option_or o (find IsUpper (e ∷ back)))
+      (find-none IsUpper front lower)
       ∙ ap (λ b. cond b (Some e) (find IsUpper back)) never

@@ -1,5 +1,6 @@
 -- What the answers of a list of entries say of its members, and what a list with one more entry has.
-use Rattle.std.proofs.Common.{◌≡◌, ◌⊎◌, suc, List, [], ◌∷◌, length, Bool, true, false, refl, ap, sym, ◌∙◌, subst, inl, inr}
+use Rattle.std.proofs.Common.{◌≡◌, ◌⊎◌, suc, List, [], ◌∷◌, length, Bool, true, false, refl, ap, sym, ◌∙◌, subst, inl}
+use Rattle.std.proofs.Common.{inr}
 use Rattle.std.specs.Prelude.{Option, Some, None, if◌then◌else◌}
 use Rattle.std.specs.Option.{option_or}
 use Rattle.std.specs.Ordering.{is_eq, is_lt}
@@ -27,7 +28,8 @@ module _ (e : Entry) where
   length-with_entry [] = refl
   length-with_entry (f ∷ es) = by (is_lt (key_cmp (key_of e) (key_of f))) (length-with_entry es)
     where
-      by : (b : Bool) → length (with_entry es e) ≡ suc (length es) → length (if b then e ∷ f ∷ es else f ∷ with_entry es e) ≡ suc (suc (length es))
+      by : (b : Bool) → length (with_entry es e) ≡ suc (length es)
+          → length (if b then e ∷ f ∷ es else f ∷ with_entry es e) ≡ suc (suc (length es))
       by true rest = refl
       by false rest = ap suc rest
 
@@ -36,7 +38,8 @@ module _ (e : Entry) where
   with_entry-in [] g there = there
   with_entry-in (f ∷ es) g there = by (is_lt (key_cmp (key_of e) (key_of f))) (with_entry-in es g) there
     where
-      by : (b : Bool) → (In g (with_entry es e) → (g ≡ e) ⊎ In g es) → In g (if b then e ∷ f ∷ es else f ∷ with_entry es e) → (g ≡ e) ⊎ In g (f ∷ es)
+      by : (b : Bool) → (In g (with_entry es e) → (g ≡ e) ⊎ In g es)
+          → In g (if b then e ∷ f ∷ es else f ∷ with_entry es e) → (g ≡ e) ⊎ In g (f ∷ es)
       by true rest (inl same) = inl same
       by true rest (inr there) = inr there
       by false rest (inl same) = inr (inl same)
@@ -46,7 +49,8 @@ module _ (e : Entry) where
   in-with_entry [] g there = there
   in-with_entry (f ∷ es) g there = by (is_lt (key_cmp (key_of e) (key_of f))) (in-with_entry es g) there
     where
-      by : (b : Bool) → ((g ≡ e) ⊎ In g es → In g (with_entry es e)) → (g ≡ e) ⊎ In g (f ∷ es) → In g (if b then e ∷ f ∷ es else f ∷ with_entry es e)
+      by : (b : Bool) → ((g ≡ e) ⊎ In g es → In g (with_entry es e)) → (g ≡ e) ⊎ In g (f ∷ es)
+          → In g (if b then e ∷ f ∷ es else f ∷ with_entry es e)
       by true rest (inl same) = inl same
       by true rest (inr there) = inr there
       by false rest (inl same) = inr (rest (inl same))
@@ -64,9 +68,11 @@ module _ (e : Entry) where
   -- where no entry has its key, the list with it rises as the list does
   pub rising-with_entry : (es : List Entry) → IsRising es → entry_with es (key_of e) ≡ None → IsRising (with_entry es e)
   rising-with_entry [] rising none = (tt, tt)
-  rising-with_entry (f ∷ es) rising none = by (is_lt (key_cmp (key_of e) (key_of f))) refl (rising-with_entry es rising.1)
+  rising-with_entry (f ∷ es) rising none = by (is_lt (key_cmp (key_of e) (key_of f))) refl
+      (rising-with_entry es rising.1)
     where
-      later : (b : Bool) → is_eq (key_cmp (key_of e) (key_of f)) ≡ b → (if b then Some f else entry_with es (key_of e)) ≡ None → (b ≡ false) × (entry_with es (key_of e) ≡ None)
+      later : (b : Bool) → is_eq (key_cmp (key_of e) (key_of f)) ≡ b → (if b then Some f else entry_with es (key_of e))
+          ≡ None → (b ≡ false) × (entry_with es (key_of e) ≡ None)
       later true test is = cc
       later false test is = (refl, is)
 
@@ -74,10 +80,17 @@ module _ (e : Entry) where
       over (One is) = absurd (never (sym (ap is_eq is) ∙ (later (is_eq (key_cmp (key_of e) (key_of f))) refl none).0))
       over (Over less) = less
 
-      by : (b : Bool) → is_lt (key_cmp (key_of e) (key_of f)) ≡ b → (entry_with es (key_of e) ≡ None → IsRising (with_entry es e)) → IsRising (if b then e ∷ f ∷ es else f ∷ with_entry es e)
+      by : (b : Bool) → is_lt (key_cmp (key_of e) (key_of f)) ≡ b → (entry_with es (key_of e) ≡ None
+          → IsRising (with_entry es e)) → IsRising (if b then e ∷ f ∷ es else f ∷ with_entry es e)
       by true test rest =
-          let less = below-lt (key_of e) (key_of f) test in
-          ((less, Each-map (λ g. KeyBelow (key_of f) (key_of g)) (λ g. KeyBelow (key_of e) (key_of g)) es (λ g. KeyBelow-trans (key_of e) (key_of f) (key_of g) less) rising.0), rising)
+          let less = below-lt (key_of e) (key_of f) test in (
+            (
+              less,
+              Each-map (λ g. KeyBelow (key_of f) (key_of g)) (λ g. KeyBelow (key_of e) (key_of g)) es
+                  (λ g. KeyBelow-trans (key_of e) (key_of f) (key_of g) less) rising.0,
+            ),
+            rising,
+          )
       by false test rest = (
         each-with_entry (λ g. KeyBelow (key_of f) (key_of g)) es (over (not_below (key_of e) (key_of f) test)) rising.0,
         rest (later (is_eq (key_cmp (key_of e) (key_of f))) refl none).1,
@@ -86,7 +99,8 @@ module _ (e : Entry) where
 -- ---- the last entry below a key, and the first above it
 
 module _ (key : Key) where
-  pub none-below : (es : List Entry) → IsRising es → last_below es key ≡ None → (g : Entry) → In g es → KeyBelow (key_of g) key → ⊥
+  pub none-below : (es : List Entry) → IsRising es → last_below es key ≡ None → (g : Entry) → In g es
+      → KeyBelow (key_of g) key → ⊥
   none-below [] rising none g there below = absurd there
   none-below (f ∷ es) rising none g there below = by (is_lt (key_cmp (key_of f) key)) refl none
     where
@@ -96,9 +110,11 @@ module _ (key : Key) where
 
       first : In g (f ∷ es) → KeyBelow (key_of f) key
       first (inl same) = subst (λ x. KeyBelow (key_of x) key) same below
-      first (inr old) = KeyBelow-trans (key_of f) (key_of g) key (Each-in (λ x. KeyBelow (key_of f) (key_of x)) es g rising.0 old) below
+      first (inr old) = KeyBelow-trans (key_of f) (key_of g) key (Each-in (λ x. KeyBelow (key_of f) (key_of x)) es g
+          rising.0 old) below
 
-      by : (b : Bool) → is_lt (key_cmp (key_of f) key) ≡ b → (if b then option_or (last_below es key) (Some f) else None) ≡ None → ⊥
+      by : (b : Bool) → is_lt (key_cmp (key_of f) key) ≡ b → (if b then option_or (last_below es key) (Some f)
+          else None) ≡ None → ⊥
       by true test is = some (last_below es key) is
       by false test is = never (sym (lt-below (key_of f) key (first there)) ∙ test)
 
@@ -121,12 +137,14 @@ module _ (key : Key) where
         has = inr last.has;
         below = last.below;
         greatest = λ g there less. elim there [
-          | inl is ↦ inr (subst (λ x. KeyBelow (key_of x) (key_of e)) (sym is) (Each-in (λ x. KeyBelow (key_of f) (key_of x)) es e rising.0 last.has))
+          | inl is ↦ inr (subst (λ x. KeyBelow (key_of x) (key_of e)) (sym is)
+              (Each-in (λ x. KeyBelow (key_of f) (key_of x)) es e rising.0 last.has))
           | inr old ↦ last.greatest g old less
         ];
       }
 
-      which : KeyBelow (key_of f) key → (last_below es key ≡ Some e → IsGreatestBelow es key e) → (o : Option Entry) → last_below es key ≡ o → option_or o (Some f) ≡ Some e → IsGreatestBelow (f ∷ es) key e
+      which : KeyBelow (key_of f) key → (last_below es key ≡ Some e → IsGreatestBelow es key e) → (o : Option Entry)
+          → last_below es key ≡ o → option_or o (Some f) ≡ Some e → IsGreatestBelow (f ∷ es) key e
       which below rest None none same = at_first below none (some_entry f e same)
       which below rest (Some g) found same = behind (rest (found ∙ same))
 
@@ -139,7 +157,8 @@ module _ (key : Key) where
   none-above [] none g there above = absurd there
   none-above (f ∷ es) none g there above = by (is_lt (key_cmp key (key_of f))) refl (none-above es) none
     where
-      by : (b : Bool) → is_lt (key_cmp key (key_of f)) ≡ b → (first_above es key ≡ None → (h : Entry) → In h es → KeyBelow key (key_of h) → ⊥) → (if b then Some f else first_above es key) ≡ None → ⊥
+      by : (b : Bool) → is_lt (key_cmp key (key_of f)) ≡ b → (first_above es key ≡ None → (h : Entry) → In h es
+          → KeyBelow key (key_of h) → ⊥) → (if b then Some f else first_above es key) ≡ None → ⊥
       by true test rest is = cc
       by false test rest is = elim there [
         | inl same ↦ never (sym (lt-below key (key_of f) (subst (λ x. KeyBelow key (key_of x)) same above)) ∙ test)
@@ -156,7 +175,8 @@ module _ (key : Key) where
         above = subst (λ x. KeyBelow key (key_of x)) same above;
         least = λ g there more. elim there [
           | inl is ↦ inl (is ∙ same)
-          | inr old ↦ inr (subst (λ x. KeyBelow (key_of x) (key_of g)) same (Each-in (λ x. KeyBelow (key_of f) (key_of x)) es g rising.0 old))
+          | inr old ↦ inr (subst (λ x. KeyBelow (key_of x) (key_of g)) same
+              (Each-in (λ x. KeyBelow (key_of f) (key_of x)) es g rising.0 old))
         ];
       }
 
@@ -165,11 +185,13 @@ module _ (key : Key) where
         has = inr first.has;
         above = first.above;
         least = λ g there more. elim there [
-          | inl is ↦ absurd (never (sym (lt-below key (key_of f) (subst (λ x. KeyBelow key (key_of x)) is more)) ∙ test))
+          | inl is ↦ absurd (never (sym (lt-below key (key_of f) (subst (λ x. KeyBelow key (key_of x)) is more))
+              ∙ test))
           | inr old ↦ first.least g old more
         ];
       }
 
-      by : (b : Bool) → is_lt (key_cmp key (key_of f)) ≡ b → (first_above es key ≡ Some e → IsLeastAbove es key e) → (if b then Some f else first_above es key) ≡ Some e → IsLeastAbove (f ∷ es) key e
+      by : (b : Bool) → is_lt (key_cmp key (key_of f)) ≡ b → (first_above es key ≡ Some e → IsLeastAbove es key e)
+          → (if b then Some f else first_above es key) ≡ Some e → IsLeastAbove (f ∷ es) key e
       by true test rest found = at_first (below-lt key (key_of f) test) (some_entry f e found)
       by false test rest found = behind test (rest found)

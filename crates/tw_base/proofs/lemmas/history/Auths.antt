@@ -1,5 +1,6 @@
 -- The authenticators of a history, and where its texts stand.
-use Rattle.std.proofs.Common.{◌≡◌, ℕ, suc, zero, ◌-◌, ◌<◌, ◌≤◌, ◌^◌, List, [], ◌∷◌, length, get_or, refl, ap, ◌∙◌, arith, inl, inr, subst}
+use Rattle.std.proofs.Common.{◌≡◌, ℕ, suc, zero, ◌-◌, ◌<◌, ◌≤◌, ◌^◌, List, [], ◌∷◌, length, get_or, refl, ap, ◌∙◌}
+use Rattle.std.proofs.Common.{arith, inl, inr, subst}
 use Rattle.std.specs.Prelude.{map}
 use Rattle.std.proofs.lemmas.Bool.{cases_lt}
 use Rattle.std.proofs.lemmas.List.{length_push, get_or_push, get_or_append_left, map_push}
@@ -21,7 +22,8 @@ module _ (dig : List ℕ → List ℕ) (datum : List ℕ) (earlier : List (List 
   pub length-link_texts : (count : ℕ) → length (link_texts dig datum earlier i count) ≡ count
   unfolding link_texts
   length-link_texts zero = refl
-  length-link_texts (suc level) = length_push (link_texts dig datum earlier i level) (text_at level) ∙ omega (arith, length-link_texts level)
+  length-link_texts (suc level) = length_push (link_texts dig datum earlier i level) (text_at level)
+      ∙ omega (arith, length-link_texts level)
 
   pub link_texts-has : (level count : ℕ) → level < count → Among (text_at level) (link_texts dig datum earlier i count)
   unfolding link_texts
@@ -35,16 +37,19 @@ module _ (dig : List ℕ → List ℕ) (datum : List ℕ) (earlier : List (List 
       ]
 
   -- the label of that link
-  pub label-at : (level count : ℕ) → level < count → get_or (map dig (link_texts dig datum earlier i count)) level [] ≡ dig (text_at level)
+  pub label-at : (level count : ℕ) → level < count → get_or (map dig (link_texts dig datum earlier i count)) level []
+      ≡ dig (text_at level)
   unfolding link_texts
   label-at level zero l = absurd (omega arith)
   label-at level (suc last) l =
       ap (λ labels. get_or labels level []) (map_push dig (link_texts dig datum earlier i last) (text_at last))
       ∙ elim (cases_lt level last) [
-        | inl less ↦ get_or_append_left (map dig (link_texts dig datum earlier i last)) _ [] level (omega (arith, sized last)) ∙ label-at level last less
+        | inl less ↦ get_or_append_left (map dig (link_texts dig datum earlier i last)) _ [] level
+            (omega (arith, sized last)) ∙ label-at level last less
         | inr more ↦ (
             let e : level ≡ last = omega arith in
-            get_or_push (map dig (link_texts dig datum earlier i last)) (dig (text_at last)) [] level (sized last ∙ (let r : last ≡ level = omega arith in r))
+            get_or_push (map dig (link_texts dig datum earlier i last)) (dig (text_at last)) [] level
+            (sized last ∙ (let r : last ≡ level = omega arith in r))
             ∙ ap (λ k. dig (text_at k)) (let r : last ≡ level = omega arith in r))
       ]
     where
@@ -59,7 +64,8 @@ module _ (dig : List ℕ → List ℕ) (h : History) where
   pub length-auths : (n : ℕ) → length (auths dig h n) ≡ suc n
   unfolding auths
   length-auths zero = refl
-  length-auths (suc n) = length_push (auths dig h n) (dig (auth_text dig h (auths dig h n) (suc n))) ∙ omega (arith, length-auths n)
+  length-auths (suc n) = length_push (auths dig h n) (dig (auth_text dig h (auths dig h n) (suc n)))
+      ∙ omega (arith, length-auths n)
 
   -- a step's authenticator is the digest of its text over the earlier ones
   pub auth-suc : (n : ℕ) → auth dig h (suc n) ≡ dig (auth_text dig h (auths dig h n) (suc n))
@@ -91,15 +97,18 @@ module _ (dig : List ℕ → List ℕ) (h : History) where
       ]
 
   -- the texts of step i + 1 are texts of the history
-  pub has-step_text : (text : List ℕ) (i : ℕ) → i < length h.steps → Among text (step_texts dig h i) → Among text (history_texts dig h)
+  pub has-step_text : (text : List ℕ) (i : ℕ) → i < length h.steps → Among text (step_texts dig h i)
+      → Among text (history_texts dig h)
   unfolding history_texts
   has-step_text text i l p = texts_to-has text i (length h.steps) l p
 
-  pub has-event_text : (text : List ℕ) (i : ℕ) → i < length h.steps → Among text (event_texts dig (events_at h (suc i))) → Among text (history_texts dig h)
+  pub has-event_text : (text : List ℕ) (i : ℕ) → i < length h.steps → Among text (event_texts dig (events_at h (suc i)))
+      → Among text (history_texts dig h)
   unfolding step_texts
   has-event_text text i l p = has-step_text text i l (Among-left text (event_texts dig (events_at h (suc i))) _ p)
 
-  pub has-node_text : (text : List ℕ) (i : ℕ) → i < length h.steps → Among text (node_texts dig (new_trees h i)) → Among text (history_texts dig h)
+  pub has-node_text : (text : List ℕ) (i : ℕ) → i < length h.steps → Among text (node_texts dig (new_trees h i))
+      → Among text (history_texts dig h)
   unfolding step_texts
   has-node_text text i l p = has-step_text text i l (
       Among-right text (event_texts dig (events_at h (suc i))) _ (
@@ -111,14 +120,16 @@ module _ (dig : List ℕ → List ℕ) (h : History) where
       Among-right _ (event_texts dig (events_at h (suc i))) _ (
       Among-right _ (node_texts dig (new_trees h i)) _ (inl refl)))
 
-  pub has-link_text : (text : List ℕ) (i : ℕ) → i < length h.steps → Among text (link_texts_at dig h (auths dig h i) (suc i)) → Among text (history_texts dig h)
+  pub has-link_text : (text : List ℕ) (i : ℕ) → i < length h.steps
+      → Among text (link_texts_at dig h (auths dig h i) (suc i)) → Among text (history_texts dig h)
   unfolding step_texts
   has-link_text text i l p = has-step_text text i l (
       Among-right text (event_texts dig (events_at h (suc i))) _ (
       Among-right text (node_texts dig (new_trees h i)) _ (
       inr (Among-left text (link_texts_at dig h (auths dig h i) (suc i)) _ p))))
 
-  pub has-auth_text : (i : ℕ) → i < length h.steps → Among (auth_text dig h (auths dig h i) (suc i)) (history_texts dig h)
+  pub has-auth_text : (i : ℕ) → i < length h.steps → Among (auth_text dig h (auths dig h i) (suc i))
+      (history_texts dig h)
   unfolding step_texts
   has-auth_text i l = has-step_text _ i l (
       Among-right _ (event_texts dig (events_at h (suc i))) _ (

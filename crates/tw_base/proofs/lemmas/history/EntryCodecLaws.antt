@@ -7,7 +7,8 @@ use Rattle.tw_base.specs.history.EntryCodec.{entry_codec}
 use Rattle.tw_base.specs.history.HistoryCodec.{thread_codec}
 use Rattle.tw_base.specs.history.Limits.{IsEntryInRange, IsThread}
 use Rattle.tw_base.proofs.lemmas.format.CodecLaws.{Lawful, lawful}
-use Rattle.tw_base.proofs.lemmas.format.CodecSizes.{AtMost, at_most-bytes, at_most-name, at_most-number, at_most-pair, at_most-seen}
+use Rattle.tw_base.proofs.lemmas.format.CodecSizes.{AtMost, at_most-bytes, at_most-name, at_most-number, at_most-pair}
+use Rattle.tw_base.proofs.lemmas.format.CodecSizes.{at_most-seen}
 use Rattle.tw_base.proofs.lemmas.history.HistoryCodecLaws.{thread-lawful}
 
 pub entry-lawful : Lawful entry_codec
@@ -27,7 +28,8 @@ entry-most = at_most-seen _ _ _ 64 (at_most-pair _ _ 56 8 thread-most (λ _ _. a
 -- a thread, and a step that may have archived it
 pub entry-fits : (e : Entry) → IsThread e.thread → 0 < e.archived → e.archived ≤ LAST_STEP → entry_codec.Fits e
 unfolding entry_codec thread_codec seen pair name_codec number_codec bytes_codec
-entry-fits e thread low high = ((thread.0, ((omega (arith, thread.1), thread.2), (thread.3, thread.4))), (omega (arith, low), high))
+entry-fits e thread low high =
+    ((thread.0, ((omega (arith, thread.1), thread.2), (thread.3, thread.4))), (omega (arith, low), high))
 
 -- an entry that has a spelling is within the limits of its steps
 pub entry-range : (e : Entry) → entry_codec.Fits e → IsEntryInRange e

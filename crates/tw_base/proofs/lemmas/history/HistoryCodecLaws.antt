@@ -5,8 +5,11 @@ use Rattle.tw_base.specs.declared.history.content.Content.{Content}
 use Rattle.tw_base.specs.declared.history.content.Content.TheVariants.{Events, Received}
 use Rattle.tw_base.specs.declared.kinds.limits.TheConstants.{MOST_EVENTS}
 use Rattle.tw_base.specs.format.Codecs.{counted, nothing, number_codec, optional, pair, present, variant}
-use Rattle.tw_base.specs.history.HistoryCodec.{content_codec, event_codec, events_in, history_codec, is_of_events, is_timed, kind_of, node_codec, of_kind, recorded_codec, step_codec, thread_codec, thread_in, time_codec}
-use Rattle.tw_base.proofs.lemmas.format.CodecLaws.{Lawful, lawful, lawful-by_kind, lawful-choose, lawful-optional, lawful-pair}
+use Rattle.tw_base.specs.history.HistoryCodec.{content_codec, event_codec, events_in, history_codec, is_of_events}
+use Rattle.tw_base.specs.history.HistoryCodec.{is_timed, kind_of, node_codec, of_kind, recorded_codec, step_codec}
+use Rattle.tw_base.specs.history.HistoryCodec.{thread_codec, thread_in, time_codec}
+use Rattle.tw_base.proofs.lemmas.format.CodecLaws.{Lawful, lawful, lawful-by_kind, lawful-choose, lawful-optional}
+use Rattle.tw_base.proofs.lemmas.format.CodecLaws.{lawful-pair}
 
 pub thread-lawful : Lawful thread_codec
 unfolding thread_codec
@@ -46,7 +49,8 @@ received-kind (Received t) fits = refl
 untimed : (time : Option ℕ) (c : Content) → None ≡ time → kind_of time c ≡ kind_of None c
 untimed time c e = sym (ap (λ t. kind_of t c) e)
 
-pub kinds : (kind : ℕ) (r : Option ℕ × Content) → (number_codec 1 1 4).Fits kind → (of_kind kind).Fits r → kind_of r.0 r.1 ≡ kind
+pub kinds : (kind : ℕ) (r : Option ℕ × Content) → (number_codec 1 1 4).Fits kind → (of_kind kind).Fits r
+    → kind_of r.0 r.1 ≡ kind
 unfolding number_codec pair nothing
 kinds zero r fits is = absurd (omega (arith, fits.0))
 kinds (suc zero) r fits is = untimed r.0 r.1 is.0 ∙ events-kind r.1 is.1
@@ -58,7 +62,8 @@ kinds (suc (suc (suc (suc (suc n))))) r fits is = absurd (omega (arith, fits.1))
 pub recorded-lawful : Lawful recorded_codec
 unfolding recorded_codec
 recorded-lawful = lawful-by_kind (λ r. kind_of r.0 r.1) (number_codec 1 1 4) of_kind (search lawful) (λ kind _.
-    lawful-pair (optional (is_timed kind) time_codec) (λ time. content_codec (is_of_events kind)) (lawful-optional time_codec (search lawful) (is_timed kind)) (λ _ _. content-lawful (is_of_events kind))) kinds
+    lawful-pair (optional (is_timed kind) time_codec) (λ time. content_codec (is_of_events kind))
+    (lawful-optional time_codec (search lawful) (is_timed kind)) (λ _ _. content-lawful (is_of_events kind))) kinds
 
 pub step-lawful : Lawful step_codec
 unfolding step_codec

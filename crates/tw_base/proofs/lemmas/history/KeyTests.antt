@@ -57,5 +57,6 @@ pub below-other : (f e key : Key) → KeyBelow f e → is_lt (key_cmp key e) ≡
 below-other f e key less never = by (not_below key e never)
   where
     by : NotBelow key e → KeyBelow f key
-    by (One is) = let back : key_cmp f key ≡ key_cmp f e = key_cmp_total.antisymm f key ∙ ap ordering_reverse (key_cmp_total.congr key e f is) ∙ sym (key_cmp_total.antisymm f e) in back ∙ less
+    by (One is) = let back : key_cmp f key ≡ key_cmp f e = key_cmp_total.antisymm f key ∙ ap ordering_reverse
+        (key_cmp_total.congr key e f is) ∙ sym (key_cmp_total.antisymm f e) in back ∙ less
     by (Over more) = KeyBelow-trans f e key less more

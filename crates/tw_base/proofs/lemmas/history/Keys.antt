@@ -7,7 +7,8 @@ use Rattle.tw_base.specs.declared.history.thread.Key.{Key}
 use Rattle.tw_base.specs.history.Entries.{key_cmp, KeyBelow}
 
 pub key_cmp_total : IsTotalOrder key_cmp
-key_cmp_total = then_total (on_total (λ (k : Key). k.from) nat_list_cmp_total) (on_total (λ (k : Key). k.step) nat_cmp_total)
+key_cmp_total = then_total (on_total (λ (k : Key). k.from) nat_list_cmp_total)
+    (on_total (λ (k : Key). k.step) nat_cmp_total)
 
 pub KeyBelow-trans : (a b c : Key) → KeyBelow a b → KeyBelow b c → KeyBelow a c
 KeyBelow-trans a b c p q = key_cmp_total.trans a b c p q

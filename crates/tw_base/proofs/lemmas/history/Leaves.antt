@@ -27,11 +27,13 @@ module _ (e : Entry) where
   abbrev IsUnder : Entry → Bool
   IsUnder f = is_lt (key_cmp (key_of e) (key_of f))
 
-  pub with-left : (front : List Entry) (f : Entry) (back : List Entry) → IsUnder f ≡ true → with_entry (front ++ f ∷ back) e ≡ with_entry front e ++ f ∷ back
+  pub with-left : (front : List Entry) (f : Entry) (back : List Entry) → IsUnder f ≡ true
+      → with_entry (front ++ f ∷ back) e ≡ with_entry front e ++ f ∷ back
   with-left [] f back sure = ap (λ b. if b then e ∷ f ∷ back else f ∷ with_entry back e) sure
   with-left (g ∷ front) f back sure = by (with-left front f back sure) (IsUnder g) refl
     where
-      by : with_entry (front ++ f ∷ back) e ≡ with_entry front e ++ f ∷ back → (b : Bool) → IsUnder g ≡ b → with_entry (g ∷ (front ++ f ∷ back)) e ≡ with_entry (g ∷ front) e ++ f ∷ back
+      by : with_entry (front ++ f ∷ back) e ≡ with_entry front e ++ f ∷ back → (b : Bool) → IsUnder g ≡ b
+          → with_entry (g ∷ (front ++ f ∷ back)) e ≡ with_entry (g ∷ front) e ++ f ∷ back
       by rest true is =
           ap (λ b. if b then e ∷ g ∷ (front ++ f ∷ back) else g ∷ with_entry (front ++ f ∷ back) e) is
           ∙ sym (ap (λ b. (if b then e ∷ g ∷ front else g ∷ with_entry front e) ++ f ∷ back) is)
@@ -40,7 +42,8 @@ module _ (e : Entry) where
           ∙ ap (λ xs. g ∷ xs) rest
           ∙ sym (ap (λ b. (if b then e ∷ g ∷ front else g ∷ with_entry front e) ++ f ∷ back) is)
 
-  pub with-right : (front : List Entry) (f : Entry) (back : List Entry) → Each (λ g. KeyBelow (key_of g) (key_of f)) front → IsUnder f ≡ false → with_entry (front ++ f ∷ back) e ≡ front ++ f ∷ with_entry back e
+  pub with-right : (front : List Entry) (f : Entry) (back : List Entry) → Each (λ g. KeyBelow (key_of g) (key_of f))
+      front → IsUnder f ≡ false → with_entry (front ++ f ∷ back) e ≡ front ++ f ∷ with_entry back e
   with-right [] f back lower never = ap (λ b. if b then e ∷ f ∷ back else f ∷ with_entry back e) never
   with-right (g ∷ front) f back lower never =
       let here = lt-above (key_of e) (key_of g) (below-other (key_of g) (key_of f) (key_of e) lower.0 never) in
@@ -54,8 +57,10 @@ module _ (e : Entry) where
       let parts = cut (entries l) f (entries r) rising in
       by parts.lower (leaf-list l parts.front_rises) (leaf-list r parts.back_rises) (IsUnder f) refl
     where
-      by : Each (λ g. KeyBelow (key_of g) (key_of f)) (entries l) → entries (with_leaf l e) ≡ with_entry (entries l) e → entries (with_leaf r e) ≡ with_entry (entries r) e → (b : Bool) → IsUnder f ≡ b
-          → entries (if IsUnder f then Branch (with_leaf l e) f r else Branch l f (with_leaf r e)) ≡ with_entry (entries l ++ f ∷ entries r) e
+      by : Each (λ g. KeyBelow (key_of g) (key_of f)) (entries l) → entries (with_leaf l e) ≡ with_entry (entries l) e
+          → entries (with_leaf r e) ≡ with_entry (entries r) e → (b : Bool) → IsUnder f ≡ b
+          → entries (if IsUnder f then Branch (with_leaf l e) f r else Branch l f (with_leaf r e)) ≡ with_entry
+          (entries l ++ f ∷ entries r) e
       by lower left right true is =
           ap (λ b. entries (if b then Branch (with_leaf l e) f r else Branch l f (with_leaf r e))) is
           ∙ ap (λ xs. xs ++ f ∷ entries r) left ∙ sym (with-left (entries l) f (entries r) is)
@@ -68,7 +73,8 @@ module _ (e : Entry) where
   each-with P [] here all = (here, tt)
   each-with P (f ∷ es) here all = by (each-with P es here all.1) (IsUnder f) refl
     where
-      by : Each P (with_entry es e) → (b : Bool) → IsUnder f ≡ b → Each P (if IsUnder f then e ∷ f ∷ es else f ∷ with_entry es e)
+      by : Each P (with_entry es e) → (b : Bool) → IsUnder f ≡ b
+          → Each P (if IsUnder f then e ∷ f ∷ es else f ∷ with_entry es e)
       by rest true is = subst (λ b. Each P (if b then e ∷ f ∷ es else f ∷ with_entry es e)) (sym is) (here, all)
       by rest false is = subst (λ b. Each P (if b then e ∷ f ∷ es else f ∷ with_entry es e)) (sym is) (all.0, rest)
 
@@ -80,19 +86,30 @@ module _ (e : Entry) where
       Rest = entry_with es (key_of e) ≡ None → IsRising (with_entry es e)
 
       place : Rest → NotBelow (key_of e) (key_of f) → IsRising (f ∷ with_entry es e)
-      place rest (One same) = absurd (let there : None ≡ Some f = sym absent ∙ ap (λ b. cond b (Some f) (entry_with es (key_of e))) (ap is_eq same) in cc)
+      place rest (One same) = absurd (let there : None ≡ Some f =
+          sym absent ∙ ap (λ b. cond b (Some f) (entry_with es (key_of e))) (ap is_eq same) in cc)
       place rest (Over more) =
-          let other = eq-above (key_of e) (key_of f) more in
-          (each-with (λ g. KeyBelow (key_of f) (key_of g)) es more rising.0, rest (sym (ap (λ b. cond b (Some f) (entry_with es (key_of e))) other) ∙ absent))
+          let other = eq-above (key_of e) (key_of f) more in (
+            each-with (λ g. KeyBelow (key_of f) (key_of g)) es more rising.0,
+            rest (sym (ap (λ b. cond b (Some f) (entry_with es (key_of e))) other) ∙ absent),
+          )
 
       by : Rest → (b : Bool) → IsUnder f ≡ b → IsRising (if IsUnder f then e ∷ f ∷ es else f ∷ with_entry es e)
       by rest true is =
           let less = below-lt (key_of e) (key_of f) is in
-          let all = Each-map _ (λ g. KeyBelow (key_of e) (key_of g)) es (λ g more. KeyBelow-trans (key_of e) (key_of f) (key_of g) less more) rising.0 in
+          let all = Each-map _ (λ g. KeyBelow (key_of e) (key_of g)) es (λ g more. KeyBelow-trans (key_of e) (key_of f)
+          (key_of g) less more) rising.0 in
           subst (λ b. IsRising (if b then e ∷ f ∷ es else f ∷ with_entry es e)) (sym is) ((less, all), rising)
-      by rest false is = subst (λ b. IsRising (if b then e ∷ f ∷ es else f ∷ with_entry es e)) (sym is) (place rest (not_below (key_of e) (key_of f) is))
+      by rest false is = subst (λ b. IsRising (if b then e ∷ f ∷ es else f ∷ with_entry es e)) (sym is)
+          (place rest (not_below (key_of e) (key_of f) is))
 
-  pub has-leaf : (t new : Tree) → IsRising (entries t) → entry_with (entries t) (key_of e) ≡ None → new ≡ with_leaf t e → HasLeaf t e new
+  pub has-leaf : (t new : Tree) → IsRising (entries t) → entry_with (entries t) (key_of e) ≡ None → new ≡ with_leaf t e
+      → HasLeaf t e new
   has-leaf t new rising absent is =
       let list : entries new ≡ with_entry (entries t) e = ap entries is ∙ leaf-list t rising in
-      record { absent = absent; tree = is; list = list; rising = subst IsRising (sym list) (rises-with (entries t) rising absent) }
+      record {
+        absent = absent;
+        tree = is;
+        list = list;
+        rising = subst IsRising (sym list) (rises-with (entries t) rising absent);
+      }

@@ -23,7 +23,8 @@ equal-key a b is = by (slice_cmp nat_cmp a.from b.from) refl is
 
     by : (o : Ordering) → slice_cmp nat_cmp a.from b.from ≡ o → ordering_then o (nat_cmp a.step b.step) ≡ Equal → a ≡ b
     by Less names steps = cc
-    by Equal names steps = both (slice_cmp-IsAntisymmetric nat_cmp-IsAntisymmetric a.from b.from names) (nat_cmp-IsAntisymmetric a.step b.step steps)
+    by Equal names steps = both (slice_cmp-IsAntisymmetric nat_cmp-IsAntisymmetric a.from b.from names)
+        (nat_cmp-IsAntisymmetric a.step b.step steps)
     by Greater names steps = cc
 
 -- the test of one key
@@ -51,10 +52,13 @@ pub each-without : (es : List Entry) (key : Key) → entry_with es key ≡ None 
 each-without [] key is = tt
 each-without (f ∷ es) key is = by (is_eq (key_cmp key (key_of f))) refl (each-without es key)
   where
-    by : (b : Bool) → is_eq (key_cmp key (key_of f)) ≡ b → (entry_with es key ≡ None → Each (λ g. key_of g ≢ key) es) → Each (λ g. key_of g ≢ key) (f ∷ es)
-    by true test rest = absurd (let never : Some f ≡ None = sym (ap (λ b. cond b (Some f) (entry_with es key)) test) ∙ is in cc)
+    by : (b : Bool) → is_eq (key_cmp key (key_of f)) ≡ b → (entry_with es key ≡ None → Each (λ g. key_of g ≢ key) es)
+        → Each (λ g. key_of g ≢ key) (f ∷ es)
+    by true test rest = absurd (let never : Some f ≡ None = sym (ap (λ b. cond b (Some f) (entry_with es key)) test)
+        ∙ is in cc)
     by false test rest = (
-      λ same. absurd (let sure : is_eq (key_cmp key (key_of f)) ≡ true = ap (λ k. is_eq (key_cmp key k)) same ∙ ap is_eq (same_key key) in let never : false ≡ true = sym test ∙ sure in cc),
+      λ same. absurd (let sure : is_eq (key_cmp key (key_of f)) ≡ true = ap (λ k. is_eq (key_cmp key k)) same
+          ∙ ap is_eq (same_key key) in let never : false ≡ true = sym test ∙ sure in cc),
       rest (sym (ap (λ b. cond b (Some f) (entry_with es key)) test) ∙ is),
     )
 
@@ -62,10 +66,12 @@ each-without (f ∷ es) key is = by (is_eq (key_cmp key (key_of f))) refl (each-
 pub with-in : (es : List Entry) (e : Entry) → IsRising es → In e es → entry_with es (key_of e) ≡ Some e
 with-in [] e rising there = absurd there
 with-in (f ∷ es) e rising (inl same) =
-    ap (λ x. entry_with (x ∷ es) (key_of e)) (sym same) ∙ ap (λ b. cond b (Some e) (entry_with es (key_of e))) (ap is_eq (same_key (key_of e)))
+    ap (λ x. entry_with (x ∷ es) (key_of e)) (sym same) ∙ ap (λ b. cond b (Some e) (entry_with es (key_of e)))
+    (ap is_eq (same_key (key_of e)))
 with-in (f ∷ es) e rising (inr there) =
     let below = Each-in (λ g. KeyBelow (key_of f) (key_of g)) es e rising.0 there in
-    ap (λ b. cond b (Some f) (entry_with es (key_of e))) (eq-above (key_of e) (key_of f) below) ∙ with-in es e rising.1 there
+    ap (λ b. cond b (Some f) (entry_with es (key_of e))) (eq-above (key_of e) (key_of f) below) ∙ with-in es e rising.1
+    there
 
 -- where no entry has the key, none is answered
 pub without-each : (es : List Entry) (key : Key) → Each (λ f. key_of f ≢ key) es → entry_with es key ≡ None

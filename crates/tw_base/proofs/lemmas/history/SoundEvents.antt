@@ -17,7 +17,8 @@ no_events-may = record { are = no_events-are; fit = lit≤ tt }
 pub step-events : (s : Step) → IsWithinLimits s.content → AreEvents (events_of (Some s))
 step-events s limits = by s.content limits
   where
-    by : (c : Content) → IsWithinLimits c → AreEvents (events_of (Some (record { content = c; time = s.time; fresh = s.fresh; root = s.root })))
+    by : (c : Content) → IsWithinLimits c
+        → AreEvents (events_of (Some (record { content = c; time = s.time; fresh = s.fresh; root = s.root })))
     by (Events events) are = are
     by (Received t) is = no_events-are
 
@@ -27,7 +28,8 @@ sound-may_record h (suc i) sound = cases (step_at h (suc i)) refl
   where
     cases : (r : Option Step) → step_at h (suc i) ≡ r → MayRecord (events_of r)
     cases None e = no_events-may
-    cases (Some s) e = record { are = step-events s (sound.steps i s e).limits; fit = (sound.steps i s e).rules EventsFit }
+    cases (Some s) e =
+        record { are = step-events s (sound.steps i s e).limits; fit = (sound.steps i s e).rules EventsFit }
 
 pub sound-time : (h : History) (i : ℕ) → IsSound h → IsTimeWithinLimits (time_at h i)
 sound-time h zero sound = tt

@@ -25,7 +25,8 @@ module _ (h : History) where
             In-right t (times h i) _ (subst P (sym here) (inl refl)))
       ]
 
-  pub times-order : IsSound h → (i j earlier later : ℕ) → i ≤ j → time_at h i ≡ Some earlier → time_at h j ≡ Some later → earlier ≤ later
+  pub times-order : IsSound h → (i j earlier later : ℕ) → i ≤ j → time_at h i ≡ Some earlier → time_at h j ≡ Some later
+      → earlier ≤ later
   times-order sound i zero earlier later l at at' = cc
   times-order sound i (suc j) earlier later l at at' =
       elim (cases_lt j i) [

@@ -2,7 +2,8 @@
 use Rattle.std.proofs.Common.{◌≡◌, ℕ, List, [], ◌∷◌, refl, replicate}
 use Rattle.std.specs.Prelude.{Some, None, map}
 use Rattle.std.specs.Int.Count.{count_trailing_zeros}
-use Rattle.tw_base.specs.kinds.Texts.{genesis_text, datum_text, timed_datum_text, link_text, authenticator_text, empty_tree_text, tree_node_text, event_leaf_text, event_node_text, no_events_text}
+use Rattle.tw_base.specs.kinds.Texts.{genesis_text, datum_text, timed_datum_text, link_text, authenticator_text}
+use Rattle.tw_base.specs.kinds.Texts.{empty_tree_text, tree_node_text, event_leaf_text, event_node_text, no_events_text}
 use Rattle.tw_base.specs.events.EventTree.{tree_hash, event_root}
 use Rattle.tw_base.specs.history.History.{History, entry_to}
 use Rattle.tw_base.specs.declared.history.content.Content.TheVariants.{Events, Received}
@@ -22,14 +23,16 @@ name letter = letter ∷ replicate 15 0
 a : History
 a = record {
   name = name 97;
-  steps = record { content = Events ([] ∷ []); time = None; fresh = []; root = 0 } ∷ record { content = Events ((104 ∷ 105 ∷ []) ∷ []); time = None; fresh = []; root = 0 } ∷ [];
+  steps = record { content = Events ([] ∷ []); time = None; fresh = []; root = 0 }
+      ∷ record { content = Events ((104 ∷ 105 ∷ []) ∷ []); time = None; fresh = []; root = 0 } ∷ [];
 }
 
 -- the same service, whose step 1 claims the time 5
 t : History
 t = record {
   name = name 97;
-  steps = record { content = Events ([] ∷ []); time = Some 5; fresh = []; root = 0 } ∷ record { content = Events ((104 ∷ 105 ∷ []) ∷ []); time = None; fresh = []; root = 0 } ∷ [];
+  steps = record { content = Events ([] ∷ []); time = Some 5; fresh = []; root = 0 }
+      ∷ record { content = Events ((104 ∷ 105 ∷ []) ∷ []); time = None; fresh = []; root = 0 } ∷ [];
 }
 
 -- service b: step 1 receives a's step 1

@@ -1,5 +1,6 @@
 -- The ordered pair of a list is there exactly where two of its texts clash, and is such a pair.
-use Rattle.std.proofs.Common.{◌≡◌, ◌≢◌, ℕ, List, [], ◌∷◌, ◌++◌, Bool, true, false, refl, ap, sym, ◌∙◌, subst, inl, inr, ◌⊎◌, append_assoc}
+use Rattle.std.proofs.Common.{◌≡◌, ◌≢◌, ℕ, List, [], ◌∷◌, ◌++◌, Bool, true, false, refl, ap, sym, ◌∙◌, subst, inl, inr}
+use Rattle.std.proofs.Common.{◌⊎◌, append_assoc}
 use Rattle.std.specs.Prelude.{Option, Some, None, find, not, ◌&&◌, if◌then◌else◌}
 use Rattle.std.specs.Option.{option_map_or}
 use Rattle.std.specs.Str.{bytes_eq}
@@ -31,7 +32,8 @@ module _ (dig : List ℕ → List ℕ) where
   same_digest text earlier e =
       let both = and_parts (bytes_eq (dig earlier) (dig text)) (not (bytes_eq earlier text)) e in (
         (bytes_eq-Decides (dig earlier) (dig text)).0 both.0,
-        λ same. (let is : bytes_eq earlier text ≡ true = (bytes_eq-Decides earlier text).1 same in let no : not true ≡ true = ap not (sym is) ∙ both.1 in cc),
+        λ same. (let is : bytes_eq earlier text ≡ true = (bytes_eq-Decides earlier text).1 same in
+            let no : not true ≡ true = ap not (sym is) ∙ both.1 in cc),
       )
 
   one_text : (text earlier : List ℕ) → clashes dig text earlier ≡ false → dig earlier ≡ dig text → earlier ≡ text
@@ -44,10 +46,12 @@ module _ (dig : List ℕ → List ℕ) where
       ]
       in cases (bytes_eq earlier text) refl
 
-  found : (text : List ℕ) (before : List (List ℕ)) (one : List ℕ) → find (clashes dig text) before ≡ Some one → Among one before × (dig one ≡ dig text) × (one ≢ text)
+  found : (text : List ℕ) (before : List (List ℕ)) (one : List ℕ) → find (clashes dig text) before ≡ Some one
+      → Among one before × (dig one ≡ dig text) × (one ≢ text)
   found text [] one e = cc
   found text (x ∷ before) one e =
-      let cases : (b : Bool) → clashes dig text x ≡ b → (if b then Some x else find (clashes dig text) before) ≡ Some one → Among one (x ∷ before) × (dig one ≡ dig text) × (one ≢ text) =
+      let cases : (b : Bool) → clashes dig text x ≡ b → (if b then Some x else find (clashes dig text) before) ≡ Some
+      one → Among one (x ∷ before) × (dig one ≡ dig text) × (one ≢ text) =
       elim [
         | true ↦ λ is at. (let it : x ≡ one = some_text x one at in let facts = same_digest text x is in
             (inl (sym it), subst (λ y. dig y ≡ dig text) it facts.0, subst (λ y. y ≢ text) it facts.1))
@@ -55,10 +59,12 @@ module _ (dig : List ℕ → List ℕ) where
       ]
       in cases (clashes dig text x) refl e
 
-  none_found : (text : List ℕ) (before : List (List ℕ)) → find (clashes dig text) before ≡ None → (x : List ℕ) → Among x before → dig x ≡ dig text → x ≡ text
+  none_found : (text : List ℕ) (before : List (List ℕ)) → find (clashes dig text) before ≡ None → (x : List ℕ)
+      → Among x before → dig x ≡ dig text → x ≡ text
   none_found text [] e x among digest = absurd among
   none_found text (y ∷ before) e x among digest =
-      let cases : (b : Bool) → clashes dig text y ≡ b → (if b then Some y else find (clashes dig text) before) ≡ None → x ≡ text =
+      let cases : (b : Bool) → clashes dig text y ≡ b → (if b then Some y else find (clashes dig text) before) ≡ None
+      → x ≡ text =
       elim [
         | true ↦ λ is at. cc
         | false ↦ λ is at. elim among [
@@ -68,7 +74,8 @@ module _ (dig : List ℕ → List ℕ) where
       ]
       in cases (clashes dig text y) refl e
 
-  more : (text : List ℕ) (before : List (List ℕ)) → NoClash before → ((x : List ℕ) → Among x before → dig x ≡ dig text → x ≡ text) → NoClash (before ++ text ∷ [])
+  more : (text : List ℕ) (before : List (List ℕ)) → NoClash before → ((x : List ℕ) → Among x before → dig x ≡ dig text
+      → x ≡ text) → NoClash (before ++ text ∷ [])
   more text before none one x y p q digest =
       elim (Among-cases x before (text ∷ []) p) [
         | inl old ↦ elim (Among-cases y before (text ∷ []) q) [
@@ -85,36 +92,49 @@ module _ (dig : List ℕ → List ℕ) where
       only z (inl e) = e
       only z (inr a) = absurd a
 
-  pair_clashes : (before texts : List (List ℕ)) (p : Pair) → pair_after dig before texts ≡ Some p → Among p.one (before ++ texts) × Among p.other (before ++ texts) × (p.one ≢ p.other) × (dig p.one ≡ dig p.other)
+  pair_clashes : (before texts : List (List ℕ)) (p : Pair) → pair_after dig before texts ≡ Some p
+      → Among p.one (before ++ texts) × Among p.other (before ++ texts) × (p.one ≢ p.other) × (dig p.one ≡ dig p.other)
   pair_clashes before [] p e = cc
   pair_clashes before (text ∷ texts) p e =
       let cases : (o : Option (List ℕ)) → find (clashes dig text) before ≡ o
-      → option_map_or (λ one. Some (record { one = one; other = text })) o (pair_after dig (before ++ text ∷ []) texts) ≡ Some p
-      → Among p.one (before ++ text ∷ texts) × Among p.other (before ++ text ∷ texts) × (p.one ≢ p.other) × (dig p.one ≡ dig p.other) =
+      → option_map_or (λ one. Some (record { one = one; other = text })) o (pair_after dig (before ++ text ∷ []) texts)
+      ≡ Some p
+      → Among p.one (before ++ text ∷ texts) × Among p.other (before ++ text ∷ texts) × (p.one ≢ p.other)
+      × (dig p.one ≡ dig p.other) =
       elim [
         | None ↦ λ none at. (let rest = pair_clashes (before ++ text ∷ []) texts p at in
-            let same : (before ++ text ∷ []) ++ texts ≡ before ++ text ∷ texts = append_assoc before (text ∷ []) texts in
+            let same : (before ++ text ∷ []) ++ texts ≡ before ++ text ∷ texts = append_assoc before (text ∷ [])
+            texts in
             (subst (Among p.one) same rest.0, subst (Among p.other) same rest.1, rest.2, rest.3))
         | Some one ↦ λ some at. (let facts = found text before one some in
             let it : record { one = one; other = text } ≡ p = same_some (record { one = one; other = text }) p at in
-            subst (λ (q : Pair). Among q.one (before ++ text ∷ texts) × Among q.other (before ++ text ∷ texts) × (q.one ≢ q.other) × (dig q.one ≡ dig q.other)) it
-            (Among-left one before (text ∷ texts) facts.0, Among-right text before (text ∷ texts) (inl refl), facts.2, facts.1))
+            subst (λ (q : Pair). Among q.one (before ++ text ∷ texts) × Among q.other (before ++ text ∷ texts)
+            × (q.one ≢ q.other) × (dig q.one ≡ dig q.other)) it (
+              Among-left one before (text ∷ texts) facts.0,
+              Among-right text before (text ∷ texts) (inl refl),
+              facts.2,
+              facts.1,
+            ))
       ]
       in cases (find (clashes dig text) before) refl e
 
-  no_pair : (before texts : List (List ℕ)) → NoClash before → pair_after dig before texts ≡ None → NoClash (before ++ texts)
+  no_pair : (before texts : List (List ℕ)) → NoClash before → pair_after dig before texts ≡ None
+      → NoClash (before ++ texts)
   no_pair before [] none e = subst NoClash (sym (append-nil before)) none
   no_pair before (text ∷ texts) none e =
       let cases : (o : Option (List ℕ)) → find (clashes dig text) before ≡ o
-      → option_map_or (λ one. Some (record { one = one; other = text })) o (pair_after dig (before ++ text ∷ []) texts) ≡ None → NoClash (before ++ text ∷ texts) =
+      → option_map_or (λ one. Some (record { one = one; other = text })) o (pair_after dig (before ++ text ∷ []) texts)
+      ≡ None → NoClash (before ++ text ∷ texts) =
       elim [
-        | None ↦ λ is at. subst NoClash (append_assoc before (text ∷ []) texts) (no_pair (before ++ text ∷ []) texts (more text before none (none_found text before is)) at)
+        | None ↦ λ is at. subst NoClash (append_assoc before (text ∷ []) texts)
+            (no_pair (before ++ text ∷ []) texts (more text before none (none_found text before is)) at)
         | Some one ↦ λ is at. cc
       ]
       in cases (find (clashes dig text) before) refl e
 
   -- the pair of a list of bytes clashes
-  pub clash_pair-clashes : (texts : List (List ℕ)) → Each AreBytes texts → (p : Pair) → clash_pair dig texts ≡ Some p → (c : Clash dig texts) × (c.one ≡ p.one) × (c.other ≡ p.other)
+  pub clash_pair-clashes : (texts : List (List ℕ)) → Each AreBytes texts → (p : Pair) → clash_pair dig texts ≡ Some p
+      → (c : Clash dig texts) × (c.one ≡ p.one) × (c.other ≡ p.other)
   clash_pair-clashes texts are p e =
       let facts = pair_clashes [] texts p e in (
         record {
@@ -134,4 +154,5 @@ module _ (dig : List ℕ → List ℕ) where
   -- a list without one has no clash
   pub clash_pair-none : (texts : List (List ℕ)) → clash_pair dig texts ≡ None → Clash dig texts → ⊥
   clash_pair-none texts e clash =
-      clash.differ (no_pair [] texts (λ x y p q d. absurd p) e clash.one clash.other clash.has_one clash.has_other clash.one_digest)
+      clash.differ (no_pair [] texts (λ x y p q d. absurd p) e clash.one clash.other clash.has_one clash.has_other
+      clash.one_digest)

@@ -24,14 +24,26 @@ Among-bytes (x ∷ xs) text are (inr p) = Among-bytes xs text are.1 p
 -- texts of such a list
 pub Within-bytes : (xs ys : List (List ℕ)) → Within xs ys → Each AreBytes ys → Each AreBytes xs
 Within-bytes [] ys within are = tt
-Within-bytes (x ∷ xs) ys within are = (Among-bytes ys x are (within x (inl refl)), Within-bytes xs ys (λ t p. within t (inr p)) are)
+Within-bytes (x ∷ xs) ys within are =
+    (Among-bytes ys x are (within x (inl refl)), Within-bytes xs ys (λ t p. within t (inr p)) are)
 
 -- two texts of a list of bytes that have one digest are one text, or the list clashes
-pub same_text : (dig : List ℕ → List ℕ) (texts : List (List ℕ)) → Each AreBytes texts → (x y : List ℕ) → Among x texts → Among y texts → dig x ≡ dig y → OrClash dig texts (x ≡ y)
+pub same_text : (dig : List ℕ → List ℕ) (texts : List (List ℕ)) → Each AreBytes texts → (x y : List ℕ) → Among x texts
+    → Among y texts → dig x ≡ dig y → OrClash dig texts (x ≡ y)
 same_text dig texts are x y p q e =
     elim (same_or_other x y) [
       | inl same ↦ inl same
-      | inr other ↦ inr (record { one = x; other = y; has_one = p; has_other = q; one_bytes = Among-bytes texts x are p; other_bytes = Among-bytes texts y are q; differ = other; one_digest = e })
+      | inr other ↦
+          inr (record {
+            one = x;
+            other = y;
+            has_one = p;
+            has_other = q;
+            one_bytes = Among-bytes texts x are p;
+            other_bytes = Among-bytes texts y are q;
+            differ = other;
+            one_digest = e;
+          })
     ]
 
 pub Among-left : (text : List ℕ) (xs ys : List (List ℕ)) → Among text xs → Among text (xs ++ ys)
@@ -56,7 +68,8 @@ Clash-wider dig xs ys within c = record {
 }
 
 -- what follows from what holds unless there is a clash
-pub and_then : (dig : List ℕ → List ℕ) (texts : List (List ℕ)) (P Q : Type 0) → OrClash dig texts P → (P → OrClash dig texts Q) → OrClash dig texts Q
+pub and_then : (dig : List ℕ → List ℕ) (texts : List (List ℕ)) (P Q : Type 0) → OrClash dig texts P
+    → (P → OrClash dig texts Q) → OrClash dig texts Q
 and_then dig texts P Q (inl p) f = f p
 and_then dig texts P Q (inr c) f = inr c
 
@@ -65,6 +78,7 @@ both_within [] ys us vs p q text a = Among-right text us vs (q text a)
 both_within (x ∷ xs) ys us vs p q text (inl e) = Among-left text us vs (p text (inl e))
 both_within (x ∷ xs) ys us vs p q text (inr a) = both_within xs ys us vs (λ t b. p t (inr b)) q text a
 
-pub OrClash-wider : (dig : List ℕ → List ℕ) (xs ys : List (List ℕ)) (P : Type 0) → Within xs ys → OrClash dig xs P → OrClash dig ys P
+pub OrClash-wider : (dig : List ℕ → List ℕ) (xs ys : List (List ℕ)) (P : Type 0) → Within xs ys → OrClash dig xs P
+    → OrClash dig ys P
 OrClash-wider dig xs ys P within (inl p) = inl p
 OrClash-wider dig xs ys P within (inr clash) = inr (Clash-wider dig xs ys within clash)

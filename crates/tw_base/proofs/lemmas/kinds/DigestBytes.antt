@@ -1,5 +1,6 @@
 -- Digests are 32 bytes.
-use Rattle.std.proofs.Common.{◌≡◌, ℕ, suc, zero, ◌-◌, ◌<◌, ◌≤◌, List, [], ◌∷◌, length, refl, sym, ap, ◌∙◌, subst, arith, inl, inr}
+use Rattle.std.proofs.Common.{◌≡◌, ℕ, suc, zero, ◌-◌, ◌<◌, ◌≤◌, List, [], ◌∷◌, length, refl, sym, ap, ◌∙◌, subst, arith}
+use Rattle.std.proofs.Common.{inl, inr}
 use Rattle.std.specs.Prelude.{map, drop, remove}
 use Rattle.std.proofs.lemmas.Bool.{cases_lt}
 use Rattle.tw_base.specs.history.Auth.{auth, auths, tree_label}
@@ -11,7 +12,9 @@ use Rattle.tw_base.specs.history.Tree.{Tree}
 use Rattle.tw_base.specs.history.Tree.Tree.{Empty, Branch}
 use Rattle.tw_base.proofs.lemmas.history.Auths.{auth-suc}
 use Rattle.tw_base.proofs.lemmas.events.AuditPaths.{few-events}
-use Rattle.tw_base.proofs.lemmas.events.EventTrees.{audit_path-left, audit_path-right, by_halves, event_root-more, event_root-none, event_root-one, length-left_half, length-right_half}
+use Rattle.tw_base.proofs.lemmas.events.EventTrees.{audit_path-left, audit_path-right, by_halves, event_root-more}
+use Rattle.tw_base.proofs.lemmas.events.EventTrees.{event_root-none, event_root-one, length-left_half}
+use Rattle.tw_base.proofs.lemmas.events.EventTrees.{length-right_half}
 use Rattle.tw_base.proofs.lemmas.kinds.ListLemmas.{Each-append}
 
 abbrev pub IsDigest : List ℕ → Type 0
@@ -28,7 +31,8 @@ Each-remove P [] (suc n) all = tt
 Each-remove P (x ∷ xs) zero all = all.1
 Each-remove P (x ∷ xs) (suc n) all = (all.0, Each-remove P xs n all.1)
 
-module _ (dig : List ℕ → List ℕ) (size : (text : List ℕ) → length (dig text) ≡ 32) (are : (text : List ℕ) → AreBytes (dig text)) where
+module _ (dig : List ℕ → List ℕ) (size : (text : List ℕ) → length (dig text) ≡ 32) (are : (text : List ℕ)
+    → AreBytes (dig text)) where
   pub dig-digest : (text : List ℕ) → IsDigest (dig text)
   dig-digest text = (size text, are text)
 
@@ -52,7 +56,8 @@ module _ (dig : List ℕ → List ℕ) (size : (text : List ℕ) → length (dig
   pub event_root-digest : (events : List (List ℕ)) → IsDigest (event_root dig events)
   event_root-digest [] = subst IsDigest (sym (event_root-none dig)) (dig-digest _)
   event_root-digest (event ∷ []) = subst IsDigest (sym (event_root-one dig event)) (dig-digest _)
-  event_root-digest (first ∷ second ∷ rest) = subst IsDigest (sym (event_root-more dig (first ∷ second ∷ rest) (omega arith))) (dig-digest _)
+  event_root-digest (first ∷ second ∷ rest) =
+      subst IsDigest (sym (event_root-more dig (first ∷ second ∷ rest) (omega arith))) (dig-digest _)
 
   pub audit_path-digests : (events : List (List ℕ)) (index : ℕ) → Each IsDigest (audit_path dig events index)
   audit_path-digests events index = by_halves P small large (length events) events index refl
@@ -67,12 +72,17 @@ module _ (dig : List ℕ → List ℕ) (size : (text : List ℕ) → length (dig
       large n more left right events index e =
           let more' : 1 < length events = omega arith in
           let same : largest_power_below (length events) ≡ largest_power_below n = ap largest_power_below e in
-          let rest : length (right_half events) ≡ n - largest_power_below n = length-right_half events ∙ ap (λ x. x - largest_power_below (length events)) e ∙ ap (λ x. n - x) same in
+          let rest : length (right_half events) ≡ n - largest_power_below n = length-right_half events
+          ∙ ap (λ x. x - largest_power_below (length events)) e ∙ ap (λ x. n - x) same in
           elim (cases_lt index (largest_power_below n)) [
             | inl less ↦ subst (Each IsDigest) (sym (audit_path-left dig events index more' (omega arith)))
-                (Each-append IsDigest (audit_path dig (left_half events) index) (event_root dig (right_half events) ∷ [])
-                (left (left_half events) index (length-left_half events more' ∙ same)) (event_root-digest (right_half events), tt))
+                (Each-append IsDigest (audit_path dig (left_half events) index)
+                (event_root dig (right_half events) ∷ [])
+                (left (left_half events) index (length-left_half events more' ∙ same))
+                (event_root-digest (right_half events), tt))
             | inr past ↦ subst (Each IsDigest) (sym (audit_path-right dig events index more' (omega arith)))
-                (Each-append IsDigest (audit_path dig (right_half events) (index - largest_power_below (length events))) (event_root dig (left_half events) ∷ [])
-                (right (right_half events) (index - largest_power_below (length events)) rest) (event_root-digest (left_half events), tt))
+                (Each-append IsDigest (audit_path dig (right_half events) (index - largest_power_below (length events)))
+                (event_root dig (left_half events) ∷ [])
+                (right (right_half events) (index - largest_power_below (length events)) rest)
+                (event_root-digest (left_half events), tt))
           ]

@@ -9,9 +9,13 @@ module _ {S : Type 0} (took : S → List (List ℕ) → Type 0) where
   hands-none s = record { behind = λ before has. subst (took s) (sym (append-nil before)) has }
 
   -- one after the other
-  pub hands-then : (a b c : S) (xs ys : List (List ℕ)) → Hands took a b xs → Hands took b c ys → Hands took a c (xs ++ ys)
+  pub hands-then : (a b c : S) (xs ys : List (List ℕ)) → Hands took a b xs → Hands took b c ys
+      → Hands took a c (xs ++ ys)
   hands-then a b c xs ys first second =
-      record { behind = λ before has. subst (took c) (append_assoc before xs ys) (second.behind (before ++ xs) (first.behind before has)) }
+      record {
+        behind = λ before has. subst (took c) (append_assoc before xs ys)
+            (second.behind (before ++ xs) (first.behind before has));
+      }
 
   -- the same texts
   pub hands-same : (a b : S) (xs ys : List (List ℕ)) → xs ≡ ys → Hands took a b xs → Hands took a b ys

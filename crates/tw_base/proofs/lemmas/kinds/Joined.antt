@@ -1,5 +1,6 @@
 -- Joined lists of parts.
-use Rattle.std.proofs.Common.{◌≡◌, ℕ, ◌+◌, ◌<◌, List, [], ◌∷◌, ◌++◌, length, get_or, take, ap, sym, ◌∙◌, append_assoc, subst, Bool, true, false}
+use Rattle.std.proofs.Common.{◌≡◌, ℕ, ◌+◌, ◌<◌, List, [], ◌∷◌, ◌++◌, length, get_or, take, ap, sym, ◌∙◌, append_assoc}
+use Rattle.std.proofs.Common.{subst, Bool, true, false}
 use Rattle.std.specs.Prelude.{if◌then◌else◌}
 use Rattle.std.proofs.lemmas.List.{append-nil, take_more}
 use Rattle.tw_base.specs.kinds.Texts.{joined}
@@ -10,18 +11,23 @@ pub joined-push : (parts : List (List ℕ)) (part : List ℕ) → joined (parts 
 joined-push [] part = append-nil part
 joined-push (p ∷ parts) part = ap (λ x. p ++ x) (joined-push parts part) ∙ sym (append_assoc p (joined parts) part)
 
-pub joined-more : (ds : List (List ℕ)) (i : ℕ) (d : List ℕ) → i < length ds → joined (take (i + 1) ds) ≡ joined (take i ds) ++ get_or ds i d
+pub joined-more : (ds : List (List ℕ)) (i : ℕ) (d : List ℕ) → i < length ds → joined (take (i + 1) ds) ≡ joined
+    (take i ds) ++ get_or ds i d
 joined-more ds i d h = ap joined (take_more ds i d h) ∙ joined-push (take i ds) (get_or ds i d)
 
-pub AllDigests-push : (parts : List (List ℕ)) (part : List ℕ) → AllDigests parts → HasBytes 32 part → AllDigests (parts ++ part ∷ [])
+pub AllDigests-push : (parts : List (List ℕ)) (part : List ℕ) → AllDigests parts → HasBytes 32 part
+    → AllDigests (parts ++ part ∷ [])
 AllDigests-push [] part p n = (n, tt)
 AllDigests-push (q ∷ parts) part p n = (p.0, AllDigests-push parts part p.1 n)
 
-pub AllDigests-more : (ds : List (List ℕ)) (i : ℕ) (d : List ℕ) → i < length ds → AllDigests (take i ds) → HasBytes 32 (get_or ds i d) → AllDigests (take (i + 1) ds)
-AllDigests-more ds i d h p n = subst AllDigests (sym (take_more ds i d h)) (AllDigests-push (take i ds) (get_or ds i d) p n)
+pub AllDigests-more : (ds : List (List ℕ)) (i : ℕ) (d : List ℕ) → i < length ds → AllDigests (take i ds)
+    → HasBytes 32 (get_or ds i d) → AllDigests (take (i + 1) ds)
+AllDigests-more ds i d h p n = subst AllDigests (sym (take_more ds i d h)) (AllDigests-push (take i ds) (get_or ds i d)
+    p n)
 
 pub ruleset more = (joined-more, AllDigests-more)
 
-pub AllDigests-pushed : (pushed : Bool) (parts : List (List ℕ)) (part : List ℕ) → AllDigests parts → HasBytes 32 part → AllDigests (if pushed then parts ++ part ∷ [] else parts)
+pub AllDigests-pushed : (pushed : Bool) (parts : List (List ℕ)) (part : List ℕ) → AllDigests parts → HasBytes 32 part
+    → AllDigests (if pushed then parts ++ part ∷ [] else parts)
 AllDigests-pushed true parts part p n = AllDigests-push parts part p n
 AllDigests-pushed false parts part p n = p

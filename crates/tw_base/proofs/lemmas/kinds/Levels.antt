@@ -1,9 +1,11 @@
 -- The levels of a step's links.
-use Rattle.std.proofs.Common.{◌≡◌, ℕ, suc, zero, ◌+◌, ◌-◌, ◌*◌, ◌<◌, ◌≤◌, ◌^◌, ◌/◌, ◌%◌, lit<, arith, refl, sym, ap, ◌∙◌, inl, inr}
+use Rattle.std.proofs.Common.{◌≡◌, ℕ, suc, zero, ◌+◌, ◌-◌, ◌*◌, ◌<◌, ◌≤◌, ◌^◌, ◌/◌, ◌%◌, lit<, arith, refl, sym, ap}
+use Rattle.std.proofs.Common.{◌∙◌, inl, inr}
 use Rattle.std.proofs.lemmas.Bool.{cases_lt}
 use Rattle.std.proofs.lemmas.Nat.{div-add-mod', mod-pow-add, shr_split}
 use Rattle.std.proofs.lemmas.Nat.Bits.{bit_at-trailing_zeros}
-use Rattle.std.proofs.Math.Nat.{lt_of_lt_of_le, pow-le-pow_right, div-eq_of_lt, mod-one, zero-mod, mul-mod_left, one-le-pow, mul-le-mul_right, mul_assoc, add-mul, pow-suc}
+use Rattle.std.proofs.Math.Nat.{lt_of_lt_of_le, pow-le-pow_right, div-eq_of_lt, mod-one, zero-mod, mul-mod_left}
+use Rattle.std.proofs.Math.Nat.{one-le-pow, mul-le-mul_right, mul_assoc, add-mul, pow-suc}
 use Rattle.std.proofs.Math.Pow.{mod-mod-pow}
 use Rattle.std.specs.Int.{bit_at, w64, trailing_zeros}
 use Rattle.tw_base.specs.kinds.Levels.{top_level}
@@ -50,7 +52,8 @@ divides-less n j k l e =
 
 no_odd_part : (x p : ℕ) → 0 < p → x * p ≡ 0 → x ≡ 0
 no_odd_part zero p l e = refl
-no_odd_part (suc x) p l e = absurd (let more : 1 * p ≤ suc x * p = mul-le-mul_right p (let r : 1 ≤ suc x = omega arith in r) in omega (arith, more))
+no_odd_part (suc x) p l e = absurd (let more : 1 * p ≤ suc x * p =
+    mul-le-mul_right p (let r : 1 ≤ suc x = omega arith in r) in omega (arith, more))
 
 -- a number with bit k isn't divided by a greater power
 bit-greatest : (n k m : ℕ) → bit_at n k ≡ 1 → n % 2 ^ m ≡ 0 → m ≤ k
@@ -104,7 +107,8 @@ divides-minus s k l e =
     ap (λ x. x % 2 ^ k) q ∙ mul-mod_left (s / 2 ^ k - 1) (2 ^ k)
   where
     positive : (x : ℕ) → x * 2 ^ k ≡ s → 0 < x
-    positive zero h = absurd (let some : 1 ≤ 2 ^ k = one-le-pow k 2 (lit< tt) in let none : 0 * 2 ^ k ≡ 0 = omega arith in omega (arith, some, none, h))
+    positive zero h = absurd (let some : 1 ≤ 2 ^ k = one-le-pow k 2 (lit< tt) in let none : 0 * 2 ^ k ≡ 0 =
+        omega arith in omega (arith, some, none, h))
     positive (suc x) h = omega arith
 
 -- and with its lowest bit taken off, the next greater power divides it
@@ -119,7 +123,8 @@ divides-next s p q = next (top_level s) (top_level-divides s p q) (top_level-odd
         let split : s / 2 ^ k * 2 ^ k ≡ s = omega (arith, shr_split s k, e) in
         let halves : s / 2 ^ k / 2 * 2 + 1 ≡ s / 2 ^ k = omega (arith, div-add-mod' (s / 2 ^ k) 2, odd) in
         let pair : (s / 2 ^ k / 2 * 2 + 1) * 2 ^ k ≡ s = ap (λ x. x * 2 ^ k) halves ∙ split in
-        let made : s - 2 ^ k ≡ s / 2 ^ k / 2 * 2 ^ suc k = regroup (s / 2 ^ k / 2) (2 ^ k) s pair ∙ ap (λ d. s / 2 ^ k / 2 * d) (let e : 2 * 2 ^ k ≡ 2 ^ suc k = omega (arith, pow-suc 2 k) in e) in
+        let made : s - 2 ^ k ≡ s / 2 ^ k / 2 * 2 ^ suc k = regroup (s / 2 ^ k / 2) (2 ^ k) s pair
+        ∙ ap (λ d. s / 2 ^ k / 2 * d) (let e : 2 * 2 ^ k ≡ 2 ^ suc k = omega (arith, pow-suc 2 k) in e) in
         ap (λ x. x % 2 ^ suc k) made ∙ mul-mod_left (s / 2 ^ k / 2) (2 ^ suc k)
 
 pub ruleset top_levels = (top_level-is, top_level-zero, top_level-below, top_level-divides, top_level-greatest)

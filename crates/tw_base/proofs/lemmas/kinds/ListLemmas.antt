@@ -1,5 +1,6 @@
 -- Each element of a list, and membership.
-use Rattle.std.proofs.Common.{◌≡◌, ◌≢◌, ◌⊎◌, ℕ, suc, zero, List, [], ◌∷◌, ◌++◌, length, get_or, refl, sym, ◌∙◌, subst, arith, inl, inr}
+use Rattle.std.proofs.Common.{◌≡◌, ◌≢◌, ◌⊎◌, ℕ, suc, zero, List, [], ◌∷◌, ◌++◌, length, get_or, refl, sym, ◌∙◌, subst}
+use Rattle.std.proofs.Common.{arith, inl, inr}
 use Rattle.tw_base.specs.kinds.Lists.{Each, In}
 
 pub Each-append : {X : Type 0} (P : X → Type 0) (xs ys : List X) → Each P xs → Each P ys → Each P (xs ++ ys)
@@ -56,25 +57,32 @@ module _ {X : Type 0} where
   In-cases (y ∷ ys) x (inl e) z (inl same) = inl (same ∙ sym e)
   In-cases (y ∷ ys) x (inl e) z (inr q) = inr q
   In-cases (y ∷ ys) x (inr p) z (inl same) = inr (inl same)
-  In-cases (y ∷ ys) x (inr p) z (inr q) = elim (In-cases ys x p z q) [ inl same ↦ inl same | inr there ↦ inr (inr there) ]
+  In-cases (y ∷ ys) x (inr p) z (inr q) = elim (In-cases ys x p z q)
+      [ inl same ↦ inl same | inr there ↦ inr (inr there) ]
 
-  others : (xs : List X) (x : X) (p : In x xs) (zs : List X) → Each (λ z. In z xs) zs → Each (λ z. x ≢ z) zs → Each (λ z. In z (without xs x p)) zs
+  others : (xs : List X) (x : X) (p : In x xs) (zs : List X) → Each (λ z. In z xs) zs → Each (λ z. x ≢ z) zs
+      → Each (λ z. In z (without xs x p)) zs
   others xs x p [] has apart = tt
-  others xs x p (z ∷ zs) has apart =
-      (elim (In-cases xs x p z has.0) [ inl same ↦ absurd (apart.0 (sym same)) | inr there ↦ there ], others xs x p zs has.1 apart.1)
+  others xs x p (z ∷ zs) has apart = (
+    elim (In-cases xs x p z has.0) [ inl same ↦ absurd (apart.0 (sym same)) | inr there ↦ there ],
+    others xs x p zs has.1 apart.1,
+  )
 
   -- as many different elements of a list as it has are all of them
-  pub pigeonhole : (xs ys : List X) → Apart xs → Each (λ x. In x ys) xs → length xs ≡ length ys → (y : X) → In y ys → In y xs
+  pub pigeonhole : (xs ys : List X) → Apart xs → Each (λ x. In x ys) xs → length xs ≡ length ys → (y : X) → In y ys
+      → In y xs
   pigeonhole [] [] apart has n y p = p
   pigeonhole [] (z ∷ ys) apart has n y p = absurd (omega (arith, n))
   pigeonhole (x ∷ xs) ys apart has n y p =
       let rest : List X = without ys x has.0 in
       elim (In-cases ys x has.0 y p) [
         | inl same ↦ inl same
-        | inr there ↦ inr (pigeonhole xs rest apart.1 (others ys x has.0 xs has.1 apart.0) (let m = length-without ys x has.0 in omega (arith, n, m)) y there)
+        | inr there ↦ inr (pigeonhole xs rest apart.1 (others ys x has.0 xs has.1 apart.0)
+            (let m = length-without ys x has.0 in omega (arith, n, m)) y there)
       ]
 
 pub In-cases_append : {X : Type 0} (x : X) (xs ys : List X) → In x (xs ++ ys) → In x xs ⊎ In x ys
 In-cases_append x [] ys p = inr p
 In-cases_append x (y ∷ xs) ys (inl e) = inl (inl e)
-In-cases_append x (y ∷ xs) ys (inr p) = elim (In-cases_append x xs ys p) [ inl here ↦ inl (inr here) | inr there ↦ inr there ]
+In-cases_append x (y ∷ xs) ys (inr p) = elim (In-cases_append x xs ys p)
+    [ inl here ↦ inl (inr here) | inr there ↦ inr there ]

@@ -1,5 +1,6 @@
 -- Names have 16 bytes.
-use Rattle.std.proofs.Common.{◌≡◌, ℕ, suc, zero, ◌-◌, ◌<◌, ◌≤◌, List, [], ◌∷◌, length, replicate, ap, sym, ◌∙◌, subst, arith, lit<, Bool, true, false, refl}
+use Rattle.std.proofs.Common.{◌≡◌, ℕ, suc, zero, ◌-◌, ◌<◌, ◌≤◌, List, [], ◌∷◌, length, replicate, ap, sym, ◌∙◌, subst}
+use Rattle.std.proofs.Common.{arith, lit<, Bool, true, false, refl}
 use Rattle.std.specs.Prelude.{IsTrue, ◌&&◌, ◌||◌, ◌==◌, nat_le}
 use Rattle.std.specs.List.{list_all}
 use Rattle.std.proofs.lemmas.Bool.{and_parts, leb-true}
@@ -17,7 +18,8 @@ name_text-size text is =
 pub IsName-size : (bytes : List ℕ) → IsName bytes → length bytes ≡ 16
 IsName-size bytes n =
     let small = name_text-size n.0 n.1 in
-    ap length n.2 ∙ length-append n.0 (replicate (16 - length n.0) 0) ∙ omega (arith, small.1, length-replicate {A = ℕ} (16 - length n.0) 0)
+    ap length n.2 ∙ length-append n.0 (replicate (16 - length n.0) 0)
+    ∙ omega (arith, small.1, length-replicate {A = ℕ} (16 - length n.0) 0)
 
 name_byte-below : (b : ℕ) → is_name_byte b ≡ true → b < 256
 name_byte-below b is = by (nat_le 97 b) (nat_le b 122) (nat_le 48 b) (nat_le b 57) refl refl is
@@ -46,5 +48,8 @@ zeros-bytes (suc n) = (lit< tt, zeros-bytes n)
 
 pub IsName-bytes : (bytes : List ℕ) → IsName bytes → HasBytes 16 bytes
 IsName-bytes bytes n =
-    let outer = and_parts (nat_le 1 (length n.0) && nat_le (length n.0) 16) (list_all is_name_byte n.0) n.1 in
-    (IsName-size bytes n, subst AreBytes (sym n.2) (AreBytes-append n.0 (replicate (16 - length n.0) 0) (letters-bytes n.0 outer.1) (zeros-bytes (16 - length n.0))))
+    let outer = and_parts (nat_le 1 (length n.0) && nat_le (length n.0) 16) (list_all is_name_byte n.0) n.1 in (
+      IsName-size bytes n,
+      subst AreBytes (sym n.2) (AreBytes-append n.0 (replicate (16 - length n.0) 0) (letters-bytes n.0 outer.1)
+          (zeros-bytes (16 - length n.0))),
+    )

@@ -13,12 +13,14 @@ unfolding precedence_body
 returns-in_err-count c =
     let p = err_from_is_err_and c.from_residual.result c.from_residual.ensures.1 in
     rw (p.1, p.2)
-    (takes-no_kind (λ (p : PrecedenceProof). length p.hops) (number_codec 1 0 MOST_HOPS) hops_codec (λ p. p) c.args.bytes.now c.args.at.now c.take_number.new.at c.take_number.new.at _
+    (takes-no_kind (λ (p : PrecedenceProof). length p.hops) (number_codec 1 0 MOST_HOPS) hops_codec (λ p. p)
+    c.args.bytes.now c.args.at.now c.take_number.new.at c.take_number.new.at _
     c.in_err-count.ensures.takes)
 
 pub returns : goal.returns
 unfolding precedence_body
 returns c =
     let count = c.in_ok-count.ensures.takes in
-    takes-kind (λ (p : PrecedenceProof). length p.hops) (number_codec 1 0 MOST_HOPS) hops_codec (λ p. p) c.args.bytes.now c.args.at.now c.take_number.new.at c.take_with_hops.new.at c.in_ok-count.count
+    takes-kind (λ (p : PrecedenceProof). length p.hops) (number_codec 1 0 MOST_HOPS) hops_codec (λ p. p)
+    c.args.bytes.now c.args.at.now c.take_number.new.at c.take_with_hops.new.at c.in_ok-count.count
     c.take_with_hops.result count.0 count.1 (λ p fits. hops-count c.in_ok-count.count p fits) c.take_with_hops.ensures

@@ -12,14 +12,18 @@ pub returns-in-None : goal.returns-in-None
 returns-in-None g c =
     let path : Check = PathOf 0 c.args.at.now (AtAnchor (top_of c.args.at.now)) in
     c.lower.ensures
-    ∙ found-not_held g.H.Hasher.dig c.args.anchors.now None c.with_order-found.result (InOrder c.args.at.now.step c.args.at.now.top) (top_of c.args.at.now) path
-    (Reaches g.H.Hasher.dig c.args.at.now) (passes-is g.H.Hasher.dig c.args.anchors.now path) (c.with_order-found.ensures g.H.Hasher.dig c.args.anchors.now)
+    ∙ found-not_held g.H.Hasher.dig c.args.anchors.now None c.with_order-found.result
+    (InOrder c.args.at.now.step c.args.at.now.top) (top_of c.args.at.now) path
+    (Reaches g.H.Hasher.dig c.args.at.now) (passes-is g.H.Hasher.dig c.args.anchors.now path)
+    (c.with_order-found.ensures g.H.Hasher.dig c.args.anchors.now)
     (sym c.find_anchor.ensures ∙ c.in-None.is)
 
 pub returns-in-Some : goal.returns-in-Some
 returns-in-Some g c =
     let path : Check = PathOf 0 c.args.at.now (AtAnchor (top_of c.args.at.now)) in
     c.unless.ensures
-    ∙ found-held g.H.Hasher.dig c.args.anchors.now None c.with_order-found.result (InOrder c.args.at.now.step c.args.at.now.top) (top_of c.args.at.now) path
-    (Reaches g.H.Hasher.dig c.args.at.now) (passes-is g.H.Hasher.dig c.args.anchors.now path) (c.with_order-found.ensures g.H.Hasher.dig c.args.anchors.now)
+    ∙ found-held g.H.Hasher.dig c.args.anchors.now None c.with_order-found.result
+    (InOrder c.args.at.now.step c.args.at.now.top) (top_of c.args.at.now) path
+    (Reaches g.H.Hasher.dig c.args.at.now) (passes-is g.H.Hasher.dig c.args.anchors.now path)
+    (c.with_order-found.ensures g.H.Hasher.dig c.args.anchors.now)
     c.in-Some.anchor c.reaches.result (sym c.find_anchor.ensures ∙ c.in-Some.is) c.reaches.ensures

@@ -7,4 +7,5 @@ use Rattle.tw_chain.proofs.finding.with_path.Goals as goal
 pub returns : goal.returns
 returns g c = λ anchors.
     c.unless.ensures
-    ∙ found-one g.H.Hasher.dig anchors c.args.found (PathOf c.args.part c.args.at.now (Known c.args.upper.now)) c.reaches.result c.reaches.ensures
+    ∙ found-one g.H.Hasher.dig anchors c.args.found (PathOf c.args.part c.args.at.now (Known c.args.upper.now))
+    c.reaches.result c.reaches.ensures

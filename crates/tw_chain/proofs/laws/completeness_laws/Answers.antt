@@ -1,4 +1,5 @@
-use Rattle.tw_chain.proofs.Completeness.{Accepts-made, claim_of-made, existence-accepted, own-accepted, own-claims, spelled-accepted}
+use Rattle.tw_chain.proofs.Completeness.{Accepts-made, claim_of-made, existence-accepted, own-accepted, own-claims}
+use Rattle.tw_chain.proofs.Completeness.{spelled-accepted}
 use Rattle.tw_chain.proofs.OwnMade.{absence-made, event-made, link-made, thread-made}
 use Rattle.tw_chain.proofs.OwnSpelling.{own-few, own-spelled}
 use Rattle.tw_chain.proofs.laws.completeness_laws.Goals as goal
@@ -16,7 +17,8 @@ returns-clause-claim g c = λ h step index top p event is there.
 
 pub returns-clause-spelled : goal.returns-clause-spelled
 returns-clause-spelled g c = λ h step index top p anchors anchor sound order has is held reached.
-    spelled-accepted g.H.Hasher.dig h step index top p is g.met.H.Hasher.size g.met.H.Hasher.bytes anchors anchor sound order has held reached
+    spelled-accepted g.H.Hasher.dig h step index top p is g.met.H.Hasher.size g.met.H.Hasher.bytes anchors anchor sound
+    order has held reached
 
 pub returns-clause-has_event : goal.returns-clause-has_event
 returns-clause-has_event g c = event-made g.H.Hasher.dig

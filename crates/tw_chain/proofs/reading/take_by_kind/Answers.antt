@@ -9,11 +9,13 @@ unfolding kinds_codec
 returns-in_err-kind c =
     let p = err_from_is_err_and c.from_residual.result c.from_residual.ensures.1 in
     rw (p.1, p.2)
-    (takes-no_kind proof_kind kind_codec body_of_kind (λ p. p) c.args.bytes.now c.args.at.now c.take_kind.new.at c.take_kind.new.at _ c.in_err-kind.ensures)
+    (takes-no_kind proof_kind kind_codec body_of_kind (λ p. p) c.args.bytes.now c.args.at.now c.take_kind.new.at
+    c.take_kind.new.at _ c.in_err-kind.ensures)
 
 pub returns : goal.returns
 unfolding kinds_codec
 returns c =
     let kind = c.in_ok-kind.ensures in
-    takes-kind proof_kind kind_codec body_of_kind (λ p. p) c.args.bytes.now c.args.at.now c.take_kind.new.at c.take_of_kind.new.at c.in_ok-kind.kind c.take_of_kind.result
+    takes-kind proof_kind kind_codec body_of_kind (λ p. p) c.args.bytes.now c.args.at.now c.take_kind.new.at
+    c.take_of_kind.new.at c.in_ok-kind.kind c.take_of_kind.result
     kind.0 kind.1 (λ p fits. kinds c.in_ok-kind.kind p kind.1 fits) c.take_of_kind.ensures

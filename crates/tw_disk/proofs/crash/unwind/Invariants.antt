@@ -5,7 +5,8 @@ use Rattle.tw_disk.proofs.crash.unwind.Given as goal
 abbrev pub invariant-loop-call : goal.invariant-loop-call
 invariant-loop-call l = record {
   fits : AllFit l.calls.items l.pages.items;
-  settled : (written_of l.calls.items l.pages.items).settled ≡ (written_of l.initial.calls.items l.initial.pages.items).settled;
+  settled : (written_of l.calls.items l.pages.items).settled
+      ≡ (written_of l.initial.calls.items l.initial.pages.items).settled;
 }
 
 abbrev pub decreases-loop-call : goal.decreases-loop-call

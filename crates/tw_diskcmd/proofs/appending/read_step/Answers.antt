@@ -5,18 +5,23 @@ use Rattle.tw_diskcmd.proofs.appending.read_step.Goals as goal
 
 pub returns-then-len-gt-EVENTS_LIMIT-clause-stopped : goal.returns-then-len-gt-EVENTS_LIMIT-clause-stopped
 returns-then-len-gt-EVENTS_LIMIT-clause-stopped g c =
-    too_long (asked (g.I.Inputs.told c.args.inputs.now) (g.I.Inputs.faults c.args.inputs.now) (g.I.Inputs.faults c.read_all.new.inputs))
-    c.args.file.now c.in_ok-bytes.bytes.items c.in_ok-bytes.ensures.there c.in_ok-bytes.ensures.read _ (omega arith) c.in_ok-bad_byte.ensures
+    too_long (asked (g.I.Inputs.told c.args.inputs.now) (g.I.Inputs.faults c.args.inputs.now)
+    (g.I.Inputs.faults c.read_all.new.inputs))
+    c.args.file.now c.in_ok-bytes.bytes.items c.in_ok-bytes.ensures.there c.in_ok-bytes.ensures.read _ (omega arith)
+    c.in_ok-bad_byte.ensures
 
 pub returns-in-Ok-clause-read : goal.returns-in-Ok-clause-read
 returns-in-Ok-clause-read g c =
-    are_events (asked (g.I.Inputs.told c.args.inputs.now) (g.I.Inputs.faults c.args.inputs.now) (g.I.Inputs.faults c.read_all.new.inputs))
+    are_events (asked (g.I.Inputs.told c.args.inputs.now) (g.I.Inputs.faults c.args.inputs.now)
+    (g.I.Inputs.faults c.read_all.new.inputs))
     c.args.file.now c.as_slice.result.now c.in_ok-bytes.ensures.there
-    (λ bytes tells. c.as_slice.ensures.value ∙ c.in_ok-bytes.ensures.read bytes tells) c.in-Ok.events (omega arith) c.in-Ok.ensures
+    (λ bytes tells. c.as_slice.ensures.value ∙ c.in_ok-bytes.ensures.read bytes tells) c.in-Ok.events (omega arith)
+    c.in-Ok.ensures
 
 pub returns-in-Err-Malformed-clause-stopped : goal.returns-in-Err-Malformed-clause-stopped
 returns-in-Err-Malformed-clause-stopped g c =
-    no_events (asked (g.I.Inputs.told c.args.inputs.now) (g.I.Inputs.faults c.args.inputs.now) (g.I.Inputs.faults c.read_all.new.inputs))
+    no_events (asked (g.I.Inputs.told c.args.inputs.now) (g.I.Inputs.faults c.args.inputs.now)
+    (g.I.Inputs.faults c.read_all.new.inputs))
     c.args.file.now c.as_slice.result.now c.in_ok-bytes.ensures.there
     (λ bytes tells. c.as_slice.ensures.value ∙ c.in_ok-bytes.ensures.read bytes tells)
     c.in-Err-Malformed.place _ (omega arith)

@@ -18,20 +18,23 @@ use Rattle.tw_diskcmd.proofs.asking.ask.Goals as goal
 pub returns-in-Ok-clause-comes : goal.returns-in-Ok-clause-comes
 returns-in-Ok-clause-comes g c =
     c.ask_by.ensures.comes (g.D.Disk.view c.args.disk).content (g.D.Disk.view c.args.disk).faults
-    c.in-Ok.ensures.opened (λ h reads. c.in-Ok.ensures.served reads.image h.name h reads.told reads.stands) c.in-Ok.ensures.later
+    c.in-Ok.ensures.opened (λ h reads. c.in-Ok.ensures.served reads.image h.name h reads.told reads.stands)
+    c.in-Ok.ensures.later
 
 pub returns-in-Ok-clause-leaves : goal.returns-in-Ok-clause-leaves
 returns-in-Ok-clause-leaves g c =
     let d = g.D.Disk in
     let mid = disk_of c.in-Ok.service in
     leaves_of_reading root_kind IsImageOfHeads d.view c.args.disk c.ask_by.result.disk c.ask_by.result.outcome
-    (left_on d.view c.args.disk mid c.ask_by.result.disk (c.in-Ok.ensures.unchanged, c.in-Ok.ensures.any_moment) c.ask_by.ensures.leaves) (
+    (left_on d.view c.args.disk mid c.ask_by.result.disk (c.in-Ok.ensures.unchanged, c.in-Ok.ensures.any_moment)
+    c.ask_by.ensures.leaves) (
       λ h reads. c.ask_by.ensures.rests h (c.in-Ok.ensures.served reads.image h.name h reads.told reads.stands),
       λ w reads.
           let s = c.in-Ok.service in
           let own = c.in-Ok.ensures.over reads.image reads.told in
           subst (λ (v : Written RootRecord). RestsAtState IsService d.view c.ask_by.result.disk v)
-          (written_once root_kind once reads.image (written_record (record_of s) own.0) w own.2 reads.stands) (c.ask_by.ensures.over own.0 own.3),
+          (written_once root_kind once reads.image (written_record (record_of s) own.0) w own.2 reads.stands)
+          (c.ask_by.ensures.over own.0 own.3),
     )
 
 pub returns-in-Err-clause-comes : goal.returns-in-Err-clause-comes
@@ -39,11 +42,14 @@ unfolding AskComes
 returns-in-Err-clause-comes g c =
     let d = g.D.Disk in
     let q = c.args.question.now in
-    unserved (asked_bytes q) (TableAnswersOr (Besides q) (asked_table q)) (MachineAnswers (asked_call q) (AnswersBy q)) (λ cause. tt)
+    unserved (asked_bytes q) (TableAnswersOr (Besides q) (asked_table q)) (MachineAnswers (asked_call q) (AnswersBy q))
+    (λ cause. tt)
     (d.view c.args.disk).content (d.view c.args.disk).faults (d.view c.in-Err.disk).faults
-    c.in-Err.fault c.in-Err.ensures.refused c.in-Err.ensures.answers c.in-Err.ensures.fault c.fault_of_store.result c.fault_of_store.ensures
+    c.in-Err.fault c.in-Err.ensures.refused c.in-Err.ensures.answers c.in-Err.ensures.fault c.fault_of_store.result
+    c.fault_of_store.ensures
 
 pub returns-in-Err-clause-leaves : goal.returns-in-Err-clause-leaves
 returns-in-Err-clause-leaves g c =
-    unopened_reading_leaves root_kind IsImageOfHeads g.D.Disk.view c.args.disk c.in-Err.disk (List ℕ) c.in-Err.fault c.fault_of_store.result c.fault_of_store.ensures
+    unopened_reading_leaves root_kind IsImageOfHeads g.D.Disk.view c.args.disk c.in-Err.disk (List ℕ) c.in-Err.fault
+    c.fault_of_store.result c.fault_of_store.ensures
     c.in-Err.ensures.answers.0 (c.in-Err.ensures.unchanged, c.in-Err.ensures.any_moment_err)

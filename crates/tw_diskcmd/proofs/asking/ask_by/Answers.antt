@@ -18,22 +18,27 @@ returns-clause-comes g c = λ found before opens serves le.
     let d = g.D.Disk in
     let old = c.args.service in
     let asks = c.ask.ensures.asks in
-    asked_came (found_disk found before (d.view c.close.result).faults) c.args.question.now (has_failed old) (record_of old) (pages_of d.view old) opens c.requires.whole
-    (Serves sha256 d.view old) (Serves sha256 d.view c.ask.new.self) serves c.ask.result c.came-outcome.result c.came-outcome.ensures asks.table c.ask.ensures.made c.ask.ensures.accepted asks.machine
+    asked_came (found_disk found before (d.view c.close.result).faults) c.args.question.now (has_failed old)
+    (record_of old) (pages_of d.view old) opens c.requires.whole
+    (Serves sha256 d.view old) (Serves sha256 d.view c.ask.new.self) serves c.ask.result c.came-outcome.result
+    c.came-outcome.ensures asks.table c.ask.ensures.made c.ask.ensures.accepted asks.machine
     (λ is. rose_since before (d.view (disk_of old)).faults (d.view c.close.result).faults le
-    (subst (λ disk. Rose (d.view (disk_of old)).faults (d.view disk).faults) (sym c.close.ensures.disk) (asks.fault is)))
+    (subst (λ disk. Rose (d.view (disk_of old)).faults (d.view disk).faults) (sym c.close.ensures.disk)
+    (asks.fault is)))
     asks.answer
 
 pub returns-clause-leaves : goal.returns-clause-leaves
 returns-clause-leaves g c =
     let d = g.D.Disk in
     let old = c.args.service in
-    subst (λ disk. IsLeft d.view (disk_of old) disk) (sym c.close.ensures.disk) (same_left d.view g.met.D.Disk.only_now old.recorded.kept.store c.ask.new.self.recorded.kept.store c.ask.ensures.asks.unwritten)
+    subst (λ disk. IsLeft d.view (disk_of old) disk) (sym c.close.ensures.disk) (same_left d.view g.met.D.Disk.only_now
+    old.recorded.kept.store c.ask.new.self.recorded.kept.store c.ask.ensures.asks.unwritten)
 
 pub returns-clause-rests : goal.returns-clause-rests
 returns-clause-rests g c = λ h served.
     let d = g.D.Disk in
-    own_rest d.view c.close.result (name_of c.ask.new.self) h (c.close.ensures.stands h (c.ask.ensures.asks.same h served).0)
+    own_rest d.view c.close.result (name_of c.ask.new.self) h
+    (c.close.ensures.stands h (c.ask.ensures.asks.same h served).0)
 
 pub returns-clause-over : goal.returns-clause-over
 returns-clause-over g c = λ ps over.

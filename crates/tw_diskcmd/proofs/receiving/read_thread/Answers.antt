@@ -5,13 +5,15 @@ use Rattle.tw_diskcmd.proofs.receiving.read_thread.Goals as goal
 
 pub returns-in-Ok-clause-read : goal.returns-in-Ok-clause-read
 returns-in-Ok-clause-read g c =
-    is_message (asked (g.I.Inputs.told c.args.inputs.now) (g.I.Inputs.faults c.args.inputs.now) (g.I.Inputs.faults c.read_all.new.inputs))
+    is_message (asked (g.I.Inputs.told c.args.inputs.now) (g.I.Inputs.faults c.args.inputs.now)
+    (g.I.Inputs.faults c.read_all.new.inputs))
     c.args.file.now c.as_slice.result.now c.in_ok-bytes.ensures.there
     (λ bytes tells. c.as_slice.ensures.value ∙ c.in_ok-bytes.ensures.read bytes tells) c.in-Ok.message c.in-Ok.ensures
 
 pub returns-in-Err-Malformed-clause-stopped : goal.returns-in-Err-Malformed-clause-stopped
 returns-in-Err-Malformed-clause-stopped g c =
-    no_message (asked (g.I.Inputs.told c.args.inputs.now) (g.I.Inputs.faults c.args.inputs.now) (g.I.Inputs.faults c.read_all.new.inputs))
+    no_message (asked (g.I.Inputs.told c.args.inputs.now) (g.I.Inputs.faults c.args.inputs.now)
+    (g.I.Inputs.faults c.read_all.new.inputs))
     c.args.file.now c.as_slice.result.now c.in_ok-bytes.ensures.there
     (λ bytes tells. c.as_slice.ensures.value ∙ c.in_ok-bytes.ensures.read bytes tells)
     c.in-Err-Malformed.place _

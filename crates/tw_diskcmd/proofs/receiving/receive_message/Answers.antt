@@ -22,31 +22,39 @@ use Rattle.tw_diskcmd.proofs.receiving.receive_message.Goals as goal
 pub returns-in-Ok-clause-comes : goal.returns-in-Ok-clause-comes
 returns-in-Ok-clause-comes g c =
     c.receive_by.ensures.comes (g.D.Disk.view c.args.disk).content (g.D.Disk.view c.args.disk).faults
-    c.in-Ok.ensures.opened (λ h reads. c.in-Ok.ensures.served reads.image h.name h reads.told reads.stands) c.in-Ok.ensures.later
+    c.in-Ok.ensures.opened (λ h reads. c.in-Ok.ensures.served reads.image h.name h reads.told reads.stands)
+    c.in-Ok.ensures.later
 
 pub returns-in-Ok-clause-leaves : goal.returns-in-Ok-clause-leaves
 returns-in-Ok-clause-leaves g c =
     let d = g.D.Disk in
     let call = Receive c.args.message.now c.args.time in
-    adds_on IsImageOfHeads d.view (NextBy call) (λ (receipt : Receipt). StepsBy call (OfReceipt receipt)) c.args.disk (disk_of c.in-Ok.service) c.receive_by.result.disk c.receive_by.result.outcome
-    c.in-Ok.ensures.any_moment (λ h reads. c.receive_by.ensures.leaves h (c.in-Ok.ensures.served reads.image h.name h reads.told reads.stands))
+    adds_on IsImageOfHeads d.view (NextBy call) (λ (receipt : Receipt). StepsBy call (OfReceipt receipt)) c.args.disk
+    (disk_of c.in-Ok.service) c.receive_by.result.disk c.receive_by.result.outcome
+    c.in-Ok.ensures.any_moment (λ h reads. c.receive_by.ensures.leaves h (c.in-Ok.ensures.served reads.image h.name h
+    reads.told reads.stands))
 
 pub returns-in-Err-clause-comes : goal.returns-in-Err-clause-comes
 returns-in-Err-clause-comes g c =
     let d = g.D.Disk in
     let m = c.args.message.now in
-    unopened_comes (IsReceivedOver m c.args.time) (TableReceives m c.args.time) (MachineReceives m c.args.time) (λ f. refl) (λ cause. tt) (d.view c.args.disk).content (d.view c.args.disk).faults (d.view c.in-Err.disk).faults
-    c.in-Err.fault c.in-Err.ensures.refused c.in-Err.ensures.answers c.in-Err.ensures.fault c.fault_of_store.result c.fault_of_store.ensures
+    unopened_comes (IsReceivedOver m c.args.time) (TableReceives m c.args.time) (MachineReceives m c.args.time)
+    (λ f. refl) (λ cause. tt) (d.view c.args.disk).content (d.view c.args.disk).faults (d.view c.in-Err.disk).faults
+    c.in-Err.fault c.in-Err.ensures.refused c.in-Err.ensures.answers c.in-Err.ensures.fault c.fault_of_store.result
+    c.fault_of_store.ensures
 
 pub returns-in-Err-clause-leaves : goal.returns-in-Err-clause-leaves
 returns-in-Err-clause-leaves g c =
     let call = Receive c.args.message.now c.args.time in
-    unopened_adds IsImageOfHeads g.D.Disk.view (NextBy call) (λ (receipt : Receipt). StepsBy call (OfReceipt receipt)) (λ h. (h, inl refl)) c.args.disk c.in-Err.disk
-    c.in-Err.fault c.fault_of_store.result c.fault_of_store.ensures c.in-Err.ensures.answers c.in-Err.ensures.unchanged c.in-Err.ensures.any_moment_err
+    unopened_adds IsImageOfHeads g.D.Disk.view (NextBy call) (λ (receipt : Receipt). StepsBy call (OfReceipt receipt))
+    (λ h. (h, inl refl)) c.args.disk c.in-Err.disk
+    c.in-Err.fault c.fault_of_store.result c.fault_of_store.ensures c.in-Err.ensures.answers c.in-Err.ensures.unchanged
+    c.in-Err.ensures.any_moment_err
 
 pub returns-in-Ok-clause-unwritten : goal.returns-in-Ok-clause-unwritten
 returns-in-Ok-clause-unwritten g c = λ nothing.
-    left_on g.D.Disk.view c.args.disk (disk_of c.in-Ok.service) c.receive_by.result.disk (c.in-Ok.ensures.unchanged, c.in-Ok.ensures.any_moment) (c.receive_by.ensures.unwritten nothing)
+    left_on g.D.Disk.view c.args.disk (disk_of c.in-Ok.service) c.receive_by.result.disk
+    (c.in-Ok.ensures.unchanged, c.in-Ok.ensures.any_moment) (c.receive_by.ensures.unwritten nothing)
 
 pub returns-in-Err-clause-unwritten : goal.returns-in-Err-clause-unwritten
 returns-in-Err-clause-unwritten g c = λ nothing. (c.in-Err.ensures.unchanged, c.in-Err.ensures.any_moment_err)
@@ -63,12 +71,17 @@ returns-in-Ok-clause-writes g c =
     let s = c.in-Ok.service in
     let Next = StaysOr (ArchivesTo sha256 c.args.message.now c.args.time) in
     let Answers = IsReceiptOfRecord sha256 c.args.message.now c.args.time in
-    adds_on IsService d.view Next Answers c.args.disk (disk_of s) c.receive_by.result.disk c.receive_by.result.outcome c.in-Ok.ensures.any_moment (λ w reads.
+    adds_on IsService d.view Next Answers c.args.disk (disk_of s) c.receive_by.result.disk c.receive_by.result.outcome
+    c.in-Ok.ensures.any_moment (λ w reads.
     let own = c.in-Ok.ensures.over reads.image reads.told in
-    subst (λ (v : Written RootRecord). AddsFrom IsService d.view (disk_of s) c.receive_by.result.disk Next Answers v c.receive_by.result.outcome)
-    (written_once root_kind once reads.image (written_record (record_of s) own.0) w own.2 reads.stands) (c.receive_by.ensures.writes own.0 own.3))
+    subst (λ (v : Written RootRecord). AddsFrom IsService d.view (disk_of s) c.receive_by.result.disk Next Answers v
+    c.receive_by.result.outcome)
+    (written_once root_kind once reads.image (written_record (record_of s) own.0) w own.2 reads.stands)
+    (c.receive_by.ensures.writes own.0 own.3))
 
 pub returns-in-Err-clause-writes : goal.returns-in-Err-clause-writes
 returns-in-Err-clause-writes g c =
-    unopened_adds IsService g.D.Disk.view (StaysOr (ArchivesTo sha256 c.args.message.now c.args.time)) (IsReceiptOfRecord sha256 c.args.message.now c.args.time) (λ w. (w, inl refl)) c.args.disk c.in-Err.disk
-    c.in-Err.fault c.fault_of_store.result c.fault_of_store.ensures c.in-Err.ensures.answers c.in-Err.ensures.unchanged c.in-Err.ensures.any_moment_err
+    unopened_adds IsService g.D.Disk.view (StaysOr (ArchivesTo sha256 c.args.message.now c.args.time))
+    (IsReceiptOfRecord sha256 c.args.message.now c.args.time) (λ w. (w, inl refl)) c.args.disk c.in-Err.disk
+    c.in-Err.fault c.fault_of_store.result c.fault_of_store.ensures c.in-Err.ensures.answers c.in-Err.ensures.unchanged
+    c.in-Err.ensures.any_moment_err

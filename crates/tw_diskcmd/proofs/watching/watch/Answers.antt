@@ -15,7 +15,8 @@ use Rattle.tw_diskcmd.proofs.FollowerAtRest.{stands_taken}
 use Rattle.tw_diskcmd.proofs.watching.watch.Goals as goal
 
 pub returns-in-Ok-clause-comes : goal.returns-in-Ok-clause-comes
-returns-in-Ok-clause-comes g c = record { free = c.in-Ok.ensures.exact; first = c.head-first.ensures.value ∙ c.in-Ok.ensures.head.0 }
+returns-in-Ok-clause-comes g c =
+    record { free = c.in-Ok.ensures.exact; first = c.head-first.ensures.value ∙ c.in-Ok.ensures.head.0 }
 
 pub returns-in-Ok-clause-leaves : goal.returns-in-Ok-clause-leaves
 returns-in-Ok-clause-leaves g c =
@@ -24,16 +25,19 @@ returns-in-Ok-clause-leaves g c =
     let disk = c.args.disk in
     let first = no_heads name in
     let rests = λ (image : Image) (told_image : (d.view disk).content ≡ Some image).
-    own_rest IsOf d.view c.close.result first (c.close.ensures.stands first (c.in-Ok.ensures.follows image told_image)) in
+    own_rest IsOf d.view c.close.result first (c.close.ensures.stands first (c.in-Ok.ensures.follows image told_image))
+    in
     let begins : MayBegin IsOf d.view first disk c.close.result = λ image told_image. (
-      subst (λ now. LeavesOnly (d.view disk) (d.view now) (IsOldOrBegun IsOf d.view first disk)) (sym c.close.ensures.disk)
+      subst (λ now. LeavesOnly (d.view disk) (d.view now) (IsOldOrBegun IsOf d.view first disk))
+          (sym c.close.ensures.disk)
           (c.in-Ok.ensures.any_moment image told_image),
       rests_begun IsOf d.view g.met.D.Disk.as_it_reads disk c.close.result first (rests image told_image),
     ) in (
       (begins, rests),
       (
         begins,
-        free_keeps (root_kind sha256) IsOf d.view g.met.D.Disk.as_it_reads stands_taken disk c.close.result c.in-Ok.ensures.exact,
+        free_keeps (root_kind sha256) IsOf d.view g.met.D.Disk.as_it_reads stands_taken disk c.close.result
+            c.in-Ok.ensures.exact,
         λ image told_image taken. absurd (c.in-Ok.ensures.exact image told_image taken),
       ),
     )
@@ -41,8 +45,10 @@ returns-in-Ok-clause-leaves g c =
 pub returns-in-Err-clause-comes : goal.returns-in-Err-clause-comes
 returns-in-Err-clause-comes g c =
     let d = g.D.Disk in
-    unmade (found_disk (d.view c.args.disk).content (d.view c.args.disk).faults (d.view c.in-Err.disk).faults) (first_thread sha256 c.args.name) c.in-Err.fault
-    c.fault_of_store.result c.fault_of_store.ensures c.in-Err.ensures.answers c.in-Err.ensures.taken c.in-Err.ensures.fault
+    unmade (found_disk (d.view c.args.disk).content (d.view c.args.disk).faults (d.view c.in-Err.disk).faults)
+    (first_thread sha256 c.args.name) c.in-Err.fault
+    c.fault_of_store.result c.fault_of_store.ensures c.in-Err.ensures.answers c.in-Err.ensures.taken
+    c.in-Err.ensures.fault
 
 pub returns-in-Err-clause-leaves : goal.returns-in-Err-clause-leaves
 returns-in-Err-clause-leaves g c =
@@ -50,6 +56,8 @@ returns-in-Err-clause-leaves g c =
     unmade_leaves (root_kind sha256) IsOf d.view c.args.disk c.in-Err.disk Thread (no_heads c.args.name) c.in-Err.fault
     c.fault_of_store.result c.fault_of_store.ensures c.in-Err.ensures.answers c.in-Err.ensures.unchanged (
       λ image told_image. (c.in-Err.ensures.any_moment_err image told_image, c.in-Err.ensures.told image told_image),
-      held_keeps (root_kind sha256) IsOf d.view g.met.D.Disk.as_it_reads stands_taken c.args.disk c.in-Err.disk c.in-Err.ensures.held,
-      λ image told_image taken. let held = c.in-Err.ensures.held image told_image taken in (held.0 ∙ sym told_image, held.1),
+      held_keeps (root_kind sha256) IsOf d.view g.met.D.Disk.as_it_reads stands_taken c.args.disk c.in-Err.disk
+          c.in-Err.ensures.held,
+      λ image told_image taken. let held = c.in-Err.ensures.held image told_image taken in
+          (held.0 ∙ sym told_image, held.1),
     )

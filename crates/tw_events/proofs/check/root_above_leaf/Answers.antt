@@ -11,32 +11,40 @@ loop-label-preserved g c =
     let dig = g.T.Transcript.dig in
     let first = c.loop-label.invariant.first in
     let text = node_text_beside c.in-Some.side c.label-item.result c.loop-label.reached in
-    let root = root_above-step dig c.loop-label.sides.items c.pop.new.self.items c.in-Some.side c.args.path.now c.loop-label.label-index c.label-item.result c.loop-label.reached
+    let root = root_above-step dig c.loop-label.sides.items c.pop.new.self.items c.in-Some.side c.args.path.now
+    c.loop-label.label-index c.label-item.result c.loop-label.reached
     c.in-Some.ensures.items c.loop-label-test.true c.label-item.is in
-    let step = nodes-step dig c.loop-label.sides.items c.pop.new.self.items c.in-Some.side c.args.path.now c.loop-label.label-index c.label-item.result c.loop-label.reached
+    let step = nodes-step dig c.loop-label.sides.items c.pop.new.self.items c.in-Some.side c.args.path.now
+    c.loop-label.label-index c.label-item.result c.loop-label.reached
     c.in-Some.ensures.items c.loop-label-test.true c.label-item.is in
     record {
       left = omega (arith, c.in-Some.ensures.len);
-      same = ap (root_above dig (reverse c.pop.new.self.items) (drop (c.loop-label.label-index + 1) c.args.path.now)) c.node_above-above.ensures.label
+      same = ap (root_above dig (reverse c.pop.new.self.items) (drop (c.loop-label.label-index + 1) c.args.path.now))
+          c.node_above-above.ensures.label
           ∙ sym root ∙ c.loop-label.invariant.same;
       first = first ++ text ∷ [];
       took = hands-then g.T.Transcript.took _ _ _ _ _ c.loop-label.invariant.took c.node_above-above.ensures.took;
       rest =
-          append_assoc first (text ∷ []) (node_texts_above dig (reverse c.pop.new.self.items) (drop (c.loop-label.label-index + 1) c.args.path.now) c.node_above-above.result)
-          ∙ ap (λ r. first ++ text ∷ node_texts_above dig (reverse c.pop.new.self.items) (drop (c.loop-label.label-index + 1) c.args.path.now) r) c.node_above-above.ensures.label
+          append_assoc first (text ∷ []) (node_texts_above dig (reverse c.pop.new.self.items)
+          (drop (c.loop-label.label-index + 1) c.args.path.now) c.node_above-above.result)
+          ∙ ap (λ r. first ++ text ∷ node_texts_above dig (reverse c.pop.new.self.items)
+          (drop (c.loop-label.label-index + 1) c.args.path.now) r) c.node_above-above.ensures.label
           ∙ ap (λ ts. first ++ ts) (sym step)
           ∙ c.loop-label.invariant.rest;
     }
 
 pub returns-clause-root : goal.returns-clause-root
 returns-clause-root g c =
-    sym (root_above-end g.T.Transcript.dig (reverse c.loop-label.sides.items) c.args.path.now c.loop-label.label-index c.loop-label.reached (omega arith))
+    sym (root_above-end g.T.Transcript.dig (reverse c.loop-label.sides.items) c.args.path.now c.loop-label.label-index
+    c.loop-label.reached (omega arith))
     ∙ c.loop-label.invariant.same
 
 pub returns-clause-took : goal.returns-clause-took
 returns-clause-took g c =
     hands-same g.T.Transcript.took _ _ _ _
     (sym (append-nil c.loop-label.invariant.first)
-    ∙ ap (λ ts. c.loop-label.invariant.first ++ ts) (sym (nodes-end g.T.Transcript.dig (reverse c.loop-label.sides.items) c.args.path.now c.loop-label.label-index c.loop-label.reached (omega arith)))
+    ∙ ap (λ ts. c.loop-label.invariant.first ++ ts)
+    (sym (nodes-end g.T.Transcript.dig (reverse c.loop-label.sides.items) c.args.path.now c.loop-label.label-index
+    c.loop-label.reached (omega arith)))
     ∙ c.loop-label.invariant.rest)
     c.loop-label.invariant.took

@@ -12,9 +12,13 @@ loop-event-preserved g c =
     let is = c.as_slice.ensures ∙ c.event-item.is in
     record {
       count = omega (arith, c.push.ensures.len, c.loop-event.invariant.count);
-      labels = labels-step g.T.Transcript.dig events c.loop-event.leaves.items c.push.new.self.items i c.event-item.result c.as_slice.result.now c.event_leaf_told-leaf.result
-          c.loop-event-test.true is c.event_leaf_told-leaf.ensures.label c.loop-event.invariant.labels c.push.ensures.items;
-      took = hands-same g.T.Transcript.took _ _ (event_leaf_texts (take i events) ++ event_leaf_text c.as_slice.result.now ∷ []) _
-          (ap (λ e. event_leaf_texts (take i events) ++ event_leaf_text e ∷ []) is ∙ sym (leaf_texts-more events i c.event-item.result c.loop-event-test.true))
+      labels = labels-step g.T.Transcript.dig events c.loop-event.leaves.items c.push.new.self.items i
+          c.event-item.result c.as_slice.result.now c.event_leaf_told-leaf.result
+          c.loop-event-test.true is c.event_leaf_told-leaf.ensures.label c.loop-event.invariant.labels
+          c.push.ensures.items;
+      took = hands-same g.T.Transcript.took _ _ (event_leaf_texts (take i events) ++ event_leaf_text
+          c.as_slice.result.now ∷ []) _
+          (ap (λ e. event_leaf_texts (take i events) ++ event_leaf_text e ∷ []) is
+          ∙ sym (leaf_texts-more events i c.event-item.result c.loop-event-test.true))
           (hands-then g.T.Transcript.took _ _ _ _ _ c.loop-event.invariant.took c.event_leaf_told-leaf.ensures.took);
     }

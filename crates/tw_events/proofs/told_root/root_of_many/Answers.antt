@@ -6,7 +6,8 @@ use Rattle.tw_events.proofs.told_root.root_of_many.Goals as goal
 
 pub root_over_leaves-requires-clause-some : goal.root_over_leaves-requires-clause-some
 root_over_leaves-requires-clause-some g c =
-    let size = length-labels g.T.Transcript.dig c.args.events.now c.as_slice.result.now (c.as_slice.ensures.value ∙ c.leaves_of-leaves.ensures.labels) in omega (arith, size)
+    let size = length-labels g.T.Transcript.dig c.args.events.now c.as_slice.result.now
+    (c.as_slice.ensures.value ∙ c.leaves_of-leaves.ensures.labels) in omega (arith, size)
 
 pub returns-clause-took : goal.returns-clause-took
 returns-clause-took g c =

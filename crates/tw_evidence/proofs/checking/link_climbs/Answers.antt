@@ -8,9 +8,11 @@ returns-in-None-clause-climbs g c = climbed-no g.H.Hasher.dig c.args.evidence.no
 
 pub returns-in-Some-clause-climbs : goal.returns-in-Some-clause-climbs
 returns-in-Some-clause-climbs g c =
-    climbed-yes g.H.Hasher.dig c.args.evidence.now c.is_same_digest.result c.in-Some.top c.in-Some.ensures.answer.0 c.in-Some.ensures.answer.1 c.is_same_digest.ensures
+    climbed-yes g.H.Hasher.dig c.args.evidence.now c.is_same_digest.result c.in-Some.top c.in-Some.ensures.answer.0
+    c.in-Some.ensures.answer.1 c.is_same_digest.ensures
 
 pub returns-in-Some-clause-forked : goal.returns-in-Some-clause-forked
 returns-in-Some-clause-forked g c = λ same conflict.
     forked g.H.Hasher.dig c.args.evidence.now conflict
-    (λ h sound within high. c.in-Some.ensures.binds h sound ((conflicts-is c.args.evidence.now).0 conflict).0.1 within (c.is_same_digest.ensures.0 same ∙ high))
+    (λ h sound within high. c.in-Some.ensures.binds h sound ((conflicts-is c.args.evidence.now).0 conflict).0.1 within
+    (c.is_same_digest.ensures.0 same ∙ high))

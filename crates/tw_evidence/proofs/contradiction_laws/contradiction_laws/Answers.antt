@@ -12,4 +12,5 @@ returns-clause-none g c = λ anchors others first second one other conflict.
 
 pub returns-clause-joined : goal.returns-clause-joined
 returns-clause-joined g c = λ anchors others first second link one other conflict between said also is is_link joined.
-    joined-none g.H.Hasher.dig g.met.H.Hasher.size g.met.H.Hasher.bytes anchors others first second one other conflict said also is link between is_link joined
+    joined-none g.H.Hasher.dig g.met.H.Hasher.size g.met.H.Hasher.bytes anchors others first second one other conflict
+    said also is link between is_link joined

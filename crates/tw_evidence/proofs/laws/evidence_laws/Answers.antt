@@ -1,6 +1,7 @@
 use Rattle.tw_base.proofs.lemmas.format.CodecLaws.{unambiguous}
 use Rattle.tw_evidence.specs.Evidence.{evidence_codec, link_proof_codec, thread_proof_codec}
-use Rattle.tw_evidence.proofs.EvidenceCodec.{evidence-lawful, link-is-proof, link_proof-lawful, proof-is-link, proof-is-thread, thread-is-proof, thread_proof-lawful}
+use Rattle.tw_evidence.proofs.EvidenceCodec.{evidence-lawful, link-is-proof, link_proof-lawful, proof-is-link}
+use Rattle.tw_evidence.proofs.EvidenceCodec.{proof-is-thread, thread-is-proof, thread_proof-lawful}
 use Rattle.tw_evidence.proofs.EvidenceSizes.{evidence-size, link_proof-size, thread_proof-size}
 use Rattle.tw_evidence.proofs.laws.evidence_laws.Goals as goal
 

@@ -7,5 +7,7 @@ use Rattle.tw_evidence.proofs.linking.climbs_to.Goals as goal
 pub returns : goal.returns
 returns g c =
     same_from_decides c.climbs.result
-    (climbs g.H.Hasher.dig c.args.link.now.path.links c.args.link.now.top c.args.link.now.step c.args.link.now.auth (Some c.args.upper.now)) c.climbs.ensures
-    (climbs-is g.H.Hasher.dig c.args.link.now.path.links c.args.link.now.top c.args.link.now.step c.args.link.now.auth (Some c.args.upper.now))
+    (climbs g.H.Hasher.dig c.args.link.now.path.links c.args.link.now.top c.args.link.now.step c.args.link.now.auth
+    (Some c.args.upper.now)) c.climbs.ensures
+    (climbs-is g.H.Hasher.dig c.args.link.now.path.links c.args.link.now.top c.args.link.now.step c.args.link.now.auth
+    (Some c.args.upper.now))

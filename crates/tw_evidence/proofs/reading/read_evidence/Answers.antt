@@ -4,4 +4,5 @@ use Rattle.tw_evidence.proofs.EvidenceCodec.{evidence-lawful}
 use Rattle.tw_evidence.proofs.reading.read_evidence.Goals as goal
 
 pub returns : goal.returns
-returns c = takes-whole evidence_codec evidence-lawful (λ e. e) c.args.bytes.now _ _ _ c.take_evidence-read.ensures c.whole_to.ensures
+returns c = takes-whole evidence_codec evidence-lawful (λ e. e) c.args.bytes.now _ _ _ c.take_evidence-read.ensures
+    c.whole_to.ensures

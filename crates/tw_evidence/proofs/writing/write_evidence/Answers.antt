@@ -4,4 +4,5 @@ use Rattle.tw_evidence.proofs.EvidenceCodec.{evidence-lawful}
 use Rattle.tw_evidence.proofs.writing.write_evidence.Goals as goal
 
 pub returns-clause-spelled : goal.returns-clause-spelled
-returns-clause-spelled c = λ fits. (put-whole evidence_codec evidence-lawful c.args.evidence.now _ _ c.new-bytes.ensures (c.in_ok-put_evidence.ensures, fits)).1
+returns-clause-spelled c = λ fits. (put-whole evidence_codec evidence-lawful c.args.evidence.now _ _ c.new-bytes.ensures
+    (c.in_ok-put_evidence.ensures, fits)).1

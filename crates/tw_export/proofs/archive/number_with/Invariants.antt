@@ -6,5 +6,6 @@ use Rattle.tw_export.proofs.archive.number_with.Given as goal
 abbrev pub invariant-loop-node : goal.invariant-loop-node
 invariant-loop-node l = record {
   here : l.number ≡ l.before + l.node-index;
-  rest : with_pages (numbers_in l.numbers) l.before l.nodes l.page ≡ with_pages (numbers_in l.numbers) l.number (drop l.node-index l.nodes) l.page;
+  rest : with_pages (numbers_in l.numbers) l.before l.nodes l.page ≡ with_pages (numbers_in l.numbers) l.number
+      (drop l.node-index l.nodes) l.page;
 }

@@ -6,7 +6,8 @@ use Rattle.tw_export.proofs.archive.put_pages.Given as goal
 abbrev pub invariant-loop-left : goal.invariant-loop-left
 invariant-loop-left l = record {
   within : l.left ≤ length l.nodes;
-  put : (page : ℕ) → numbers_in l.numbers page ≡ with_pages (numbers_in l.initial.numbers) (l.before + l.left) (drop l.left l.nodes) page;
+  put : (page : ℕ) → numbers_in l.numbers page ≡ with_pages (numbers_in l.initial.numbers) (l.before + l.left)
+      (drop l.left l.nodes) page;
 }
 
 abbrev pub decreases-loop-left : goal.decreases-loop-left

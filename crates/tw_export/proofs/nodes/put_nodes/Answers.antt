@@ -10,6 +10,8 @@ use Rattle.tw_export.proofs.nodes.put_nodes.Goals as goal
 pub returns : goal.returns
 returns c =
     let all =
-    put-all (λ (n : NewNode). node_codec.write (numbered_node (numbers_in c.args.numbers.now) c.args.before n)) (λ n. Unit {0}) c.args.into.now c.loop-node.into c.args.nodes.now c.loop-node.node-index c.loop-node-test.false
+    put-all (λ (n : NewNode). node_codec.write (numbered_node (numbers_in c.args.numbers.now) c.args.before n))
+    (λ n. Unit {0}) c.args.into.now c.loop-node.into c.args.nodes.now c.loop-node.node-index c.loop-node-test.false
     c.loop-node.invariant in
-    all.0 ∙ ap (λ (w : List ℕ). c.args.into.now ++ w) (sym (flat_map-map node_codec.write (numbered_node (numbers_in c.args.numbers.now) c.args.before) c.args.nodes.now))
+    all.0 ∙ ap (λ (w : List ℕ). c.args.into.now ++ w)
+    (sym (flat_map-map node_codec.write (numbered_node (numbers_in c.args.numbers.now) c.args.before) c.args.nodes.now))

@@ -24,7 +24,8 @@ module _ (value : Unit {0} → SoFar) (page : ℕ) (found : Found SoFar) (bad : 
   says (OfPage p) is = bad ∙ ap (λ (q : ℕ). Bad q) (ap number is)
   says _ is = tt
 
-  told : (result : Result (Unit {0}) ListFault) → AnswersAs list_faults (λ (done : Unit {0}). done) result (bad_page page) → AnswersAs list_faults value result found
+  told : (result : Result (Unit {0}) ListFault) → AnswersAs list_faults (λ (done : Unit {0}). done) result
+      (bad_page page) → AnswersAs list_faults value result found
   told (Ok done) is = cc
   told (Err fault) is = says (list_faults fault) is
 
@@ -35,7 +36,8 @@ returns-then-lacks_events g c =
     let r = c.args.recorded.now in
     record {
       reads = record {
-        answer = λ ps is. told (λ _. before) r.page _ (c.if-lacks_events.ensures refl g.H.Hasher.dig ps before) c.tell_bad.result (reads.answer ps is);
+        answer = λ ps is. told (λ _. before) r.page _ (c.if-lacks_events.ensures refl g.H.Hasher.dig ps before)
+            c.tell_bad.result (reads.answer ps is);
         own = reads.own;
         kept = reads.kept;
         faults = reads.faults;
@@ -49,8 +51,10 @@ returns-in-Some g c =
     record {
       reads = record {
         answer = λ ps is.
-            subst (λ (found : Found SoFar). AnswersAs list_faults (λ (done : Unit {0}). so_far_of c.add_received.new.so_far) c.add_received.result found)
-            (sym (step_received g.H.Hasher.dig ps before c.args.recorded.now c.in-Some.thread c.in-Some.is)) (reads.answer ps is);
+            subst (λ (found : Found SoFar). AnswersAs list_faults
+            (λ (done : Unit {0}). so_far_of c.add_received.new.so_far) c.add_received.result found)
+            (sym (step_received g.H.Hasher.dig ps before c.args.recorded.now c.in-Some.thread c.in-Some.is))
+            (reads.answer ps is);
         own = reads.own;
         kept = reads.kept;
         faults = reads.faults;

@@ -17,8 +17,11 @@ returns-in_err-add_step g c =
     let index = c.loop-recorded.recorded-index in
     let r = c.recorded-item.result in
     record {
-      reads = stopped list_faults list_faults g.P.Pages.view g.P.Pages.same g.met.P.Pages.same_on c.args.pages.now c.loop-recorded.pages c.add_step.new.pages (λ _. so_far_of c.add_step.new.so_far)
-          (λ _. so_far_of c.add_step.new.so_far) (λ ps. step_on dig ps so_far r) (λ ps. steps_on dig ps (so_far_of c.args.so_far.now) records) c.in_err-add_step.field-0.0 c.in_err-add_step.field-0.0 c.from_residual.result
+      reads = stopped list_faults list_faults g.P.Pages.view g.P.Pages.same g.met.P.Pages.same_on c.args.pages.now
+          c.loop-recorded.pages c.add_step.new.pages (λ _. so_far_of c.add_step.new.so_far)
+          (λ _. so_far_of c.add_step.new.so_far) (λ ps. step_on dig ps so_far r)
+          (λ ps. steps_on dig ps (so_far_of c.args.so_far.now) records) c.in_err-add_step.field-0.0
+          c.in_err-add_step.field-0.0 c.from_residual.result
           inv.kept inv.later refl c.from_residual.ensures.1
           (λ ps told page bad.
           inv.on ps told ∙ steps-more dig ps so_far records index r c.loop-recorded-test.true c.recorded-item.is
@@ -38,7 +41,9 @@ loop-recorded-preserved g c =
     record {
       on = λ ps told.
           inv.on ps told ∙ steps-more dig ps so_far records index r c.loop-recorded-test.true c.recorded-item.is
-          ∙ is_on (step_on dig ps so_far r) (λ next. steps_on dig ps next (drop (index + 1) records)) (so_far_of c.add_step.new.so_far) (reads.answer ps (inv.kept.list_kept ∙ told));
-      kept = only_reads_on g.P.Pages.view g.P.Pages.same _ _ _ _ _ _ g.met.P.Pages.same_on (λ good. tt) (λ good. refl) inv.kept reads.kept;
+          ∙ is_on (step_on dig ps so_far r) (λ next. steps_on dig ps next (drop (index + 1) records))
+          (so_far_of c.add_step.new.so_far) (reads.answer ps (inv.kept.list_kept ∙ told));
+      kept = only_reads_on g.P.Pages.view g.P.Pages.same _ _ _ _ _ _ g.met.P.Pages.same_on (λ good. tt) (λ good. refl)
+          inv.kept reads.kept;
       later = omega (arith, inv.later, reads.faults.later);
     }

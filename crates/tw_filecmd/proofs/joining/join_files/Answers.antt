@@ -9,15 +9,18 @@ use Rattle.tw_filecmd.proofs.joining.join_files.Goals as goal
 
 pub returns-in-Ok : goal.returns-in-Ok
 returns-in-Ok g c =
-    joins_parts (asked (g.I.Inputs.told c.args.inputs.now) (g.I.Inputs.faults c.args.inputs.now) (g.I.Inputs.faults c.read_parts.new.inputs))
+    joins_parts (asked (g.I.Inputs.told c.args.inputs.now) (g.I.Inputs.faults c.args.inputs.now)
+    (g.I.Inputs.faults c.read_parts.new.inputs))
     c.args.files.now c.in_ok-parts.parts c.in-Ok.proof c.in_ok-write_proof-in-Ok.field-0 c.in_ok-parts.ensures
     (subst (λ parts. Joins parts (Ok c.in-Ok.proof)) c.as_slice.ensures c.in-Ok.ensures)
     c.in_ok-write_proof-in-Ok.ensures.bytes
 
 pub returns-in-Err-Gap : goal.returns-in-Err-Gap
 returns-in-Err-Gap g c =
-    let a = asked (g.I.Inputs.told c.args.inputs.now) (g.I.Inputs.faults c.args.inputs.now) (g.I.Inputs.faults c.read_parts.new.inputs) in
+    let a = asked (g.I.Inputs.told c.args.inputs.now) (g.I.Inputs.faults c.args.inputs.now)
+    (g.I.Inputs.faults c.read_parts.new.inputs) in
     let comes : JoinComes a c.args.files.now (Ok (Unfit c.in-Err-Gap.place)) =
     leaves_gap a c.args.files.now c.in_ok-parts.parts c.in-Err-Gap.place c.in_ok-parts.ensures
-    (subst (λ parts. Joins parts (Err (Gap c.in-Err-Gap.place))) c.as_slice.ensures (rw c.in-Err-Gap.field-0-is at c.in-Err-Gap.ensures)) in
+    (subst (λ parts. Joins parts (Err (Gap c.in-Err-Gap.place))) c.as_slice.ensures
+    (rw c.in-Err-Gap.field-0-is at c.in-Err-Gap.ensures)) in
     rw c.in-Err-Gap.field-0-is comes

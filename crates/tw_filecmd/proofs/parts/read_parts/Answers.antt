@@ -13,10 +13,13 @@ loop-file-preserved g c =
     let same : c.as_str.result.now ≡ file = cc in
     let there : IsThere now file = subst (λ f. IsThere now f) same c.in_ok-bytes.ensures.there in
     let read : IsReadTo now file FILE_READ c.as_slice.result.now =
-    subst (λ f. IsReadTo now f FILE_READ c.as_slice.result.now) same (λ bytes tells. c.as_slice.ensures.value ∙ c.in_ok-bytes.ensures.read bytes tells) in
-    let more : take (c.loop-file.file-index + 1) c.args.files.now ≡ take c.loop-file.file-index c.args.files.now ++ file ∷ [] =
+    subst (λ f. IsReadTo now f FILE_READ c.as_slice.result.now) same (λ bytes tells. c.as_slice.ensures.value
+    ∙ c.in_ok-bytes.ensures.read bytes tells) in
+    let more : take (c.loop-file.file-index + 1) c.args.files.now ≡ take c.loop-file.file-index c.args.files.now ++ file
+    ∷ [] =
     grind (arith, common_steps, take_more) in
-    let next : ArePartsRead now (take c.loop-file.file-index c.args.files.now) c.loop-file.parts.proofs c.loop-file.parts.bad
+    let next : ArePartsRead now (take c.loop-file.file-index c.args.files.now) c.loop-file.parts.proofs
+    c.loop-file.parts.bad
     → ArePartsRead now (take (c.loop-file.file-index + 1) c.args.files.now) c.add.new.self.proofs c.add.new.self.bad =
     λ are. subst (λ fs. ArePartsRead now fs c.add.new.self.proofs c.add.new.self.bad) (sym more)
     (c.in_ok-add.ensures now (take c.loop-file.file-index c.args.files.now) there read are) in
@@ -28,7 +31,9 @@ loop-file-preserved g c =
       );
       later = omega (arith, c.in_ok-bytes.ensures.later, c.loop-file.invariant.later);
       read =
-          subst (λ t. ArePartsRead t (take c.loop-file.file-index c.args.files.now) c.loop-file.parts.proofs c.loop-file.parts.bad
-          → ArePartsRead t (take (c.loop-file.file-index + 1) c.args.files.now) c.add.new.self.proofs c.add.new.self.bad)
+          subst (λ t. ArePartsRead t (take c.loop-file.file-index c.args.files.now) c.loop-file.parts.proofs
+          c.loop-file.parts.bad
+          → ArePartsRead t (take (c.loop-file.file-index + 1) c.args.files.now) c.add.new.self.proofs
+          c.add.new.self.bad)
           c.loop-file.invariant.kept next c.loop-file.invariant.read;
     }

@@ -10,17 +10,20 @@ returns-in-Ok g c =
     let before = g.I.Inputs.faults c.args.inputs.now in
     let begun = g.I.Inputs.faults c.read_all.new.inputs in
     let after = g.I.Inputs.faults c.judge.new.inputs in
-    judges_file (asked told before after) c.args.proof.now c.args.anchors.now c.as_slice-in-Ok.result.now c.args.strict c.judge.result
+    judges_file (asked told before after) c.args.proof.now c.args.anchors.now c.as_slice-in-Ok.result.now c.args.strict
+    c.judge.result
     (has_anchors told c.args.anchors.now c.as_slice-in-Ok.result.now c.as_slice.result.now c.in_ok-lines.ensures.there
     (λ bytes tells. c.as_slice.ensures.value ∙ c.in_ok-lines.ensures.read bytes tells)
     (c.as_slice-in-Ok.ensures ∙ c.in-Ok.ensures.anchors) c.in-Ok.ensures.good)
-    (judging_since told (g.I.Inputs.told c.read_all.new.inputs) before begun after c.args.proof.now c.as_slice-in-Ok.result.now c.args.strict
+    (judging_since told (g.I.Inputs.told c.read_all.new.inputs) before begun after c.args.proof.now
+    c.as_slice-in-Ok.result.now c.args.strict
     c.judge.result c.in_ok-lines.ensures.kept c.in_ok-lines.ensures.later c.judge.ensures)
 
 pub returns-in-Err-BadLine : goal.returns-in-Err-BadLine
 returns-in-Err-BadLine g c =
     let told = g.I.Inputs.told c.args.inputs.now in
-    refuses_line (asked told (g.I.Inputs.faults c.args.inputs.now) _) c.args.proof.now c.args.anchors.now c.args.strict c.in-Err-BadLine.line
+    refuses_line (asked told (g.I.Inputs.faults c.args.inputs.now) _) c.args.proof.now c.args.anchors.now c.args.strict
+    c.in-Err-BadLine.line
     c.as_slice.result.now c.in_ok-bad_line-in-Err-BadLine.field-0
     (subst (λ t. IsThere t c.args.proof.now) c.in_ok-lines.ensures.kept c.in_ok-feed_file-in-Err-BadLine.ensures.there)
     c.in_ok-lines.ensures.there (λ bytes tells. c.as_slice.ensures.value ∙ c.in_ok-lines.ensures.read bytes tells)

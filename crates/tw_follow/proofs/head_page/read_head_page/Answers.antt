@@ -16,8 +16,10 @@ unfolding head_in
 returns-in_default-clause-answer c =
     let page = c.args.page in
     let bytes = c.args.bytes.now in
-    let none = takes-page head_codec head-lawful (λ p. p) bytes _ _ _ c.take_head-read.ensures.takes c.take_head-read.ensures.memory c.in_default.ensures in
-    ap (λ (f : Found HeadPage). f >>= (λ p. when (nat_lt p.before page) page p)) (page-none page head_codec head-lawful bytes none)
+    let none = takes-page head_codec head-lawful (λ p. p) bytes _ _ _ c.take_head-read.ensures.takes
+    c.take_head-read.ensures.memory c.in_default.ensures in
+    ap (λ (f : Found HeadPage). f >>= (λ p. when (nat_lt p.before page) page p))
+    (page-none page head_codec head-lawful bytes none)
 
 pub returns-then-found-page-clause-answer : goal.returns-then-found-page-clause-answer
 unfolding head_in
@@ -25,8 +27,10 @@ returns-then-found-page-clause-answer c =
     let page = c.args.page in
     let bytes = c.args.bytes.now in
     let p = c.in-Some.found in
-    let found = takes-page head_codec head-lawful (λ p. p) bytes _ _ _ c.take_head-read.ensures.takes c.take_head-read.ensures.memory c.in-Some.ensures in
-    is_on (spelled page 4096 head_codec bytes) (λ p. when (nat_lt p.before page) page p) p (page-is page head_codec head-lawful bytes p found)
+    let found = takes-page head_codec head-lawful (λ p. p) bytes _ _ _ c.take_head-read.ensures.takes
+    c.take_head-read.ensures.memory c.in-Some.ensures in
+    is_on (spelled page 4096 head_codec bytes) (λ p. when (nat_lt p.before page) page p) p
+    (page-is page head_codec head-lawful bytes p found)
     ∙ ap (λ (b : Bool). when b page p) (lt-ltb p.before page c.if-found-page.true)
 
 pub returns-else-found-page-clause-answer : goal.returns-else-found-page-clause-answer
@@ -35,9 +39,12 @@ returns-else-found-page-clause-answer c =
     let page = c.args.page in
     let bytes = c.args.bytes.now in
     let p = c.in-Some.found in
-    let found = takes-page head_codec head-lawful (λ p. p) bytes _ _ _ c.take_head-read.ensures.takes c.take_head-read.ensures.memory c.in-Some.ensures in
-    is_on (spelled page 4096 head_codec bytes) (λ p. when (nat_lt p.before page) page p) p (page-is page head_codec head-lawful bytes p found)
+    let found = takes-page head_codec head-lawful (λ p. p) bytes _ _ _ c.take_head-read.ensures.takes
+    c.take_head-read.ensures.memory c.in-Some.ensures in
+    is_on (spelled page 4096 head_codec bytes) (λ p. when (nat_lt p.before page) page p) p
+    (page-is page head_codec head-lawful bytes p found)
     ∙ ap (λ (b : Bool). when b page p) (le-ltb p.before page c.if-found-page.false)
 
 pub returns-then-found-page-clause-some : goal.returns-then-found-page-clause-some
-returns-then-found-page-clause-some c = head-some c.args.page c.args.bytes.now c.in-Some.found (returns-then-found-page-clause-answer c)
+returns-then-found-page-clause-some c = head-some c.args.page c.args.bytes.now c.in-Some.found
+    (returns-then-found-page-clause-answer c)

@@ -3,7 +3,8 @@ use Rattle.std.specs.Prelude.{Ok}
 use Rattle.tw_follow.proofs.laws.offer_laws.Goals as goal
 
 pub returns-clause-once : goal.returns-clause-once
-returns-clause-once g c = λ head bytes one other j k free also. judges-once g.H.Hasher.dig head bytes one other j k free also
+returns-clause-once g c = λ head bytes one other j k free also. judges-once g.H.Hasher.dig head bytes one other j k free
+    also
 
 pub returns-clause-own : goal.returns-clause-own
 returns-clause-own g c = λ h head bytes sound name has makes.

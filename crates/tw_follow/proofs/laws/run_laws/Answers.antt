@@ -15,11 +15,14 @@ pub returns-clause-rises : goal.returns-clause-rises
 returns-clause-rises g c = λ k last moves moved rising run. runs-rise g.H.Hasher.dig k moves moved last rising run
 
 pub returns-clause-answered : goal.returns-clause-answered
-returns-clause-answered g c = λ k last moves moved bytes thread run there. runs-answered g.H.Hasher.dig bytes thread k moves moved last run there
+returns-clause-answered g c = λ k last moves moved bytes thread run there. runs-answered g.H.Hasher.dig bytes thread k
+    moves moved last run there
 
 pub returns-clause-binds : goal.returns-clause-binds
 returns-clause-binds g c = λ name last moves moved h run sound has.
     let dig = g.H.Hasher.dig in
     and_then dig (history_texts dig h ++ moved_texts dig (first_thread dig name) moved) _ _
-    (runs-bind dig g.met.H.Hasher.size g.met.H.Hasher.bytes h sound (no_heads name) moves moved last run (g.met.H.Hasher.bytes _) has)
-    (λ both. inl (subst (λ (hs : List Thread). Each (HasHead dig h) hs) (sym (runs-grow dig (no_heads name) moves moved last run).1) both.1))
+    (runs-bind dig g.met.H.Hasher.size g.met.H.Hasher.bytes h sound (no_heads name) moves moved last run
+    (g.met.H.Hasher.bytes _) has)
+    (λ both. inl (subst (λ (hs : List Thread). Each (HasHead dig h) hs)
+    (sym (runs-grow dig (no_heads name) moves moved last run).1) both.1))

@@ -6,7 +6,8 @@ use Rattle.tw_follow.proofs.reading.read_below.Given as goal
 
 abbrev pub invariant-loop-page : goal.invariant-loop-page
 invariant-loop-page g l =
-    ReadSoFar g.P.Pages.view g.P.Pages.same l.initial.pages l.pages (λ ps. heads_below ps l.last l.head) (λ ps. heads_down l.page ps l.head.from l.page l.above (reverse l.heads))
+    ReadSoFar g.P.Pages.view g.P.Pages.same l.initial.pages l.pages (λ ps. heads_below ps l.last l.head)
+    (λ ps. heads_down l.page ps l.head.from l.page l.above (reverse l.heads))
     × LedBy l.head l.above (reverse l.heads)
 
 abbrev pub decreases-loop-page : goal.decreases-loop-page

@@ -6,8 +6,12 @@ use Rattle.tw_generate.proofs.claiming.claim.Goals as goal
 
 pub returns : goal.returns
 returns g c = λ t plays beta gamma.
-    if-ok c.precedence.result (λ bytes made. (made.0, second-case (nat_lt c.args.rounds 50) _ _ (le-ltb c.args.rounds 50 (omega arith)) made.1)) (c.precedence.ensures t plays beta gamma)
+    if-ok c.precedence.result
+    (λ bytes made. (made.0, second-case (nat_lt c.args.rounds 50) _ _ (le-ltb c.args.rounds 50 (omega arith)) made.1))
+    (c.precedence.ensures t plays beta gamma)
 
 pub returns-then-rounds-lt-ROUNDS_BETWEEN : goal.returns-then-rounds-lt-ROUNDS_BETWEEN
 returns-then-rounds-lt-ROUNDS_BETWEEN g c = λ t plays beta gamma.
-    if-ok c.existence.result (λ bytes made. (made.0, first-case (nat_lt c.args.rounds 50) _ _ (lt-ltb c.args.rounds 50 (omega arith)) made.1)) (c.existence.ensures t plays)
+    if-ok c.existence.result
+    (λ bytes made. (made.0, first-case (nat_lt c.args.rounds 50) _ _ (lt-ltb c.args.rounds 50 (omega arith)) made.1))
+    (c.existence.ensures t plays)

@@ -12,11 +12,15 @@ returns g c = λ t plays beta gamma.
       parts.0,
       record {
         of_alpha = c.in_ok-of_alpha.of_alpha;
-        is_of_alpha = ap (λ n. first_from n 1 (received_by t.beta)) (sym (c.name-alpha_name.ensures.served t.alpha plays.0.0))
-            ∙ ap (λ (h : History). first_from c.name-alpha_name.result 1 (received_by h)) (sym beta) ∙ c.in_ok-of_alpha.ensures;
+        is_of_alpha = ap (λ n. first_from n 1 (received_by t.beta))
+            (sym (c.name-alpha_name.ensures.served t.alpha plays.0.0))
+            ∙ ap (λ (h : History). first_from c.name-alpha_name.result 1 (received_by h)) (sym beta)
+            ∙ c.in_ok-of_alpha.ensures;
         of_beta = c.in_ok-of_beta.of_beta;
-        is_of_beta = ap (λ n. first_from n c.in_ok-of_alpha.of_alpha.archived (received_by t.gamma)) (sym (c.name-beta_name.ensures.served t.beta plays.1.0))
-            ∙ ap (λ (h : History). first_from c.name-beta_name.result c.in_ok-of_alpha.of_alpha.archived (received_by h)) (sym gamma) ∙ c.in_ok-of_beta.ensures;
+        is_of_beta = ap (λ n. first_from n c.in_ok-of_alpha.of_alpha.archived (received_by t.gamma))
+            (sym (c.name-beta_name.ensures.served t.beta plays.1.0))
+            ∙ ap (λ (h : History). first_from c.name-beta_name.result c.in_ok-of_alpha.of_alpha.archived
+            (received_by h)) (sym gamma) ∙ c.in_ok-of_beta.ensures;
         parts = c.in_ok-parts.parts;
         are_parts = parts.1;
         joined = joined;

@@ -17,7 +17,10 @@ returns c =
       told = c.in_ok-summary.summary;
       is_told = told.1;
       text_is = c.in_ok-text.ensures;
-      held_alpha = held sha256 mem_disk_view c.summarize.new.services.alpha _ end.alpha told.0.0.0 (c.close.ensures.stands end.alpha told.0.0.0);
-      held_beta = held sha256 mem_disk_view c.summarize.new.services.beta _ end.beta told.0.1.0 (c.close-2.ensures.stands end.beta told.0.1.0);
-      held_gamma = held sha256 mem_disk_view c.summarize.new.services.gamma _ end.gamma told.0.2.0 (c.close-3.ensures.stands end.gamma told.0.2.0);
+      held_alpha = held sha256 mem_disk_view c.summarize.new.services.alpha _ end.alpha told.0.0.0
+          (c.close.ensures.stands end.alpha told.0.0.0);
+      held_beta = held sha256 mem_disk_view c.summarize.new.services.beta _ end.beta told.0.1.0
+          (c.close-2.ensures.stands end.beta told.0.1.0);
+      held_gamma = held sha256 mem_disk_view c.summarize.new.services.gamma _ end.gamma told.0.2.0
+          (c.close-3.ensures.stands end.gamma told.0.2.0);
     }

@@ -21,7 +21,8 @@ returns g c = λ t plays.
     let mapped = c.in_ok-bounds.ensures t claimed.0 heads_are in
     let judged = c.in_ok-hops.ensures in
     let stands = c.in_ok-stands.ensures in
-    let histories : c.in_ok-histories.histories ≡ trio_family t = c.in_ok-histories.ensures ∙ list-same _ _ _ _ _ _ alpha.1 beta.1 gamma.1 in (
+    let histories : c.in_ok-histories.histories ≡ trio_family t = c.in_ok-histories.ensures ∙ list-same _ _ _ _ _ _
+    alpha.1 beta.1 gamma.1 in (
       mapped.0,
       record {
         proof = proof;
@@ -32,14 +33,18 @@ returns g c = λ t plays.
         map = mapped.1;
         finding = stands.0;
         audited = subst (λ (hs : List Thread). IsAudit dig (trio_family t) hs proof (Ok stands.0)) heads_are
-            (subst (λ (fam : List History). IsAudit dig fam c.in_ok-heads.heads proof (Ok stands.0)) histories stands.1);
+            (subst (λ (fam : List History). IsAudit dig fam c.in_ok-heads.heads proof (Ok stands.0)) histories
+            stands.1);
         stands = stands.2;
         alpha = c.steps.ensures.served t.alpha mapped.0.0.0;
         beta = c.steps-2.ensures.served t.beta mapped.0.1.0;
         gamma = c.steps-3.ensures.served t.gamma mapped.0.2.0;
         threads =
-            ap (λ n. n + c.count_received-2.result + c.count_received-3.result) (c.count_received.ensures.count ∙ ap (λ (h : History). length (received_by h)) alpha.1)
-            ∙ ap (λ n. length (received_by t.alpha) + n + c.count_received-3.result) (c.count_received-2.ensures.count ∙ ap (λ (h : History). length (received_by h)) beta.1)
-            ∙ ap (λ n. length (received_by t.alpha) + length (received_by t.beta) + n) (c.count_received-3.ensures.count ∙ ap (λ (h : History). length (received_by h)) gamma.1);
+            ap (λ n. n + c.count_received-2.result + c.count_received-3.result) (c.count_received.ensures.count
+            ∙ ap (λ (h : History). length (received_by h)) alpha.1)
+            ∙ ap (λ n. length (received_by t.alpha) + n + c.count_received-3.result) (c.count_received-2.ensures.count
+            ∙ ap (λ (h : History). length (received_by h)) beta.1)
+            ∙ ap (λ n. length (received_by t.alpha) + length (received_by t.beta) + n) (c.count_received-3.ensures.count
+            ∙ ap (λ (h : History). length (received_by h)) gamma.1);
       },
     )

@@ -10,7 +10,9 @@ returns-in-Yes g c = record {
   low_file = c.in-Ok.low;
   low_spelled = subst (λ (bytes : List ℕ). Spells low_layout bytes c.in-Ok.low) c.as_slice.ensures c.in-Ok.ensures.read;
   high_file = c.in-Ok-read_high.high;
-  high_spelled = subst (λ (bytes : List ℕ). Spells high_layout bytes c.in-Ok-read_high.high) c.as_slice-2.ensures c.in-Ok-read_high.ensures.read;
+  high_spelled = subst (λ (bytes : List ℕ). Spells high_layout bytes c.in-Ok-read_high.high) c.as_slice-2.ensures
+      c.in-Ok-read_high.ensures.read;
   upto = c.in-Yes.upto;
-  is_accepted = ap (λ (anchors : List Thread). map_verdict g.H.Hasher.dig anchors c.in-Ok.low c.in-Ok-read_high.high) (sym c.as_slice-3.ensures) ∙ sym c.in-Yes.ensures.verdict;
+  is_accepted = ap (λ (anchors : List Thread). map_verdict g.H.Hasher.dig anchors c.in-Ok.low c.in-Ok-read_high.high)
+      (sym c.as_slice-3.ensures) ∙ sym c.in-Yes.ensures.verdict;
 }

@@ -20,9 +20,12 @@ returns g c = λ t plays heads.
       (low.0, plays.1, high.0),
       record {
         low_bytes = c.in_ok-low.low;
-        low_made = subst (λ (q : Question). IsQuestionAnswered dig t.alpha q c.in_ok-low.low) (λ j. ask.Low (step j) (gamma j) (Some (step j))) low.1;
+        low_made = subst (λ (q : Question). IsQuestionAnswered dig t.alpha q c.in_ok-low.low)
+            (λ j. ask.Low (step j) (gamma j) (Some (step j))) low.1;
         high_bytes = c.in_ok-high.high;
-        high_made = subst (λ (q : Question). IsQuestionAnswered dig t.gamma q c.in_ok-high.high) (λ j. ask.High (step j) (alpha j) (Some (top j))) high.1;
-        files = subst (λ (anchors : List Thread). IsFileMap dig anchors c.in_ok-low.low c.in_ok-high.high bounds.low bounds.high) heads files;
+        high_made = subst (λ (q : Question). IsQuestionAnswered dig t.gamma q c.in_ok-high.high)
+            (λ j. ask.High (step j) (alpha j) (Some (top j))) high.1;
+        files = subst (λ (anchors : List Thread). IsFileMap dig anchors c.in_ok-low.low c.in_ok-high.high bounds.low
+            bounds.high) heads files;
       },
     )) c.checked.ensures

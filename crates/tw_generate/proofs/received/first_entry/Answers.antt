@@ -10,13 +10,17 @@ loop-index-init c = ap (first_from c.args.from.now c.args.least) (received-none 
 
 pub returns-in-Some : goal.returns-in-Some
 returns-in-Some c =
-    let here = first-step c.args.history.now c.table_of.result.0.now c.table_of.result.1.now c.table_of.ensures.steps c.args.from.now c.args.least c.loop-index.index c.index-steps-index.result c.entry_of-entry.result
+    let here = first-step c.args.history.now c.table_of.result.0.now c.table_of.result.1.now c.table_of.ensures.steps
+    c.args.from.now c.args.least c.loop-index.index c.index-steps-index.result c.entry_of-entry.result
     (omega arith) c.index-steps-index.is c.entry_of-entry.ensures c.loop-index.invariant in
-    let found : first_from c.args.from.now c.args.least (received c.args.history.now (c.loop-index.index + 1)) ≡ Some c.in-Some.found = cc in
-    sym (first-stays c.args.history.now c.args.from.now c.args.least c.in-Some.found (c.loop-index.index + 1) (length c.args.history.now.steps) (omega arith) found)
+    let found : first_from c.args.from.now c.args.least (received c.args.history.now (c.loop-index.index + 1)) ≡ Some
+    c.in-Some.found = cc in
+    sym (first-stays c.args.history.now c.args.from.now c.args.least c.in-Some.found (c.loop-index.index + 1)
+    (length c.args.history.now.steps) (omega arith) found)
 
 pub loop-index-preserved : goal.loop-index-preserved
 loop-index-preserved c =
-    let here = first-step c.args.history.now c.table_of.result.0.now c.table_of.result.1.now c.table_of.ensures.steps c.args.from.now c.args.least c.loop-index.index c.index-steps-index.result c.entry_of-entry.result
+    let here = first-step c.args.history.now c.table_of.result.0.now c.table_of.result.1.now c.table_of.ensures.steps
+    c.args.from.now c.args.least c.loop-index.index c.index-steps-index.result c.entry_of-entry.result
     (omega arith) c.index-steps-index.is c.entry_of-entry.ensures c.loop-index.invariant in
     cc

@@ -22,20 +22,29 @@ returns g c = λ a b sends takes known.
     let told = c.in_ok-bytes.ensures.asked a sends in
     let made = made-of dig a (ThreadOut since) c.in_ok-bytes.bytes told.1 in
     let m : Message = made.0 in
-    let spelled : Spells message_layout c.as_slice.result.now m = subst (λ (bytes : List ℕ). Spells message_layout bytes m) (sym c.as_slice.ensures) made.1 in
-    let received = received-by dig g.D.Disk.view c.args.to.now c.receive.new.self b takes c.as_slice.result.now m c.receive.result c.in_ok-given.field-0 c.receive.ensures spelled c.in_ok-given.ensures in
+    let spelled : Spells message_layout c.as_slice.result.now m =
+    subst (λ (bytes : List ℕ). Spells message_layout bytes m) (sym c.as_slice.ensures) made.1 in
+    let received = received-by dig g.D.Disk.view c.args.to.now c.receive.new.self b takes c.as_slice.result.now m
+    c.receive.result c.in_ok-given.field-0 c.receive.ensures spelled c.in_ok-given.ensures in
     let next : History = received.0 in
     let before : c.steps-before.result ≡ length b.steps = c.steps-before.ensures.served b takes.0 in
     let after : c.steps.result ≡ length next.steps = c.steps.ensures.served next received.1.0 in
     let at : c.steps-2.result ≡ length a.steps = c.steps-2.ensures.served a told.0.0 in
     let last : c.heard.result ≡ (if nat_lt (length b.steps) (length next.steps) then length a.steps else since) =
     c.heard.ensures ∙ ap (λ n. if nat_lt n c.steps.result then c.steps-2.result else since) before
-    ∙ ap (λ n. if nat_lt (length b.steps) n then c.steps-2.result else since) after ∙ ap (λ n. if nat_lt (length b.steps) (length next.steps) then n else since) at in
+    ∙ ap (λ n. if nat_lt (length b.steps) n then c.steps-2.result else since) after
+    ∙ ap (λ n. if nat_lt (length b.steps) (length next.steps) then n else since) at in
     record {
       sender = told.0;
       heard = next;
-      hears = record { message = m; is_message = subst (λ n. IsMessageOf dig a n m) known made.2; receipt = c.in_ok-given.field-0; receives = received.3 };
+      hears = record {
+        message = m;
+        is_message = subst (λ n. IsMessageOf dig a n m) known made.2;
+        receipt = c.in_ok-given.field-0;
+        receives = received.3;
+      };
       receiver = received.1;
       has_heard = subst (HasHeard a b next) (sym last)
-          (has-heard a b next m.thread _ _ (ap (λ (t : Thread). t.from) made.2.thread) (ap (λ (t : Thread). t.step) made.2.thread) received.2 since known);
+          (has-heard a b next m.thread _ _ (ap (λ (t : Thread). t.from) made.2.thread)
+          (ap (λ (t : Thread). t.step) made.2.thread) received.2 since known);
     }

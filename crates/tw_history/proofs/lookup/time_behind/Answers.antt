@@ -6,8 +6,10 @@ use Rattle.tw_history.proofs.lookup.time_behind.Goals as goal
 
 pub returns-clause-time : goal.returns-clause-time
 returns-clause-time c =
-    sym (time_at-table c.args.history.now c.table_of.result.0.now c.table_of.result.1.now c.table_of.ensures.steps c.args.index c.index-steps-index.result (omega arith))
+    sym (time_at-table c.args.history.now c.table_of.result.0.now c.table_of.result.1.now c.table_of.ensures.steps
+    c.args.index c.index-steps-index.result (omega arith))
 
 pub returns-clause-limit : goal.returns-clause-limit
 returns-clause-limit c =
-    Each-inside (λ (s : Step). IsTimeWithinLimits s.time) c.table_of.result.0.now c.args.index c.index-steps-index.result (omega arith) c.table_of.ensures.table.times
+    Each-inside (λ (s : Step). IsTimeWithinLimits s.time) c.table_of.result.0.now c.args.index
+    c.index-steps-index.result (omega arith) c.table_of.ensures.table.times

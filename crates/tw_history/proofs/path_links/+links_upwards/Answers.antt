@@ -12,10 +12,12 @@ power_of_two-requires g t c =
     omega (arith, small, hop_level-le c.args.from c.args.to, c.next_hop-level.ensures.level)
 
 pub pass_step-requires-clause-event_root : goal.pass_step-requires-clause-event_root
-pass_step-requires-clause-event_root g t c = c.root_of_events-event_root.ensures.root ∙ ap (event_root g.H.Hasher.dig) (sym c.content_behind.ensures.events)
+pass_step-requires-clause-event_root g t c = c.root_of_events-event_root.ensures.root ∙ ap (event_root g.H.Hasher.dig)
+    (sym c.content_behind.ensures.events)
 
 pub link_at-requires : goal.link_at-requires
 link_at-requires g t c =
     let same : c.args.from - 1 + 1 ≡ c.args.from = omega arith in
-    let count = IsOfStep-count g.H.Hasher.dig c.args.history.now c.args.from (c.args.from - 1 + 1) c.in_ok-passed.passed same c.in_ok-passed.ensures.step in
+    let count = IsOfStep-count g.H.Hasher.dig c.args.history.now c.args.from (c.args.from - 1 + 1) c.in_ok-passed.passed
+    same c.in_ok-passed.ensures.step in
     omega (arith, count, hop_level-le c.args.from c.args.to, c.next_hop-level.ensures.level)

@@ -16,27 +16,37 @@ pub returns-in_err-take_step-clause-takes : goal.returns-in_err-take_step-clause
 returns-in_err-take_step-clause-takes c =
     let p = err_from_is_err_and c.from_residual-in_err-take_step.result c.from_residual-in_err-take_step.ensures.1 in
     let xs = steps_of_table c.loop-i.steps c.loop-i.nodes in
-    let t = one_left step_codec c.args.bytes.now c.args.at.now c.args.count c.loop-i._i c.loop-i.at xs (omega (arith, c.loop-i-test.true)) c.loop-i.invariant.taken in
+    let t = one_left step_codec c.args.bytes.now c.args.at.now c.args.count c.loop-i._i c.loop-i.at xs
+    (omega (arith, c.loop-i-test.true)) c.loop-i.invariant.taken in
     rw (p.1, p.2)
-    (many-fails step_codec step-lawful _ (λ (s : Step). step_of s (added_behind c.loop-i.nodes c.take_step.new.nodes)) (λ (t : Table). steps_of_table t.steps t.nodes) c.args.bytes.now c.args.at.now c.loop-i.at c.take_step.new.at c.take_step.new.at c.args.count _ xs
+    (many-fails step_codec step-lawful _ (λ (s : Step). step_of s (added_behind c.loop-i.nodes c.take_step.new.nodes))
+    (λ (t : Table). steps_of_table t.steps t.nodes) c.args.bytes.now c.args.at.now c.loop-i.at c.take_step.new.at
+    c.take_step.new.at c.args.count _ xs
     t c.in_err-take_step.ensures.takes)
 
 pub loop-i-preserved : goal.loop-i-preserved
 loop-i-preserved c =
     let xs = steps_of_table c.loop-i.steps c.loop-i.nodes in
-    let t = one_left step_codec c.args.bytes.now c.args.at.now c.args.count c.loop-i._i c.loop-i.at xs (omega (arith, c.loop-i-test.true)) c.loop-i.invariant.taken in
+    let t = one_left step_codec c.args.bytes.now c.args.at.now c.args.count c.loop-i._i c.loop-i.at xs
+    (omega (arith, c.loop-i-test.true)) c.loop-i.invariant.taken in
     let s = c.in_ok-take_step.field-0 in
     let read = c.in_ok-take_step.ensures in
     let pushed = c.in_ok-push.ensures.ok in
-    let further = steps_further c.loop-i.steps c.push.new.self c.loop-i.nodes c.take_step.new.nodes s c.loop-i.invariant.counted pushed read.kept read.count in
-    let P : List StepMeant → Type 0 = λ ys. ManyTaken step_codec c.args.bytes.now c.args.at.now c.args.count (c.args.count - (c.loop-i._i + 1)) ys c.take_step.new.at in
+    let further = steps_further c.loop-i.steps c.push.new.self c.loop-i.nodes c.take_step.new.nodes s
+    c.loop-i.invariant.counted pushed read.kept read.count in
+    let P : List StepMeant → Type 0 = λ ys. ManyTaken step_codec c.args.bytes.now c.args.at.now c.args.count
+    (c.args.count - (c.loop-i._i + 1)) ys c.take_step.new.at in
     record {
       within = omega (arith, read.takes.2);
       taken = subst P (sym further.taken)
-          (many-more step_codec step-lawful c.args.bytes.now c.args.at.now c.loop-i.at c.args.count _ xs c.take_step.new.at (step_of s (added_behind c.loop-i.nodes c.take_step.new.nodes)) t read.takes.0 read.takes.1);
+          (many-more step_codec step-lawful c.args.bytes.now c.args.at.now c.loop-i.at c.args.count _ xs
+          c.take_step.new.at (step_of s (added_behind c.loop-i.nodes c.take_step.new.nodes)) t read.takes.0
+          read.takes.1);
       counted = further.counted;
-      contents = each_further (λ s. IsInRange s.content) c.loop-i.steps c.push.new.self s pushed c.loop-i.invariant.contents read.content;
-      times = each_further (λ s. IsTimeWithinLimits s.time) c.loop-i.steps c.push.new.self s pushed c.loop-i.invariant.times read.time;
+      contents = each_further (λ s. IsInRange s.content) c.loop-i.steps c.push.new.self s pushed
+          c.loop-i.invariant.contents read.content;
+      times = each_further (λ s. IsTimeWithinLimits s.time) c.loop-i.steps c.push.new.self s pushed
+          c.loop-i.invariant.times read.time;
       entries = read.entries;
     }
 
@@ -60,10 +70,12 @@ returns c =
 
 pub loop-i-init : goal.loop-i-init
 loop-i-init c =
-    let P : ℕ → Type 0 = λ left. ManyTaken step_codec c.args.bytes.now c.args.at.now c.args.count left [] c.args.at.now in
+    let P : ℕ → Type 0 = λ left. ManyTaken step_codec c.args.bytes.now c.args.at.now c.args.count left []
+    c.args.at.now in
     rw (c.in_ok-steps.ensures, c.new-nodes.ensures) record {
       within = c.requires.within;
-      taken = subst P (let e : c.args.count ≡ c.args.count - 0 = omega arith in e) (many-begins step_codec c.args.bytes.now c.args.at.now c.args.count);
+      taken = subst P (let e : c.args.count ≡ c.args.count - 0 = omega arith in e)
+          (many-begins step_codec c.args.bytes.now c.args.at.now c.args.count);
       counted = refl;
       contents = tt;
       times = tt;

@@ -7,5 +7,6 @@ returns-clause-accepted g c =
     let made = c.in_ok-bytes.ensures in (
       made.0,
       made.1,
-      accepted-made g.H.Hasher.dig c.args.history.now c.args.step c.args.index (length c.args.history.now.steps) made.0 made.2 c.in_ok-events.ensures.step.1,
+      accepted-made g.H.Hasher.dig c.args.history.now c.args.step c.args.index (length c.args.history.now.steps) made.0
+          made.2 c.in_ok-events.ensures.step.1,
     )

@@ -14,11 +14,16 @@ pub returns : goal.returns
 returns g c =
     let proof : ExistenceProof = c.in_ok-proof.proof in
     let is = c.in_ok-proof.ensures.existence in
-    let limits : IsExistenceInRange proof = in_range-few g.H.Hasher.dig c.args.history.now c.args.step c.args.index (length c.args.history.now.steps) proof is
-    c.requires.inside c.in_ok-proof.ensures.few (subst (λ events. length events ≤ MOST_EVENTS) c.requires.events c.requires.few)
-    (subst (Each (λ event. length event ≤ MOST_EVENT_BYTES)) c.requires.events c.requires.small) c.in_ok-proof.ensures.time in
-    let shaped : IsShaped proof = IsShaped-made g.H.Hasher.dig c.args.history.now c.args.step c.args.index (length c.args.history.now.steps) proof is
+    let limits : IsExistenceInRange proof = in_range-few g.H.Hasher.dig c.args.history.now c.args.step c.args.index
+    (length c.args.history.now.steps) proof is
+    c.requires.inside c.in_ok-proof.ensures.few (subst (λ events. length events ≤ MOST_EVENTS) c.requires.events
+    c.requires.few)
+    (subst (Each (λ event. length event ≤ MOST_EVENT_BYTES)) c.requires.events c.requires.small)
+    c.in_ok-proof.ensures.time in
+    let shaped : IsShaped proof = IsShaped-made g.H.Hasher.dig c.args.history.now c.args.step c.args.index
+    (length c.args.history.now.steps) proof is
     c.requires.inside in
-    IfOk-weaker c.write_existence.result (λ bytes. IsExistenceInRange proof → IsShaped proof → Spells existence_layout bytes proof)
+    IfOk-weaker c.write_existence.result (λ bytes. IsExistenceInRange proof → IsShaped proof → Spells existence_layout
+    bytes proof)
     (MakesExistence g.H.Hasher.dig c.args.history.now c.args.step c.args.index (length c.args.history.now.steps))
     (λ bytes spelled. (proof, spelled limits shaped, is)) c.write_existence.ensures.spelled

@@ -9,4 +9,5 @@ returns c =
     let name = ap length c.as_bytes-name.ensures.value in
     rw (← c.history.view_is)
     (ap (λ n. 28 + n) (c.steps_size.ensures.size ∙ ap (sum_by step_size) c.as_slice.ensures)
-    ∙ sym (history-size (history_of_table c.history.inside) c.history.inside.steps c.history.inside.nodes refl c.history.invariant.counted (omega (arith, name, c.as_bytes-name.ensures.size))))
+    ∙ sym (history-size (history_of_table c.history.inside) c.history.inside.steps c.history.inside.nodes refl
+    c.history.invariant.counted (omega (arith, name, c.as_bytes-name.ensures.size))))

@@ -7,7 +7,9 @@ use Rattle.tw_history.specs.Tables.{step_of}
 use Rattle.tw_base.specs.history.Rules.{KeepsRule, Rule}
 use Rattle.tw_base.specs.history.Rules.Rule.{NodesAreKnown, StepsRise, TimesDontFall, TreesRise}
 use Rattle.tw_history.proofs.Summaries.{is_false}
-use Rattle.tw_history.proofs.RulesJudged.{all_by, another_by, count-received, decided_by, first-told, entry_of, judged_next, known_by, later_by, length-option, length-received, lower_rules, none-broken, refusal, refused, root-within}
+use Rattle.tw_history.proofs.RulesJudged.{all_by, another_by, count-received, decided_by, first-told, entry_of}
+use Rattle.tw_history.proofs.RulesJudged.{judged_next, known_by, later_by, length-option, length-received, lower_rules}
+use Rattle.tw_history.proofs.RulesJudged.{none-broken, refusal, refused, root-within}
 use Rattle.tw_history.proofs.soundness.judge_step.Goals as goal
 
 pub returns-then-not-names_known : goal.returns-then-not-names_known
@@ -19,8 +21,11 @@ returns-then-not-names_known c =
     let s : Step = step_of st fresh in
     let first = c.len-first.ensures ∙ c.args.judged.now.summaries.ok.0 in
     let known = known_by h i st fresh c.requires.there c.len-first.result _ c.requires.judged.summaries first in
-    refusal h i s _ c.unsound.result NodesAreKnown c.unsound.ensures (λ kept. is_false _ c.if-not-names_known.true (c.names_known.ensures.1 (known.1 kept)))
-    (lower_rules h i s 1 (λ l. absurd (omega (arith, l))) (λ l. absurd (omega (arith, l))) (λ l. absurd (omega (arith, l))) (λ l. absurd (omega (arith, l))) (λ l. absurd (omega (arith, l))) (λ l. absurd (omega (arith, l))) (λ l. absurd (omega (arith, l))))
+    refusal h i s _ c.unsound.result NodesAreKnown c.unsound.ensures (λ kept. is_false _ c.if-not-names_known.true
+    (c.names_known.ensures.1 (known.1 kept)))
+    (lower_rules h i s 1 (λ l. absurd (omega (arith, l))) (λ l. absurd (omega (arith, l)))
+    (λ l. absurd (omega (arith, l))) (λ l. absurd (omega (arith, l))) (λ l. absurd (omega (arith, l)))
+    (λ l. absurd (omega (arith, l))) (λ l. absurd (omega (arith, l))))
 
 pub returns-then-not-branch : goal.returns-then-not-branch
 returns-then-not-branch c =
@@ -32,8 +37,11 @@ returns-then-not-branch c =
     let first = c.len-first.ensures ∙ c.args.judged.now.summaries.ok.0 in
     let known = known_by h i st fresh c.requires.there c.len-first.result _ c.requires.judged.summaries first in
     let one = known.0 (c.names_known.ensures.0 c.if-not-names_known.false) in
-    refusal h i s _ c.unsound-then-not-branch.result TreesRise c.unsound-then-not-branch.ensures (c.in_ok-plant.ensures.fallen c.if-not-branch.true)
-    (lower_rules h i s 2 (λ _. one) (λ l. absurd (omega (arith, l))) (λ l. absurd (omega (arith, l))) (λ l. absurd (omega (arith, l))) (λ l. absurd (omega (arith, l))) (λ l. absurd (omega (arith, l))) (λ l. absurd (omega (arith, l))))
+    refusal h i s _ c.unsound-then-not-branch.result TreesRise c.unsound-then-not-branch.ensures
+    (c.in_ok-plant.ensures.fallen c.if-not-branch.true)
+    (lower_rules h i s 2 (λ _. one) (λ l. absurd (omega (arith, l))) (λ l. absurd (omega (arith, l)))
+    (λ l. absurd (omega (arith, l))) (λ l. absurd (omega (arith, l))) (λ l. absurd (omega (arith, l)))
+    (λ l. absurd (omega (arith, l))))
 
 pub overflow_add-threads : goal.overflow_add-threads
 overflow_add-threads c =
@@ -67,13 +75,19 @@ returns-in-Some c =
     let known = known_by h i st fresh c.requires.there c.len-first.result _ c.requires.judged.summaries first in
     let one = known.0 (c.names_known.ensures.0 c.if-not-names_known.false) in
     let risen = c.in_ok-plant.ensures.risen c.if-not-branch.false in
-    let all = all_by h i st fresh c.requires.there _ c.index.result.now c.args.judged.now.threads c.count.result risen.0 one c.index.ensures c.requires.judged.threads
+    let all = all_by h i st fresh c.requires.there _ c.index.result.now c.args.judged.now.threads c.count.result risen.0
+    one c.index.ensures c.requires.judged.threads
     (c.count.ensures ∙ ap (λ o. length (option_to_list o)) c.received_thread-thread.ensures) c.requires.few in
-    let another = another_by h i st fresh c.requires.there c.history.inside.name _ c.is_of_another-another.result c.received_thread-thread.ensures
+    let another = another_by h i st fresh c.requires.there c.history.inside.name _ c.is_of_another-another.result
+    c.received_thread-thread.ensures
     (ap (λ (x : History). x.name) c.history.view_is) c.is_of_another-another.ensures in
-    let later = later_by h i st fresh c.requires.there _ c.is_later-later.result c.received_thread-thread.ensures (c.is_later-later.ensures (received h i) c.requires.judged.greatest) in
-    let told = first-told h i s one risen.1 _ _ _ _ _ (decided_by _ _ all) another later c.events_fit-fit.ensures (c.doesnt_fall-rise.ensures (times h i) c.requires.judged.time) in
-    refused h i s _ c.unsound-in-Some.result c.in-Some.rule c.unsound-in-Some.ensures (subst (λ o. MatchOption o ((rule : Rule) → KeepsRule h i s rule) (IsFirstRule h i s)) (sym c.first_broken.ensures ∙ c.in-Some.is) told)
+    let later = later_by h i st fresh c.requires.there _ c.is_later-later.result c.received_thread-thread.ensures
+    (c.is_later-later.ensures (received h i) c.requires.judged.greatest) in
+    let told = first-told h i s one risen.1 _ _ _ _ _ (decided_by _ _ all) another later c.events_fit-fit.ensures
+    (c.doesnt_fall-rise.ensures (times h i) c.requires.judged.time) in
+    refused h i s _ c.unsound-in-Some.result c.in-Some.rule c.unsound-in-Some.ensures
+    (subst (λ o. MatchOption o ((rule : Rule) → KeepsRule h i s rule) (IsFirstRule h i s))
+    (sym c.first_broken.ensures ∙ c.in-Some.is) told)
 
 pub returns : goal.returns
 returns c =
@@ -86,18 +100,27 @@ returns c =
     let known = known_by h i st fresh c.requires.there c.len-first.result _ c.requires.judged.summaries first in
     let one = known.0 (c.names_known.ensures.0 c.if-not-names_known.false) in
     let risen = c.in_ok-plant.ensures.risen c.if-not-branch.false in
-    let all = all_by h i st fresh c.requires.there _ c.index.result.now c.args.judged.now.threads c.count.result risen.0 one c.index.ensures c.requires.judged.threads
+    let all = all_by h i st fresh c.requires.there _ c.index.result.now c.args.judged.now.threads c.count.result risen.0
+    one c.index.ensures c.requires.judged.threads
     (c.count.ensures ∙ ap (λ o. length (option_to_list o)) c.received_thread-thread.ensures) c.requires.few in
-    let another = another_by h i st fresh c.requires.there c.history.inside.name _ c.is_of_another-another.result c.received_thread-thread.ensures
+    let another = another_by h i st fresh c.requires.there c.history.inside.name _ c.is_of_another-another.result
+    c.received_thread-thread.ensures
     (ap (λ (x : History). x.name) c.history.view_is) c.is_of_another-another.ensures in
-    let later = later_by h i st fresh c.requires.there _ c.is_later-later.result c.received_thread-thread.ensures (c.is_later-later.ensures (received h i) c.requires.judged.greatest) in
-    let told = first-told h i s one risen.1 _ _ _ _ _ (decided_by _ _ all) another later c.events_fit-fit.ensures (c.doesnt_fall-rise.ensures (times h i) c.requires.judged.time) in
+    let later = later_by h i st fresh c.requires.there _ c.is_later-later.result c.received_thread-thread.ensures
+    (c.is_later-later.ensures (received h i) c.requires.judged.greatest) in
+    let told = first-told h i s one risen.1 _ _ _ _ _ (decided_by _ _ all) another later c.events_fit-fit.ensures
+    (c.doesnt_fall-rise.ensures (times h i) c.requires.judged.time) in
     let thread = c.received_thread-thread.ensures in
-    let counted = count-received h i s c.requires.there c.args.judged.now.threads c.count.result c.requires.judged.threads (c.count.ensures ∙ ap (λ o. length (option_to_list o)) thread) in
-    let every = none-broken _ _ c.first_broken.result c.in_default.not-Some (subst (λ o. MatchOption o ((rule : Rule) → KeepsRule h i s rule) (IsFirstRule h i s)) (sym c.first_broken.ensures) told) in
-    let added = c.in_ok-add.ensures (received h i) (suc i) c.requires.judged.greatest ((c.is_later-later.ensures (received h i) c.requires.judged.greatest).0 (later.1 (every StepsRise))) in (
+    let counted = count-received h i s c.requires.there c.args.judged.now.threads c.count.result
+    c.requires.judged.threads (c.count.ensures ∙ ap (λ o. length (option_to_list o)) thread) in
+    let every = none-broken _ _ c.first_broken.result c.in_default.not-Some
+    (subst (λ o. MatchOption o ((rule : Rule) → KeepsRule h i s rule) (IsFirstRule h i s)) (sym c.first_broken.ensures)
+    told) in
+    let added = c.in_ok-add.ensures (received h i) (suc i) c.requires.judged.greatest
+    ((c.is_later-later.ensures (received h i) c.requires.judged.greatest).0 (later.1 (every StepsRise))) in (
       record { rules = every; limits = c.limits_law.ensures; time = c.requires.time },
       judged_next h i s c.args.judged.now _ c.requires.there c.requires.judged risen.1 risen.0 counted
-          (subst (λ o. IsGreatest (received h i ++ option_to_list (entry_of (suc i) o)) (greatest_of c.add.new.self)) thread added)
+          (subst (λ o. IsGreatest (received h i ++ option_to_list (entry_of (suc i) o)) (greatest_of c.add.new.self))
+          thread added)
           (c.greatest_with-judged.ensures (times h i) c.requires.judged.time (every TimesDontFall)),
     )

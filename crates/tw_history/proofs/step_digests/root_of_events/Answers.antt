@@ -8,6 +8,9 @@ use Rattle.tw_history.proofs.step_digests.root_of_events.Goals as goal
 
 pub returns-in-Received : goal.returns-in-Received
 returns-in-Received g c = record {
-  root = c.no_events_told.ensures.label ∙ sym (event_root-none g.T.Transcript.dig) ∙ ap (λ x. event_root g.T.Transcript.dig (passed_events x)) (sym c.in-Received.is);
-  took = hands-same g.T.Transcript.took _ _ _ _ (no_event_texts g.T.Transcript.dig ∙ ap (λ x. event_texts g.T.Transcript.dig (passed_events x)) (sym c.in-Received.is)) c.no_events_told.ensures.took;
+  root = c.no_events_told.ensures.label ∙ sym (event_root-none g.T.Transcript.dig)
+      ∙ ap (λ x. event_root g.T.Transcript.dig (passed_events x)) (sym c.in-Received.is);
+  took = hands-same g.T.Transcript.took _ _ _ _ (no_event_texts g.T.Transcript.dig
+      ∙ ap (λ x. event_texts g.T.Transcript.dig (passed_events x)) (sym c.in-Received.is))
+      c.no_events_told.ensures.took;
 }

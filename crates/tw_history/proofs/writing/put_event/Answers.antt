@@ -3,4 +3,5 @@ use Rattle.tw_base.specs.declared.kinds.limits.TheConstants.{MOST_EVENT_BYTES}
 use Rattle.tw_history.proofs.writing.put_event.Goals as goal
 
 pub returns : goal.returns
-returns c = rw (← c.as_slice.ensures) (c.in_ok-put_sized.ensures 0 MOST_EVENT_BYTES (omega arith) (omega (arith, ap length c.as_slice.ensures, c.requires)))
+returns c = rw (← c.as_slice.ensures) (c.in_ok-put_sized.ensures 0 MOST_EVENT_BYTES (omega arith)
+    (omega (arith, ap length c.as_slice.ensures, c.requires)))

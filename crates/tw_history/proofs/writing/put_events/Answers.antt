@@ -9,11 +9,13 @@ loop-event-init c = put-none event_codec.write event_codec.Fits c.args.into.now 
 
 pub loop-event-preserved : goal.loop-event-preserved
 loop-event-preserved c =
-    put-more event_codec.write event_codec.Fits c.args.into.now c.loop-event.into _ c.args.events.now c.loop-event.event-index c.event-item.result c.loop-event-test.true c.event-item.is
+    put-more event_codec.write event_codec.Fits c.args.into.now c.loop-event.into _ c.args.events.now
+    c.loop-event.event-index c.event-item.result c.loop-event-test.true c.event-item.is
     c.loop-event.invariant c.in_ok-put_event.ensures.0 c.in_ok-put_event.ensures.1
 
 pub returns : goal.returns
 unfolding many
 returns c =
-    let all = put-all event_codec.write event_codec.Fits c.args.into.now c.loop-event.into c.args.events.now c.loop-event.event-index c.loop-event-test.false c.loop-event.invariant in
+    let all = put-all event_codec.write event_codec.Fits c.args.into.now c.loop-event.into c.args.events.now
+    c.loop-event.event-index c.loop-event-test.false c.loop-event.invariant in
     (all.0, (refl, all.1))

@@ -1,5 +1,6 @@
 use Rattle.std.proofs.Common.{List, ◌++◌, ◌∙◌, ap, flat_map, length, subst, sym, arith}
-use Rattle.tw_base.specs.format.Codecs.{behind, by_kind, counted, many, name_codec, number_codec, pair, seen, text_codec}
+use Rattle.tw_base.specs.format.Codecs.{behind, by_kind, counted, many, name_codec, number_codec, pair, seen}
+use Rattle.tw_base.specs.format.Codecs.{text_codec}
 use Rattle.tw_base.specs.format.Fields.{number_bytes}
 use Rattle.tw_base.specs.history.HistoryCodec.{history_codec, history_magic, step_codec}
 use Rattle.tw_base.specs.kinds.Lists.{Each}
@@ -19,11 +20,19 @@ returns c =
     let P : List Step → Type 0 = λ ss. Each step_codec.Fits (steps_of_table ss c.as_slice-2.result.now) in
     let Q : List Node → Type 0 = λ ns. Each step_codec.Fits (steps_of_table c.history.inside.steps ns) in
     rw (← c.history.view_is) (
-      (four_put c.args.into.now history_magic inside.name (number_bytes 8 c.len.result) (flat_map step_codec.write (steps_of_table c.as_slice.result.now c.as_slice-2.result.now)) _ _ _ _
-          c.in_ok-put_text.ensures.0 c.in_ok-put_name.ensures.puts.0 c.in_ok-put_number.ensures.puts.0 c.in_ok-put_steps.ensures.0
-          ∙ ap (λ n. c.args.into.now ++ (history_magic ++ (inside.name ++ (number_bytes 8 n ++ flat_map step_codec.write (steps_of_table c.as_slice.result.now c.as_slice-2.result.now)))))
+      (four_put c.args.into.now history_magic inside.name (number_bytes 8 c.len.result)
+          (flat_map step_codec.write (steps_of_table c.as_slice.result.now c.as_slice-2.result.now)) _ _ _ _
+          c.in_ok-put_text.ensures.0 c.in_ok-put_name.ensures.puts.0 c.in_ok-put_number.ensures.puts.0
+          c.in_ok-put_steps.ensures.0
+          ∙ ap (λ n. c.args.into.now
+          ++ (history_magic ++ (inside.name ++ (number_bytes 8 n ++ flat_map step_codec.write
+          (steps_of_table c.as_slice.result.now c.as_slice-2.result.now)))))
           (c.len.ensures ∙ sym (length-steps_of_table inside.steps inside.nodes))
-          ∙ (λ k. c.args.into.now ++ (history_magic ++ (inside.name ++ (number_bytes 8 (length (steps_of_table inside.steps inside.nodes)) ++ flat_map step_codec.write (steps_of_table (c.as_slice.ensures k) (c.as_slice-2.ensures k))))))),
-      (history-fits (history_of_table c.history.inside) (omega (arith, c.history.invariant.few, length-steps_of_table c.history.inside.steps c.history.inside.nodes))
-          c.in_ok-put_name.ensures.puts.1 (subst Q c.as_slice-2.ensures (subst P c.as_slice.ensures c.in_ok-put_steps.ensures.1.1))),
+          ∙ (λ k. c.args.into.now
+          ++ (history_magic ++ (inside.name ++ (number_bytes 8 (length (steps_of_table inside.steps inside.nodes))
+          ++ flat_map step_codec.write (steps_of_table (c.as_slice.ensures k) (c.as_slice-2.ensures k))))))),
+      (history-fits (history_of_table c.history.inside)
+          (omega (arith, c.history.invariant.few, length-steps_of_table c.history.inside.steps c.history.inside.nodes))
+          c.in_ok-put_name.ensures.puts.1
+          (subst Q c.as_slice-2.ensures (subst P c.as_slice.ensures c.in_ok-put_steps.ensures.1.1))),
     )

@@ -6,5 +6,6 @@ use Rattle.tw_history.proofs.writing.written.Goals as goal
 
 pub returns-clause-spelled : goal.returns-clause-spelled
 returns-clause-spelled c =
-    (put-whole history_codec history-lawful c.args.history.now _ _ (c.from_vec-bytes.ensures ∙ c.in_ok-with_capacity.ensures.items)
+    (put-whole history_codec history-lawful c.args.history.now _ _
+    (c.from_vec-bytes.ensures ∙ c.in_ok-with_capacity.ensures.items)
     c.in_ok-put_history.ensures).1

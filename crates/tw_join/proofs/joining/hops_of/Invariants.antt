@@ -6,7 +6,8 @@ use Rattle.tw_join.specs.TakenParts.{joints_of}
 use Rattle.tw_join.proofs.joining.hops_of.Given as goal
 
 abbrev pub invariant-loop-joint : goal.invariant-loop-joint
-invariant-loop-joint l = hops_before (joints_of l.joints.items) l.before (reverse l.hops) ≡ hops_before (joints_of l.fn.joints.items) None []
+invariant-loop-joint l = hops_before (joints_of l.joints.items) l.before (reverse l.hops) ≡ hops_before
+    (joints_of l.fn.joints.items) None []
 
 abbrev pub decreases-loop-joint : goal.decreases-loop-joint
 decreases-loop-joint l = length l.joints.items

@@ -7,4 +7,5 @@ use Rattle.tw_join.proofs.joining.join.Given as goal
 
 abbrev pub invariant-loop-part : goal.invariant-loop-part
 invariant-loop-part l =
-    (l.place ≡ l.part-index + 1) × (joined_proof (taken_of l.taken) l.place (drop l.part-index l.parts) ≡ joined_proof Nothing 1 l.parts)
+    (l.place ≡ l.part-index + 1) × (joined_proof (taken_of l.taken) l.place (drop l.part-index l.parts) ≡ joined_proof
+    Nothing 1 l.parts)

@@ -17,7 +17,11 @@ pub returns-in-Err-BadLine-read_anchors : goal.returns-in-Err-BadLine-read_ancho
 returns-in-Err-BadLine-read_anchors c =
     inr (record {
       fault = Unreadable (BadLine (codes "second_anchors") c.in-Err-BadLine-read_anchors.line);
-      unjudged = inr (c.in-Ok.ensures.good, (refl, (rw c.in-Err-BadLine-read_anchors.field-0-is at c.in-Err-BadLine-read_anchors.ensures.bad)));
+      unjudged =
+          inr (
+            c.in-Ok.ensures.good,
+            (refl, (rw c.in-Err-BadLine-read_anchors.field-0-is at c.in-Err-BadLine-read_anchors.ensures.bad)),
+          );
       status_is = c.in_ok-tell_line-in-Err-BadLine-read_anchors.ensures.status;
       text_is = c.in_ok-tell_line-in-Err-BadLine-read_anchors.ensures.text;
     })

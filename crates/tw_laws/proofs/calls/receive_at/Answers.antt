@@ -11,4 +11,5 @@ returns-clause-malformed g c = λ none.
 
 pub returns-clause-message : goal.returns-clause-message
 returns-clause-message g c = λ m spells.
-    ⊎_elim (λ none. inl (none.1, none.2)) (λ is. inr (received g.H.Hasher.dig g.D.Disk.view m (Some c.args.time) _ _ _ is)) (c.receive_at.ensures.message m spells)
+    ⊎_elim (λ none. inl (none.1, none.2)) (λ is. inr (received g.H.Hasher.dig g.D.Disk.view m (Some c.args.time) _ _ _
+    is)) (c.receive_at.ensures.message m spells)

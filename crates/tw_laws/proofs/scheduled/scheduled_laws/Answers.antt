@@ -8,6 +8,8 @@ use Rattle.tw_world.specs.Hosts.{claims_none}
 pub returns : goal.returns
 returns g c = record {
   runs = λ number rounds t led.
-      is-run g.H.Hasher.dig _ (λ w is. c.world_laws.ensures.sound claims_none w is) c.history_message_laws.ensures.spelled
-      (schedule number rounds) t led.1 (c.generate_laws.ensures.goes number rounds led.0) (schedule-bytes number rounds);
+      is-run g.H.Hasher.dig _ (λ w is. c.world_laws.ensures.sound claims_none w is)
+      c.history_message_laws.ensures.spelled
+      (schedule number rounds) t led.1 (c.generate_laws.ensures.goes number rounds led.0)
+      (schedule-bytes number rounds);
 }

@@ -12,9 +12,11 @@ pub returns-clause-accepts : goal.returns-clause-accepts
 returns-clause-accepts g c = λ h peer since m time sound other is at kept more room.
     let n = length h.steps in
     accept-archives g.H.Hasher.dig h m time (subst (λ (t : Thread). t.from ≢ h.name) (sym is.thread) other)
-    (c.judgement_laws.ensures.accepts (entries (tree h n)) peer since m (tree-rises h sound n) (archive-ranges h sound n) is at kept more) room
+    (c.judgement_laws.ensures.accepts (entries (tree h n)) peer since m (tree-rises h sound n)
+    (archive-ranges h sound n) is at kept more) room
 
 pub returns-clause-knows : goal.returns-clause-knows
 returns-clause-knows g c = λ h m time e sound other there same.
     let n = length h.steps in
-    known-known g.H.Hasher.dig h m time e.archived other (c.judgement_laws.ensures.knows (entries (tree h n)) m e (tree-rises h sound n) there same)
+    known-known g.H.Hasher.dig h m time e.archived other (c.judgement_laws.ensures.knows (entries (tree h n)) m e
+    (tree-rises h sound n) there same)

@@ -14,7 +14,8 @@ returns-in_err-step-clause-some c =
     c.split_at_first-2.ensures.before ∙ ap (λ rest. before_first is_blank rest) c.split_at_first.ensures.after in (
       λ some. let wrong : false ≡ true = subst (λ o. IsSome o) c.from_residual-in_err-step.ensures some in absurd (cc),
       λ holds. let wrong : false ≡ true = c.in_err-step.ensures.some.1
-          (subst (λ word. is_number_within 1 LAST_STEP word ≡ true) (sym step_is) (anchor-words line holds).1) in absurd (cc),
+          (subst (λ word. is_number_within 1 LAST_STEP word ≡ true) (sym step_is) (anchor-words line holds).1) in
+          absurd (cc),
     )
 
 pub returns-clause-some : goal.returns-clause-some

@@ -4,4 +4,5 @@ use Rattle.tw_msg.proofs.EventsLawful.{events-lawful}
 use Rattle.tw_msg.proofs.events.read_events.Goals as goal
 
 pub returns : goal.returns
-returns c = takes-whole events_codec events-lawful (λ events. events) c.args.bytes.now _ _ _ c.take_file-read.ensures c.whole_to.ensures
+returns c = takes-whole events_codec events-lawful (λ events. events) c.args.bytes.now _ _ _ c.take_file-read.ensures
+    c.whole_to.ensures

@@ -16,10 +16,12 @@ pub returns-clause-leads : goal.returns-clause-leads
 returns-clause-leads g c = λ h since m is. leads-own g.H.Hasher.dig h since m is
 
 pub returns-clause-spelled : goal.returns-clause-spelled
-returns-clause-spelled g c = λ h since m sound is. message-spelled g.H.Hasher.dig h g.met.H.Hasher.size g.met.H.Hasher.bytes sound since m is
+returns-clause-spelled g c = λ h since m sound is. message-spelled g.H.Hasher.dig h g.met.H.Hasher.size
+    g.met.H.Hasher.bytes sound since m is
 
 pub returns-clause-binds : goal.returns-clause-binds
 returns-clause-binds g c = λ h bytes m kept sound s are within same leads.
     let is = message-within m (spelled-fits message_codec message-lawful bytes m s) in
-    climb-binds g.H.Hasher.dig g.met.H.Hasher.size g.met.H.Hasher.bytes h m.link.links m.thread.step m.since kept sound are is.2 leads.shape is.0.since within
+    climb-binds g.H.Hasher.dig g.met.H.Hasher.size g.met.H.Hasher.bytes h m.link.links m.thread.step m.since kept sound
+    are is.2 leads.shape is.0.since within
     (leads.reaches ∙ same)

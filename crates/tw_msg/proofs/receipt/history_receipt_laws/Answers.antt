@@ -8,4 +8,5 @@ pub returns-clause-one : goal.returns-clause-one
 returns-clause-one g c = λ h step r s is also. receipt-one g.H.Hasher.dig h step r s is also
 
 pub returns-clause-spelled : goal.returns-clause-spelled
-returns-clause-spelled g c = λ h step r sound is. receipt-spelled g.H.Hasher.dig h g.met.H.Hasher.size g.met.H.Hasher.bytes sound step r is
+returns-clause-spelled g c = λ h step r sound is. receipt-spelled g.H.Hasher.dig h g.met.H.Hasher.size
+    g.met.H.Hasher.bytes sound step r is

@@ -10,10 +10,13 @@ use Rattle.tw_msg.proofs.receipt.read_receipt.Goals as goal
 
 pub returns-in-Ok-clause-read : goal.returns-in-Ok-clause-read
 returns-in-Ok-clause-read c =
-    takes-whole receipt_codec receipt-lawful (λ r. r) c.args.bytes.now _ _ (Ok c.in-Ok.receipt) c.take_receipt-read.ensures.takes c.in-Ok.ensures
+    takes-whole receipt_codec receipt-lawful (λ r. r) c.args.bytes.now _ _ (Ok c.in-Ok.receipt)
+    c.take_receipt-read.ensures.takes c.in-Ok.ensures
 
 pub returns-in-Err-Malformed-clause-malformed : goal.returns-in-Err-Malformed-clause-malformed
 returns-in-Err-Malformed-clause-malformed c =
     let told = c.in-Err-Malformed in
-    subst (λ (fault : ReadFault). ReadsAs (λ (r : Receipt). r) receipt_layout c.args.bytes.now (Err fault)) told.field-0-is
-    (takes-whole receipt_codec receipt-lawful (λ r. r) c.args.bytes.now _ _ (Err told.field-0) c.take_receipt-read.ensures.takes told.ensures)
+    subst (λ (fault : ReadFault). ReadsAs (λ (r : Receipt). r) receipt_layout c.args.bytes.now (Err fault))
+    told.field-0-is
+    (takes-whole receipt_codec receipt-lawful (λ r. r) c.args.bytes.now _ _ (Err told.field-0)
+    c.take_receipt-read.ensures.takes told.ensures)

@@ -15,4 +15,5 @@ returns-clause-word c = λ r by thread. receipt-lawful.spells r (receipt-fits r 
 
 pub returns-clause-size : goal.returns-clause-size
 returns-clause-size c = λ bytes r s.
-    ap length (written-as receipt_codec receipt-lawful bytes r s) ∙ receipt-size r (spelled-fits receipt_codec receipt-lawful bytes r s)
+    ap length (written-as receipt_codec receipt-lawful bytes r s) ∙ receipt-size r
+    (spelled-fits receipt_codec receipt-lawful bytes r s)

@@ -25,8 +25,10 @@ returns-then-came-gt0-clause-end g c is front bytes told =
 pub returns-else-came-gt0-clause-end : goal.returns-else-came-gt0-clause-end
 returns-else-came-gt0-clause-end g c is front bytes told =
     let at : c.len-before.result ≡ length c.args.all.now.items = grind (arith, common_steps, c.len-before.ensures) in
-    let same : c.extend_from_slice.new.self.items ≡ c.args.all.now.items = grind (arith, common_steps, c.in_ok-extend_from_slice.ensures.items) in
-    let room : length c.args.all.now.items < c.args.limit → 0 < length c.read.new.into = λ below. grind (arith, common_steps, at, c.min-room.ensures, c.read.auto.into) in
+    let same : c.extend_from_slice.new.self.items ≡ c.args.all.now.items =
+    grind (arith, common_steps, c.in_ok-extend_from_slice.ensures.items) in
+    let room : length c.args.all.now.items < c.args.limit → 0 < length c.read.new.into =
+    λ below. grind (arith, common_steps, at, c.min-room.ensures, c.read.auto.into) in
     let none : length c.args.all.now.items < c.args.limit → length bytes ≤ length c.args.all.now.items =
     λ below. omega (arith, at, ((c.in_ok-came.ensures.came bytes told).ends (room below)).0 (omega arith)) in
     same ∙ front_at_end bytes c.args.all.now.items c.args.limit (front bytes told) (omega (arith, at)) none

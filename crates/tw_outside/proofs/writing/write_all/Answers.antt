@@ -8,7 +8,8 @@ loop-written-preserved g c =
     let rest = take_rest c.args.text.now c.loop-written.written in
     record {
       within = grind (arith, c.in_ok-written.ensures.within, c.loop-written.invariant.within);
-      appends = Appends-more _ _ _ c.args.text.now c.loop-written.written c.in_ok-written.field-0 c.loop-written.invariant.appends
+      appends = Appends-more _ _ _ c.args.text.now c.loop-written.written c.in_ok-written.field-0
+          c.loop-written.invariant.appends
           (rw rest at c.in_ok-written.ensures.appends);
       later = omega (arith, c.loop-written.invariant.later, c.in_ok-written.ensures.cause.later);
     }

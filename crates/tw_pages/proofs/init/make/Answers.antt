@@ -10,10 +10,14 @@ returns-in_err-write_open_gates-clause-images g c = λ rest.
     let P = IsBlankOrRoot c.args.root.now in
     let closed = c.in_ok-ensure_gates_closed.ensures.closed rest in
     let ready = c.in_ok-write_bodies.ensures.ready closed in
-    goes_on (g.D.Disk.view c.args.disk.now) (g.D.Disk.view c.write_bodies.new.disk) (g.D.Disk.view c.write_open_gates.new.disk) P
-    (goes_on (g.D.Disk.view c.args.disk.now) (g.D.Disk.view c.ensure_gates_closed.new.disk) (g.D.Disk.view c.write_bodies.new.disk) P
-    (leaves_weaker (g.D.Disk.view c.args.disk.now) (g.D.Disk.view c.ensure_gates_closed.new.disk) IsBlank P (λ i blank. inl blank) (c.in_ok-ensure_gates_closed.ensures.images rest))
-    (leaves_weaker (g.D.Disk.view c.ensure_gates_closed.new.disk) (g.D.Disk.view c.write_bodies.new.disk) BothClosed P (λ i both. inl (inr (both.first, both.second))) (c.in_ok-write_bodies.ensures.images closed)))
+    goes_on (g.D.Disk.view c.args.disk.now) (g.D.Disk.view c.write_bodies.new.disk)
+    (g.D.Disk.view c.write_open_gates.new.disk) P
+    (goes_on (g.D.Disk.view c.args.disk.now) (g.D.Disk.view c.ensure_gates_closed.new.disk)
+    (g.D.Disk.view c.write_bodies.new.disk) P
+    (leaves_weaker (g.D.Disk.view c.args.disk.now) (g.D.Disk.view c.ensure_gates_closed.new.disk) IsBlank P
+    (λ i blank. inl blank) (c.in_ok-ensure_gates_closed.ensures.images rest))
+    (leaves_weaker (g.D.Disk.view c.ensure_gates_closed.new.disk) (g.D.Disk.view c.write_bodies.new.disk) BothClosed P
+    (λ i both. inl (inr (both.first, both.second))) (c.in_ok-write_bodies.ensures.images closed)))
     (c.write_open_gates.ensures.images c.args.root.now ready)
 
 pub returns-clause-images : goal.returns-clause-images
@@ -21,8 +25,12 @@ returns-clause-images g c = λ rest.
     let P = IsBlankOrRoot c.args.root.now in
     let closed = c.in_ok-ensure_gates_closed.ensures.closed rest in
     let ready = c.in_ok-write_bodies.ensures.ready closed in
-    goes_on (g.D.Disk.view c.args.disk.now) (g.D.Disk.view c.write_bodies.new.disk) (g.D.Disk.view c.write_open_gates.new.disk) P
-    (goes_on (g.D.Disk.view c.args.disk.now) (g.D.Disk.view c.ensure_gates_closed.new.disk) (g.D.Disk.view c.write_bodies.new.disk) P
-    (leaves_weaker (g.D.Disk.view c.args.disk.now) (g.D.Disk.view c.ensure_gates_closed.new.disk) IsBlank P (λ i blank. inl blank) (c.in_ok-ensure_gates_closed.ensures.images rest))
-    (leaves_weaker (g.D.Disk.view c.ensure_gates_closed.new.disk) (g.D.Disk.view c.write_bodies.new.disk) BothClosed P (λ i both. inl (inr (both.first, both.second))) (c.in_ok-write_bodies.ensures.images closed)))
+    goes_on (g.D.Disk.view c.args.disk.now) (g.D.Disk.view c.write_bodies.new.disk)
+    (g.D.Disk.view c.write_open_gates.new.disk) P
+    (goes_on (g.D.Disk.view c.args.disk.now) (g.D.Disk.view c.ensure_gates_closed.new.disk)
+    (g.D.Disk.view c.write_bodies.new.disk) P
+    (leaves_weaker (g.D.Disk.view c.args.disk.now) (g.D.Disk.view c.ensure_gates_closed.new.disk) IsBlank P
+    (λ i blank. inl blank) (c.in_ok-ensure_gates_closed.ensures.images rest))
+    (leaves_weaker (g.D.Disk.view c.ensure_gates_closed.new.disk) (g.D.Disk.view c.write_bodies.new.disk) BothClosed P
+    (λ i both. inl (inr (both.first, both.second))) (c.in_ok-write_bodies.ensures.images closed)))
     (c.in_ok-write_open_gates.ensures.images c.args.root.now ready)

@@ -11,6 +11,9 @@ use Rattle.tw_pages.proofs.init.write_bodies.Goals as goal
 pub returns-clause-ready : goal.returns-clause-ready
 returns-clause-ready g c = λ rest.
     let root = c.args.root.now in
-    pair_rests (g.D.Disk.view c.args.disk.now) (g.D.Disk.view c.write_pair_durably.new.disk) 2 (body_page 1 4 root) 3 (body_page 0 4 root) BothClosed (λ i. BothClosed i × HasBodies root i) rest
-    (c.in_ok-write_pair_durably.ensures.written ∙ (λ i. option_map (put 3 (c.body-2.ensures i)) (option_map (put 2 (c.body.ensures i)) (g.D.Disk.view c.args.disk.now).content)))
-    c.in_ok-write_pair_durably.ensures.durable (bodies_stand root rest.image c.requires.root (AreBytes-from c.args.root.now (λ i. omega (arith, c.type_inv.root i))) rest.has)
+    pair_rests (g.D.Disk.view c.args.disk.now) (g.D.Disk.view c.write_pair_durably.new.disk) 2 (body_page 1 4 root) 3
+    (body_page 0 4 root) BothClosed (λ i. BothClosed i × HasBodies root i) rest
+    (c.in_ok-write_pair_durably.ensures.written ∙ (λ i. option_map (put 3 (c.body-2.ensures i))
+    (option_map (put 2 (c.body.ensures i)) (g.D.Disk.view c.args.disk.now).content)))
+    c.in_ok-write_pair_durably.ensures.durable (bodies_stand root rest.image c.requires.root
+    (AreBytes-from c.args.root.now (λ i. omega (arith, c.type_inv.root i))) rest.has)

@@ -7,8 +7,10 @@ use Rattle.tw_rbnode.proofs.adding.balanced.Goals as goal
 
 pub invariant_of-result : goal.invariant_of-result
 invariant_of-result c =
-    let kept : c.put.new.list.items ≡ c.args.entries.now = c.put.ensures.items ∙ ap (λ xs. xs ++ c.args.entries.now) c.new-kept.ensures in
-    let sides : c.put-2.new.list.items ≡ c.args.children.now = c.put-2.ensures.items ∙ ap (λ xs. xs ++ c.args.children.now) c.new-sides.ensures in
+    let kept : c.put.new.list.items ≡ c.args.entries.now = c.put.ensures.items ∙ ap (λ xs. xs ++ c.args.entries.now)
+    c.new-kept.ensures in
+    let sides : c.put-2.new.list.items ≡ c.args.children.now = c.put-2.ensures.items
+    ∙ ap (λ xs. xs ++ c.args.children.now) c.new-sides.ensures in
     let count : length c.put.new.list.items ≡ 12 = ap length kept ∙ c.requires.count in
     let places : length c.put-2.new.list.items ≡ 13 = ap length sides ∙ c.requires.places in
     whole_node _ twelve 7 c.args.level _ _

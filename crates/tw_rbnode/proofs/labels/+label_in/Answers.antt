@@ -9,7 +9,8 @@ use Rattle.tw_rbnode.proofs.labels.+label_in.Goals as goal
 
 pub returns-then-at-eq0 : goal.returns-then-at-eq0
 returns-then-at-eq0 g t c = λ s tree whole.
-    leaf-label g.H.Hasher.dig c.args.entries.now c.args.children.now c.args.low s c.index-children-low.result (no_node _ c.args.low s c.args.at tree c.if-at-eq0.true) (omega (arith, whole, c.requires.children))
+    leaf-label g.H.Hasher.dig c.args.entries.now c.args.children.now c.args.low s c.index-children-low.result
+    (no_node _ c.args.low s c.args.at tree c.if-at-eq0.true) (omega (arith, whole, c.requires.children))
 
 pub link_at-link-requires : goal.link_at-link-requires
 link_at-link-requires g t c =
@@ -23,8 +24,10 @@ label_in-right-requires g t c κs within =
     let p = parts _ c.args.low held.0 c.args.at c.link_at-link.result held.1 c.if-at-eq0.false c.link_at-link.ensures in
     let sized : size held.0 ≡ size p.left + 1 + size p.right = ap size p.is in
     let whole : c.args.high ≡ c.args.low + size held.0 = held.2 in
-    let at_is : c.args.at ≡ c.args.low + size p.left + 1 = p.at_is in
-    (omega (arith, c.decreases), (within, (c.requires.entries, (c.requires.children, (p.right, p.right_tree, omega arith)))))
+    let at_is : c.args.at ≡ c.args.low + size p.left + 1 = p.at_is in (
+      omega (arith, c.decreases),
+      (within, (c.requires.entries, (c.requires.children, (p.right, p.right_tree, omega arith)))),
+    )
 
 pub returns : goal.returns
 returns g t c = λ s tree whole.
@@ -35,4 +38,5 @@ returns g t c = λ s tree whole.
     let right = c.label_in-right.ensures p.right p.right_tree (omega (arith, whole)) in
     c.tree_node.ensures.label
     ∙ (λ k. g.H.Hasher.dig (entry_text (left k) c.entry_of.result (right k)))
-    ∙ node-label g.H.Hasher.dig c.args.entries.now (labels_of c.args.children.now) _ c.args.low s c.args.at c.link_at-link.result p c.entry_of.result c.entry_of.ensures
+    ∙ node-label g.H.Hasher.dig c.args.entries.now (labels_of c.args.children.now) _ c.args.low s c.args.at
+    c.link_at-link.result p c.entry_of.result c.entry_of.ensures

@@ -6,8 +6,10 @@ use Rattle.tw_rbnode.proofs.links.settle_left.Goals as goal
 pub returns-then-outer : goal.returns-then-outer
 returns-then-outer c = λ base red l r tree.
     let P : ℕ → Type 0 = JoinsLeft (slice_get c.args.links.now) (slice_get c.turn.new.links) base red l r in
-    subst P (sym c.turn.ensures.top) (turned_outer_left _ _ base red l r c.args.at c.link_at-node.result c.link_at-child.result c.link_at-outer.result c.link_at-other.result tree
-    c.link_at-node.ensures c.link_at-child.ensures c.link_at-outer.ensures c.link_at-other.ensures c.if-node.false (not_false _ c.if-not-child.false) c.if-outer.true c.if-other.false
+    subst P (sym c.turn.ensures.top) (turned_outer_left _ _ base red l r c.args.at c.link_at-node.result
+    c.link_at-child.result c.link_at-outer.result c.link_at-other.result tree
+    c.link_at-node.ensures c.link_at-child.ensures c.link_at-outer.ensures c.link_at-other.ensures c.if-node.false
+    (not_false _ c.if-not-child.false) c.if-outer.true c.if-other.false
     c.turn.ensures.x c.turn.ensures.y c.turn.ensures.z c.turn.ensures.others)
 
 pub turn-requires-then-inner-clause-last : goal.turn-requires-then-inner-clause-last
@@ -18,11 +20,17 @@ turn-requires-then-inner-clause-last c =
 pub returns-then-inner : goal.returns-then-inner
 returns-then-inner c = λ base red l r tree.
     let P : ℕ → Type 0 = JoinsLeft (slice_get c.args.links.now) (slice_get c.turn-then-inner.new.links) base red l r in
-    subst P (sym c.turn-then-inner.ensures.top) (turned_inner_left _ _ base red l r c.args.at c.link_at-node.result c.link_at-child.result c.link_at-outer.result c.link_at-inner.result c.link_at-other.result tree
-    c.link_at-node.ensures c.link_at-child.ensures c.link_at-outer.ensures c.link_at-inner.ensures c.link_at-other.ensures c.if-node.false (not_false _ c.if-not-child.false) c.if-outer.false c.if-inner.true c.if-other-2.false
-    c.turn-then-inner.ensures.x c.turn-then-inner.ensures.y c.turn-then-inner.ensures.z c.turn-then-inner.ensures.others)
+    subst P (sym c.turn-then-inner.ensures.top) (turned_inner_left _ _ base red l r c.args.at c.link_at-node.result
+    c.link_at-child.result c.link_at-outer.result c.link_at-inner.result c.link_at-other.result tree
+    c.link_at-node.ensures c.link_at-child.ensures c.link_at-outer.ensures c.link_at-inner.ensures
+    c.link_at-other.ensures c.if-node.false (not_false _ c.if-not-child.false) c.if-outer.false c.if-inner.true
+    c.if-other-2.false
+    c.turn-then-inner.ensures.x c.turn-then-inner.ensures.y c.turn-then-inner.ensures.z
+    c.turn-then-inner.ensures.others)
 
 pub returns : goal.returns
 returns c = λ base red l r tree.
-    kept_left _ base red l r c.args.at c.link_at-node.result c.link_at-child.result c.link_at-outer.result c.link_at-inner.result tree
-    c.link_at-node.ensures c.link_at-child.ensures c.link_at-outer.ensures c.link_at-inner.ensures c.if-outer.false c.if-inner.false
+    kept_left _ base red l r c.args.at c.link_at-node.result c.link_at-child.result c.link_at-outer.result
+    c.link_at-inner.result tree
+    c.link_at-node.ensures c.link_at-child.ensures c.link_at-outer.ensures c.link_at-inner.ensures c.if-outer.false
+    c.if-inner.false

@@ -6,4 +6,5 @@ use Rattle.tw_rbnode.specs.NodeBytes.{LiesBelow}
 use Rattle.tw_rbnode.proofs.reading.are_children.Given as goal
 
 abbrev pub invariant-loop-child : goal.invariant-loop-child
-invariant-loop-child g l = Each (λ (c : Child). IsChildAt g.H.Hasher.dig l.level c × LiesBelow l.page l.level c) (take l.child-index l.children)
+invariant-loop-child g l = Each (λ (c : Child). IsChildAt g.H.Hasher.dig l.level c × LiesBelow l.page l.level c)
+    (take l.child-index l.children)

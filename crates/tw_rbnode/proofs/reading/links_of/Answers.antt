@@ -13,8 +13,11 @@ loop-index-preserved c = (
       elim cases [
         | inl h ↦ c.put.ensures.others (k + 1) (omega (arith, h)) ∙ c.loop-index.invariant.1 k h
         | inr h ↦
-            ap (λ (n : ℕ). slice_get c.put.new.links (n + 1)) h ∙ c.put.ensures.there ∙ ap (λ (s : Slot). Some s.link) (sym c.index-slots-index.is)
-            ∙ sym (get-map c.args.slots.now c.loop-index.index c.index-slots-index.result (read-get c.args.slots.now c.loop-index.index c.index-slots-index.result c.loop-index-test.true c.index-slots-index.is))
+            ap (λ (n : ℕ). slice_get c.put.new.links (n + 1)) h ∙ c.put.ensures.there ∙ ap (λ (s : Slot). Some s.link)
+            (sym c.index-slots-index.is)
+            ∙ sym (get-map c.args.slots.now c.loop-index.index c.index-slots-index.result
+            (read-get c.args.slots.now c.loop-index.index c.index-slots-index.result c.loop-index-test.true
+            c.index-slots-index.is))
             ∙ ap (slice_get (map (λ (s : Slot). s.link) c.args.slots.now)) (sym h)
       ],
 )

@@ -15,17 +15,21 @@ fields f = (f.level, (f.held.top, (f.held.slots.items, f.held.children.items)))
 
 pub returns-in_default : goal.returns-in_default
 returns-in_default g c = λ p stand is.
-    takes-page page_node_codec node-lawful fields c.args.bytes.now _ _ _ c.take_fields-read.ensures.takes c.take_fields-read.ensures.memory c.in_default.ensures (fields_of p) is
+    takes-page page_node_codec node-lawful fields c.args.bytes.now _ _ _ c.take_fields-read.ensures.takes
+    c.take_fields-read.ensures.memory c.in_default.ensures (fields_of p) is
 
 pub returns-then-not-are_children : goal.returns-then-not-are_children
 returns-then-not-are_children g c = λ p stand is.
     let dig = g.H.Hasher.dig in
     let page = c.args.page in
-    let found = takes-page page_node_codec node-lawful fields c.args.bytes.now _ _ _ c.take_fields-read.ensures.takes c.take_fields-read.ensures.memory c.in-Some.ensures in
-    let same : fields_of p ≡ fields c.in-Some.fields = page-once page_node_codec node-lawful c.args.bytes.now (fields_of p) (fields c.in-Some.fields) is found in
+    let found = takes-page page_node_codec node-lawful fields c.args.bytes.now _ _ _ c.take_fields-read.ensures.takes
+    c.take_fields-read.ensures.memory c.in-Some.ensures in
+    let same : fields_of p ≡ fields c.in-Some.fields = page-once page_node_codec node-lawful c.args.bytes.now
+    (fields_of p) (fields c.in-Some.fields) is found in
     let both = Each-both (IsChildAt dig p.level) (LiesBelow page p.level) p.children stand.children stand.below in
     let P : ℕ × Held → Type 0 = λ f. Each (λ (x : Child). IsChildAt dig f.0 x × LiesBelow page f.0 x) f.1.1.1 in
-    let Q : List Child → Type 0 = Each (λ (x : Child). IsChildAt dig c.in-Some.fields.level x × LiesBelow page c.in-Some.fields.level x) in
+    let Q : List Child → Type 0 = Each (λ (x : Child). IsChildAt dig c.in-Some.fields.level x × LiesBelow page
+    c.in-Some.fields.level x) in
     let yes = c.are_children.ensures.1 (subst Q (sym c.as_slice.ensures.value) (subst P same both)) in
     let test = c.if-not-are_children.ensures in
     let no = c.if-not-are_children.true in
@@ -33,27 +37,32 @@ returns-then-not-are_children g c = λ p stand is.
 
 pub node_of-requires-clause-level : goal.node_of-requires-clause-level
 node_of-requires-clause-level g c =
-    let found = takes-page page_node_codec node-lawful fields c.args.bytes.now _ _ _ c.take_fields-read.ensures.takes c.take_fields-read.ensures.memory c.in-Some.ensures in
+    let found = takes-page page_node_codec node-lawful fields c.args.bytes.now _ _ _ c.take_fields-read.ensures.takes
+    c.take_fields-read.ensures.memory c.in-Some.ensures in
     (node-fitting _ _ found.fits).low
 
 pub node_of-requires-clause-some : goal.node_of-requires-clause-some
 node_of-requires-clause-some g c =
-    let found = takes-page page_node_codec node-lawful fields c.args.bytes.now _ _ _ c.take_fields-read.ensures.takes c.take_fields-read.ensures.memory c.in-Some.ensures in
+    let found = takes-page page_node_codec node-lawful fields c.args.bytes.now _ _ _ c.take_fields-read.ensures.takes
+    c.take_fields-read.ensures.memory c.in-Some.ensures in
     (node-fitting _ _ found.fits).some
 
 pub node_of-requires-clause-top : goal.node_of-requires-clause-top
 node_of-requires-clause-top g c =
-    let found = takes-page page_node_codec node-lawful fields c.args.bytes.now _ _ _ c.take_fields-read.ensures.takes c.take_fields-read.ensures.memory c.in-Some.ensures in
+    let found = takes-page page_node_codec node-lawful fields c.args.bytes.now _ _ _ c.take_fields-read.ensures.takes
+    c.take_fields-read.ensures.memory c.in-Some.ensures in
     (node-fitting _ _ found.fits).top
 
 pub node_of-requires-clause-places : goal.node_of-requires-clause-places
 node_of-requires-clause-places g c =
-    let found = takes-page page_node_codec node-lawful fields c.args.bytes.now _ _ _ c.take_fields-read.ensures.takes c.take_fields-read.ensures.memory c.in-Some.ensures in
+    let found = takes-page page_node_codec node-lawful fields c.args.bytes.now _ _ _ c.take_fields-read.ensures.takes
+    c.take_fields-read.ensures.memory c.in-Some.ensures in
     (node-fitting _ _ found.fits).places
 
 pub node_of-requires-clause-ranges : goal.node_of-requires-clause-ranges
 node_of-requires-clause-ranges g c =
-    let found = takes-page page_node_codec node-lawful fields c.args.bytes.now _ _ _ c.take_fields-read.ensures.takes c.take_fields-read.ensures.memory c.in-Some.ensures in
+    let found = takes-page page_node_codec node-lawful fields c.args.bytes.now _ _ _ c.take_fields-read.ensures.takes
+    c.take_fields-read.ensures.memory c.in-Some.ensures in
     (node-fitting _ _ found.fits).ranges
 
 pub returns : goal.returns
@@ -61,15 +70,18 @@ returns g c =
     let dig = g.H.Hasher.dig in
     let page = c.args.page in
     let f = c.in-Some.fields in
-    let found = takes-page page_node_codec node-lawful fields c.args.bytes.now _ _ _ c.take_fields-read.ensures.takes c.take_fields-read.ensures.memory c.in-Some.ensures in
+    let found = takes-page page_node_codec node-lawful fields c.args.bytes.now _ _ _ c.take_fields-read.ensures.takes
+    c.take_fields-read.ensures.memory c.in-Some.ensures in
     let test = c.if-not-are_children.ensures in
     let no = c.if-not-are_children.false in
     let yes : c.are_children.result ≡ true = grind arith in
-    let Q : List Child → Type 0 = Each (λ (x : Child). IsChildAt dig c.in-Some.fields.level x × LiesBelow page c.in-Some.fields.level x) in
+    let Q : List Child → Type 0 = Each (λ (x : Child). IsChildAt dig c.in-Some.fields.level x × LiesBelow page
+    c.in-Some.fields.level x) in
     let all = subst Q c.as_slice.ensures.value (c.are_children.ensures.0 yes) in
     match_map c.node_of.result c.node_of.ensures
     (λ none p stand is.
-    let same : fields_of p ≡ fields f = page-once page_node_codec node-lawful c.args.bytes.now (fields_of p) (fields f) is found in
+    let same : fields_of p ≡ fields f = page-once page_node_codec node-lawful c.args.bytes.now (fields_of p) (fields f)
+    is found in
     none p stand.node (ap (λ (h : ℕ × Held). h.1) same))
     (λ n is.
     let same : fields f ≡ fields_of n = λ i. (sym is.1 i, sym is.2 i) in

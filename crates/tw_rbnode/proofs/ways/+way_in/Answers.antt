@@ -29,8 +29,16 @@ way_in-requires g t c κs within =
     let whole : c.args.high ≡ c.args.low + size held.0 = held.2 in
     let at_is : c.args.at ≡ c.args.low + size p.left + 1 = p.at_is in
     let deep : suc (depth p.left) ≤ depth held.0 = depth-left _ c.args.low held.0 c.args.at c.link_at-link.result p in
-    let room : c.args.way.now.count + depth held.0 ≤ 9 = held.3 in
-    (omega (arith, c.decreases), (within, (omega (arith, c.requires.entries), (omega (arith, c.requires.children), (p.left, p.left_tree, omega arith, omega arith)))))
+    let room : c.args.way.now.count + depth held.0 ≤ 9 = held.3 in (
+      omega (arith, c.decreases),
+      (
+        within,
+        (
+          omega (arith, c.requires.entries),
+          (omega (arith, c.requires.children), (p.left, p.left_tree, omega arith, omega arith)),
+        ),
+      ),
+    )
 
 pub label_in-other-requires-clause-tree : goal.label_in-other-requires-clause-tree
 label_in-other-requires-clause-tree g t c =
@@ -49,8 +57,10 @@ way_in-requires-else-mark-at-2 g t c κs within =
     let whole : c.args.high ≡ c.args.low + size held.0 = held.2 in
     let at_is : c.args.at ≡ c.args.low + size p.left + 1 = p.at_is in
     let deep : suc (depth p.right) ≤ depth held.0 = depth-right _ c.args.low held.0 c.args.at c.link_at-link.result p in
-    let room : c.args.way.now.count + depth held.0 ≤ 9 = held.3 in
-    (omega (arith, c.decreases), (within, (c.requires.entries, (c.requires.children, (p.right, p.right_tree, omega arith, omega arith)))))
+    let room : c.args.way.now.count + depth held.0 ≤ 9 = held.3 in (
+      omega (arith, c.decreases),
+      (within, (c.requires.entries, (c.requires.children, (p.right, p.right_tree, omega arith, omega arith)))),
+    )
 
 pub returns-then-mark-at-2 : goal.returns-then-mark-at-2
 returns-then-mark-at-2 g t c = record {
@@ -65,8 +75,10 @@ returns-then-mark-at-2 g t c = record {
       let rest = c.way_in.ensures.nodes p.left p.left_tree (omega arith) in
       let other = c.label_in-other.ensures p.right p.right_tree (omega (arith, whole)) in (
         longer _ _ _ (above_at dig es ls c.args.mark c.args.low p.left) _ _ rest.0 c.push.ensures.nodes
-            (ap (λ (l : List ℕ). above_at dig es ls c.args.mark c.args.low p.left ++ record { entry = c.entry_of-entry.result; other = l } ∷ []) other
-            ∙ above-left dig es ls _ c.args.low s c.args.at c.link_at-link.result p c.args.mark c.entry_of-entry.result c.entry_of-entry.ensures c.if-mark-at-2.true),
+            (ap (λ (l : List ℕ). above_at dig es ls c.args.mark c.args.low p.left
+            ++ record { entry = c.entry_of-entry.result; other = l } ∷ []) other
+            ∙ above-left dig es ls _ c.args.low s c.args.at c.link_at-link.result p c.args.mark c.entry_of-entry.result
+            c.entry_of-entry.ensures c.if-mark-at-2.true),
         omega (arith, c.push.ensures.count, rest.1),
       );
 }
@@ -78,10 +90,13 @@ returns-then-at-eq0 g t c = record {
       let es = c.args.entries.now in
       let ls = labels_of c.args.children.now in
       let so_far = take c.args.way.now.count c.args.way.now.nodes in
-      let none : [] ≡ above_at g.H.Hasher.dig c.args.entries.now (labels_of c.args.children.now) c.args.mark c.args.low s =
+      let none : [] ≡ above_at g.H.Hasher.dig c.args.entries.now (labels_of c.args.children.now) c.args.mark c.args.low
+      s =
       elim c.then-at-eq0.branch [
-        | then-at-eq0-via-then-at-eq0 w ↦ above-none dig es ls c.args.mark c.args.low s (no_node _ c.args.low s c.args.at tree w.if-at-eq0.true)
-        | then-at-eq0-via-else-at-eq0+then-mark-at w ↦ above-root dig es ls _ c.args.mark c.args.low s c.args.at tree w.if-at-eq0.false w.if-mark-at.true
+        | then-at-eq0-via-then-at-eq0 w ↦ above-none dig es ls c.args.mark c.args.low s
+            (no_node _ c.args.low s c.args.at tree w.if-at-eq0.true)
+        | then-at-eq0-via-else-at-eq0+then-mark-at w ↦ above-root dig es ls _ c.args.mark c.args.low s c.args.at tree
+            w.if-at-eq0.false w.if-mark-at.true
       ] in
       (sym (append-nil so_far) ∙ ap (λ (xs : List Ancestor). so_far ++ xs) none, omega arith);
 }
@@ -99,8 +114,10 @@ returns-else-mark-at-2 g t c = record {
       let rest = c.way_in-else-mark-at-2.ensures.nodes p.right p.right_tree (omega (arith, whole)) in
       let other = c.label_in-other-else-mark-at-2.ensures p.left p.left_tree (omega arith) in (
         longer _ _ _ (above_at dig es ls c.args.mark c.args.at p.right) _ _ rest.0 c.push-else-mark-at-2.ensures.nodes
-            (ap (λ (l : List ℕ). above_at dig es ls c.args.mark c.args.at p.right ++ record { entry = c.entry_of-entry.result; other = l } ∷ []) other
-            ∙ above-right dig es ls _ c.args.low s c.args.at c.link_at-link.result p c.args.mark c.entry_of-entry.result c.entry_of-entry.ensures (omega (arith, c.if-mark-at-2.false, c.if-mark-at.false))),
+            (ap (λ (l : List ℕ). above_at dig es ls c.args.mark c.args.at p.right
+            ++ record { entry = c.entry_of-entry.result; other = l } ∷ []) other
+            ∙ above-right dig es ls _ c.args.low s c.args.at c.link_at-link.result p c.args.mark c.entry_of-entry.result
+            c.entry_of-entry.ensures (omega (arith, c.if-mark-at-2.false, c.if-mark-at.false))),
         omega (arith, c.push-else-mark-at-2.ensures.count, rest.1),
       );
 }

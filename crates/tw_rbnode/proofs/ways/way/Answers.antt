@@ -22,5 +22,6 @@ returns-clause-most g c =
     let sized : size (shape_of 25 (slice_get n.links) n.top) ≡ length n.entries.items = node.sized in
     let most : length n.entries.items ≤ 24 = node.most in
     let few : depth (shape_of 25 (slice_get n.links) n.top) ≤ 8 = depth_at_most t node.lawful (omega arith) in
-    let bound : c.way_in.new.way.count ≤ 0 + depth (shape_of 25 (slice_get n.links) n.top) = (c.way_in.ensures.nodes t c.node.invariant.0 (omega (arith, c.len.ensures.value))).1 in
+    let bound : c.way_in.new.way.count ≤ 0 + depth (shape_of 25 (slice_get n.links) n.top) =
+    (c.way_in.ensures.nodes t c.node.invariant.0 (omega (arith, c.len.ensures.value))).1 in
     omega arith

@@ -11,13 +11,16 @@ loop-child-init c = (put-none child_codec.write child_codec.Fits c.args.page.now
 
 pub loop-child-preserved : goal.loop-child-preserved
 loop-child-preserved c = (
-  put-more child_codec.write child_codec.Fits c.args.page.now c.loop-child.page _ c.args.children.now c.loop-child.child-index c.child-item.result c.loop-child-test.true c.child-item.is
+  put-more child_codec.write child_codec.Fits c.args.page.now c.loop-child.page _ c.args.children.now
+      c.loop-child.child-index c.child-item.result c.loop-child-test.true c.child-item.is
       c.loop-child.invariant.0 c.put_one.ensures.bytes c.put_one.ensures.fits,
   omega (arith, c.put_one.ensures.size, c.loop-child.invariant.1),
 )
 
 pub returns-clause-bytes : goal.returns-clause-bytes
-returns-clause-bytes c = (put-all child_codec.write child_codec.Fits c.args.page.now c.loop-child.page c.args.children.now c.loop-child.child-index c.loop-child-test.false c.loop-child.invariant.0).0
+returns-clause-bytes c = (put-all child_codec.write child_codec.Fits c.args.page.now c.loop-child.page
+    c.args.children.now c.loop-child.child-index c.loop-child-test.false c.loop-child.invariant.0).0
 
 pub returns-clause-fits : goal.returns-clause-fits
-returns-clause-fits c = (put-all child_codec.write child_codec.Fits c.args.page.now c.loop-child.page c.args.children.now c.loop-child.child-index c.loop-child-test.false c.loop-child.invariant.0).1
+returns-clause-fits c = (put-all child_codec.write child_codec.Fits c.args.page.now c.loop-child.page
+    c.args.children.now c.loop-child.child-index c.loop-child-test.false c.loop-child.invariant.0).1

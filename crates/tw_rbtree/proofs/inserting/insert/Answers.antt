@@ -1,4 +1,5 @@
-use Rattle.std.proofs.Common.{◌≡◌, ℕ, suc, ◌+◌, List, [], ◌∷◌, ◌++◌, length, length-append, ap, refl, sym, ◌∙◌, subst, arith, rules}
+use Rattle.std.proofs.Common.{◌≡◌, ℕ, suc, ◌+◌, List, [], ◌∷◌, ◌++◌, length, length-append, ap, refl, sym, ◌∙◌, subst}
+use Rattle.std.proofs.Common.{arith, rules}
 use Rattle.std.specs.Prelude.{map}
 use Rattle.tw_base.specs.declared.history.thread.Entry.{Entry}
 use Rattle.tw_base.specs.history.Asking.{with_entry}
@@ -16,13 +17,22 @@ use Rattle.tw_rbtree.proofs.RootGrowing.{all-lie_between, empty-tree, own-trees,
 use Rattle.tw_rbtree.proofs.inserting.insert.Goals as goal
 
 pub returns-in_err-first-clause-adds : goal.returns-in_err-first-clause-adds
-returns-in_err-first-clause-adds g c = record { answer = λ ps told. grind (arith, insert-root); own = search rules; kept = search rules; faults = search rules }
+returns-in_err-first-clause-adds g c =
+    record {
+      answer = λ ps told. grind (arith, insert-root);
+      own = search rules;
+      kept = search rules;
+      faults = search rules;
+    }
 
 pub returns-in_err-stage_single-in-Two-clause-adds : goal.returns-in_err-stage_single-in-Two-clause-adds
 returns-in_err-stage_single-in-Two-clause-adds g c = record {
   answer = λ ps told. grind (arith, insert-root);
   own = search rules;
-  kept = only_adds_on g.P.Pages.view g.P.Pages.same _ _ _ _ _ _ g.met.P.Pages.same_on (λ good. tt) (λ good. tt) (only_adds_on g.P.Pages.view g.P.Pages.same _ _ _ _ _ (Unit {0}) g.met.P.Pages.same_on (λ good. refl) (λ good. refl) (adds_none g.P.Pages.view g.P.Pages.same _ _ _ c.in_ok-first.ensures.reads.kept) c.in_ok-child.ensures.adds.kept) c.in_err-stage_single-in-Two.ensures.kept;
+  kept = only_adds_on g.P.Pages.view g.P.Pages.same _ _ _ _ _ _ g.met.P.Pages.same_on (λ good. tt) (λ good. tt)
+      (only_adds_on g.P.Pages.view g.P.Pages.same _ _ _ _ _ (Unit {0}) g.met.P.Pages.same_on (λ good. refl)
+      (λ good. refl) (adds_none g.P.Pages.view g.P.Pages.same _ _ _ c.in_ok-first.ensures.reads.kept)
+      c.in_ok-child.ensures.adds.kept) c.in_err-stage_single-in-Two.ensures.kept;
   faults = search rules;
 }
 
@@ -30,7 +40,10 @@ pub returns-in_ok-stage_single-in-Two-clause-adds : goal.returns-in_ok-stage_sin
 returns-in_ok-stage_single-in-Two-clause-adds g c = record {
   answer = λ ps told. grind (arith, insert-root);
   own = search rules;
-  kept = only_adds_on g.P.Pages.view g.P.Pages.same _ _ _ _ _ _ g.met.P.Pages.same_on (λ good. tt) (λ good. tt) (only_adds_on g.P.Pages.view g.P.Pages.same _ _ _ _ _ (Unit {0}) g.met.P.Pages.same_on (λ good. refl) (λ good. refl) (adds_none g.P.Pages.view g.P.Pages.same _ _ _ c.in_ok-first.ensures.reads.kept) c.in_ok-child.ensures.adds.kept) c.in_ok-stage_single-in-Two.ensures.kept;
+  kept = only_adds_on g.P.Pages.view g.P.Pages.same _ _ _ _ _ _ g.met.P.Pages.same_on (λ good. tt) (λ good. tt)
+      (only_adds_on g.P.Pages.view g.P.Pages.same _ _ _ _ _ (Unit {0}) g.met.P.Pages.same_on (λ good. refl)
+      (λ good. refl) (adds_none g.P.Pages.view g.P.Pages.same _ _ _ c.in_ok-first.ensures.reads.kept)
+      c.in_ok-child.ensures.adds.kept) c.in_ok-stage_single-in-Two.ensures.kept;
   faults = search rules;
 }
 
@@ -39,7 +52,8 @@ returns-then-root-eq0-clause-inserted g c = λ ps told named under t stands.
     let dig = g.H.Hasher.dig in
     let none = empty-tree dig (HasNamed named) ps c.args.root.now t stands c.if-root-eq0.true in
     let leaf = leaf-below dig (HasNamed named) ps 0 (record { page = 0; label = c.empty_tree.result }) refl in
-    let lists = c.in_ok-stage_single.ensures.lists ps told named under (Empty ∷ Empty ∷ []) (leaf, (leaf, tt)) (tt, tt) in
+    let lists = c.in_ok-stage_single.ensures.lists ps told named under (Empty ∷ Empty ∷ []) (leaf, (leaf, tt))
+    (tt, tt) in
     (lists.0, lists.1, lists.2, lists.3, lists.4 ∙ ap (λ (x : Tree). with_entry (entries x) c.args.entry) (sym none))
 
 pub grow_below-requires-clause-lie : goal.grow_below-requires-clause-lie
@@ -54,11 +68,21 @@ returns-in-One-clause-inserted g c = λ ps told named under t stands.
     let told_then = c.in_ok-first.ensures.reads.kept.list_kept ∙ told in
     let found = c.in_ok-first.ensures.reads.answer ps told in
     let own = own-trees dig (HasNamed named) ps root t stands p c.if-root-eq0.false found in
-    let lists = c.in_ok-child.ensures.lists ps told_then named (omega (arith, under, c.in_ok-first.ensures.reads.kept.used_kept)) own.trees own.are own.rising in
-    let grown = subst (GrownLists dig (HasNamed named) lists.0 p.level (length p.entries) (with_entry (woven (map entries own.trees) p.entries) entry)) c.in-One.is lists.2 in
-    let target : entries grown.0 ≡ with_entry (entries t) entry = grown.2 ∙ ap (λ (es : List Entry). with_entry es entry) own.lists in
-    let rising = subst IsRising (sym target) (rises-with dig (HasNamed named) ps root t stands entry p _ c.if-root-eq0.false found (c.in_ok-child.ensures.adds.answer ps told_then)) in
-    (lists.0, grown.0, lists.1, root-stands dig (HasNamed named) lists.0 p.level (length p.entries) c.in-One.child grown.0 c.root_of.result own.keys grown.1 rising c.root_of.ensures.page c.root_of.ensures.label, target)
+    let lists = c.in_ok-child.ensures.lists ps told_then named
+    (omega (arith, under, c.in_ok-first.ensures.reads.kept.used_kept)) own.trees own.are own.rising in
+    let grown = subst (GrownLists dig (HasNamed named) lists.0 p.level (length p.entries)
+    (with_entry (woven (map entries own.trees) p.entries) entry)) c.in-One.is lists.2 in
+    let target : entries grown.0 ≡ with_entry (entries t) entry =
+    grown.2 ∙ ap (λ (es : List Entry). with_entry es entry) own.lists in
+    let rising = subst IsRising (sym target) (rises-with dig (HasNamed named) ps root t stands entry p _
+    c.if-root-eq0.false found (c.in_ok-child.ensures.adds.answer ps told_then)) in (
+      lists.0,
+      grown.0,
+      lists.1,
+      root-stands dig (HasNamed named) lists.0 p.level (length p.entries) c.in-One.child grown.0 c.root_of.result
+          own.keys grown.1 rising c.root_of.ensures.page c.root_of.ensures.label,
+      target,
+    )
 
 pub returns-in_ok-stage_single-in-Two-clause-inserted : goal.returns-in_ok-stage_single-in-Two-clause-inserted
 returns-in_ok-stage_single-in-Two-clause-inserted g c = λ ps told named under t stands.
@@ -69,14 +93,22 @@ returns-in_ok-stage_single-in-Two-clause-inserted g c = λ ps told named under t
     let told_then = c.in_ok-first.ensures.reads.kept.list_kept ∙ told in
     let found = c.in_ok-first.ensures.reads.answer ps told in
     let own = own-trees dig (HasNamed named) ps root t stands p c.if-root-eq0.false found in
-    let lists = c.in_ok-child.ensures.lists ps told_then named (omega (arith, under, c.in_ok-first.ensures.reads.kept.used_kept)) own.trees own.are own.rising in
-    let grown = subst (GrownLists dig (HasNamed named) lists.0 p.level (length p.entries) (with_entry (woven (map entries own.trees) p.entries) entry)) c.in-Two.is lists.2 in
-    let target : entries grown.0 ++ c.in-Two.middle ∷ entries grown.1 ≡ with_entry (entries t) entry = grown.4 ∙ ap (λ (es : List Entry). with_entry es entry) own.lists in
-    let rising = subst IsRising (sym target) (rises-with dig (HasNamed named) ps root t stands entry p _ c.if-root-eq0.false found (c.in_ok-child.ensures.adds.answer ps told_then)) in
+    let lists = c.in_ok-child.ensures.lists ps told_then named
+    (omega (arith, under, c.in_ok-first.ensures.reads.kept.used_kept)) own.trees own.are own.rising in
+    let grown = subst (GrownLists dig (HasNamed named) lists.0 p.level (length p.entries)
+    (with_entry (woven (map entries own.trees) p.entries) entry)) c.in-Two.is lists.2 in
+    let target : entries grown.0 ++ c.in-Two.middle ∷ entries grown.1 ≡ with_entry (entries t) entry =
+    grown.4 ∙ ap (λ (es : List Entry). with_entry es entry) own.lists in
+    let rising = subst IsRising (sym target) (rises-with dig (HasNamed named) ps root t stands entry p _
+    c.if-root-eq0.false found (c.in_ok-child.ensures.adds.answer ps told_then)) in
     let up : suc p.level ≡ c.level-in-Two.result + 1 = omega (arith, c.level-in-Two.ensures) in
-    let left = subst (λ (n : ℕ). IsTreeBelow dig (HasNamed named) lists.0 n c.in-Two.left grown.0) up (less-keys dig (HasNamed named) lists.0 p.level 12 c.in-Two.left grown.0 (omega arith) grown.2) in
-    let right = subst (λ (n : ℕ). IsTreeBelow dig (HasNamed named) lists.0 n c.in-Two.right grown.1) up (less-keys dig (HasNamed named) lists.0 p.level 12 c.in-Two.right grown.1 (omega arith) grown.3) in
-    let last = c.in_ok-stage_single-in-Two.ensures.lists lists.0 lists.1 named (omega (arith, under, c.in_ok-first.ensures.reads.kept.used_kept, c.in_ok-child.ensures.adds.kept.used_grows)) (grown.0 ∷ grown.1 ∷ []) (left, (right, tt)) rising in
+    let left = subst (λ (n : ℕ). IsTreeBelow dig (HasNamed named) lists.0 n c.in-Two.left grown.0) up
+    (less-keys dig (HasNamed named) lists.0 p.level 12 c.in-Two.left grown.0 (omega arith) grown.2) in
+    let right = subst (λ (n : ℕ). IsTreeBelow dig (HasNamed named) lists.0 n c.in-Two.right grown.1) up
+    (less-keys dig (HasNamed named) lists.0 p.level 12 c.in-Two.right grown.1 (omega arith) grown.3) in
+    let last = c.in_ok-stage_single-in-Two.ensures.lists lists.0 lists.1 named
+    (omega (arith, under, c.in_ok-first.ensures.reads.kept.used_kept, c.in_ok-child.ensures.adds.kept.used_grows))
+    (grown.0 ∷ grown.1 ∷ []) (left, (right, tt)) rising in
     (last.0, last.1, last.2, last.3, last.4 ∙ target)
 
 abbrev unnamed : Named
@@ -85,25 +117,29 @@ unnamed = record { below = 0; tree = λ page. Empty }
 pub returns-then-root-eq0-clause-plain : goal.returns-then-root-eq0-clause-plain
 returns-then-root-eq0-clause-plain g c = λ ps told t stands.
     let dig = g.H.Hasher.dig in
-    let all = returns-then-root-eq0-clause-inserted g c ps told unnamed (omega arith) t (stands-unnamed dig unnamed ps refl c.args.root.now t stands) in
+    let all = returns-then-root-eq0-clause-inserted g c ps told unnamed (omega arith) t
+    (stands-unnamed dig unnamed ps refl c.args.root.now t stands) in
     (all.0, all.1, all.2, stands-any dig (HasNamed unnamed) all.0 _ all.1 all.3, all.4)
 
 pub returns-in-One-clause-plain : goal.returns-in-One-clause-plain
 returns-in-One-clause-plain g c = λ ps told t stands.
     let dig = g.H.Hasher.dig in
-    let all = returns-in-One-clause-inserted g c ps told unnamed (omega arith) t (stands-unnamed dig unnamed ps refl c.args.root.now t stands) in
+    let all = returns-in-One-clause-inserted g c ps told unnamed (omega arith) t
+    (stands-unnamed dig unnamed ps refl c.args.root.now t stands) in
     (all.0, all.1, all.2, stands-any dig (HasNamed unnamed) all.0 _ all.1 all.3, all.4)
 
 pub returns-in_ok-stage_single-in-Two-clause-plain : goal.returns-in_ok-stage_single-in-Two-clause-plain
 returns-in_ok-stage_single-in-Two-clause-plain g c = λ ps told t stands.
     let dig = g.H.Hasher.dig in
-    let all = returns-in_ok-stage_single-in-Two-clause-inserted g c ps told unnamed (omega arith) t (stands-unnamed dig unnamed ps refl c.args.root.now t stands) in
+    let all = returns-in_ok-stage_single-in-Two-clause-inserted g c ps told unnamed (omega arith) t
+    (stands-unnamed dig unnamed ps refl c.args.root.now t stands) in
     (all.0, all.1, all.2, stands-any dig (HasNamed unnamed) all.0 _ all.1 all.3, all.4)
 
 pub returns-then-root-eq0-clause-put : goal.returns-then-root-eq0-clause-put
 returns-then-root-eq0-clause-put g c = λ ps told.
     let put = c.in_ok-stage_single.ensures.put ps told in
-    put-empty g.H.Hasher.dig ps c.args.root.now c.args.entry c.in_ok-stage_single.field-0 _ c.empty_tree.result ((g.P.Pages.view c.args.pages.now).used) put.0 c.if-root-eq0.true c.empty_tree.ensures
+    put-empty g.H.Hasher.dig ps c.args.root.now c.args.entry c.in_ok-stage_single.field-0 _ c.empty_tree.result
+    ((g.P.Pages.view c.args.pages.now).used) put.0 c.if-root-eq0.true c.empty_tree.ensures
     (g.met.P.Pages.told_count c.args.pages.now ps told) put.1 put.2
 
 pub returns-in-One-clause-put : goal.returns-in-One-clause-put
@@ -111,7 +147,8 @@ returns-in-One-clause-put g c = λ ps told.
     let reads = c.in_ok-first.ensures.reads in
     let put = c.in_ok-child.ensures.put ps (reads.kept.list_kept ∙ told) in
     let first = reads.kept.used_kept ∙ g.met.P.Pages.told_count c.args.pages.now ps told in
-    put-one g.H.Hasher.dig ps c.args.root.now c.args.entry c.root_of.result _ c.in_ok-first.first put.0 put.1 ((g.P.Pages.view c.read_root.new.pages).used) c.in_ok-child.field-0 c.if-root-eq0.false (reads.answer ps told) put.3
+    put-one g.H.Hasher.dig ps c.args.root.now c.args.entry c.root_of.result _ c.in_ok-first.first put.0 put.1
+    ((g.P.Pages.view c.read_root.new.pages).used) c.in_ok-child.field-0 c.if-root-eq0.false (reads.answer ps told) put.3
     first put.4 c.in-One.child c.in-One.is put.2 c.root_of.ensures.page c.root_of.ensures.label
 
 pub returns-in_ok-stage_single-in-Two-clause-put : goal.returns-in_ok-stage_single-in-Two-clause-put
@@ -122,7 +159,10 @@ returns-in_ok-stage_single-in-Two-clause-put g c = λ ps told.
     let first = reads.kept.used_kept ∙ g.met.P.Pages.told_count c.args.pages.now ps told in
     let after = g.met.P.Pages.told_count c.grow_below.new.pages (ps ++ put.1) put.2 in
     let sum = length-append ps put.1 in
-    let last : (g.P.Pages.view c.grow_below.new.pages).used ≡ 4 + length ps + length put.1 = omega (arith, after, sum) in
+    let last : (g.P.Pages.view c.grow_below.new.pages).used ≡ 4 + length ps + length put.1 =
+    omega (arith, after, sum) in
     let level : c.level-in-Two.result ≡ c.in_ok-first.first.level = omega (arith, c.level-in-Two.ensures) in
-    put-two g.H.Hasher.dig ps c.args.root.now c.args.entry c.in_ok-stage_single-in-Two.field-0 _ c.in_ok-first.first put.0 put.1 ((g.P.Pages.view c.read_root.new.pages).used) c.in_ok-child.field-0 c.if-root-eq0.false
-    (reads.answer ps told) put.3 first put.4 c.in-Two.left c.in-Two.middle c.in-Two.right top.0 ((g.P.Pages.view c.grow_below.new.pages).used) c.level-in-Two.result c.in-Two.is last level top.1 top.2
+    put-two g.H.Hasher.dig ps c.args.root.now c.args.entry c.in_ok-stage_single-in-Two.field-0 _ c.in_ok-first.first
+    put.0 put.1 ((g.P.Pages.view c.read_root.new.pages).used) c.in_ok-child.field-0 c.if-root-eq0.false
+    (reads.answer ps told) put.3 first put.4 c.in-Two.left c.in-Two.middle c.in-Two.right top.0
+    ((g.P.Pages.view c.grow_below.new.pages).used) c.level-in-Two.result c.in-Two.is last level top.1 top.2

@@ -6,7 +6,8 @@ pub returns-clause-kept : goal.returns-clause-kept
 returns-clause-kept g c = λ ps more root t stands. stands-kept g.H.Hasher.dig any_page ps more root t stands
 
 pub returns-clause-kept_named : goal.returns-clause-kept_named
-returns-clause-kept_named g c = λ ps more named root t stands. stands-kept g.H.Hasher.dig (HasNamed named) ps more root t stands
+returns-clause-kept_named g c = λ ps more named root t stands. stands-kept g.H.Hasher.dig (HasNamed named) ps more root
+    t stands
 
 pub returns-clause-any : goal.returns-clause-any
 returns-clause-any g c = λ ps named root t stands. stands-any g.H.Hasher.dig (HasNamed named) ps root t stands

@@ -31,7 +31,8 @@ pub returns-clause-ranges : goal.returns-clause-ranges
 returns-clause-ranges g c = λ ps root t stands. stands-ranges g.H.Hasher.dig ps root t stands
 
 pub returns-clause-latest : goal.returns-clause-latest
-returns-clause-latest g c = λ ps root t name e stands there same. latest (entries t) stands.rising (stands-ranges g.H.Hasher.dig ps root t stands) name e there same
+returns-clause-latest g c = λ ps root t name e stands there same. latest (entries t) stands.rising
+    (stands-ranges g.H.Hasher.dig ps root t stands) name e there same
 
 pub returns-clause-room : goal.returns-clause-room
 returns-clause-room g c = λ ps root t key stands few. insert-finds g.H.Hasher.dig ps root t key stands few

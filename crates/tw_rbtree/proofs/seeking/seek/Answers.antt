@@ -9,7 +9,8 @@ use Rattle.tw_rbtree.proofs.PageLaws.{seek-ends, seek-meets, seek-passes, seek-s
 use Rattle.tw_rbtree.proofs.seeking.seek.Goals as goal
 
 -- what the loop has, made of its parts
-made : (s : Sought) (at : Spot) (met : Option Entry) → s.at ≡ at → s.met ≡ met → ◌≡◌ {A = Sought} (record { at = at; low = s.low; met = met; high = s.high }) s
+made : (s : Sought) (at : Spot) (met : Option Entry) → s.at ≡ at → s.met ≡ met
+    → ◌≡◌ {A = Sought} (record { at = at; low = s.low; met = met; high = s.high }) s
 made s at met ea em = λ i. record { at = sym ea i; low = s.low; met = sym em i; high = s.high }
 
 pub returns-then-meets : goal.returns-then-meets
@@ -17,7 +18,8 @@ returns-then-meets c =
     let i = c.loop-place.place in
     let es = c.args.node.now.entries in
     let e = c.entry_at-entry.result in
-    let there : slice_get es i ≡ Some e = ap (slice_get es) (let s : i ≡ i + 1 - 1 = omega arith in s) ∙ c.entry_at-entry.ensures in
+    let there : slice_get es i ≡ Some e = ap (slice_get es) (let s : i ≡ i + 1 - 1 = omega arith in s)
+    ∙ c.entry_at-entry.ensures in
     let meets : has_asked_key c.args.ask.now e ≡ true = grind (arith, c.meets.ensures, c.if-meets.true) in
     let inv = c.loop-place.invariant in
     sym (inv.on ∙ seek-meets c.args.ask.now c.loop-place.sought.low c.loop-place.sought.high es i e there meets)
@@ -27,21 +29,30 @@ returns-then-goes_left c =
     let i = c.loop-place.place in
     let es = c.args.node.now.entries in
     let e = c.entry_at-entry.result in
-    let there : slice_get es i ≡ Some e = ap (slice_get es) (let s : i ≡ i + 1 - 1 = omega arith in s) ∙ c.entry_at-entry.ensures in
+    let there : slice_get es i ≡ Some e = ap (slice_get es) (let s : i ≡ i + 1 - 1 = omega arith in s)
+    ∙ c.entry_at-entry.ensures in
     let meets : has_asked_key c.args.ask.now e ≡ false = grind (arith, c.meets.ensures, c.if-meets.false) in
     let left : is_left c.args.ask.now e ≡ true = grind (arith, c.goes_left.ensures, c.if-goes_left.true) in
     let inv = c.loop-place.invariant in
-    let parts : ◌≡◌ {A = Sought} (record { at = c.loop-place.sought.at; low = c.loop-place.sought.low; met = c.loop-place.sought.met; high = Some e })
+    let parts : ◌≡◌ {A = Sought}
+    (record {
+      at = c.loop-place.sought.at;
+      low = c.loop-place.sought.low;
+      met = c.loop-place.sought.met;
+      high = Some e;
+    })
     (record { at = Between i; low = c.loop-place.sought.low; met = None; high = Some e }) =
     (λ j. record { at = inv.place j; low = c.loop-place.sought.low; met = inv.met j; high = Some e }) in
-    parts ∙ sym (inv.on ∙ seek-stops c.args.ask.now c.loop-place.sought.low c.loop-place.sought.high es i e there meets left)
+    parts ∙ sym (inv.on ∙ seek-stops c.args.ask.now c.loop-place.sought.low c.loop-place.sought.high es i e there meets
+    left)
 
 pub loop-place-preserved : goal.loop-place-preserved
 loop-place-preserved c =
     let i = c.loop-place.place in
     let es = c.args.node.now.entries in
     let e = c.entry_at-entry.result in
-    let there : slice_get es i ≡ Some e = ap (slice_get es) (let s : i ≡ i + 1 - 1 = omega arith in s) ∙ c.entry_at-entry.ensures in
+    let there : slice_get es i ≡ Some e = ap (slice_get es) (let s : i ≡ i + 1 - 1 = omega arith in s)
+    ∙ c.entry_at-entry.ensures in
     let meets : has_asked_key c.args.ask.now e ≡ false = grind (arith, c.meets.ensures, c.if-meets.false) in
     let left : is_left c.args.ask.now e ≡ false = grind (arith, c.goes_left.ensures, c.if-goes_left.false) in
     let inv = c.loop-place.invariant in
@@ -55,5 +66,6 @@ pub returns : goal.returns
 returns c =
     let inv = c.loop-place.invariant in
     let s = c.loop-place.sought in
-    sym (inv.on ∙ seek-ends c.args.ask.now s.low s.high c.args.node.now.entries c.loop-place.place (omega (arith, c.loop-place-test.false, c.keys-place-end.ensures.count))
+    sym (inv.on ∙ seek-ends c.args.ask.now s.low s.high c.args.node.now.entries c.loop-place.place
+    (omega (arith, c.loop-place-test.false, c.keys-place-end.ensures.count))
     ∙ made s (Between c.loop-place.place) None inv.place inv.met)

@@ -6,7 +6,8 @@ use Rattle.tw_rbtree.proofs.seeking.seek.Given as goal
 
 abbrev pub invariant-loop-place : goal.invariant-loop-place
 invariant-loop-place l = record {
-  on : seek l.ask 0 l.low l.high l.node.entries ≡ seek l.ask l.place l.sought.low l.sought.high (drop l.place l.node.entries);
+  on : seek l.ask 0 l.low l.high l.node.entries ≡ seek l.ask l.place l.sought.low l.sought.high
+      (drop l.place l.node.entries);
   place : l.sought.at ≡ Between l.place;
   met : l.sought.met ≡ None;
 }

@@ -3,4 +3,5 @@ use Rattle.tw_reachcmd.proofs.accusing.made.Goals as goal
 
 pub returns-in-Ok : goal.returns-in-Ok
 returns-in-Ok c =
-    written_parts c.args.one c.args.other c.args.between c.in-Ok.evidence c.written.result c.requires c.in-Ok.ensures.accused c.in-Ok.ensures.complete c.written.ensures
+    written_parts c.args.one c.args.other c.args.between c.in-Ok.evidence c.written.result c.requires
+    c.in-Ok.ensures.accused c.in-Ok.ensures.complete c.written.ensures

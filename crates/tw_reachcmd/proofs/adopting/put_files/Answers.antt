@@ -17,9 +17,11 @@ loop-file-preserved g c =
     let file : List ℕ = c.as_str.result.now in
     let bytes : List ℕ = c.in_ok-bytes.bytes.items in
     let there : IsThere told file = subst (λ t. IsThere t file) same_told c.in_ok-bytes.ensures.there in
-    let read : IsReadTo told file FILE_READ bytes = subst (λ t. IsReadTo t file FILE_READ bytes) same_told c.in_ok-bytes.ensures.read in
+    let read : IsReadTo told file FILE_READ bytes = subst (λ t. IsReadTo t file FILE_READ bytes) same_told
+    c.in_ok-bytes.ensures.read in
     let files : List (List ℕ) = take c.loop-file.file-index c.args.files.now in
-    let more : take (c.loop-file.file-index + 1) c.args.files.now ≡ files ++ file ∷ [] = grind (arith, common_steps, take_more) in
+    let more : take (c.loop-file.file-index + 1) c.args.files.now ≡ files ++ file ∷ [] =
+    grind (arith, common_steps, take_more) in
     record {
       kept = c.in_ok-bytes.ensures.kept ∙ c.loop-file.invariant.kept;
       same_names = λ other. (
@@ -28,13 +30,16 @@ loop-file-preserved g c =
       );
       later = omega (arith, c.in_ok-bytes.ensures.later, c.loop-file.invariant.later);
       there =
-          subst (λ fs. Each (IsThere told) fs) (sym more) (Each-append (IsThere told) files (file ∷ []) c.loop-file.invariant.there (there, tt));
+          subst (λ fs. Each (IsThere told) fs) (sym more) (Each-append (IsThere told) files (file ∷ [])
+          c.loop-file.invariant.there (there, tt));
       read = λ before begun.
           let grown : List (List ℕ) = c.loop-file.proofs ++ bytes ∷ [] in
-          let all : c.push.new.self ≡ grown = c.in_ok-push.ensures.ok ∙ ap (λ b. c.loop-file.proofs ++ b ∷ []) c.from_vec.ensures in
+          let all : c.push.new.self ≡ grown = c.in_ok-push.ensures.ok ∙ ap (λ b. c.loop-file.proofs ++ b ∷ [])
+          c.from_vec.ensures in
           let names : before ++ take (c.loop-file.file-index + 1) c.args.files.now ≡ (before ++ files) ++ file ∷ [] =
           ap (λ fs. before ++ fs) more ∙ sym (append_assoc before files (file ∷ [])) in
           subst (λ fs. AreReadTo told FILE_READ fs c.push.new.self) (sym names)
           (subst (λ ps. AreReadTo told FILE_READ ((before ++ files) ++ file ∷ []) ps) (sym all)
-          (read-snoc told FILE_READ (before ++ files) c.loop-file.proofs file bytes (c.loop-file.invariant.read before begun) read));
+          (read-snoc told FILE_READ (before ++ files) c.loop-file.proofs file bytes
+          (c.loop-file.invariant.read before begun) read));
     }

@@ -12,8 +12,10 @@ put_files-requires g c =
     (λ other may. (c.read_all.ensures.same_names other).1 may) c.requires.more
 
 pub returns-in-Ok-clause-there : goal.returns-in-Ok-clause-there
-returns-in-Ok-clause-there g c =
-    (c.in_ok-bytes.ensures.there, subst (λ t. Each (IsThere t) c.args.more.now) c.in_ok-bytes.ensures.kept c.in-Ok.ensures.there)
+returns-in-Ok-clause-there g c = (
+  c.in_ok-bytes.ensures.there,
+  subst (λ t. Each (IsThere t) c.args.more.now) c.in_ok-bytes.ensures.kept c.in-Ok.ensures.there,
+)
 
 pub returns-in-Ok-clause-read : goal.returns-in-Ok-clause-read
 returns-in-Ok-clause-read g c =
@@ -23,4 +25,5 @@ returns-in-Ok-clause-read g c =
     subst (λ t. AreReadTo t FILE_READ (c.args.proof.now ∷ c.args.more.now) c.put_files.new.proofs) same
     (c.in-Ok.ensures.read (c.args.proof.now ∷ [])
     (subst (λ ps. AreReadTo now FILE_READ (c.args.proof.now ∷ []) ps) (sym c.in_ok-proofs.ensures)
-    (subst (λ t. AreReadTo t FILE_READ (c.args.proof.now ∷ []) (c.in_ok-bytes.bytes.items ∷ [])) (sym same) (c.in_ok-bytes.ensures.read, tt))))
+    (subst (λ t. AreReadTo t FILE_READ (c.args.proof.now ∷ []) (c.in_ok-bytes.bytes.items ∷ [])) (sym same)
+    (c.in_ok-bytes.ensures.read, tt))))

@@ -8,5 +8,6 @@ pub returns-in_ok-held_against-in-Ok : goal.returns-in_ok-held_against-in-Ok
 returns-in_ok-held_against-in-Ok c =
     let audited = c.in_ok-held_against-in-Ok in (
       c.in-Ok.ensures.histories.1,
-      subst (λ hs. IsAudit sha256 hs c.args.anchors.now c.args.judged.bytes.items (finding_answer audited.field-0)) c.in-Ok.ensures.histories.0 audited.ensures,
+      subst (λ hs. IsAudit sha256 hs c.args.anchors.now c.args.judged.bytes.items (finding_answer audited.field-0))
+          c.in-Ok.ensures.histories.0 audited.ensures,
     )

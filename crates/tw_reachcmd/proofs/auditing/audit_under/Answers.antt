@@ -11,16 +11,21 @@ use Rattle.tw_reachcmd.proofs.auditing.audit_under.Goals as goal
 pub returns-in-Ok : goal.returns-in-Ok
 returns-in-Ok g c =
     let judged = c.in_ok-judged in
-    under_of (asked (g.I.Inputs.told c.args.inputs.now) (g.I.Inputs.faults c.args.inputs.now) (g.I.Inputs.faults c.read_family.new.inputs))
-    c.args.proof.now c.args.anchors.now c.args.histories.now judged.judged.bytes.items c.in-Ok.family c.audit_read.result judged.ensures.there
+    under_of (asked (g.I.Inputs.told c.args.inputs.now) (g.I.Inputs.faults c.args.inputs.now)
+    (g.I.Inputs.faults c.read_family.new.inputs))
+    c.args.proof.now c.args.anchors.now c.args.histories.now judged.judged.bytes.items c.in-Ok.family
+    c.audit_read.result judged.ensures.there
     judged.ensures.front (subst (λ t. Each (IsThere t) c.args.histories.now) judged.ensures.kept c.in-Ok.ensures.there)
-    (subst (λ t. AreHistoriesRead t c.args.histories.now c.in-Ok.family) judged.ensures.kept c.in-Ok.ensures.read) c.audit_read.ensures
+    (subst (λ t. AreHistoriesRead t c.args.histories.now c.in-Ok.family) judged.ensures.kept c.in-Ok.ensures.read)
+    c.audit_read.ensures
 
 pub returns-in-Err : goal.returns-in-Err
 returns-in-Err g c =
-    under_failed (asked (g.I.Inputs.told c.args.inputs.now) (g.I.Inputs.faults c.args.inputs.now) (g.I.Inputs.faults c.read_family.new.inputs))
+    under_failed (asked (g.I.Inputs.told c.args.inputs.now) (g.I.Inputs.faults c.args.inputs.now)
+    (g.I.Inputs.faults c.read_family.new.inputs))
     c.args.proof.now c.args.anchors.now c.args.histories.now c.in-Err.fault c.into.result
-    (λ is. Rose-earlier (g.I.Inputs.faults c.args.inputs.now) (g.I.Inputs.faults c.judge_front.new.inputs) (g.I.Inputs.faults c.read_family.new.inputs)
+    (λ is. Rose-earlier (g.I.Inputs.faults c.args.inputs.now) (g.I.Inputs.faults c.judge_front.new.inputs)
+    (g.I.Inputs.faults c.read_family.new.inputs)
     c.in_ok-judged.ensures.later (c.in-Err.ensures.failed (ap Err is))) c.into.ensures
 
 pub read_family-requires : goal.read_family-requires

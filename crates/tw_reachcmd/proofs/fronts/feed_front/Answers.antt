@@ -4,7 +4,8 @@ use Rattle.tw_outside.specs.Files.{TellsBytes}
 use Rattle.tw_reachcmd.specs.Fronts.{IsFedOf}
 use Rattle.tw_reachcmd.proofs.KeptFronts.{far_all, far_broken, fed_of_few, fed_of_nothing, fed_of_told}
 use Rattle.tw_reachcmd.proofs.fronts.feed_front.Goals as goal
-use Rattle.tw_reachcmd.proofs.fronts.feed_front.Goals.{then-came-eq0-via-then-came-eq0, then-came-eq0-via-else-came-eq0+then-broken}
+use Rattle.tw_reachcmd.proofs.fronts.feed_front.Goals.{then-came-eq0-via-then-came-eq0}
+use Rattle.tw_reachcmd.proofs.fronts.feed_front.Goals.{then-came-eq0-via-else-came-eq0+then-broken}
 
 pub loop-came-init : goal.loop-came-init
 loop-came-init g c =
@@ -17,7 +18,8 @@ loop-came-init g c =
       later = omega arith;
       few = omega (arith, none, begun.fed.bytes.ok.0);
       fed =
-          subst (λ (front : List ℕ). IsFedOf told c.args.proof.now c.args.anchors.now begun.fed.verifier front) (sym begun.ensures.bytes)
+          subst (λ (front : List ℕ). IsFedOf told c.args.proof.now c.args.anchors.now begun.fed.verifier front)
+          (sym begun.ensures.bytes)
           (fed_of_nothing told c.args.proof.now c.args.anchors.now begun.fed.verifier begun.ensures.verifier);
     }
 
@@ -28,8 +30,10 @@ returns-then-came-eq0-clause-front g c =
     let after = c.feed.new.self in
     let count : ℕ = length before.bytes.items in
     let front =
-    fed_of_told (g.I.Inputs.told c.loop-came.inputs) told c.args.proof.now c.args.anchors.now before.verifier after.verifier
-    before.bytes.items after.bytes.items c.loop-came.invariant.kept (c.in-Ok.ensures.fed c.args.anchors.now) c.loop-came.invariant.fed in
+    fed_of_told (g.I.Inputs.told c.loop-came.inputs) told c.args.proof.now c.args.anchors.now before.verifier
+    after.verifier
+    before.bytes.items after.bytes.items c.loop-came.invariant.kept (c.in-Ok.ensures.fed c.args.anchors.now)
+    c.loop-came.invariant.fed in
     elim c.then-came-eq0.branch [
       | then-came-eq0-via-then-came-eq0 w ↦
           let none : (bytes : List ℕ) → TellsBytes told c.args.proof.now bytes → length bytes ≤ count =
@@ -37,18 +41,21 @@ returns-then-came-eq0-clause-front g c =
           let end = c.in-Ok.ensures.end (ap Ok w.if-came-eq0.true) bytes
           (subst (λ t. TellsBytes t c.args.proof.now bytes) (sym c.loop-came.invariant.kept) tells) in
           omega (arith, end, before.bytes.ok.0) in
-          let longer : length after.bytes.items ≡ count + c.in-Ok.came = omega (arith, c.in-Ok.ensures.count, before.bytes.ok.0, after.bytes.ok.0) in
+          let longer : length after.bytes.items ≡ count + c.in-Ok.came =
+          omega (arith, c.in-Ok.ensures.count, before.bytes.ok.0, after.bytes.ok.0) in
           let size : length after.bytes.items ≡ count = omega (arith, longer, w.if-came-eq0.true) in
           far_all told c.args.proof.now c.args.anchors.now after.verifier after.bytes.items front count size none
       | then-came-eq0-via-else-came-eq0+then-broken w ↦
           far_broken told c.args.proof.now c.args.anchors.now after.verifier after.bytes.items front
-          (λ pieces fed unspent. (w.broken.ensures.exact c.args.anchors.now false pieces fed unspent).0 w.if-broken.true)
+          (λ pieces fed unspent. (w.broken.ensures.exact c.args.anchors.now false pieces fed unspent).0
+          w.if-broken.true)
     ]
 
 pub returns-then-came-eq0-clause-fed : goal.returns-then-came-eq0-clause-fed
 returns-then-came-eq0-clause-fed g c =
     let front =
-    fed_of_told (g.I.Inputs.told c.loop-came.inputs) (g.I.Inputs.told c.args.inputs.now) c.args.proof.now c.args.anchors.now c.loop-came.fed.verifier
+    fed_of_told (g.I.Inputs.told c.loop-came.inputs) (g.I.Inputs.told c.args.inputs.now) c.args.proof.now
+    c.args.anchors.now c.loop-came.fed.verifier
     c.feed.new.self.verifier c.loop-came.fed.bytes.items c.feed.new.self.bytes.items c.loop-came.invariant.kept
     (c.in-Ok.ensures.fed c.args.anchors.now) c.loop-came.invariant.fed in
     front.fed

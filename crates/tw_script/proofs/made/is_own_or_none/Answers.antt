@@ -11,5 +11,6 @@ returns-in-Ok c = rw (message-spelled c.args.bytes.now c.in-Ok.message c.in-Ok.e
 
 pub returns-in-Err-Malformed : goal.returns-in-Err-Malformed
 returns-in-Err-Malformed c =
-    let nothing = subst (λ (fault : ReadFault). ReadsAs (λ (m : Message). m) message_layout c.args.bytes.now (Err fault)) c.in-Err-Malformed.field-0-is c.in-Err-Malformed.ensures in
+    let nothing = subst (λ (fault : ReadFault). ReadsAs (λ (m : Message). m) message_layout c.args.bytes.now
+    (Err fault)) c.in-Err-Malformed.field-0-is c.in-Err-Malformed.ensures in
     rw (message-none c.args.bytes.now nothing.0) refl

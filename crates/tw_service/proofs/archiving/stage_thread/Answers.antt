@@ -15,7 +15,8 @@ returns-in_err-archive-clause-page g c = λ ps list.
     let root = c.args.root.now in
     let t = c.args.thread.now in
     let r = c.in_err-archive.field-0.0 in
-    if_err (ArchivesAs g.H.Hasher.dig ps root t c.args.time) c.from_residual.result r c.from_residual.ensures.1 (room_archives g.H.Hasher.dig ps root t c.args.time r (c.in_err-archive.ensures.adds.answer ps list))
+    if_err (ArchivesAs g.H.Hasher.dig ps root t c.args.time) c.from_residual.result r c.from_residual.ensures.1
+    (room_archives g.H.Hasher.dig ps root t c.args.time r (c.in_err-archive.ensures.adds.answer ps list))
 
 pub returns-in_err-head-clause-page : goal.returns-in_err-head-clause-page
 returns-in_err-head-clause-page g c = λ ps list.
@@ -23,8 +24,10 @@ returns-in_err-head-clause-page g c = λ ps list.
     let t = c.args.thread.now in
     let fault = c.in_err-head.field-0.0 in
     let more = c.in_ok-archive.ensures.adds.kept.list_grows ps list in
-    if_err (ArchivesAs g.H.Hasher.dig ps root t c.args.time) c.from_residual-in_err-head.result _ c.from_residual-in_err-head.ensures.1
-    (step_archives g.H.Hasher.dig ps root t c.args.time more.0 c.in_ok-archive.archive (c.in_ok-archive.ensures.adds.answer ps list) fault (c.in_err-head.ensures.adds.answer (ps ++ more.0) more.1))
+    if_err (ArchivesAs g.H.Hasher.dig ps root t c.args.time) c.from_residual-in_err-head.result _
+    c.from_residual-in_err-head.ensures.1
+    (step_archives g.H.Hasher.dig ps root t c.args.time more.0 c.in_ok-archive.archive
+    (c.in_ok-archive.ensures.adds.answer ps list) fault (c.in_err-head.ensures.adds.answer (ps ++ more.0) more.1))
 
 pub returns-clause-staged : goal.returns-clause-staged
 returns-clause-staged g c = λ ps list.
@@ -40,8 +43,12 @@ returns-clause-staged g c = λ ps list.
       few = (let sum = length-append ps more.0 in omega (arith, before, now, few, sum));
       put = more.2;
       tree = λ named below old stands.
-          let grown = c.in_ok-archive.ensures.inserted ps list named (omega (arith, below, before)) old stands in
-          (grown.1, subst (λ (qs : Image). StandsWith dig (HasNamed named) qs archive grown.1) (one_list (sym grown.2 ∙ more.1)) grown.3, grown.4);
+          let grown = c.in_ok-archive.ensures.inserted ps list named (omega (arith, below, before)) old stands in (
+            grown.1,
+            subst (λ (qs : Image). StandsWith dig (HasNamed named) qs archive grown.1) (one_list (sym grown.2 ∙ more.1))
+                grown.3,
+            grown.4,
+          );
       room = c.in_ok-archive.ensures.adds.answer ps list;
       pages = own.0;
       told = own.1;

@@ -27,14 +27,19 @@ returns-in_err-tree g c =
     record {
       reads = record {
         answer = λ ps told.
-            subst (AnswersOr service_refusals (λ (b : List ℕ). b) result) (sym (high-told dig ps c.args.head.now step peer top name info c.ask_first.result (before.answer ps told) c.ask_first.ensures))
-            (handed-refuses (λ tree. Is (Ok (high_bytes (high_with name step peer top info tree)))) (λ (b : List ℕ). b) result fault (tree_shown dig ps info.archive c.ask_first.result) handed reads.own
+            subst (AnswersOr service_refusals (λ (b : List ℕ). b) result)
+            (sym (high-told dig ps c.args.head.now step peer top name info c.ask_first.result (before.answer ps told)
+            c.ask_first.ensures))
+            (handed-refuses (λ tree. Is (Ok (high_bytes (high_with name step peer top info tree)))) (λ (b : List ℕ). b)
+            result fault (tree_shown dig ps info.archive c.ask_first.result) handed reads.own
             (reads.answer ps (before.kept.list_kept ∙ told)));
         own = handed-fault result fault handed reads.own;
-        kept = only_reads_on g.P.Pages.view g.P.Pages.same _ _ _ _ _ _ g.met.P.Pages.same_on (λ good. refl) (λ good. sym (handed-tells result fault handed) ∙ good) before.kept reads.kept;
+        kept = only_reads_on g.P.Pages.view g.P.Pages.same _ _ _ _ _ _ g.met.P.Pages.same_on (λ good. refl)
+            (λ good. sym (handed-tells result fault handed) ∙ good) before.kept reads.kept;
         faults = record {
           later = omega (arith, before.faults.later, reads.faults.later);
-          rose = λ failed. let rose = reads.faults.rose (sym (handed-tells result fault handed) ∙ failed) in omega (arith, before.faults.later, rose);
+          rose = λ failed. let rose = reads.faults.rose (sym (handed-tells result fault handed) ∙ failed) in
+              omega (arith, before.faults.later, rose);
         };
       };
     }
@@ -53,11 +58,15 @@ returns g c =
     record {
       reads = record {
         answer = λ ps told.
-            high-told dig ps c.args.head.now step peer top name info c.ask_first.result (before.answer ps told) c.ask_first.ensures
-            ∙ is_on (tree_shown dig ps info.archive c.ask_first.result) (λ tree. Is (Ok (high_bytes (high_with name step peer top info tree)))) tree (reads.answer ps (before.kept.list_kept ∙ told))
+            high-told dig ps c.args.head.now step peer top name info c.ask_first.result (before.answer ps told)
+            c.ask_first.ensures
+            ∙ is_on (tree_shown dig ps info.archive c.ask_first.result)
+            (λ tree. Is (Ok (high_bytes (high_with name step peer top info tree)))) tree
+            (reads.answer ps (before.kept.list_kept ∙ told))
             ∙ ap (λ (b : List ℕ). Is (Ok b)) (sym c.in_ok-bytes.ensures.bytes);
         own = tt;
-        kept = only_reads_on g.P.Pages.view g.P.Pages.same _ _ _ _ _ _ g.met.P.Pages.same_on (λ good. refl) (λ good. refl) before.kept reads.kept;
+        kept = only_reads_on g.P.Pages.view g.P.Pages.same _ _ _ _ _ _ g.met.P.Pages.same_on (λ good. refl)
+            (λ good. refl) before.kept reads.kept;
         faults = record { later = omega (arith, before.faults.later, reads.faults.later); rose = λ failed. cc };
       };
     }

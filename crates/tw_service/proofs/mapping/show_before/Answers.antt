@@ -25,14 +25,18 @@ returns-in_err-tree g c =
       reads = record {
         answer = λ ps told.
             subst (AnswersAs service_refusals (λ (shown : Option LowPart). shown) result)
-            (sym (before-told dig ps c.args.head.now c.args.step c.args.peer.now c.args.top proof c.ask_last.result more (before.answer ps told) c.ask_last.ensures))
-            (handed-says (λ tree. Is (Some (mapped_low_part proof tree))) (λ (shown : Option LowPart). shown) result fault (tree_shown dig ps proof.info.archive c.ask_last.result) handed
+            (sym (before-told dig ps c.args.head.now c.args.step c.args.peer.now c.args.top proof c.ask_last.result more
+            (before.answer ps told) c.ask_last.ensures))
+            (handed-says (λ tree. Is (Some (mapped_low_part proof tree))) (λ (shown : Option LowPart). shown) result
+            fault (tree_shown dig ps proof.info.archive c.ask_last.result) handed
             (reads.answer ps (before.kept.list_kept ∙ told)));
         own = handed-fault result fault handed reads.own;
-        kept = only_reads_on g.P.Pages.view g.P.Pages.same _ _ _ _ _ _ g.met.P.Pages.same_on (λ good. refl) (λ good. sym (handed-tells result fault handed) ∙ good) before.kept reads.kept;
+        kept = only_reads_on g.P.Pages.view g.P.Pages.same _ _ _ _ _ _ g.met.P.Pages.same_on (λ good. refl)
+            (λ good. sym (handed-tells result fault handed) ∙ good) before.kept reads.kept;
         faults = record {
           later = omega (arith, before.faults.later, reads.faults.later);
-          rose = λ failed. let rose = reads.faults.rose (sym (handed-tells result fault handed) ∙ failed) in omega (arith, before.faults.later, rose);
+          rose = λ failed. let rose = reads.faults.rose (sym (handed-tells result fault handed) ∙ failed) in
+              omega (arith, before.faults.later, rose);
         };
       };
     }
@@ -48,11 +52,14 @@ returns g c =
     record {
       reads = record {
         answer = λ ps told.
-            before-told dig ps c.args.head.now c.args.step c.args.peer.now c.args.top proof c.ask_last.result more (before.answer ps told) c.ask_last.ensures
-            ∙ is_on (tree_shown dig ps proof.info.archive c.ask_last.result) (λ tree. Is (Some (mapped_low_part proof tree))) tree (reads.answer ps (before.kept.list_kept ∙ told))
+            before-told dig ps c.args.head.now c.args.step c.args.peer.now c.args.top proof c.ask_last.result more
+            (before.answer ps told) c.ask_last.ensures
+            ∙ is_on (tree_shown dig ps proof.info.archive c.ask_last.result)
+            (λ tree. Is (Some (mapped_low_part proof tree))) tree (reads.answer ps (before.kept.list_kept ∙ told))
             ∙ ap (λ (part : LowPart). Is (Some part)) (sym c.part_of.ensures);
         own = tt;
-        kept = only_reads_on g.P.Pages.view g.P.Pages.same _ _ _ _ _ _ g.met.P.Pages.same_on (λ good. refl) (λ good. refl) before.kept reads.kept;
+        kept = only_reads_on g.P.Pages.view g.P.Pages.same _ _ _ _ _ _ g.met.P.Pages.same_on (λ good. refl)
+            (λ good. refl) before.kept reads.kept;
         faults = record { later = omega (arith, before.faults.later, reads.faults.later); rose = λ failed. cc };
       };
     }

@@ -20,7 +20,8 @@ returns-clause-adds g c =
     record {
       answer = λ ps told.
           let labels : new_labels dig ps head new links ≡ c.as_slice-labels.result.now =
-          (λ j. page_labels dig (head.step + 1) (sym c.step_datum-datum.ensures.label j) (told_so j) (length (told_so j))) ∙ sym c.labels_of-labelled.ensures.labels ∙ sym c.as_slice-labels.ensures.value in
+          (λ j. page_labels dig (head.step + 1) (sym c.step_datum-datum.ensures.label j) (told_so j)
+          (length (told_so j))) ∙ sym c.labels_of-labelled.ensures.labels ∙ sym c.as_slice-labels.ensures.value in
           let added = put.answer ps (reads.kept.list_kept ∙ told) in (
             added.0,
             added.1,

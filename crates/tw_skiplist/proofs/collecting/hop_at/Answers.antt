@@ -10,4 +10,5 @@ returns-clause-others g c =
     let dig = g.H.Hasher.dig in
     let page = c.in_ok-page.page in
     ap (λ (l : Link). length l.others) c.in_ok-link.ensures
-    ∙ length-other_labels dig c.args.at (page_datum dig page.fields) page.links.items c.args.level (top_level c.args.at) c.in_ok-page.ensures.link_count c.requires.level
+    ∙ length-other_labels dig c.args.at (page_datum dig page.fields) page.links.items c.args.level (top_level c.args.at)
+    c.in_ok-page.ensures.link_count c.requires.level

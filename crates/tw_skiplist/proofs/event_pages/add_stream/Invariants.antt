@@ -6,7 +6,8 @@ use Rattle.tw_skiplist.proofs.event_pages.add_stream.Given as goal
 
 abbrev pub invariant-loop-number : goal.invariant-loop-number
 invariant-loop-number g l = record {
-  reads : ReadSoFar g.P.Pages.view g.P.Pages.same l.initial.pages l.pages (λ ps. pieces_from ps l.at (piece_count l.at.stream.size) 0 l.initial.into)
+  reads : ReadSoFar g.P.Pages.view g.P.Pages.same l.initial.pages l.pages
+      (λ ps. pieces_from ps l.at (piece_count l.at.stream.size) 0 l.initial.into)
       (λ ps. pieces_from ps l.at (piece_count l.at.stream.size - l.number) l.number l.into);
   page : l.at.stream.page + l.number < 2 ^ 64;
   last : l.last ≡ last_event_page l.at l.number;

@@ -9,5 +9,7 @@ returns-clause-piece c =
     let from = MOST_PIECE_BYTES * c.args.number in
     let rest = drop from c.args.stream.now in
     let size : length c.args.stream.now - from ≡ length rest = omega (arith, length-drop from c.args.stream.now) in
-    let whole : take (length c.args.stream.now - from) rest ≡ rest = take_all (length c.args.stream.now - from) rest (omega (arith, size)) in
-    (λ i. take (c.min.ensures i) (whole i)) ∙ taken rest (length (take (length c.args.stream.now - from) rest)) (ap length whole)
+    let whole : take (length c.args.stream.now - from) rest ≡ rest = take_all (length c.args.stream.now - from) rest
+    (omega (arith, size)) in
+    (λ i. take (c.min.ensures i) (whole i)) ∙ taken rest (length (take (length c.args.stream.now - from) rest))
+    (ap length whole)

@@ -7,7 +7,8 @@ use Rattle.tw_steppage.specs.declared.limits.TheConstants.{MOST_PIECE_BYTES}
 
 abbrev pub invariant-loop-count : goal.invariant-loop-count
 invariant-loop-count g l = record {
-  list : (g.P.Pages.view l.pages).list ≡ option_map (λ ps. ps ++ event_pages l.step l.stream l.count) (g.P.Pages.view l.initial.pages).list;
+  list : (g.P.Pages.view l.pages).list ≡ option_map (λ ps. ps ++ event_pages l.step l.stream l.count)
+      (g.P.Pages.view l.initial.pages).list;
   used : (g.P.Pages.view l.pages).used ≡ (g.P.Pages.view l.initial.pages).used + l.count;
   few : l.count ≤ piece_count (length l.stream);
   same : g.P.Pages.same l.initial.pages l.pages;

@@ -19,6 +19,8 @@ loop-event-preserved c =
 pub returns-clause-size : goal.returns-clause-size
 returns-clause-size c =
     let items = c.as_slice-items.result.now in
-    let whole : take c.loop-event.event-index items ≡ items = take_all c.loop-event.event-index items (omega (arith, c.loop-event-test.false)) in
-    let is : c.loop-event.bytes ≡ stream c.args.events.now = c.loop-event.invariant ∙ ap stream whole ∙ ap stream c.as_slice-items.ensures in
+    let whole : take c.loop-event.event-index items ≡ items = take_all c.loop-event.event-index items
+    (omega (arith, c.loop-event-test.false)) in
+    let is : c.loop-event.bytes ≡ stream c.args.events.now = c.loop-event.invariant ∙ ap stream whole ∙ ap stream
+    c.as_slice-items.ensures in
     omega (arith, ap length is, length-stream c.args.events.now, c.requires.are.count, c.requires.fit)

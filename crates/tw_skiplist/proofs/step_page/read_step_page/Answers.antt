@@ -22,8 +22,10 @@ returns-in_default-clause-answer c =
     let page = c.args.page in
     let step = c.args.step in
     let bytes = c.args.bytes.now in
-    let none = takes-page (paged_codec step) (step-lawful step) parts bytes _ _ _ c.take_step-read.ensures.takes c.take_step-read.ensures.memory c.in_default.ensures in
-    ap (λ (f : Found (StepFields × List StepRef)). f >>= (λ p. when (keeps_field_rules page p.0 && keeps_link_rules page step p.1 (length p.1)) page p))
+    let none = takes-page (paged_codec step) (step-lawful step) parts bytes _ _ _ c.take_step-read.ensures.takes
+    c.take_step-read.ensures.memory c.in_default.ensures in
+    ap (λ (f : Found (StepFields × List StepRef)). f
+    >>= (λ p. when (keeps_field_rules page p.0 && keeps_link_rules page step p.1 (length p.1)) page p))
     (page-none page (paged_codec step) (step-lawful step) bytes none)
 
 pub returns-then-keeps_rules-clause-answer : goal.returns-then-keeps_rules-clause-answer
@@ -33,18 +35,22 @@ returns-then-keeps_rules-clause-answer c =
     let step = c.args.step in
     let bytes = c.args.bytes.now in
     let p = c.in-Some.found in
-    let found = takes-page (paged_codec step) (step-lawful step) parts bytes _ _ _ c.take_step-read.ensures.takes c.take_step-read.ensures.memory c.in-Some.ensures in
-    is_on (spelled page 4096 (paged_codec step) bytes) (λ p. when (keeps_field_rules page p.0 && keeps_link_rules page step p.1 (length p.1)) page p) (parts p) (page-is page (paged_codec step) (step-lawful step) bytes (parts p) found)
+    let found = takes-page (paged_codec step) (step-lawful step) parts bytes _ _ _ c.take_step-read.ensures.takes
+    c.take_step-read.ensures.memory c.in-Some.ensures in
+    is_on (spelled page 4096 (paged_codec step) bytes) (λ p. when (keeps_field_rules page p.0 && keeps_link_rules page
+    step p.1 (length p.1)) page p) (parts p) (page-is page (paged_codec step) (step-lawful step) bytes (parts p) found)
     ∙ ap (λ (b : Bool). when b page (parts p)) (sym c.if-keeps_rules.ensures)
 
 pub returns-then-keeps_rules-clause-link_count : goal.returns-then-keeps_rules-clause-link_count
 returns-then-keeps_rules-clause-link_count c =
-    let found = takes-page (paged_codec c.args.step) (step-lawful c.args.step) parts c.args.bytes.now _ _ _ c.take_step-read.ensures.takes c.take_step-read.ensures.memory c.in-Some.ensures in
+    let found = takes-page (paged_codec c.args.step) (step-lawful c.args.step) parts c.args.bytes.now _ _ _
+    c.take_step-read.ensures.takes c.take_step-read.ensures.memory c.in-Some.ensures in
     links-count c.args.step c.in-Some.found.fields c.in-Some.found.links.items found.fits
 
 pub returns-then-keeps_rules-clause-ranges : goal.returns-then-keeps_rules-clause-ranges
 returns-then-keeps_rules-clause-ranges c =
-    let found = takes-page (paged_codec c.args.step) (step-lawful c.args.step) parts c.args.bytes.now _ _ _ c.take_step-read.ensures.takes c.take_step-read.ensures.memory c.in-Some.ensures in
+    let found = takes-page (paged_codec c.args.step) (step-lawful c.args.step) parts c.args.bytes.now _ _ _
+    c.take_step-read.ensures.takes c.take_step-read.ensures.memory c.in-Some.ensures in
     in-ranges c.args.step c.in-Some.found.fields c.in-Some.found.links.items found.fits
 
 pub returns-else-keeps_rules-clause-answer : goal.returns-else-keeps_rules-clause-answer
@@ -54,6 +60,8 @@ returns-else-keeps_rules-clause-answer c =
     let step = c.args.step in
     let bytes = c.args.bytes.now in
     let p = c.in-Some.found in
-    let found = takes-page (paged_codec step) (step-lawful step) parts bytes _ _ _ c.take_step-read.ensures.takes c.take_step-read.ensures.memory c.in-Some.ensures in
-    is_on (spelled page 4096 (paged_codec step) bytes) (λ p. when (keeps_field_rules page p.0 && keeps_link_rules page step p.1 (length p.1)) page p) (parts p) (page-is page (paged_codec step) (step-lawful step) bytes (parts p) found)
+    let found = takes-page (paged_codec step) (step-lawful step) parts bytes _ _ _ c.take_step-read.ensures.takes
+    c.take_step-read.ensures.memory c.in-Some.ensures in
+    is_on (spelled page 4096 (paged_codec step) bytes) (λ p. when (keeps_field_rules page p.0 && keeps_link_rules page
+    step p.1 (length p.1)) page p) (parts p) (page-is page (paged_codec step) (step-lawful step) bytes (parts p) found)
     ∙ ap (λ (b : Bool). when b page (parts p)) (sym c.if-keeps_rules.ensures)

@@ -14,7 +14,8 @@ returns g c =
       reads = record {
         answer = λ ps told.
             subst (AnswersAs list_faults (λ _. c.copy_from.new.into) c.copy_from.result)
-            ((λ i. copied ps (c.events_at.ensures i) (c.in_ok-put_last_bytes.ensures.ok i)) ∙ content-copied ps r before c.requires) (reads.answer ps told);
+            ((λ i. copied ps (c.events_at.ensures i) (c.in_ok-put_last_bytes.ensures.ok i)) ∙ content-copied ps r before
+            c.requires) (reads.answer ps told);
         own = reads.own;
         kept = reads.kept;
         faults = reads.faults;

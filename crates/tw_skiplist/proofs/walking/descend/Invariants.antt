@@ -5,7 +5,8 @@ use Rattle.tw_skiplist.proofs.walking.descend.Given as goal
 
 abbrev pub invariant-loop-at : goal.invariant-loop-at
 invariant-loop-at g l = record {
-  reads : ReadSoFar g.P.Pages.view g.P.Pages.same l.initial.pages l.pages (λ ps. walk ps l.first l.from l.to) (λ ps. walk ps l.link l.at l.to);
+  reads : ReadSoFar g.P.Pages.view g.P.Pages.same l.initial.pages l.pages (λ ps. walk ps l.first l.from l.to)
+      (λ ps. walk ps l.link l.at l.to);
   low : l.to ≤ l.at;
   high : l.at ≤ l.from;
 }

@@ -16,7 +16,8 @@ pub returns-clause-existence : goal.returns-clause-existence
 returns-clause-existence g c = λ h step index top p order is. accepted-made g.H.Hasher.dig h step index top p is order
 
 pub returns-clause-within : goal.returns-clause-within
-returns-clause-within g c = λ h step index top p sound order has is. within-made g.H.Hasher.dig h step index top p is sound order has
+returns-clause-within g c = λ h step index top p sound order has is. within-made g.H.Hasher.dig h step index top p is
+    sound order has
 
 pub returns-clause-spelled : goal.returns-clause-spelled
 returns-clause-spelled g c = λ h step index top p sound order has is.

@@ -13,7 +13,8 @@ returns-clause-opening c = λ step. let l = opening-lawful 0 step (lit≤ tt) in
 
 pub returns-clause-opening_labels : goal.returns-clause-opening_labels
 unfolding opening_codec seen pair labels_codec many bytes_codec
-returns-clause-opening_labels c = λ step bytes o s. (spelled-fits _ (opening-lawful 0 step (lit≤ tt)) bytes o s).1.1.1.1.0
+returns-clause-opening_labels c = λ step bytes o s. (spelled-fits _ (opening-lawful 0 step (lit≤ tt)) bytes o
+    s).1.1.1.1.0
 
 pub returns-clause-path : goal.returns-clause-path
 unfolding path_bytes path_codec each
@@ -21,10 +22,14 @@ returns-clause-path c = λ from to. (unambiguous _ (path-lawful from to), writte
 
 pub returns-clause-path_shape : goal.returns-clause-path_shape
 unfolding path_codec each
-returns-clause-path_shape c = λ from to bytes links s. path-shape links from to (spelled-fits (path_codec from to) (path-lawful from to) bytes links s)
+returns-clause-path_shape c = λ from to bytes links s. path-shape links from to
+    (spelled-fits (path_codec from to) (path-lawful from to) bytes links s)
 
 pub returns-clause-path_size : goal.returns-clause-path_size
-returns-clause-path_size c = λ from to bytes links small s. omega (arith, word-size (path_codec from to) (path-lawful from to) 53760 (path-most from to (omega (arith, small))) bytes links s)
+returns-clause-path_size c = λ from to bytes links small s. omega (
+  arith,
+  word-size (path_codec from to) (path-lawful from to) 53760 (path-most from to (omega (arith, small))) bytes links s,
+)
 
 pub returns-clause-existence : goal.returns-clause-existence
 returns-clause-existence c = unambiguous existence_codec existence-lawful
@@ -33,4 +38,5 @@ pub returns-clause-existence_size : goal.returns-clause-existence_size
 returns-clause-existence_size c = word-size existence_codec existence-lawful 56505 existence-most
 
 pub returns-clause-existence_shape : goal.returns-clause-existence_shape
-returns-clause-existence_shape c = λ bytes p s. existence-shape p (spelled-fits existence_codec existence-lawful bytes p s)
+returns-clause-existence_shape c = λ bytes p s. existence-shape p (spelled-fits existence_codec existence-lawful bytes p
+    s)

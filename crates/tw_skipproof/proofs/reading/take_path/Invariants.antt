@@ -9,7 +9,8 @@ abbrev pub invariant-loop-step : goal.invariant-loop-step
 invariant-loop-step l = record {
   within : l.at ≤ length l.bytes;
   small : l.step ≤ LAST_STEP;
-  taken : EachTaken link_bytes link_codec l.bytes l.fn.at (greedy_steps l.from l.to) (greedy_steps l.step l.to) l.links l.at;
+  taken : EachTaken link_bytes link_codec l.bytes l.fn.at (greedy_steps l.from l.to) (greedy_steps l.step l.to) l.links
+      l.at;
 }
 
 abbrev pub decreases-loop-step : goal.decreases-loop-step

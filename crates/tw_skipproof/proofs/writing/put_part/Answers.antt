@@ -10,4 +10,5 @@ pub returns-clause-fits : goal.returns-clause-fits
 unfolding name_codec
 returns-clause-fits c =
     let Q : List Link → Type 0 = Each FitsAsLink in
-    part-fits c.args.part.now c.in_ok-put_name.ensures.puts.1 (subst Q c.as_slice.ensures c.in_ok-put_links.ensures.fits) c.in_ok-put_opening.ensures.fits
+    part-fits c.args.part.now c.in_ok-put_name.ensures.puts.1
+    (subst Q c.as_slice.ensures c.in_ok-put_links.ensures.fits) c.in_ok-put_opening.ensures.fits

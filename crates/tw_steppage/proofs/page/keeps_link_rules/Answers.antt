@@ -1,4 +1,5 @@
-use Rattle.std.proofs.Common.{◌≡◌, ◌+◌, ◌-◌, ◌^◌, ◌<◌, ℕ, suc, zero, List, [], ◌∷◌, get_or, refl, ap, sym, ◌∙◌, arith, false, true}
+use Rattle.std.proofs.Common.{◌≡◌, ◌+◌, ◌-◌, ◌^◌, ◌<◌, ℕ, suc, zero, List, [], ◌∷◌, get_or, refl, ap, sym, ◌∙◌, arith}
+use Rattle.std.proofs.Common.{false, true}
 use Rattle.std.specs.Prelude.{◌==◌, length}
 use Rattle.tw_steppage.specs.declared.link.StepRef.{StepRef}
 use Rattle.tw_steppage.specs.StepPages.{keeps_link_rules, lies_below, link_at_level, no_ref}
@@ -22,11 +23,14 @@ returns-then-not-lies_below c =
     let level = c.loop-level.level in
     let more : level + 1 + (length links - (level + 1)) ≡ length links = omega (arith, c.loop-level-test.true) in
     let own : lies_below (step == 2 ^ level) (link_at_level links level).page page ≡ false =
-    ap (λ (x : StepRef). lies_below (step == 2 ^ level) x.page page) (same_item links level no_ref c.index-links-level.result (omega (arith, c.loop-level-test.true)))
-    ∙ ap (λ (n : ℕ). lies_below (step == n) (get_or links level c.index-links-level.result).page page) (sym c.power_of_two.ensures) ∙ sym c.if-not-lies_below.ensures in
+    ap (λ (x : StepRef). lies_below (step == 2 ^ level) x.page page)
+    (same_item links level no_ref c.index-links-level.result (omega (arith, c.loop-level-test.true)))
+    ∙ ap (λ (n : ℕ). lies_below (step == n) (get_or links level c.index-links-level.result).page page)
+    (sym c.power_of_two.ensures) ∙ sym c.if-not-lies_below.ensures in
     sym (
     ap (keeps_link_rules page step links) (sym more)
-    ∙ link_rules-no page step links (level + 1) (length links - (level + 1)) (link_rules-more page step links level ∙ and_false (keeps_link_rules page step links level) _ own))
+    ∙ link_rules-no page step links (level + 1) (length links - (level + 1)) (link_rules-more page step links level
+    ∙ and_false (keeps_link_rules page step links level) _ own))
 
 pub loop-level-preserved : goal.loop-level-preserved
 loop-level-preserved c =
@@ -35,6 +39,9 @@ loop-level-preserved c =
     let links = c.args.links.now in
     let level = c.loop-level.level in
     let own : lies_below (step == 2 ^ level) (link_at_level links level).page page ≡ true =
-    ap (λ (x : StepRef). lies_below (step == 2 ^ level) x.page page) (same_item links level no_ref c.index-links-level.result (omega (arith, c.loop-level-test.true)))
-    ∙ ap (λ (n : ℕ). lies_below (step == n) (get_or links level c.index-links-level.result).page page) (sym c.power_of_two.ensures) ∙ sym c.if-not-lies_below.ensures in
-    link_rules-more page step links level ∙ both_true (keeps_link_rules page step links level) _ c.loop-level.invariant own
+    ap (λ (x : StepRef). lies_below (step == 2 ^ level) x.page page)
+    (same_item links level no_ref c.index-links-level.result (omega (arith, c.loop-level-test.true)))
+    ∙ ap (λ (n : ℕ). lies_below (step == n) (get_or links level c.index-links-level.result).page page)
+    (sym c.power_of_two.ensures) ∙ sym c.if-not-lies_below.ensures in
+    link_rules-more page step links level ∙ both_true (keeps_link_rules page step links level) _ c.loop-level.invariant
+    own

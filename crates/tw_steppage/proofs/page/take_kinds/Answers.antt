@@ -20,11 +20,13 @@ unfolding field_codec
 returns-in_err-kind-clause-takes c =
     let p = err_from_is_err_and c.from_residual.result c.from_residual.ensures.1 in
     rw (p.1, p.2)
-    (takes-no_kind kind_in (number_codec 1 1 4) (step_body_codec c.args.step) parts c.args.bytes.now c.args.at.now c.take_number.new.at c.take_number.new.at _ c.in_err-kind.ensures.takes)
+    (takes-no_kind kind_in (number_codec 1 1 4) (step_body_codec c.args.step) parts c.args.bytes.now c.args.at.now
+    c.take_number.new.at c.take_number.new.at _ c.in_err-kind.ensures.takes)
 
 pub returns-clause-takes : goal.returns-clause-takes
 unfolding field_codec
 returns-clause-takes c =
     let kind = c.in_ok-kind.ensures.takes in
-    takes-kind kind_in (number_codec 1 1 4) (step_body_codec c.args.step) parts c.args.bytes.now c.args.at.now c.take_number.new.at c.take_body.new.at c.in_ok-kind.kind c.take_body.result
+    takes-kind kind_in (number_codec 1 1 4) (step_body_codec c.args.step) parts c.args.bytes.now c.args.at.now
+    c.take_number.new.at c.take_body.new.at c.in_ok-kind.kind c.take_body.result
     kind.0 kind.1 (λ r fits. kinds c.args.step c.in_ok-kind.kind r kind.1 fits) c.take_body.ensures.takes

@@ -8,8 +8,10 @@ use Rattle.tw_steppage.proofs.StepCodecs.{ref-lawful}
 use Rattle.tw_steppage.proofs.page.take_links.Goals as goal
 
 -- one more is left
-one_left : (bytes : List ℕ) (start n i at : ℕ) (xs : List StepRef) → i + 1 ≤ n → ManyTaken ref_codec bytes start n (n - i) xs at → ManyTaken ref_codec bytes start n (suc (n - (i + 1))) xs at
-one_left bytes start n i at xs l t = let P : ℕ → Type 0 = λ left. ManyTaken ref_codec bytes start n left xs at in subst P (let s : n - i ≡ suc (n - (i + 1)) = omega (arith, l) in s) t
+one_left : (bytes : List ℕ) (start n i at : ℕ) (xs : List StepRef) → i + 1 ≤ n → ManyTaken ref_codec bytes start n
+    (n - i) xs at → ManyTaken ref_codec bytes start n (suc (n - (i + 1))) xs at
+one_left bytes start n i at xs l t = let P : ℕ → Type 0 = λ left. ManyTaken ref_codec bytes start n left xs at in
+    subst P (let s : n - i ≡ suc (n - (i + 1)) = omega (arith, l) in s) t
 
 pub take_link-requires : goal.take_link-requires
 take_link-requires c = c.loop-i.invariant.within
@@ -19,33 +21,42 @@ push-requires c = omega (arith, c.loop-i.invariant.room, c.loop-i-test.true, c.r
 
 pub returns-in_err-take_link-clause-takes : goal.returns-in_err-take_link-clause-takes
 returns-in_err-take_link-clause-takes c =
-    let t = one_left c.args.bytes.now c.args.at.now c.args.count c.loop-i._i c.loop-i.at c.loop-i.links.items (omega (arith, c.loop-i-test.true)) c.loop-i.invariant.taken in
+    let t = one_left c.args.bytes.now c.args.at.now c.args.count c.loop-i._i c.loop-i.at c.loop-i.links.items
+    (omega (arith, c.loop-i-test.true)) c.loop-i.invariant.taken in
     let p = err_from_is_err_and c.from_residual.result c.from_residual.ensures.1 in
     rw (p.1, p.2)
-    (many-fails ref_codec ref-lawful _ (λ l. l) (λ (ls : ArrayVec StepRef 40 (Unit {0})). ls.items) c.args.bytes.now c.args.at.now c.loop-i.at c.take_link.new.at c.take_link.new.at c.args.count _ c.loop-i.links.items t c.in_err-take_link.ensures.takes)
+    (many-fails ref_codec ref-lawful _ (λ l. l) (λ (ls : ArrayVec StepRef 40 (Unit {0})). ls.items) c.args.bytes.now
+    c.args.at.now c.loop-i.at c.take_link.new.at c.take_link.new.at c.args.count _ c.loop-i.links.items t
+    c.in_err-take_link.ensures.takes)
 
 pub loop-i-preserved : goal.loop-i-preserved
 loop-i-preserved c =
-    let t = one_left c.args.bytes.now c.args.at.now c.args.count c.loop-i._i c.loop-i.at c.loop-i.links.items (omega (arith, c.loop-i-test.true)) c.loop-i.invariant.taken in
+    let t = one_left c.args.bytes.now c.args.at.now c.args.count c.loop-i._i c.loop-i.at c.loop-i.links.items
+    (omega (arith, c.loop-i-test.true)) c.loop-i.invariant.taken in
     let took = c.in_ok-take_link.ensures.takes in
     record {
       within = took.2;
       room = omega (arith, c.push.ensures.len, c.loop-i.invariant.room);
-      taken = rw c.push.ensures.items (many-more ref_codec ref-lawful c.args.bytes.now c.args.at.now c.loop-i.at c.args.count _ c.loop-i.links.items c.take_link.new.at c.in_ok-take_link.field-0 t took.0 took.1);
+      taken = rw c.push.ensures.items (many-more ref_codec ref-lawful c.args.bytes.now c.args.at.now c.loop-i.at
+          c.args.count _ c.loop-i.links.items c.take_link.new.at c.in_ok-take_link.field-0 t took.0 took.1);
     }
 
 pub returns-clause-takes : goal.returns-clause-takes
 returns-clause-takes c =
-    let P : ℕ → Type 0 = λ left. ManyTaken ref_codec c.args.bytes.now c.args.at.now c.args.count left c.loop-i.links.items c.loop-i.at in
+    let P : ℕ → Type 0 = λ left. ManyTaken ref_codec c.args.bytes.now c.args.at.now c.args.count left
+    c.loop-i.links.items c.loop-i.at in
     let none : c.args.count - c.loop-i._i ≡ 0 = omega (arith, c.loop-i-test.false) in
-    let all = many-ends ref_codec c.args.bytes.now c.args.at.now c.loop-i.at c.args.count c.loop-i.links.items (subst P none c.loop-i.invariant.taken) in
+    let all = many-ends ref_codec c.args.bytes.now c.args.at.now c.loop-i.at c.args.count c.loop-i.links.items
+    (subst P none c.loop-i.invariant.taken) in
     (all.0, all.1, c.loop-i.invariant.within)
 
 pub loop-i-init : goal.loop-i-init
 loop-i-init c =
-    let P : ℕ → Type 0 = λ left. ManyTaken ref_codec c.args.bytes.now c.args.at.now c.args.count left [] c.args.at.now in
+    let P : ℕ → Type 0 = λ left. ManyTaken ref_codec c.args.bytes.now c.args.at.now c.args.count left []
+    c.args.at.now in
     record {
       within = c.requires.within;
       room = ap length c.new-links.ensures;
-      taken = rw c.new-links.ensures (subst P (let s : c.args.count ≡ c.args.count - 0 = omega arith in s) (many-begins ref_codec c.args.bytes.now c.args.at.now c.args.count));
+      taken = rw c.new-links.ensures (subst P (let s : c.args.count ≡ c.args.count - 0 = omega arith in s)
+          (many-begins ref_codec c.args.bytes.now c.args.at.now c.args.count));
     }

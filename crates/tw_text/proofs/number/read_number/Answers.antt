@@ -8,7 +8,8 @@ use Rattle.tw_text.proofs.number.read_number.Goals as goal
 pub returns-in_err-ok-clause-some : goal.returns-in_err-ok-clause-some
 returns-in_err-ok-clause-some c =
     let number : IsTrue (is_number c.args.text.now) = sym c.is_number.ensures ∙ c.if-not-is_number.false in
-    absurd (err_part _ _ _ _ c.from_utf8.ensures.cases (sym c.ok.ensures.value ∙ c.in_err-ok.was) (IsUtf8-is_number _ number))
+    absurd (err_part _ _ _ _ c.from_utf8.ensures.cases (sym c.ok.ensures.value ∙ c.in_err-ok.was)
+    (IsUtf8-is_number _ number))
 
 pub returns-clause-some : goal.returns-clause-some
 returns-clause-some c =
@@ -16,4 +17,5 @@ returns-clause-some c =
     let same = ok_part _ _ _ _ c.from_utf8.ensures.cases (sym c.ok.ensures.value ∙ c.in_ok-ok.was) in
     let parses = subst (λ text. ParsesUnsigned 64 10 text c.parse.result) same.0 c.parse.ensures.value.0 in
     let found = parse-is_number c.args.text.now c.parse.result number parses in
-    subst (λ r. IsSome r ↔ (IsTrue (is_number c.args.text.now) × (word_number c.args.text.now < 2 ^ 64))) (sym c.ok-2.ensures.value) found
+    subst (λ r. IsSome r ↔ (IsTrue (is_number c.args.text.now) × (word_number c.args.text.now < 2 ^ 64)))
+    (sym c.ok-2.ensures.value) found

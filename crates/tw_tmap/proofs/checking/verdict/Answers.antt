@@ -20,12 +20,16 @@ high_judged-of_high-requires-clause-top g c = (high-fields c.args.high.now c.req
 
 pub returns-in-Some : goal.returns-in-Some
 returns-in-Some g c =
-    judged-no g.H.Hasher.dig c.args.anchors.now c.args.low.now c.args.high.now (sym c.fit.ensures ∙ c.if-not-fit.false) c.low_judged-of_low.result.found
-    c.high_judged-of_high.result.found c.low_judged-of_low.result.bound c.high_judged-of_high.result.bound c.low_judged-of_low.ensures.found c.high_judged-of_high.ensures.found
+    judged-no g.H.Hasher.dig c.args.anchors.now c.args.low.now c.args.high.now (sym c.fit.ensures ∙ c.if-not-fit.false)
+    c.low_judged-of_low.result.found
+    c.high_judged-of_high.result.found c.low_judged-of_low.result.bound c.high_judged-of_high.result.bound
+    c.low_judged-of_low.ensures.found c.high_judged-of_high.ensures.found
     c.in-Some.reason (sym c.lower_found.ensures ∙ c.in-Some.is)
 
 pub returns-in-None : goal.returns-in-None
 returns-in-None g c =
-    judged-yes g.H.Hasher.dig c.args.anchors.now c.args.low.now c.args.high.now (sym c.fit.ensures ∙ c.if-not-fit.false) c.low_judged-of_low.result.found
-    c.high_judged-of_high.result.found c.low_judged-of_low.result.bound c.high_judged-of_high.result.bound c.low_judged-of_low.ensures.found c.high_judged-of_high.ensures.found
+    judged-yes g.H.Hasher.dig c.args.anchors.now c.args.low.now c.args.high.now (sym c.fit.ensures ∙ c.if-not-fit.false)
+    c.low_judged-of_low.result.found
+    c.high_judged-of_high.result.found c.low_judged-of_low.result.bound c.high_judged-of_high.result.bound
+    c.low_judged-of_low.ensures.found c.high_judged-of_high.ensures.found
     c.low_judged-of_low.ensures.bound c.high_judged-of_high.ensures.bound (sym c.lower_found.ensures ∙ c.in-None.is)

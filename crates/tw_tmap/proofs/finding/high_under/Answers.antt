@@ -15,8 +15,10 @@ returns-in-None g c =
     let at : Part = high_part c.args.high.now in
     let path : Check = PathOf 1 at (AtAnchor (top_of at)) in
     c.lower.ensures
-    ∙ found-not_held g.H.Hasher.dig c.args.anchors.now None c.with_order-found.result (InOrder at.step at.top) (top_of at) path
-    (Reaches g.H.Hasher.dig at) (passes-is g.H.Hasher.dig c.args.anchors.now path) (c.with_order-found.ensures g.H.Hasher.dig c.args.anchors.now)
+    ∙ found-not_held g.H.Hasher.dig c.args.anchors.now None c.with_order-found.result (InOrder at.step at.top)
+    (top_of at) path
+    (Reaches g.H.Hasher.dig at) (passes-is g.H.Hasher.dig c.args.anchors.now path)
+    (c.with_order-found.ensures g.H.Hasher.dig c.args.anchors.now)
     (sym c.find_anchor.ensures ∙ c.in-None.is)
 
 pub returns-in-Some : goal.returns-in-Some
@@ -24,6 +26,8 @@ returns-in-Some g c =
     let at : Part = high_part c.args.high.now in
     let path : Check = PathOf 1 at (AtAnchor (top_of at)) in
     c.unless.ensures
-    ∙ found-held g.H.Hasher.dig c.args.anchors.now None c.with_order-found.result (InOrder at.step at.top) (top_of at) path
-    (Reaches g.H.Hasher.dig at) (passes-is g.H.Hasher.dig c.args.anchors.now path) (c.with_order-found.ensures g.H.Hasher.dig c.args.anchors.now)
+    ∙ found-held g.H.Hasher.dig c.args.anchors.now None c.with_order-found.result (InOrder at.step at.top) (top_of at)
+    path
+    (Reaches g.H.Hasher.dig at) (passes-is g.H.Hasher.dig c.args.anchors.now path)
+    (c.with_order-found.ensures g.H.Hasher.dig c.args.anchors.now)
     c.in-Some.anchor c.high_reaches.result (sym c.find_anchor.ensures ∙ c.in-Some.is) c.high_reaches.ensures

@@ -11,7 +11,8 @@ returns-clause-yes g c = λ anchors low high l h upto. (
 )
 
 pub returns-clause-gap : goal.returns-clause-gap
-returns-clause-gap g c = λ anchors low high. (gap-apart g.H.Hasher.dig anchors low high, λ never. sym (judged-gap g.H.Hasher.dig anchors low high never))
+returns-clause-gap g c = λ anchors low high.
+    (gap-apart g.H.Hasher.dig anchors low high, λ never. sym (judged-gap g.H.Hasher.dig anchors low high never))
 
 pub returns-clause-no : goal.returns-clause-no
 returns-clause-no g c = no-lowest g.H.Hasher.dig

@@ -4,7 +4,9 @@ use Rattle.tw_tmap.proofs.MapCodec.{high-lawful}
 use Rattle.tw_tmap.proofs.reading.read_high.Goals as goal
 
 pub returns-clause-read : goal.returns-clause-read
-returns-clause-read c = takes-whole high_codec high-lawful (λ f. f) c.args.bytes.now _ _ _ c.take_high-read.ensures c.whole_to.ensures
+returns-clause-read c = takes-whole high_codec high-lawful (λ f. f) c.args.bytes.now _ _ _ c.take_high-read.ensures
+    c.whole_to.ensures
 
 pub returns-clause-fits : goal.returns-clause-fits
-returns-clause-fits c = if_read high_codec high-lawful (λ f. f) high_codec.Fits c.args.bytes.now c.whole_to.result (λ f fits. fits) (returns-clause-read c)
+returns-clause-fits c = if_read high_codec high-lawful (λ f. f) high_codec.Fits c.args.bytes.now c.whole_to.result
+    (λ f fits. fits) (returns-clause-read c)

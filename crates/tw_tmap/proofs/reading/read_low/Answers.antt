@@ -4,7 +4,9 @@ use Rattle.tw_tmap.proofs.MapCodec.{low-lawful}
 use Rattle.tw_tmap.proofs.reading.read_low.Goals as goal
 
 pub returns-clause-read : goal.returns-clause-read
-returns-clause-read c = takes-whole low_codec low-lawful (λ f. f) c.args.bytes.now _ _ _ c.take_low-read.ensures c.whole_to.ensures
+returns-clause-read c = takes-whole low_codec low-lawful (λ f. f) c.args.bytes.now _ _ _ c.take_low-read.ensures
+    c.whole_to.ensures
 
 pub returns-clause-fits : goal.returns-clause-fits
-returns-clause-fits c = if_read low_codec low-lawful (λ f. f) low_codec.Fits c.args.bytes.now c.whole_to.result (λ f fits. fits) (returns-clause-read c)
+returns-clause-fits c = if_read low_codec low-lawful (λ f. f) low_codec.Fits c.args.bytes.now c.whole_to.result
+    (λ f fits. fits) (returns-clause-read c)

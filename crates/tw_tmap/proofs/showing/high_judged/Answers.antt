@@ -7,13 +7,17 @@ use Rattle.tw_tmap.proofs.showing.high_judged.Goals as goal
 
 pub returns-in-Some-clause-found : goal.returns-in-Some-clause-found
 returns-in-Some-clause-found g c =
-    let answer : Check = AnswerOf 1 c.args.high.now.opening.archive_root (high_ask c.args.high.now) c.args.high.now.shown in
-    found-passing g.H.Hasher.dig c.args.anchors.now c.high_under-found.result (under_anchor 1 (high_part c.args.high.now)) answer
+    let answer : Check = AnswerOf 1 c.args.high.now.opening.archive_root (high_ask c.args.high.now)
+    c.args.high.now.shown in
+    found-passing g.H.Hasher.dig c.args.anchors.now c.high_under-found.result
+    (under_anchor 1 (high_part c.args.high.now)) answer
     c.high_under-found.ensures c.in-Some.ensures.0
 
 pub returns-in-None-clause-found : goal.returns-in-None-clause-found
 returns-in-None-clause-found g c =
-    let answer : Check = AnswerOf 1 c.args.high.now.opening.archive_root (high_ask c.args.high.now) c.args.high.now.shown in
+    let answer : Check = AnswerOf 1 c.args.high.now.opening.archive_root (high_ask c.args.high.now)
+    c.args.high.now.shown in
     c.lower.ensures
-    ∙ found-failing g.H.Hasher.dig c.args.anchors.now c.high_under-found.result (under_anchor 1 (high_part c.args.high.now)) answer
+    ∙ found-failing g.H.Hasher.dig c.args.anchors.now c.high_under-found.result
+    (under_anchor 1 (high_part c.args.high.now)) answer
     c.high_under-found.ensures c.in-None.ensures

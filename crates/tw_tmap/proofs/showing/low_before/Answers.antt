@@ -7,13 +7,17 @@ use Rattle.tw_tmap.proofs.showing.low_before.Goals as goal
 
 pub returns-in-Some-clause-found : goal.returns-in-Some-clause-found
 returns-in-Some-clause-found g c =
-    let answer : Check = AnswerOf 0 c.args.part.now.opening.archive_root (low_ask c.args.low.now) c.args.part.now.shown in
-    found-passing g.H.Hasher.dig c.args.anchors.now c.low_under-found.result (under_anchor 0 (low_file_part c.args.low.now c.args.part.now)) answer
+    let answer : Check = AnswerOf 0 c.args.part.now.opening.archive_root (low_ask c.args.low.now)
+    c.args.part.now.shown in
+    found-passing g.H.Hasher.dig c.args.anchors.now c.low_under-found.result
+    (under_anchor 0 (low_file_part c.args.low.now c.args.part.now)) answer
     c.low_under-found.ensures c.in-Some.ensures.0
 
 pub returns-in-None-clause-found : goal.returns-in-None-clause-found
 returns-in-None-clause-found g c =
-    let answer : Check = AnswerOf 0 c.args.part.now.opening.archive_root (low_ask c.args.low.now) c.args.part.now.shown in
+    let answer : Check = AnswerOf 0 c.args.part.now.opening.archive_root (low_ask c.args.low.now)
+    c.args.part.now.shown in
     c.lower.ensures
-    ∙ found-failing g.H.Hasher.dig c.args.anchors.now c.low_under-found.result (under_anchor 0 (low_file_part c.args.low.now c.args.part.now)) answer
+    ∙ found-failing g.H.Hasher.dig c.args.anchors.now c.low_under-found.result
+    (under_anchor 0 (low_file_part c.args.low.now c.args.part.now)) answer
     c.low_under-found.ensures c.in-None.ensures

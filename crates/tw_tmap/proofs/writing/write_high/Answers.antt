@@ -4,4 +4,5 @@ use Rattle.tw_tmap.proofs.MapCodec.{high-lawful}
 use Rattle.tw_tmap.proofs.writing.write_high.Goals as goal
 
 pub returns-clause-spelled : goal.returns-clause-spelled
-returns-clause-spelled c = λ fits. (put-whole high_codec high-lawful c.args.file.now _ _ c.new-bytes.ensures (c.in_ok-put_high.ensures, fits)).1
+returns-clause-spelled c = λ fits. (put-whole high_codec high-lawful c.args.file.now _ _ c.new-bytes.ensures
+    (c.in_ok-put_high.ensures, fits)).1

@@ -8,10 +8,14 @@ use Rattle.tw_tree.proofs.inserting.insert_plain.Goals as goal
 
 pub returns-then-is_some : goal.returns-then-is_some
 returns-then-is_some c =
-    some_is _ (ap is_some (sym (c.get.ensures ∙ ap (entry_with (entries (meant_tree c.args.tree.now))) c.entry_key.ensures)) ∙ sym c.is_some.ensures ∙ c.if-is_some.true)
+    some_is _
+    (ap is_some (sym (c.get.ensures ∙ ap (entry_with (entries (meant_tree c.args.tree.now))) c.entry_key.ensures))
+    ∙ sym c.is_some.ensures ∙ c.if-is_some.true)
 
 pub returns : goal.returns
 returns c =
     has-leaf c.args.entry (meant_tree c.args.tree.now) _ c.requires
-    (none_is _ (ap is_some (sym (c.get.ensures ∙ ap (entry_with (entries (meant_tree c.args.tree.now))) c.entry_key.ensures)) ∙ sym c.is_some.ensures ∙ c.if-is_some.false))
+    (none_is _
+    (ap is_some (sym (c.get.ensures ∙ ap (entry_with (entries (meant_tree c.args.tree.now))) c.entry_key.ensures))
+    ∙ sym c.is_some.ensures ∙ c.if-is_some.false))
     c.in_ok-new.ensures

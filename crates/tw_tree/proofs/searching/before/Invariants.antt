@@ -8,5 +8,6 @@ use Rattle.tw_tree.proofs.searching.before.Given as goal
 abbrev pub invariant-loop-here : goal.invariant-loop-here
 invariant-loop-here l = record {
   rising : IsRising (entries (meant_tree l.here));
-  same : option_or (last_below (entries (meant_tree l.here)) l.key) l.nearest ≡ last_below (entries (meant_tree l.tree)) l.key;
+  same : option_or (last_below (entries (meant_tree l.here)) l.key) l.nearest ≡ last_below (entries (meant_tree l.tree))
+      l.key;
 }

@@ -9,9 +9,12 @@ use Rattle.tw_treeproof.proofs.reading.take_counted.Goals as goal
 pub returns-in_err-count : goal.returns-in_err-count
 returns-in_err-count c =
     let p = err_from_is_err_and c.from_residual.result c.from_residual.ensures.1 in
-    rw (p.1, p.2) (takes-no_count ancestor_codec (λ (up : List Ancestor). up) 1 0 MOST_ABOVE_PLACE c.args.bytes.now c.args.at.now c.take_number.new.at c.take_number.new.at _ c.in_err-count.ensures.takes)
+    rw (p.1, p.2) (takes-no_count ancestor_codec (λ (up : List Ancestor). up) 1 0 MOST_ABOVE_PLACE c.args.bytes.now
+    c.args.at.now c.take_number.new.at c.take_number.new.at _ c.in_err-count.ensures.takes)
 
 pub returns : goal.returns
 returns c =
     let number = c.in_ok-count.ensures.takes in
-    takes-counted ancestor_codec (λ (up : List Ancestor). up) 1 0 MOST_ABOVE_PLACE c.args.bytes.now c.args.at.now c.take_number.new.at c.take_ancestors.new.at c.in_ok-count.count c.take_ancestors.result number.0 number.1 c.take_ancestors.ensures
+    takes-counted ancestor_codec (λ (up : List Ancestor). up) 1 0 MOST_ABOVE_PLACE c.args.bytes.now c.args.at.now
+    c.take_number.new.at c.take_ancestors.new.at c.in_ok-count.count c.take_ancestors.result number.0 number.1
+    c.take_ancestors.ensures

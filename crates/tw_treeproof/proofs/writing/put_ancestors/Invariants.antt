@@ -4,4 +4,5 @@ use Rattle.tw_treeproof.specs.Limits.{IsAncestorInRange}
 use Rattle.tw_treeproof.proofs.writing.put_ancestors.Given as goal
 
 abbrev pub invariant-loop-ancestor : goal.invariant-loop-ancestor
-invariant-loop-ancestor l = ManyPut ancestor_codec.write (λ a. IsAncestorInRange a → ancestor_codec.Fits a) l.initial.into l.into l.ancestors l.ancestor-index
+invariant-loop-ancestor l = ManyPut ancestor_codec.write (λ a. IsAncestorInRange a → ancestor_codec.Fits a)
+    l.initial.into l.into l.ancestors l.ancestor-index

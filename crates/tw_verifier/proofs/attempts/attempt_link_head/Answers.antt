@@ -16,14 +16,19 @@ returns-in_ok-next-in-Ok g c =
     let l = c.in-Ok.linking in
     attempts-ended (rest g.H.Hasher.dig c.args.anchors.now) link_head head-lawful
     (λ (t : List ℕ × (ℕ × (ℕ × List ℕ))). path_of [] t.1.1.0 t.1.0 (λ links.
-    judged_stage g.H.Hasher.dig c.args.anchors.now (Linked (record { service = t.0; step = t.1.0; top = t.1.1.0; auth = t.1.1.1; path = record { links = links } }))))
-    head-nothing LinkHead c.in_ok-next-in-Ok.next c.args.held.now c.take_link_head.new.at (l.service, (l.step, (l.top, l.auth))) refl
-    (sym (c.in_ok-next-in-Ok.ensures ∙ ap (λ (ls : List Link). path_of ls l.top l.step (behind_path g.H.Hasher.dig c.args.anchors.now (OfLink l))) c.new-links.ensures)) c.in-Ok.ensures.0
+    judged_stage g.H.Hasher.dig c.args.anchors.now
+    (Linked (record { service = t.0; step = t.1.0; top = t.1.1.0; auth = t.1.1.1; path = record { links = links } }))))
+    head-nothing LinkHead c.in_ok-next-in-Ok.next c.args.held.now c.take_link_head.new.at
+    (l.service, (l.step, (l.top, l.auth))) refl
+    (sym (c.in_ok-next-in-Ok.ensures ∙ ap (λ (ls : List Link). path_of ls l.top l.step
+    (behind_path g.H.Hasher.dig c.args.anchors.now (OfLink l))) c.new-links.ensures)) c.in-Ok.ensures.0
 
 pub returns-in-Err : goal.returns-in-Err
 returns-in-Err g c =
     attempts-missed (rest g.H.Hasher.dig c.args.anchors.now) link_head head-lawful
     (λ (t : List ℕ × (ℕ × (ℕ × List ℕ))). path_of [] t.1.1.0 t.1.0 (λ links.
-    judged_stage g.H.Hasher.dig c.args.anchors.now (Linked (record { service = t.0; step = t.1.0; top = t.1.1.0; auth = t.1.1.1; path = record { links = links } }))))
-    (λ t fits. path-goes [] t.1.1.0 t.1.0 _ (λ links. tt)) (λ (l : Linking). (l.service, (l.step, (l.top, l.auth)))) LinkHead c.args.held.now c.take_link_head.new.at c.in-Err.fault
+    judged_stage g.H.Hasher.dig c.args.anchors.now
+    (Linked (record { service = t.0; step = t.1.0; top = t.1.1.0; auth = t.1.1.1; path = record { links = links } }))))
+    (λ t fits. path-goes [] t.1.1.0 t.1.0 _ (λ links. tt)) (λ (l : Linking). (l.service, (l.step, (l.top, l.auth))))
+    LinkHead c.args.held.now c.take_link_head.new.at c.in-Err.fault
     c.missed.result refl c.in-Err.ensures c.missed.ensures

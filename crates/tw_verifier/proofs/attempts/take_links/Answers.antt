@@ -20,7 +20,10 @@ loop-at-preserved c =
       within = omega (arith, c.in-Ok.ensures.2, ap length is, length-drop size held, c.loop-at.invariant.within);
       behind = λ (next : List Link → Format Judgement).
           rw (c.in_ok-push-in-Ok.ensures.ok, c.next_step-at.ensures.value)
-          (behind-on (path_of c.args.links c.args.from c.args.to next) (path_of c.loop-at.links c.loop-at.at c.args.to next)
-          (path_of (c.loop-at.links ++ c.in-Ok.link ∷ []) (hop c.loop-at.at c.args.to) c.args.to next) held left size after is (c.loop-at.invariant.behind next)
-          (link-behind c.loop-at.links c.loop-at.at c.args.to next left after c.in-Ok.link c.in-Ok.ensures.0 c.loop-at-test.true));
+          (behind-on (path_of c.args.links c.args.from c.args.to next) (path_of c.loop-at.links c.loop-at.at c.args.to
+          next)
+          (path_of (c.loop-at.links ++ c.in-Ok.link ∷ []) (hop c.loop-at.at c.args.to) c.args.to next) held left size
+          after is (c.loop-at.invariant.behind next)
+          (link-behind c.loop-at.links c.loop-at.at c.args.to next left after c.in-Ok.link c.in-Ok.ensures.0
+          c.loop-at-test.true));
     }

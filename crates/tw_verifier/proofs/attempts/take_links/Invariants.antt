@@ -11,7 +11,8 @@ abbrev pub invariant-loop-at : goal.invariant-loop-at
 invariant-loop-at l = record {
   small : l.at ≤ LAST_STEP;
   within : l.size ≤ length l.held;
-  behind : (next : List Link → Format Judgement) → StandsBehind (path_of l.fn.links l.from l.to next) (take l.size l.held) (path_of l.links l.at l.to next);
+  behind : (next : List Link → Format Judgement) → StandsBehind (path_of l.fn.links l.from l.to next)
+      (take l.size l.held) (path_of l.links l.at l.to next);
 }
 
 abbrev pub decreases-loop-at : goal.decreases-loop-at

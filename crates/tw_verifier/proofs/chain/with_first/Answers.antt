@@ -8,5 +8,6 @@ pub returns : goal.returns
 returns g c = λ anchors.
     c.with_event.ensures anchors
     ∙ found-three g.H.Hasher.dig anchors c.args.found c.with_order-found.result c.with_path-found.result
-    (InOrder c.args.at.now.step c.args.at.now.top) (PathOf c.args.part c.args.at.now (Known c.args.upper.now)) (EventOf c.args.part c.args.at.now.opening c.args.event.now)
+    (InOrder c.args.at.now.step c.args.at.now.top) (PathOf c.args.part c.args.at.now (Known c.args.upper.now))
+    (EventOf c.args.part c.args.at.now.opening c.args.event.now)
     (c.with_order-found.ensures g.H.Hasher.dig anchors) (c.with_path-found.ensures anchors)

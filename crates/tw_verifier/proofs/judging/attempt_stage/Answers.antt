@@ -46,5 +46,6 @@ returns-in-Tail g c = rw c.in-Tail.is c.attempt_tail.ensures
 
 pub returns-in-Done : goal.returns-in-Done
 returns-in-Done g c =
-    let P : Stage → Type 0 = λ s. Attempts (rest g.H.Hasher.dig c.args.anchors.now) s c.args.held.now (Ok c.attempt_end.result) in
+    let P : Stage → Type 0 = λ s. Attempts (rest g.H.Hasher.dig c.args.anchors.now) s c.args.held.now
+    (Ok c.attempt_end.result) in
     subst P (sym c.in-Done.is) (c.attempt_end.ensures g.H.Hasher.dig c.args.anchors.now)

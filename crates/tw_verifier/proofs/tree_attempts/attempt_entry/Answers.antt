@@ -13,10 +13,13 @@ asked_by-requires c = entry-within c.in-Ok.entry c.in-Ok.ensures.takes.1
 
 pub returns-in-Ok : goal.returns-in-Ok
 returns-in-Ok c = λ dig anchors.
-    attempts-ended (rest dig anchors) entry_codec entry-lawful (behind_entry dig anchors c.args.shower) entry-nothing (Entry c.args.shower) (Tree c.asked_by.result) c.args.held.now
+    attempts-ended (rest dig anchors) entry_codec entry-lawful (behind_entry dig anchors c.args.shower) entry-nothing
+    (Entry c.args.shower) (Tree c.asked_by.result) c.args.held.now
     c.take_entry.new.at c.in-Ok.entry refl (sym (c.asked_by.ensures dig anchors)) c.in-Ok.ensures.takes.0
 
 pub returns-in-Err : goal.returns-in-Err
 returns-in-Err c = λ dig anchors.
-    attempts-missed (rest dig anchors) entry_codec entry-lawful (behind_entry dig anchors c.args.shower) (λ entry fits. entry-goes dig anchors c.args.shower entry) (λ (e : AnyEntry). e)
-    (Entry c.args.shower) c.args.held.now c.take_entry.new.at c.in-Err.fault c.missed.result refl c.in-Err.ensures.takes c.missed.ensures
+    attempts-missed (rest dig anchors) entry_codec entry-lawful (behind_entry dig anchors c.args.shower)
+    (λ entry fits. entry-goes dig anchors c.args.shower entry) (λ (e : AnyEntry). e)
+    (Entry c.args.shower) c.args.held.now c.take_entry.new.at c.in-Err.fault c.missed.result refl c.in-Err.ensures.takes
+    c.missed.ensures

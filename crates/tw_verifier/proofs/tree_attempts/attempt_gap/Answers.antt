@@ -16,7 +16,8 @@ returns-in-Ok g c =
     (λ (n : ℕ). nodes_of g.H.Hasher.dig c.args.anchors.now next (Gap []) n) gap-head-nothing
     (Tree c.args.asked) c.along_tree.result c.args.held.now c.take_number.new.at c.in-Ok.more
     (c.requires ∙ gap-flat next)
-    (sym (c.along_tree.ensures ∙ ap (λ (up : List Ancestor). nodes_of g.H.Hasher.dig c.args.anchors.now next (Gap up) c.in-Ok.more) c.new.ensures)) c.in-Ok.ensures.takes.0
+    (sym (c.along_tree.ensures ∙ ap (λ (up : List Ancestor). nodes_of g.H.Hasher.dig c.args.anchors.now next (Gap up)
+    c.in-Ok.more) c.new.ensures)) c.in-Ok.ensures.takes.0
 
 pub returns-in-Err : goal.returns-in-Err
 unfolding gap_head
@@ -24,6 +25,7 @@ returns-in-Err g c =
     let next = behind_tree g.H.Hasher.dig c.args.anchors.now c.args.asked in
     attempts-missed (rest g.H.Hasher.dig c.args.anchors.now) gap_head gap-head-lawful
     (λ (n : ℕ). nodes_of g.H.Hasher.dig c.args.anchors.now next (Gap []) n)
-    (λ n fits. nodes-goes g.H.Hasher.dig c.args.anchors.now next (tree-goes g.H.Hasher.dig c.args.anchors.now c.args.asked) (Gap []) n)
+    (λ n fits. nodes-goes g.H.Hasher.dig c.args.anchors.now next (tree-goes g.H.Hasher.dig c.args.anchors.now
+    c.args.asked) (Gap []) n)
     (λ n. n) (Tree c.args.asked) c.args.held.now c.take_number.new.at c.in-Err.fault c.missed.result
     (c.requires ∙ gap-flat next) c.in-Err.ensures.takes c.missed.ensures

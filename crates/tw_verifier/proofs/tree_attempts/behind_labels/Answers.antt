@@ -7,4 +7,5 @@ use Rattle.tw_verifier.proofs.tree_attempts.behind_labels.Goals as goal
 pub returns : goal.returns
 returns g c =
     c.along_tree.ensures
-    ∙ ap (λ (up : List Ancestor). nodes_of g.H.Hasher.dig c.args.anchors.now (behind_tree g.H.Hasher.dig c.args.anchors.now c.args.asked) (Present c.args.head.1.0 c.args.head.1.1 up) c.args.head.0) c.new.ensures
+    ∙ ap (λ (up : List Ancestor). nodes_of g.H.Hasher.dig c.args.anchors.now (behind_tree g.H.Hasher.dig
+    c.args.anchors.now c.args.asked) (Present c.args.head.1.0 c.args.head.1.1 up) c.args.head.0) c.new.ensures

@@ -10,7 +10,11 @@ use Rattle.tw_verifier.proofs.tree_attempts.behind_step.Goals as goal
 pub returns : goal.returns
 returns g c =
     let chain = c.args.onward.chain.value in
-    let P : Format Judgement → Type 0 = λ f. IfOk c.along_path.result (λ stage. rest g.H.Hasher.dig c.args.anchors.now stage ≡ f) in
-    subst P (ap (λ (s : ℕ). path_of c.new.result s c.args.step (behind_path g.H.Hasher.dig c.args.anchors.now c.way_down-way.result)) (ap (λ (x : Chain). x.known.step) c.deref.ensures)
-    ∙ (λ k. path_of c.new.result chain.known.step c.args.step (λ links. c.way_down-way.ensures g.H.Hasher.dig c.args.anchors.now links k))
-    ∙ ap (λ (ls : List Link). path_of ls chain.known.step c.args.step (behind_links_of g.H.Hasher.dig c.args.anchors.now chain c.args.step)) c.new.ensures) c.along_path.ensures
+    let P : Format Judgement → Type 0 = λ f. IfOk c.along_path.result (λ stage. rest g.H.Hasher.dig c.args.anchors.now
+    stage ≡ f) in
+    subst P (ap (λ (s : ℕ). path_of c.new.result s c.args.step (behind_path g.H.Hasher.dig c.args.anchors.now
+    c.way_down-way.result)) (ap (λ (x : Chain). x.known.step) c.deref.ensures)
+    ∙ (λ k. path_of c.new.result chain.known.step c.args.step (λ links. c.way_down-way.ensures g.H.Hasher.dig
+    c.args.anchors.now links k))
+    ∙ ap (λ (ls : List Link). path_of ls chain.known.step c.args.step (behind_links_of g.H.Hasher.dig c.args.anchors.now
+    chain c.args.step)) c.new.ensures) c.along_path.ensures

@@ -9,5 +9,7 @@ unfolding verify
 returns-in-Err-At c =
     let proof = c.in_ok-proof.proof.now in
     let words = map string_bytes c.path.new.self.left.now in
-    let stopped = subst (λ stop. MakesCommand (verify_file proof words) (Err stop)) c.in-Err-At.field-0-is c.in-Err-At.ensures in
-    rw c.in_ok-proof.ensures (c.or_further.ensures (verify_file proof) (verify_one proof) words stopped c.verify_one.ensures)
+    let stopped = subst (λ stop. MakesCommand (verify_file proof words) (Err stop)) c.in-Err-At.field-0-is
+    c.in-Err-At.ensures in
+    rw c.in_ok-proof.ensures (c.or_further.ensures (verify_file proof) (verify_one proof) words stopped
+    c.verify_one.ensures)

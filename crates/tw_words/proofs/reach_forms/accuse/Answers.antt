@@ -10,6 +10,7 @@ returns-in-Err-At c =
     let first = c.in_ok-first.first.now in
     let second = c.in_ok-second.second.now in
     let words = map string_bytes c.path-2.new.self.left.now in
-    let stopped = subst (λ stop. MakesCommand (accuse_two first second words) (Err stop)) c.in-Err-At.field-0-is c.in-Err-At.ensures in
+    let stopped = subst (λ stop. MakesCommand (accuse_two first second words) (Err stop)) c.in-Err-At.field-0-is
+    c.in-Err-At.ensures in
     rw (c.in_ok-first.ensures, c.in_ok-second.ensures)
     (c.or_further.ensures (accuse_two first second) (accuse_linked first second) words stopped c.accuse_linked.ensures)

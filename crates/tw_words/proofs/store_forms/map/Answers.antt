@@ -9,6 +9,7 @@ use Rattle.tw_words.proofs.store_forms.map.Goals as goal
 pub returns-in_default-as_str : goal.returns-in_default-as_str
 unfolding forms.map
 returns-in_default-as_str c =
-    let none = none_chosen bounds (map string_bytes c.path.new.self.left.now) c.as_str.result.now (map string_bytes c.in-Some.left.now)
+    let none = none_chosen bounds (map string_bytes c.path.new.self.left.now) c.as_str.result.now
+    (map string_bytes c.in-Some.left.now)
     (simp (c.in-Some.ensures.cases.0, c.as_str.ensures.value)) (assumption c.in_default-as_str) in
     rw c.stop-in_default-as_str.ensures (rw (c.in_ok-path.ensures, forms.map) (simp length-map at none))

@@ -1,4 +1,5 @@
-use Rattle.tw_world.proofs.Leading.{anchors-present, births-count, births-rise, family-sound, leads-later, names-found, own-anchors, received-present}
+use Rattle.tw_world.proofs.Leading.{anchors-present, births-count, births-rise, family-sound, leads-later, names-found}
+use Rattle.tw_world.proofs.Leading.{own-anchors, received-present}
 use Rattle.tw_world.proofs.LineSteps.{reached-good}
 use Rattle.tw_world.proofs.Together.{shows-order}
 use Rattle.tw_world.proofs.laws.world_laws.Goals as goal
@@ -16,5 +17,6 @@ returns g c =
       present = λ may_claim w is. received-present dig w (reached-good dig may_claim w is);
       rise = λ may_claim w is. births-rise dig w (reached-good dig may_claim w is);
       leads = λ may_claim w is. leads-later dig w (reached-good dig may_claim w is);
-      together = λ may_claim w anchors proof p is spells accepted. shows-order dig w (reached-good dig may_claim w is) size bytes anchors proof p spells accepted;
+      together = λ may_claim w anchors proof p is spells accepted. shows-order dig w (reached-good dig may_claim w is)
+          size bytes anchors proof p spells accepted;
     }

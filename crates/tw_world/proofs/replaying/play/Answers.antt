@@ -20,7 +20,8 @@ pub print_all-requires : goal.print_all-requires
 print_all-requires c =
     let script : List NumberedLine = c.args.script.now in
     let played : HasPlayed (script_lines script) c.in_ok-told.told c.play_lines.new.self = c.in_ok-told.ensures in
-    ap length c.as_slice-2.ensures ∙ runs-length sha256 claims_none (script_lines script) c.in_ok-told.told no_world played.0 played.1
+    ap length c.as_slice-2.ensures ∙ runs-length sha256 claims_none (script_lines script) c.in_ok-told.told no_world
+    played.0 played.1
     ∙ length-map script (λ (l : NumberedLine). l.line)
 
 pub returns : goal.returns
@@ -29,14 +30,19 @@ returns c =
     let hosts : List Host = c.into_hosts-hosts.result.items in
     let played : HasPlayed (script_lines c.args.script.now) told c.play_lines.new.self = c.in_ok-told.ensures in
     let end : World = played.0 in
-    let are : AreHostsOf hosts end.members = subst (λ hs. AreHostsOf hs.items end.members) (sym c.into_hosts-hosts.ensures) played.2.hosts in
+    let are : AreHostsOf hosts end.members = subst (λ hs. AreHostsOf hs.items end.members)
+    (sym c.into_hosts-hosts.ensures) played.2.hosts in
     let counts : c.of-counts.result ≡ counts_of told = c.of-counts.ensures ∙ ap counts_of c.as_slice.ensures in record {
       told = told;
       end = end;
       runs = played.1;
-      text = played-text c.args.script.now told c.of-counts.result hosts (family end) c.in_ok-text.text (hosts-counted hosts end.members are) counts
-          (c.in_ok-text.ensures ∙ ap (λ (ts : List Told). told_lines c.args.script.now ts ++ compact_text (hosts_summary c.of-counts.result c.deref.result.now) ++ codes "\n") c.as_slice-2.ensures
-          ∙ ap (λ (hs : List Host). told_lines c.args.script.now told ++ compact_text (hosts_summary c.of-counts.result hs) ++ codes "\n") c.deref.ensures.value);
+      text = played-text c.args.script.now told c.of-counts.result hosts (family end) c.in_ok-text.text
+          (hosts-counted hosts end.members are) counts
+          (c.in_ok-text.ensures ∙ ap (λ (ts : List Told). told_lines c.args.script.now ts ++ compact_text
+          (hosts_summary c.of-counts.result c.deref.result.now) ++ codes "\n") c.as_slice-2.ensures
+          ∙ ap (λ (hs : List Host). told_lines c.args.script.now told ++ compact_text
+          (hosts_summary c.of-counts.result hs) ++ codes "\n") c.deref.ensures.value);
       counts = counts;
-      disks = disks-are end.members hosts c.in_ok-disks.disks are (own-histories (script_lines c.args.script.now) told end played.1) c.in_ok-disks.ensures;
+      disks = disks-are end.members hosts c.in_ok-disks.disks are (own-histories (script_lines c.args.script.now) told
+          end played.1) c.in_ok-disks.ensures;
     }

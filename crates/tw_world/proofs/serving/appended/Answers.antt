@@ -14,13 +14,18 @@ use Rattle.tw_world.proofs.serving.appended.Goals as goal
 
 pub returns-in-Ok : goal.returns-in-Ok
 returns-in-Ok c h served whole =
-    let a = subst (λ (r : Result Thread Refusal). AppendsEvents sha256 mem_disk_view c.args.events.now None c.args.service.now c.append.new.self r) c.in-Ok.is c.append.ensures in
-    append-done c.args.service.now c.append.new.self h served whole c.args.events.now c.in-Ok.field-0 c.steps.result a c.steps.ensures.served
+    let a = subst (λ (r : Result Thread Refusal). AppendsEvents sha256 mem_disk_view c.args.events.now None
+    c.args.service.now c.append.new.self r) c.in-Ok.is c.append.ensures in
+    append-done c.args.service.now c.append.new.self h served whole c.args.events.now c.in-Ok.field-0 c.steps.result a
+    c.steps.ensures.served
 
 pub returns-in-Err : goal.returns-in-Err
 returns-in-Err c =
-    let a = subst (λ (r : Result Thread Refusal). AppendsEvents sha256 mem_disk_view c.args.events.now None c.args.service.now c.append.new.self r) c.in-Err.is c.append.ensures in
+    let a = subst (λ (r : Result Thread Refusal). AppendsEvents sha256 mem_disk_view c.args.events.now None
+    c.args.service.now c.append.new.self r) c.in-Err.is c.append.ensures in
     if-ok c.refused.result (AnswersRefusal c.in-Err.refusal)
-    (λ answer. (h : History) → Serves sha256 mem_disk_view c.args.service.now h → has_failed c.args.service.now ≡ false → Answered (OfEvents c.args.events.now) h c.append.new.self answer)
-    (λ answer after h served whole. append-answered c.args.service.now c.append.new.self h served whole c.args.events.now c.in-Err.refusal answer after a)
+    (λ answer. (h : History) → Serves sha256 mem_disk_view c.args.service.now h → has_failed c.args.service.now ≡ false
+    → Answered (OfEvents c.args.events.now) h c.append.new.self answer)
+    (λ answer after h served whole. append-answered c.args.service.now c.append.new.self h served whole
+    c.args.events.now c.in-Err.refusal answer after a)
     c.refused.ensures

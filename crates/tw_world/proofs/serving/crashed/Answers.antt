@@ -3,5 +3,6 @@ use Rattle.tw_world.proofs.serving.crashed.Goals as goal
 
 pub returns-clause-ends : goal.returns-clause-ends
 returns-clause-ends c given h answered =
-    ends-crashed given h c.args.service c.in_ok-rested.rested.disk c.in_ok-rested.rested.steps c.crash_told.result c.close-disk.result c.close-disk.ensures.disk
+    ends-crashed given h c.args.service c.in_ok-rested.rested.disk c.in_ok-rested.rested.steps c.crash_told.result
+    c.close-disk.result c.close-disk.ensures.disk
     c.close-disk.ensures.stands c.in_ok-rested.ensures c.args.answer c.crash_told.ensures answered

@@ -6,4 +6,5 @@ use Rattle.tw_world.proofs.serving.end_line.Goals as goal
 pub returns-in_ok-ended-in-Some : goal.returns-in_ok-ended-in-Some
 returns-in_ok-ended-in-Some c given h answered =
     let ended = c.in_ok-ended-in-Some.ended in
-    subst (λ b. LineEnds given b h ended.told ended.rested.disk ended.rested.steps) (sym (ap is_some c.in-Some.is)) (c.in_ok-ended-in-Some.ensures.ends given h answered)
+    subst (λ b. LineEnds given b h ended.told ended.rested.disk ended.rested.steps) (sym (ap is_some c.in-Some.is))
+    (c.in_ok-ended-in-Some.ensures.ends given h answered)

@@ -14,13 +14,17 @@ use Rattle.tw_world.proofs.serving.received.Goals as goal
 
 pub returns-in-Ok : goal.returns-in-Ok
 returns-in-Ok c h served whole =
-    let a = subst (λ (r : Result Receipt Refusal). ReceivesBytes sha256 mem_disk_view c.args.bytes.now None c.args.service.now c.receive.new.self r) c.in-Ok.is c.receive.ensures in
+    let a = subst (λ (r : Result Receipt Refusal). ReceivesBytes sha256 mem_disk_view c.args.bytes.now None
+    c.args.service.now c.receive.new.self r) c.in-Ok.is c.receive.ensures in
     receive-done c.args.service.now c.receive.new.self h served whole c.args.bytes.now c.in-Ok.receipt a
 
 pub returns-in-Err : goal.returns-in-Err
 returns-in-Err c =
-    let a = subst (λ (r : Result Receipt Refusal). ReceivesBytes sha256 mem_disk_view c.args.bytes.now None c.args.service.now c.receive.new.self r) c.in-Err.is c.receive.ensures in
+    let a = subst (λ (r : Result Receipt Refusal). ReceivesBytes sha256 mem_disk_view c.args.bytes.now None
+    c.args.service.now c.receive.new.self r) c.in-Err.is c.receive.ensures in
     if-ok c.refused.result (AnswersRefusal c.in-Err.refusal)
-    (λ answer. (h : History) → Serves sha256 mem_disk_view c.args.service.now h → has_failed c.args.service.now ≡ false → Answered (OfBytes c.args.bytes.now) h c.receive.new.self answer)
-    (λ answer after h served whole. receive-answered c.args.service.now c.receive.new.self h served whole c.args.bytes.now c.in-Err.refusal answer after a)
+    (λ answer. (h : History) → Serves sha256 mem_disk_view c.args.service.now h → has_failed c.args.service.now ≡ false
+    → Answered (OfBytes c.args.bytes.now) h c.receive.new.self answer)
+    (λ answer after h served whole. receive-answered c.args.service.now c.receive.new.self h served whole
+    c.args.bytes.now c.in-Err.refusal answer after a)
     c.refused.ensures

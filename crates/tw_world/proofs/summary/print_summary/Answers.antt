@@ -14,6 +14,8 @@ returns c =
     (member (codes "refused") (number (unsigned counts.refused))
     (member (codes "rejected") (number (unsigned counts.rejected))
     (member (codes "services") d no_members))))) in
-    let same : view c.in_ok-value.value ≡ hosts_summary counts c.args.hosts.now = c.in_ok-value.ensures ∙ ap of c.in_ok-services.ensures in
-    let none : has_float (view c.in_ok-value.value) ≡ false = ap has_float same ∙ summary-no-float counts c.args.hosts.now in
+    let same : view c.in_ok-value.value ≡ hosts_summary counts c.args.hosts.now = c.in_ok-value.ensures
+    ∙ ap of c.in_ok-services.ensures in
+    let none : has_float (view c.in_ok-value.value) ≡ false = ap has_float same ∙ summary-no-float counts
+    c.args.hosts.now in
     c.in_ok-to_string.ensures.text none ∙ ap compact_text same

@@ -12,7 +12,8 @@ loop-host-preserved c =
     let i = c.loop-host.host-index in
     let host = c.host-item.result in
     ap (λ (ms : Members). with_counted ms (drop (i + 1) hosts)) c.in_ok-put_steps.ensures
-    ∙ sym (with_counted-drop (members_view c.loop-host.named.entries) hosts i host c.loop-host-test.true (sym c.host-item.is))
+    ∙ sym (with_counted-drop (members_view c.loop-host.named.entries) hosts i host c.loop-host-test.true
+    (sym c.host-item.is))
     ∙ c.loop-host.invariant
 
 pub returns : goal.returns

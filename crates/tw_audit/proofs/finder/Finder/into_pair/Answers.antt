@@ -10,4 +10,5 @@ returns-then-is_subset g c =
     IfOk-weaker c.into_pair.result _ _ (λ pair is texts covered took.
     is g.H.Hasher.dig (doubtful g.H.Hasher.dig c.args.self.repeated texts) took
     ∙ clash_pair-kept g.H.Hasher.dig (is_among_keys c.args.self.repeated) texts
-    (covers-more g.H.Hasher.dig texts c.args.repeated.now c.args.self.repeated (c.is_subset.ensures.0 c.if-is_subset.true) covered)) c.into_pair.ensures
+    (covers-more g.H.Hasher.dig texts c.args.repeated.now c.args.self.repeated
+    (c.is_subset.ensures.0 c.if-is_subset.true) covered)) c.into_pair.ensures

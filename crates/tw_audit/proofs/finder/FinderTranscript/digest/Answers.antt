@@ -11,8 +11,10 @@ returns-then-has-clause-took g c =
       behind = λ before took.
           subst (Took g.H.Hasher.dig c.take.new.self)
           (sym (kept-push g.H.Hasher.dig (is_among_keys c.args.self.now.repeated) before c.args.text.now true
-          (ap (is_among_keys c.args.self.now.repeated) (sym c.digest-digest.ensures) ∙ sym c.has.ensures ∙ c.if-has.true)))
-          (c.take.ensures g.H.Hasher.dig (doubtful g.H.Hasher.dig c.args.self.now.repeated before) (λ text. (g.met.H.Hasher.size text, g.met.H.Hasher.bytes text)) c.digest-digest.ensures took);
+          (ap (is_among_keys c.args.self.now.repeated) (sym c.digest-digest.ensures) ∙ sym c.has.ensures
+          ∙ c.if-has.true)))
+          (c.take.ensures g.H.Hasher.dig (doubtful g.H.Hasher.dig c.args.self.now.repeated before)
+          (λ text. (g.met.H.Hasher.size text, g.met.H.Hasher.bytes text)) c.digest-digest.ensures took);
     }
 
 pub returns-else-has-clause-took : goal.returns-else-has-clause-took
@@ -21,7 +23,8 @@ returns-else-has-clause-took g c =
       behind = λ before took.
           subst (Took g.H.Hasher.dig c.args.self.now.table)
           (sym (kept-push g.H.Hasher.dig (is_among_keys c.args.self.now.repeated) before c.args.text.now false
-          (ap (is_among_keys c.args.self.now.repeated) (sym c.digest-digest.ensures) ∙ sym c.has.ensures ∙ c.if-has.false)
+          (ap (is_among_keys c.args.self.now.repeated) (sym c.digest-digest.ensures) ∙ sym c.has.ensures
+          ∙ c.if-has.false)
           ∙ append-nil (doubtful g.H.Hasher.dig c.args.self.now.repeated before)))
           took;
     }

@@ -13,5 +13,7 @@ returns-clause-taken c = λ dig texts none here differ inside is.
       found = Some (record { one = c.args.one; other = c.in_ok-other.other });
       spent = c.add.new.self.spent;
     } in
-    taken-pair dig texts c.args.self.now new c.args.text.now (text_at c.args.self.now.arena.items c.args.one) c.args.one c.in_ok-other.other is none here differ refl inside
-    (c.in_ok-other.ensures.arena, c.in_ok-other.ensures.place.0, c.in_ok-other.ensures.place.1) c.in_ok-other.ensures.others.0 refl
+    taken-pair dig texts c.args.self.now new c.args.text.now (text_at c.args.self.now.arena.items c.args.one) c.args.one
+    c.in_ok-other.other is none here differ refl inside
+    (c.in_ok-other.ensures.arena, c.in_ok-other.ensures.place.0, c.in_ok-other.ensures.place.1)
+    c.in_ok-other.ensures.others.0 refl

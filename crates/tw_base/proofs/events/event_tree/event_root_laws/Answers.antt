@@ -1,4 +1,5 @@
-use Rattle.tw_base.proofs.lemmas.events.EventTrees.{event_root-more, event_root-none, event_root-one, largest_power_below-is, length-event_root}
+use Rattle.tw_base.proofs.lemmas.events.EventTrees.{event_root-more, event_root-none, event_root-one}
+use Rattle.tw_base.proofs.lemmas.events.EventTrees.{largest_power_below-is, length-event_root}
 use Rattle.tw_base.proofs.events.event_tree.event_root_laws.Goals as goal
 
 pub returns-clause-none : goal.returns-clause-none

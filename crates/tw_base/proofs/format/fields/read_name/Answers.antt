@@ -15,4 +15,5 @@ returns-in-Ok-clause-read c =
     (c.in-Ok.ensures.read ∙ ap (λ n. Took n (c.args.at + 16)) (sym (c.from_bytes.ensures ∙ c.first_16.ensures)))
 
 pub returns-in-Err-clause-read : goal.returns-in-Err-clause-read
-returns-in-Err-clause-read c = gives_rest name (λ n. n) (Err c.in-Err.place) c.args.bytes.now c.args.at (c.args.at + 16) c.in-Err.ensures.read
+returns-in-Err-clause-read c = gives_rest name (λ n. n) (Err c.in-Err.place) c.args.bytes.now c.args.at (c.args.at + 16)
+    c.in-Err.ensures.read

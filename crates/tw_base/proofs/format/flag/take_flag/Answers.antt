@@ -9,8 +9,13 @@ returns-then-place-bytes c = flag-short c.args.bytes.now c.args.at.now (omega ar
 
 pub returns-then-not-is_flag : goal.returns-then-not-is_flag
 unfolding flag_codec
-returns-then-not-is_flag c = flag-stops c.args.bytes.now c.args.at.now _ (omega arith) refl (sym c.is_flag.ensures ∙ c.if-not-is_flag.true)
+returns-then-not-is_flag c = flag-stops c.args.bytes.now c.args.at.now _ (omega arith) refl
+    (sym c.is_flag.ensures ∙ c.if-not-is_flag.true)
 
 pub returns : goal.returns
 unfolding flag_codec
-returns c = (flag-found c.args.bytes.now c.args.at.now _ (omega arith) refl (sym c.is_flag.ensures ∙ c.if-not-is_flag.false), tt, omega arith)
+returns c = (
+  flag-found c.args.bytes.now c.args.at.now _ (omega arith) refl (sym c.is_flag.ensures ∙ c.if-not-is_flag.false),
+  tt,
+  omega arith,
+)

@@ -6,4 +6,5 @@ use Rattle.tw_base.proofs.format.taking.take_name.Goals as goal
 pub returns-in-Ok-clause-takes : goal.returns-in-Ok-clause-takes
 unfolding name_codec
 returns-in-Ok-clause-takes c =
-    let fits = took-fits name_codec lawful-name c.args.bytes.now c.args.at.now _ _ c.requires c.in-Ok.ensures.read in (c.in-Ok.ensures.read, fits.0, fits.1)
+    let fits = took-fits name_codec lawful-name c.args.bytes.now c.args.at.now _ _ c.requires c.in-Ok.ensures.read in
+    (c.in-Ok.ensures.read, fits.0, fits.1)

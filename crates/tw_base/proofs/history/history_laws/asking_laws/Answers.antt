@@ -1,4 +1,5 @@
-use Rattle.tw_base.proofs.lemmas.history.AskedLists.{first-above, in-with_entry, last-below, length-with_entry, none-above, none-below, rising-with_entry, with_entry-in}
+use Rattle.tw_base.proofs.lemmas.history.AskedLists.{first-above, in-with_entry, last-below, length-with_entry}
+use Rattle.tw_base.proofs.lemmas.history.AskedLists.{none-above, none-below, rising-with_entry, with_entry-in}
 use Rattle.tw_base.proofs.history.history_laws.asking_laws.Goals as goal
 
 pub returns : goal.returns

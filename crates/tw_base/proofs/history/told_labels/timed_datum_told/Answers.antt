@@ -16,7 +16,8 @@ returns g c =
     let time : List ℕ = to_be_bytes w64 c.args.time in
     let text : c.as_slice.result.now ≡ 0x16 ∷ (er ++ (ar ++ (count ++ time))) =
     c.as_slice.ensures.value ∙ c.put.ensures.items ∙ (λ k. c.put_held.ensures.items k ++ c.to_be_bytes.ensures k)
-    ∙ ap (λ (front : List ℕ). (front ++ (er ++ (ar ++ count))) ++ time) (c.push.ensures.items ∙ ap (λ (w : List ℕ). w ++ 0x16 ∷ []) c.new-text.ensures)
+    ∙ ap (λ (front : List ℕ). (front ++ (er ++ (ar ++ count))) ++ time)
+    (c.push.ensures.items ∙ ap (λ (w : List ℕ). w ++ 0x16 ∷ []) c.new-text.ensures)
     ∙ ap (λ w. 0x16 ∷ w) (regroup er ar count time) in
     record {
       label = c.digest.ensures.digest ∙ ap g.T.Transcript.dig text;

@@ -9,4 +9,5 @@ returns-clause-small c =
     omega (arith, small, top_level-is c.args.step (omega arith))
 
 pub returns-clause-divides : goal.returns-clause-divides
-returns-clause-divides c = λ some. subst (λ k. c.args.step % 2 ^ k ≡ 0) (top_level-is c.args.step some) (top_level-divides c.args.step some (omega arith))
+returns-clause-divides c = λ some. subst (λ k. c.args.step % 2 ^ k ≡ 0) (top_level-is c.args.step some)
+    (top_level-divides c.args.step some (omega arith))

@@ -11,7 +11,8 @@ pub returns-clause-image : goal.returns-clause-image
 returns-clause-image c =
     let calls = c.args.self.now.calls.items in
     let pages = c.args.self.now.pages.items in
-    subst (λ (i : Image). IsImage (written_of calls pages) i) (sym c.leave.ensures) (outcome_image c.args.choice (written_of calls pages) (grown_after (earlier calls pages) (calls_of calls pages)))
+    subst (λ (i : Image). IsImage (written_of calls pages) i) (sym c.leave.ensures)
+    (outcome_image c.args.choice (written_of calls pages) (grown_after (earlier calls pages) (calls_of calls pages)))
 
 pub returns-clause-rests : goal.returns-clause-rests
 returns-clause-rests c = record {
@@ -22,22 +23,33 @@ returns-clause-rests c = record {
 }
 
 pub returns-clause-moment : goal.returns-clause-moment
-returns-clause-moment c = omega (arith, c.len.ensures, ap length c.clear.ensures.items, length-calls_of c.args.self.now.calls.items c.args.self.now.pages.items, length-calls_of c.clear.new.self.items c.leave.new.pages.items)
+returns-clause-moment c =
+    omega (
+      arith,
+      c.len.ensures,
+      ap length c.clear.ensures.items,
+      length-calls_of c.args.self.now.calls.items c.args.self.now.pages.items,
+      length-calls_of c.clear.new.self.items c.leave.new.pages.items,
+    )
 
 pub returns-clause-since : goal.returns-clause-since
 returns-clause-since c = λ t i le.
     let calls = c.clear.new.self.items in
     let pages = c.leave.new.pages.items in
     let crashed_at = c.args.self.now.crashed_at + c.len.result in
-    let now : t - crashed_at ≡ 0 = omega (arith, le, ap length c.clear.ensures.items, length-calls_of calls pages) in
-    (λ since. since_rested calls pages (t - crashed_at) i c.clear.ensures.items since, λ is. rested_since calls pages (t - crashed_at) i c.clear.ensures.items now is)
+    let now : t - crashed_at ≡ 0 = omega (arith, le, ap length c.clear.ensures.items, length-calls_of calls pages) in (
+      λ since. since_rested calls pages (t - crashed_at) i c.clear.ensures.items since,
+      λ is. rested_since calls pages (t - crashed_at) i c.clear.ensures.items now is,
+    )
 
 pub returns-clause-leaves : goal.returns-clause-leaves
 returns-clause-leaves c =
     let calls = c.clear.new.self.items in
     let pages = c.leave.new.pages.items in
     let crashed_at = c.args.self.now.crashed_at + c.len.result in
-    let left = λ (i : Image) (is : i ≡ pages). subst (λ (j : Image). IsImage (written_of c.args.self.now.calls.items c.args.self.now.pages.items) j) (sym is) (returns-clause-image c) in
+    let left = λ (i : Image) (is : i ≡ pages). subst
+    (λ (j : Image). IsImage (written_of c.args.self.now.calls.items c.args.self.now.pages.items) j) (sym is)
+    (returns-clause-image c) in
     record {
       later = omega (arith, returns-clause-moment c);
       now = λ i is. left i (rested calls pages i c.clear.ensures.items is);

@@ -6,20 +6,24 @@ use Rattle.tw_filecmd.proofs.parts.Parts.add.Goals as goal
 
 pub returns-then-is_some : goal.returns-then-is_some
 returns-then-is_some c told files there read are =
-    read-told told files c.args.self.now.proofs c.args.self.now.bad c.args.file.now (sym c.is_some.ensures ∙ c.if-is_some.true) there are
+    read-told told files c.args.self.now.proofs c.args.self.now.bad c.args.file.now
+    (sym c.is_some.ensures ∙ c.if-is_some.true) there are
 
 pub returns-in_ok-push-in-Ok : goal.returns-in_ok-push-in-Ok
 returns-in_ok-push-in-Ok c told files there read are =
     let few : length c.args.self.now.proofs < MOST_KEPT = omega (arith, c.len.ensures, c.if-len-lt-MOST_KEPT.true) in
-    subst (λ parts. ArePartsRead told (files ++ c.args.file.now ∷ []) parts c.args.self.now.bad) (sym c.in_ok-push-in-Ok.ensures.ok) (
-    read-kept told files c.args.self.now.proofs c.args.self.now.bad c.args.file.now c.in-Ok.proof (sym c.is_some.ensures ∙ c.if-is_some.false) few
+    subst (λ parts. ArePartsRead told (files ++ c.args.file.now ∷ []) parts c.args.self.now.bad)
+    (sym c.in_ok-push-in-Ok.ensures.ok) (
+    read-kept told files c.args.self.now.proofs c.args.self.now.bad c.args.file.now c.in-Ok.proof
+    (sym c.is_some.ensures ∙ c.if-is_some.false) few
     (is_proof told c.args.file.now c.args.bytes.now there read c.in-Ok.proof c.in-Ok.ensures) are
     )
 
 pub returns-else-len-lt-MOST_KEPT : goal.returns-else-len-lt-MOST_KEPT
 returns-else-len-lt-MOST_KEPT c told files there read are =
     let full : MOST_KEPT ≤ length c.args.self.now.proofs = omega (arith, c.len.ensures, c.if-len-lt-MOST_KEPT.false) in
-    read-full told files c.args.self.now.proofs c.args.self.now.bad c.args.file.now c.in-Ok.proof (sym c.is_some.ensures ∙ c.if-is_some.false) full
+    read-full told files c.args.self.now.proofs c.args.self.now.bad c.args.file.now c.in-Ok.proof
+    (sym c.is_some.ensures ∙ c.if-is_some.false) full
     (is_proof told c.args.file.now c.args.bytes.now there read c.in-Ok.proof c.in-Ok.ensures) are
 
 pub returns-in_ok-bad_byte-in-Err-Malformed : goal.returns-in_ok-bad_byte-in-Err-Malformed

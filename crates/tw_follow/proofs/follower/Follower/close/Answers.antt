@@ -13,4 +13,5 @@ returns-clause-stands g c = λ k serves.
     (serves_for_good (root_kind g.H.Hasher.dig) KeepsList d.view s.recorded.store s.recorded.root k serves)
 
 pub returns-clause-over : goal.returns-clause-over
-returns-clause-over g c = λ ps over. c.close.ensures.rests g.H.Hasher.dig (written_record c.args.self.recorded.root ps) over
+returns-clause-over g c = λ ps over. c.close.ensures.rests g.H.Hasher.dig (written_record c.args.self.recorded.root ps)
+    over

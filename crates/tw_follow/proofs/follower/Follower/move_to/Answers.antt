@@ -22,8 +22,10 @@ returns-in-Err-clause-written g c = λ ps rest.
     let d = g.D.Disk in
     let s = c.args.self.now in
     let w : Written RootRecord = written_record s.recorded.root ps in (
-      leaves_before d.view g.met.D.Disk.only_now (root_kind g.H.Hasher.dig) s.recorded.store c.stage.new.self w (moved_to w c.args.head.now) c.in-Err.ensures.same rest,
-      reads_before d.view g.met.D.Disk.only_now (root_kind g.H.Hasher.dig) s.recorded.store c.stage.new.self w (moved_to w c.args.head.now) c.in-Err.ensures.same rest,
+      leaves_before d.view g.met.D.Disk.only_now (root_kind g.H.Hasher.dig) s.recorded.store c.stage.new.self w
+          (moved_to w c.args.head.now) c.in-Err.ensures.same rest,
+      reads_before d.view g.met.D.Disk.only_now (root_kind g.H.Hasher.dig) s.recorded.store c.stage.new.self w
+          (moved_to w c.args.head.now) c.in-Err.ensures.same rest,
       tt,
     )
 
@@ -31,13 +33,15 @@ pub returns-in-Err-clause-any_moment : goal.returns-in-Err-clause-any_moment
 returns-in-Err-clause-any_moment g c = λ k serves.
     let d = g.D.Disk in
     let s = c.args.self.now in
-    none_leaves d.view g.met.D.Disk.only_now g.H.Hasher.dig s.recorded.store c.stage.new.self s.recorded.root k (with_head k c.args.head.now) c.in-Err.ensures.same serves
+    none_leaves d.view g.met.D.Disk.only_now g.H.Hasher.dig s.recorded.store c.stage.new.self s.recorded.root k
+    (with_head k c.args.head.now) c.in-Err.ensures.same serves
 
 pub returns-in-Err-clause-told : goal.returns-in-Err-clause-told
 returns-in-Err-clause-told g c = λ k serves.
     let d = g.D.Disk in
     let s = c.args.self.now in
-    none_reads d.view g.met.D.Disk.only_now g.H.Hasher.dig s.recorded.store c.stage.new.self s.recorded.root k (with_head k c.args.head.now) c.in-Err.ensures.same serves
+    none_reads d.view g.met.D.Disk.only_now g.H.Hasher.dig s.recorded.store c.stage.new.self s.recorded.root k
+    (with_head k c.args.head.now) c.in-Err.ensures.same serves
 
 -- ---- committed
 
@@ -46,21 +50,34 @@ returns-in-Ok-commit-clause-written g c = λ ps rest.
     let d = g.D.Disk in
     let s = c.args.self.now in
     let next : RootRecord = record { head = c.args.head.now; page = c.in-Ok.number } in
-    let w = was_put d.view g.H.Hasher.dig s.recorded.store c.stage.new.self s.recorded.root c.args.head.now c.in-Ok.number c.head_page-page.result
-    (λ ps list. told_pages d.view s.recorded.store ((d.view s.recorded.store.disk).count) ((d.view s.recorded.store.disk).content) ps (λ i is. g.met.D.Disk.count_is_told s.recorded.store.disk i is) s.recorded.store.room s.recorded.store.used_from list)
-    c.in-Ok.ensures.same s.clean c.in-Ok.ensures.number c.in-Ok.ensures.used c.head_page-page.ensures c.in-Ok.ensures.list s.few_pages s.few_commits c.requires.from c.requires.above c.requires.thread in
+    let w = was_put d.view g.H.Hasher.dig s.recorded.store c.stage.new.self s.recorded.root c.args.head.now
+    c.in-Ok.number c.head_page-page.result
+    (λ ps list. told_pages d.view s.recorded.store ((d.view s.recorded.store.disk).count)
+    ((d.view s.recorded.store.disk).content) ps (λ i is. g.met.D.Disk.count_is_told s.recorded.store.disk i is)
+    s.recorded.store.room s.recorded.store.used_from list)
+    c.in-Ok.ensures.same s.clean c.in-Ok.ensures.number c.in-Ok.ensures.used c.head_page-page.ensures
+    c.in-Ok.ensures.list s.few_pages s.few_commits c.requires.from c.requires.above c.requires.thread in
     let put = w.staged ps rest in
     let is = w.is ps rest in (
-      subst (λ (x : Written RootRecord). LeavesOnly (d.view (store_disk s.recorded.store)) (d.view (store_disk c.commit.new.self.store)) (IsOneOf (root_kind g.H.Hasher.dig) (written_record s.recorded.root ps) x)) is
-          (leaves_since d.view g.met.D.Disk.only_now (root_kind g.H.Hasher.dig) s.recorded.store c.stage.new.self s.recorded.root next ps (ps ++ c.head_page-page.result ∷ []) put c.commit.new.self.store c.in-Ok-commit.ensures.any_moment),
-      subst (λ (x : Written RootRecord). Reads (d.view (store_disk c.commit.new.self.store)) (IsOneOf (root_kind g.H.Hasher.dig) (written_record s.recorded.root ps) x)) is
-          (of_these d.view g.met.D.Disk.only_now (root_kind g.H.Hasher.dig) s.recorded.store c.stage.new.self s.recorded.root next ps (ps ++ c.head_page-page.result ∷ []) put
-          (λ qs some. Reads (d.view (store_disk c.commit.new.self.store)) (IsOneOf (root_kind g.H.Hasher.dig) (written_record s.recorded.root qs) (written_record next some))) c.in-Ok-commit.ensures.told),
+      subst (λ (x : Written RootRecord). LeavesOnly (d.view (store_disk s.recorded.store))
+          (d.view (store_disk c.commit.new.self.store))
+          (IsOneOf (root_kind g.H.Hasher.dig) (written_record s.recorded.root ps) x)) is
+          (leaves_since d.view g.met.D.Disk.only_now (root_kind g.H.Hasher.dig) s.recorded.store c.stage.new.self
+          s.recorded.root next ps (ps ++ c.head_page-page.result ∷ []) put c.commit.new.self.store
+          c.in-Ok-commit.ensures.any_moment),
+      subst (λ (x : Written RootRecord). Reads (d.view (store_disk c.commit.new.self.store))
+          (IsOneOf (root_kind g.H.Hasher.dig) (written_record s.recorded.root ps) x)) is
+          (of_these d.view g.met.D.Disk.only_now (root_kind g.H.Hasher.dig) s.recorded.store c.stage.new.self
+          s.recorded.root next ps (ps ++ c.head_page-page.result ∷ []) put
+          (λ qs some. Reads (d.view (store_disk c.commit.new.self.store)) (IsOneOf (root_kind g.H.Hasher.dig)
+          (written_record s.recorded.root qs) (written_record next some))) c.in-Ok-commit.ensures.told),
       (
         c.in-Ok-commit.ensures.root.0 ∙ ap (λ (x : Written RootRecord). x.root) is,
         subst (λ (x : Written RootRecord). RestsWith d.view (root_kind g.H.Hasher.dig) c.commit.new.self.store x) is
-            (of_these d.view g.met.D.Disk.only_now (root_kind g.H.Hasher.dig) s.recorded.store c.stage.new.self s.recorded.root next ps (ps ++ c.head_page-page.result ∷ []) put
-            (λ qs some. RestsWith d.view (root_kind g.H.Hasher.dig) c.commit.new.self.store (written_record next some)) c.in-Ok-commit.ensures.done),
+            (of_these d.view g.met.D.Disk.only_now (root_kind g.H.Hasher.dig) s.recorded.store c.stage.new.self
+            s.recorded.root next ps (ps ++ c.head_page-page.result ∷ []) put
+            (λ qs some. RestsWith d.view (root_kind g.H.Hasher.dig) c.commit.new.self.store (written_record next some))
+            c.in-Ok-commit.ensures.done),
       ),
     )
 
@@ -68,29 +85,45 @@ pub returns-in-Ok-commit-clause-any_moment : goal.returns-in-Ok-commit-clause-an
 returns-in-Ok-commit-clause-any_moment g c = λ k serves.
     let d = g.D.Disk in
     let s = c.args.self.now in
-    let w = was_put d.view g.H.Hasher.dig s.recorded.store c.stage.new.self s.recorded.root c.args.head.now c.in-Ok.number c.head_page-page.result
-    (λ ps list. told_pages d.view s.recorded.store ((d.view s.recorded.store.disk).count) ((d.view s.recorded.store.disk).content) ps (λ i is. g.met.D.Disk.count_is_told s.recorded.store.disk i is) s.recorded.store.room s.recorded.store.used_from list)
-    c.in-Ok.ensures.same s.clean c.in-Ok.ensures.number c.in-Ok.ensures.used c.head_page-page.ensures c.in-Ok.ensures.list s.few_pages s.few_commits c.requires.from c.requires.above c.requires.thread in
-    moved_leaves d.view g.met.D.Disk.only_now g.H.Hasher.dig s.recorded.store c.stage.new.self c.commit.new.self.store s.recorded.root c.args.head.now c.in-Ok.number c.head_page-page.result w k serves c.in-Ok-commit.ensures.any_moment
+    let w = was_put d.view g.H.Hasher.dig s.recorded.store c.stage.new.self s.recorded.root c.args.head.now
+    c.in-Ok.number c.head_page-page.result
+    (λ ps list. told_pages d.view s.recorded.store ((d.view s.recorded.store.disk).count)
+    ((d.view s.recorded.store.disk).content) ps (λ i is. g.met.D.Disk.count_is_told s.recorded.store.disk i is)
+    s.recorded.store.room s.recorded.store.used_from list)
+    c.in-Ok.ensures.same s.clean c.in-Ok.ensures.number c.in-Ok.ensures.used c.head_page-page.ensures
+    c.in-Ok.ensures.list s.few_pages s.few_commits c.requires.from c.requires.above c.requires.thread in
+    moved_leaves d.view g.met.D.Disk.only_now g.H.Hasher.dig s.recorded.store c.stage.new.self c.commit.new.self.store
+    s.recorded.root c.args.head.now c.in-Ok.number c.head_page-page.result w k serves c.in-Ok-commit.ensures.any_moment
 
 pub returns-in-Ok-commit-clause-told : goal.returns-in-Ok-commit-clause-told
 returns-in-Ok-commit-clause-told g c = λ k serves.
     let d = g.D.Disk in
     let s = c.args.self.now in
-    let w = was_put d.view g.H.Hasher.dig s.recorded.store c.stage.new.self s.recorded.root c.args.head.now c.in-Ok.number c.head_page-page.result
-    (λ ps list. told_pages d.view s.recorded.store ((d.view s.recorded.store.disk).count) ((d.view s.recorded.store.disk).content) ps (λ i is. g.met.D.Disk.count_is_told s.recorded.store.disk i is) s.recorded.store.room s.recorded.store.used_from list)
-    c.in-Ok.ensures.same s.clean c.in-Ok.ensures.number c.in-Ok.ensures.used c.head_page-page.ensures c.in-Ok.ensures.list s.few_pages s.few_commits c.requires.from c.requires.above c.requires.thread in
-    moved_reads d.view g.met.D.Disk.only_now g.H.Hasher.dig s.recorded.store c.stage.new.self c.commit.new.self.store s.recorded.root c.args.head.now c.in-Ok.number c.head_page-page.result w k serves c.in-Ok-commit.ensures.told
+    let w = was_put d.view g.H.Hasher.dig s.recorded.store c.stage.new.self s.recorded.root c.args.head.now
+    c.in-Ok.number c.head_page-page.result
+    (λ ps list. told_pages d.view s.recorded.store ((d.view s.recorded.store.disk).count)
+    ((d.view s.recorded.store.disk).content) ps (λ i is. g.met.D.Disk.count_is_told s.recorded.store.disk i is)
+    s.recorded.store.room s.recorded.store.used_from list)
+    c.in-Ok.ensures.same s.clean c.in-Ok.ensures.number c.in-Ok.ensures.used c.head_page-page.ensures
+    c.in-Ok.ensures.list s.few_pages s.few_commits c.requires.from c.requires.above c.requires.thread in
+    moved_reads d.view g.met.D.Disk.only_now g.H.Hasher.dig s.recorded.store c.stage.new.self c.commit.new.self.store
+    s.recorded.root c.args.head.now c.in-Ok.number c.head_page-page.result w k serves c.in-Ok-commit.ensures.told
 
 pub returns-in-Ok-commit-clause-done : goal.returns-in-Ok-commit-clause-done
 returns-in-Ok-commit-clause-done g c = λ k serves.
     let d = g.D.Disk in
     let s = c.args.self.now in
-    let w = was_put d.view g.H.Hasher.dig s.recorded.store c.stage.new.self s.recorded.root c.args.head.now c.in-Ok.number c.head_page-page.result
-    (λ ps list. told_pages d.view s.recorded.store ((d.view s.recorded.store.disk).count) ((d.view s.recorded.store.disk).content) ps (λ i is. g.met.D.Disk.count_is_told s.recorded.store.disk i is) s.recorded.store.room s.recorded.store.used_from list)
-    c.in-Ok.ensures.same s.clean c.in-Ok.ensures.number c.in-Ok.ensures.used c.head_page-page.ensures c.in-Ok.ensures.list s.few_pages s.few_commits c.requires.from c.requires.above c.requires.thread in
-    subst (λ (r : RootRecord). ServesState (root_kind g.H.Hasher.dig) KeepsList d.view c.commit.new.self.store r (with_head k c.args.head.now)) (sym c.in-Ok-commit.ensures.root.0)
-    (moved_serves d.view g.met.D.Disk.only_now g.H.Hasher.dig s.recorded.store c.stage.new.self c.commit.new.self.store s.recorded.root c.args.head.now c.in-Ok.number c.head_page-page.result w k serves c.in-Ok-commit.ensures.done)
+    let w = was_put d.view g.H.Hasher.dig s.recorded.store c.stage.new.self s.recorded.root c.args.head.now
+    c.in-Ok.number c.head_page-page.result
+    (λ ps list. told_pages d.view s.recorded.store ((d.view s.recorded.store.disk).count)
+    ((d.view s.recorded.store.disk).content) ps (λ i is. g.met.D.Disk.count_is_told s.recorded.store.disk i is)
+    s.recorded.store.room s.recorded.store.used_from list)
+    c.in-Ok.ensures.same s.clean c.in-Ok.ensures.number c.in-Ok.ensures.used c.head_page-page.ensures
+    c.in-Ok.ensures.list s.few_pages s.few_commits c.requires.from c.requires.above c.requires.thread in
+    subst (λ (r : RootRecord). ServesState (root_kind g.H.Hasher.dig) KeepsList d.view c.commit.new.self.store r
+    (with_head k c.args.head.now)) (sym c.in-Ok-commit.ensures.root.0)
+    (moved_serves d.view g.met.D.Disk.only_now g.H.Hasher.dig s.recorded.store c.stage.new.self c.commit.new.self.store
+    s.recorded.root c.args.head.now c.in-Ok.number c.head_page-page.result w k serves c.in-Ok-commit.ensures.done)
 
 -- ---- a disk fault
 
@@ -99,16 +132,27 @@ returns-in-Err-commit-clause-written g c = λ ps rest.
     let d = g.D.Disk in
     let s = c.args.self.now in
     let next : RootRecord = record { head = c.args.head.now; page = c.in-Ok.number } in
-    let w = was_put d.view g.H.Hasher.dig s.recorded.store c.stage.new.self s.recorded.root c.args.head.now c.in-Ok.number c.head_page-page.result
-    (λ ps list. told_pages d.view s.recorded.store ((d.view s.recorded.store.disk).count) ((d.view s.recorded.store.disk).content) ps (λ i is. g.met.D.Disk.count_is_told s.recorded.store.disk i is) s.recorded.store.room s.recorded.store.used_from list)
-    c.in-Ok.ensures.same s.clean c.in-Ok.ensures.number c.in-Ok.ensures.used c.head_page-page.ensures c.in-Ok.ensures.list s.few_pages s.few_commits c.requires.from c.requires.above c.requires.thread in
+    let w = was_put d.view g.H.Hasher.dig s.recorded.store c.stage.new.self s.recorded.root c.args.head.now
+    c.in-Ok.number c.head_page-page.result
+    (λ ps list. told_pages d.view s.recorded.store ((d.view s.recorded.store.disk).count)
+    ((d.view s.recorded.store.disk).content) ps (λ i is. g.met.D.Disk.count_is_told s.recorded.store.disk i is)
+    s.recorded.store.room s.recorded.store.used_from list)
+    c.in-Ok.ensures.same s.clean c.in-Ok.ensures.number c.in-Ok.ensures.used c.head_page-page.ensures
+    c.in-Ok.ensures.list s.few_pages s.few_commits c.requires.from c.requires.above c.requires.thread in
     let put = w.staged ps rest in
     let is = w.is ps rest in (
-      subst (λ (x : Written RootRecord). LeavesOnly (d.view (store_disk s.recorded.store)) (d.view (store_disk c.commit.new.self.store)) (IsOneOf (root_kind g.H.Hasher.dig) (written_record s.recorded.root ps) x)) is
-          (leaves_since d.view g.met.D.Disk.only_now (root_kind g.H.Hasher.dig) s.recorded.store c.stage.new.self s.recorded.root next ps (ps ++ c.head_page-page.result ∷ []) put c.commit.new.self.store c.in-Err-commit.ensures.any_moment),
-      subst (λ (x : Written RootRecord). Reads (d.view (store_disk c.commit.new.self.store)) (IsOneOf (root_kind g.H.Hasher.dig) (written_record s.recorded.root ps) x)) is
-          (of_these d.view g.met.D.Disk.only_now (root_kind g.H.Hasher.dig) s.recorded.store c.stage.new.self s.recorded.root next ps (ps ++ c.head_page-page.result ∷ []) put
-          (λ qs some. Reads (d.view (store_disk c.commit.new.self.store)) (IsOneOf (root_kind g.H.Hasher.dig) (written_record s.recorded.root qs) (written_record next some))) c.in-Err-commit.ensures.told),
+      subst (λ (x : Written RootRecord). LeavesOnly (d.view (store_disk s.recorded.store))
+          (d.view (store_disk c.commit.new.self.store))
+          (IsOneOf (root_kind g.H.Hasher.dig) (written_record s.recorded.root ps) x)) is
+          (leaves_since d.view g.met.D.Disk.only_now (root_kind g.H.Hasher.dig) s.recorded.store c.stage.new.self
+          s.recorded.root next ps (ps ++ c.head_page-page.result ∷ []) put c.commit.new.self.store
+          c.in-Err-commit.ensures.any_moment),
+      subst (λ (x : Written RootRecord). Reads (d.view (store_disk c.commit.new.self.store))
+          (IsOneOf (root_kind g.H.Hasher.dig) (written_record s.recorded.root ps) x)) is
+          (of_these d.view g.met.D.Disk.only_now (root_kind g.H.Hasher.dig) s.recorded.store c.stage.new.self
+          s.recorded.root next ps (ps ++ c.head_page-page.result ∷ []) put
+          (λ qs some. Reads (d.view (store_disk c.commit.new.self.store)) (IsOneOf (root_kind g.H.Hasher.dig)
+          (written_record s.recorded.root qs) (written_record next some))) c.in-Err-commit.ensures.told),
       tt,
     )
 
@@ -116,19 +160,29 @@ pub returns-in-Err-commit-clause-any_moment : goal.returns-in-Err-commit-clause-
 returns-in-Err-commit-clause-any_moment g c = λ k serves.
     let d = g.D.Disk in
     let s = c.args.self.now in
-    let w = was_put d.view g.H.Hasher.dig s.recorded.store c.stage.new.self s.recorded.root c.args.head.now c.in-Ok.number c.head_page-page.result
-    (λ ps list. told_pages d.view s.recorded.store ((d.view s.recorded.store.disk).count) ((d.view s.recorded.store.disk).content) ps (λ i is. g.met.D.Disk.count_is_told s.recorded.store.disk i is) s.recorded.store.room s.recorded.store.used_from list)
-    c.in-Ok.ensures.same s.clean c.in-Ok.ensures.number c.in-Ok.ensures.used c.head_page-page.ensures c.in-Ok.ensures.list s.few_pages s.few_commits c.requires.from c.requires.above c.requires.thread in
-    moved_leaves d.view g.met.D.Disk.only_now g.H.Hasher.dig s.recorded.store c.stage.new.self c.commit.new.self.store s.recorded.root c.args.head.now c.in-Ok.number c.head_page-page.result w k serves c.in-Err-commit.ensures.any_moment
+    let w = was_put d.view g.H.Hasher.dig s.recorded.store c.stage.new.self s.recorded.root c.args.head.now
+    c.in-Ok.number c.head_page-page.result
+    (λ ps list. told_pages d.view s.recorded.store ((d.view s.recorded.store.disk).count)
+    ((d.view s.recorded.store.disk).content) ps (λ i is. g.met.D.Disk.count_is_told s.recorded.store.disk i is)
+    s.recorded.store.room s.recorded.store.used_from list)
+    c.in-Ok.ensures.same s.clean c.in-Ok.ensures.number c.in-Ok.ensures.used c.head_page-page.ensures
+    c.in-Ok.ensures.list s.few_pages s.few_commits c.requires.from c.requires.above c.requires.thread in
+    moved_leaves d.view g.met.D.Disk.only_now g.H.Hasher.dig s.recorded.store c.stage.new.self c.commit.new.self.store
+    s.recorded.root c.args.head.now c.in-Ok.number c.head_page-page.result w k serves c.in-Err-commit.ensures.any_moment
 
 pub returns-in-Err-commit-clause-told : goal.returns-in-Err-commit-clause-told
 returns-in-Err-commit-clause-told g c = λ k serves.
     let d = g.D.Disk in
     let s = c.args.self.now in
-    let w = was_put d.view g.H.Hasher.dig s.recorded.store c.stage.new.self s.recorded.root c.args.head.now c.in-Ok.number c.head_page-page.result
-    (λ ps list. told_pages d.view s.recorded.store ((d.view s.recorded.store.disk).count) ((d.view s.recorded.store.disk).content) ps (λ i is. g.met.D.Disk.count_is_told s.recorded.store.disk i is) s.recorded.store.room s.recorded.store.used_from list)
-    c.in-Ok.ensures.same s.clean c.in-Ok.ensures.number c.in-Ok.ensures.used c.head_page-page.ensures c.in-Ok.ensures.list s.few_pages s.few_commits c.requires.from c.requires.above c.requires.thread in
-    moved_reads d.view g.met.D.Disk.only_now g.H.Hasher.dig s.recorded.store c.stage.new.self c.commit.new.self.store s.recorded.root c.args.head.now c.in-Ok.number c.head_page-page.result w k serves c.in-Err-commit.ensures.told
+    let w = was_put d.view g.H.Hasher.dig s.recorded.store c.stage.new.self s.recorded.root c.args.head.now
+    c.in-Ok.number c.head_page-page.result
+    (λ ps list. told_pages d.view s.recorded.store ((d.view s.recorded.store.disk).count)
+    ((d.view s.recorded.store.disk).content) ps (λ i is. g.met.D.Disk.count_is_told s.recorded.store.disk i is)
+    s.recorded.store.room s.recorded.store.used_from list)
+    c.in-Ok.ensures.same s.clean c.in-Ok.ensures.number c.in-Ok.ensures.used c.head_page-page.ensures
+    c.in-Ok.ensures.list s.few_pages s.few_commits c.requires.from c.requires.above c.requires.thread in
+    moved_reads d.view g.met.D.Disk.only_now g.H.Hasher.dig s.recorded.store c.stage.new.self c.commit.new.self.store
+    s.recorded.root c.args.head.now c.in-Ok.number c.head_page-page.result w k serves c.in-Err-commit.ensures.told
 
 pub invariant_of-self-in-Err-commit : goal.invariant_of-self-in-Err-commit
 invariant_of-self-in-Err-commit g c =

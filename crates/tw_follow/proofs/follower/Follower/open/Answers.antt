@@ -5,12 +5,15 @@ use Rattle.tw_follow.proofs.follower.Follower.open.Goals as goal
 
 pub returns-in-Ok-clause-follows : goal.returns-in-Ok-clause-follows
 returns-in-Ok-clause-follows g c = λ i k told stands.
-    serves_opened (root_kind g.H.Hasher.dig) KeepsList g.D.Disk.view c.in-Ok.recorded.store c.in-Ok.recorded.root k i stands
-    (c.in-Ok.ensures.found (λ root used generation r s is may also would. root-once root r s is may.spelled also would.spelled) i stands.w told stands.is)
+    serves_opened (root_kind g.H.Hasher.dig) KeepsList g.D.Disk.view c.in-Ok.recorded.store c.in-Ok.recorded.root k i
+    stands
+    (c.in-Ok.ensures.found (λ root used generation r s is may also would. root-once root r s is may.spelled also
+    would.spelled) i stands.w told stands.is)
 
 pub returns-in-Err-clause-follows : goal.returns-in-Err-clause-follows
 returns-in-Err-clause-follows g c = λ i k told stands.
-    c.in-Err.ensures.found (λ root used generation r s is may also would. root-once root r s is may.spelled also would.spelled) i stands.w told stands.is
+    c.in-Err.ensures.found (λ root used generation r s is may also would. root-once root r s is may.spelled also
+    would.spelled) i stands.w told stands.is
 
 pub invariant_of-result : goal.invariant_of-result
 invariant_of-result g c = record {

@@ -8,9 +8,11 @@ use Rattle.tw_generate.proofs.services.Services.exchange_in.Goals as goal
 pub returns-then-is_fiftieth : goal.returns-then-is_fiftieth
 returns-then-is_fiftieth g c =
     let yes : (c.args.number % 50 == 0) ≡ true = cc in
-    subst (λ (b : Bool). OnOk c.exchange.result (LeadsByActs g.H.Hasher.dig g.D.Disk.view (if b then all_tell else []) c.args.self.now c.exchange.new.self)) (sym yes) c.exchange.ensures
+    subst (λ (b : Bool). OnOk c.exchange.result (LeadsByActs g.H.Hasher.dig g.D.Disk.view (if b then all_tell else [])
+    c.args.self.now c.exchange.new.self)) (sym yes) c.exchange.ensures
 
 pub returns : goal.returns
 returns g c =
     let no : (c.args.number % 50 == 0) ≡ false = cc in
-    subst (λ (b : Bool). LeadsByActs g.H.Hasher.dig g.D.Disk.view (if b then all_tell else []) c.args.self.now c.args.self.now) (sym no) (leads-none g.H.Hasher.dig g.D.Disk.view c.args.self.now)
+    subst (λ (b : Bool). LeadsByActs g.H.Hasher.dig g.D.Disk.view (if b then all_tell else []) c.args.self.now
+    c.args.self.now) (sym no) (leads-none g.H.Hasher.dig g.D.Disk.view c.args.self.now)

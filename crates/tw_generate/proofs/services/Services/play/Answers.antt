@@ -4,5 +4,7 @@ use Rattle.tw_generate.proofs.services.Services.play.Goals as goal
 
 pub returns : goal.returns
 returns g c = on-ok c.append_end.result
-    (λ ends. leads-on g.H.Hasher.dig g.D.Disk.view (rounds_of c.args.number c.args.rounds) (all_append end_event end_event end_event) c.args.self.now c.rounds.new.self c.append_end.new.self c.in_ok-rounds.ensures ends)
+    (λ ends. leads-on g.H.Hasher.dig g.D.Disk.view (rounds_of c.args.number c.args.rounds)
+    (all_append end_event end_event end_event) c.args.self.now c.rounds.new.self c.append_end.new.self
+    c.in_ok-rounds.ensures ends)
     c.append_end.ensures

@@ -18,9 +18,14 @@ returns-clause-leads g c =
     let third = c.in_ok-gamma.ensures in
     let beta = second.0 ∙ ap step_events first.1 in
     let gamma = third.0 ∙ ap step_events (second.1 ∙ ap after_step first.1) in
-    let appended = subst (λ (es : List (List ℕ)). LeadsByActs dig view (all_append es (step_events (after_step x)) (step_events (after_step (after_step x)))) old mid) first.0
-    (subst (λ (es : List (List ℕ)). LeadsByActs dig view (all_append c.in_ok-alpha.alpha es (step_events (after_step (after_step x)))) old mid) beta
-    (subst (λ (es : List (List ℕ)). LeadsByActs dig view (all_append c.in_ok-alpha.alpha c.in_ok-beta.beta es) old mid) gamma c.in_ok-append_all.ensures)) in
+    let appended = subst (λ (es : List (List ℕ)). LeadsByActs dig view (all_append es (step_events (after_step x))
+    (step_events (after_step (after_step x)))) old mid) first.0
+    (subst (λ (es : List (List ℕ)). LeadsByActs dig view
+    (all_append c.in_ok-alpha.alpha es (step_events (after_step (after_step x)))) old mid) beta
+    (subst (λ (es : List (List ℕ)). LeadsByActs dig view (all_append c.in_ok-alpha.alpha c.in_ok-beta.beta es) old mid)
+    gamma c.in_ok-append_all.ensures)) in
     on-ok c.exchange_in.result
-    (λ told. leads-on dig view (all_append (step_events x) (step_events (after_step x)) (step_events (after_step (after_step x)))) (if c.args.number % 50 == 0 then all_tell else []) old mid c.exchange_in.new.self appended told)
+    (λ told. leads-on dig view (all_append (step_events x) (step_events (after_step x))
+    (step_events (after_step (after_step x)))) (if c.args.number % 50 == 0 then all_tell else []) old mid
+    c.exchange_in.new.self appended told)
     c.exchange_in.ensures

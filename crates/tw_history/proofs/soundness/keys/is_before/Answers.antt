@@ -9,5 +9,6 @@ returns-then-tree-eq0 c t e is got rising at =
 
 pub returns-else-tree-eq0 : goal.returns-else-tree-eq0
 returns-else-tree-eq0 c t e is got rising at =
-    below_by_last c.args.history.now (entries t) e c.args.step c.comes_before.result got rising (some_counted _ t is c.if-tree-eq0.false) at
+    below_by_last c.args.history.now (entries t) e c.args.step c.comes_before.result got rising
+    (some_counted _ t is c.if-tree-eq0.false) at
     (λ x y one other. c.comes_before.ensures x y (rw (last-summary _ t is) one) other)

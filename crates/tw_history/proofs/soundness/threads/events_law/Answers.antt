@@ -10,8 +10,11 @@ loop-event-init c all = all
 pub loop-event-preserved : goal.loop-event-preserved
 loop-event-preserved c rest =
     let event = c.event-item.result in
-    let cut = drop_more c.args.events.now c.loop-event.event-index event c.loop-event-test.true ∙ ap (λ e. e ∷ drop (c.loop-event.event-index + 1) c.args.events.now) (sym c.event-item.is) in
-    c.loop-event.invariant (subst (Each AreBytes) (sym cut) (subst AreBytes c.as_slice.ensures c.see_bytes.ensures, rest))
+    let cut = drop_more c.args.events.now c.loop-event.event-index event c.loop-event-test.true
+    ∙ ap (λ e. e ∷ drop (c.loop-event.event-index + 1) c.args.events.now) (sym c.event-item.is) in
+    c.loop-event.invariant
+    (subst (Each AreBytes) (sym cut) (subst AreBytes c.as_slice.ensures c.see_bytes.ensures, rest))
 
 pub returns : goal.returns
-returns c = c.loop-event.invariant (subst (Each AreBytes) (sym (drop_all c.loop-event.event-index c.args.events.now c.loop-event-test.false)) tt)
+returns c = c.loop-event.invariant
+    (subst (Each AreBytes) (sym (drop_all c.loop-event.event-index c.args.events.now c.loop-event-test.false)) tt)

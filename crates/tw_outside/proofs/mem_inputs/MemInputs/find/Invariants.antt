@@ -9,4 +9,5 @@ use Rattle.tw_outside.proofs.mem_inputs.MemInputs.find.Given as goal
 
 abbrev pub invariant-loop-file : goal.invariant-loop-file
 invariant-loop-file l =
-    get (mem_files l.self) l.name ≡ find (slice_cmp nat_cmp) l.name (map (λ file. (string_bytes file.name, file.bytes.items)) (deque_iter_rest l.file-iterator))
+    get (mem_files l.self) l.name ≡ find (slice_cmp nat_cmp) l.name
+    (map (λ file. (string_bytes file.name, file.bytes.items)) (deque_iter_rest l.file-iterator))

@@ -7,4 +7,5 @@ use Rattle.tw_pages.proofs.recorded.Recorded.close.Goals as goal
 pub returns-clause-rests : goal.returns-clause-rests
 returns-clause-rests g c = λ dig w rest.
     let d = g.D.Disk in
-    subst (λ disk. IsAtRest (d.view disk) (IsWritten (g.R.Record.kind dig) w)) (sym c.close.ensures) (rest_for_good d.view (g.R.Record.kind dig) c.args.self.store w rest)
+    subst (λ disk. IsAtRest (d.view disk) (IsWritten (g.R.Record.kind dig) w)) (sym c.close.ensures)
+    (rest_for_good d.view (g.R.Record.kind dig) c.args.self.store w rest)

@@ -15,5 +15,7 @@ returns-in-Err-Malformed-clause-fed g c = λ whole pieces fed.
 
 pub returns-in-Broken-clause-fed : goal.returns-in-Broken-clause-fed
 returns-in-Broken-clause-fed g c = λ whole pieces fed.
-    let was = rw (sym c.in-Broken.ensures.value) at fed in
-    (omega (arith, was.0, length-append pieces c.args.piece.now), (broken-more whole pieces c.args.piece.now c.in-Broken.place was.1 was.0).1)
+    let was = rw (sym c.in-Broken.ensures.value) at fed in (
+      omega (arith, was.0, length-append pieces c.args.piece.now),
+      (broken-more whole pieces c.args.piece.now c.in-Broken.place was.1 was.0).1,
+    )

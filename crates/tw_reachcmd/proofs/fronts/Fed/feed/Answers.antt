@@ -13,7 +13,8 @@ returns-clause-fed g c anchors before =
     let grown : c.extend_from_slice.new.self.items ≡ front ++ take came read =
     grind (arith, common_steps, c.in_ok-extend_from_slice.ensures.items, take-append-le) in
     let at : c.len-at.result ≡ length front = grind (arith, common_steps, c.len-at.ensures) in
-    fed_of_more (g.I.Inputs.told c.args.inputs.now) c.args.proof.now anchors c.args.self.now.verifier c.feed.new.self front
+    fed_of_more (g.I.Inputs.told c.args.inputs.now) c.args.proof.now anchors c.args.self.now.verifier c.feed.new.self
+    front
     c.extend_from_slice.new.self.items _ read came (c.in_ok-feed.ensures.fed anchors false front before.fed)
     c.in_ok-feed.ensures.unspent fits (grind (arith, common_steps, take-append-le)) grown
     (λ bytes tells.

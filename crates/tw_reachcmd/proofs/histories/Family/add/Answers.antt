@@ -16,10 +16,12 @@ pub returns-in_ok-push-in-Ok-clause-read : goal.returns-in_ok-push-in-Ok-clause-
 returns-in_ok-push-in-Ok-clause-read c told files read are =
     let f = c.args.self.now in
     let history = c.in-Ok.history in
-    let old : Family = record { histories = f.histories ++ history ∷ []; bad = f.bad; left = f.left - length c.args.bytes.now } in
+    let old : Family =
+    record { histories = f.histories ++ history ∷ []; bad = f.bad; left = f.left - length c.args.bytes.now } in
     let new : Family = record { histories = c.push.new.self; bad = f.bad; left = c.saturating_sub-self.result } in
     known_of told (files ++ c.args.file.now ∷ []) old new (sym c.in_ok-push-in-Ok.ensures.ok) refl (omega arith)
-    (read_history told files c.args.file.now c.args.bytes.now f read are (sym c.is_some.ensures ∙ c.if-is_some.false) history
+    (read_history told files c.args.file.now c.args.bytes.now f read are (sym c.is_some.ensures ∙ c.if-is_some.false)
+    history
     (subst (λ before. IsHistoryBeside f.left before c.args.bytes.now history) c.as_slice.ensures c.in-Ok.ensures))
 
 pub returns-in-Err-Bad-clause-read : goal.returns-in-Err-Bad-clause-read

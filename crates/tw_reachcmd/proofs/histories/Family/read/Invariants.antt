@@ -12,5 +12,6 @@ invariant-loop-file g l = record {
   later : g.I.Inputs.faults l.fn.inputs ≤ g.I.Inputs.faults l.inputs;
   few : l.self.left ≤ MOST_HISTORY_BYTES;
   there : Each (IsThere (g.I.Inputs.told l.fn.inputs)) (take l.file-index l.files);
-  read : AreHistoriesRead (g.I.Inputs.told l.fn.inputs) [] l.fn.self → AreHistoriesRead (g.I.Inputs.told l.fn.inputs) (take l.file-index l.files) l.self;
+  read : AreHistoriesRead (g.I.Inputs.told l.fn.inputs) [] l.fn.self → AreHistoriesRead (g.I.Inputs.told l.fn.inputs)
+      (take l.file-index l.files) l.self;
 }

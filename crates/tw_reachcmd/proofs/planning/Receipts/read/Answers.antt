@@ -15,11 +15,14 @@ loop-file-preserved g c =
     let same_told : now ≡ told = c.loop-file.invariant.kept in
     let file : List ℕ = c.as_str-in-loop-file.result.now in
     let same : c.as_str.result.now ≡ file = cc in
-    let there : IsThere told file = subst (λ t. IsThere t file) same_told (subst (λ f. IsThere now f) same c.in_ok-bytes.ensures.there) in
+    let there : IsThere told file = subst (λ t. IsThere t file) same_told
+    (subst (λ f. IsThere now f) same c.in_ok-bytes.ensures.there) in
     let read : IsReadTo told file FILE_READ c.as_slice.result.now =
     subst (λ t. IsReadTo t file FILE_READ c.as_slice.result.now) same_told
-    (subst (λ f. IsReadTo now f FILE_READ c.as_slice.result.now) same (λ bytes tells. c.as_slice.ensures.value ∙ c.in_ok-bytes.ensures.read bytes tells)) in
-    let more : take (c.loop-file.file-index + 1) c.args.files.now ≡ take c.loop-file.file-index c.args.files.now ++ file ∷ [] =
+    (subst (λ f. IsReadTo now f FILE_READ c.as_slice.result.now) same (λ bytes tells. c.as_slice.ensures.value
+    ∙ c.in_ok-bytes.ensures.read bytes tells)) in
+    let more : take (c.loop-file.file-index + 1) c.args.files.now ≡ take c.loop-file.file-index c.args.files.now ++ file
+    ∷ [] =
     grind (arith, common_steps, take_more) in
     record {
       kept = c.in_ok-bytes.ensures.kept ∙ c.loop-file.invariant.kept;
@@ -31,8 +34,10 @@ loop-file-preserved g c =
       few = c.in_ok-add.ensures.few;
       there =
           subst (λ fs. Each (IsThere told) fs) (sym more)
-          (Each-append (IsThere told) (take c.loop-file.file-index c.args.files.now) (file ∷ []) c.loop-file.invariant.there (there, tt));
+          (Each-append (IsThere told) (take c.loop-file.file-index c.args.files.now) (file ∷ [])
+          c.loop-file.invariant.there (there, tt));
       read = λ begun.
           subst (λ fs. AreReceiptsRead told fs c.add.new.self) (sym more)
-          (c.in_ok-add.ensures.read told (take c.loop-file.file-index c.args.files.now) read (c.loop-file.invariant.read begun));
+          (c.in_ok-add.ensures.read told (take c.loop-file.file-index c.args.files.now) read
+          (c.loop-file.invariant.read begun));
     }

@@ -12,5 +12,6 @@ invariant-loop-file g l = record {
   later : g.I.Inputs.faults l.fn.inputs ≤ g.I.Inputs.faults l.inputs;
   few : length l.self.hops ≤ MOST_RECEIPTS;
   there : Each (IsThere (g.I.Inputs.told l.fn.inputs)) (take l.file-index l.files);
-  read : AreReceiptsRead (g.I.Inputs.told l.fn.inputs) [] l.fn.self → AreReceiptsRead (g.I.Inputs.told l.fn.inputs) (take l.file-index l.files) l.self;
+  read : AreReceiptsRead (g.I.Inputs.told l.fn.inputs) [] l.fn.self → AreReceiptsRead (g.I.Inputs.told l.fn.inputs)
+      (take l.file-index l.files) l.self;
 }

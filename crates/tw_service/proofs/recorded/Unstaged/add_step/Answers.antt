@@ -25,8 +25,11 @@ returns-in-Err-clause-written g c = λ ps rest.
     let d = g.D.Disk in
     let s = c.args.self.now.kept in
     let dig = g.H.Hasher.dig in
-    nothing_written d.view g.met.D.Disk.only_now (AppendsTo dig c.args.events.now c.args.time) (λ _ w next. AppendsTo dig c.args.events.now c.args.time w next) s.store c.discard.new.self s.root s.root (Err c.from.result) ps
-    (is_same_on d.view s.store c.append-added.new.pages c.discard.new.self c.in-Err.ensures.adds.kept.same_kept c.discard.ensures.same) rest refl tt
+    nothing_written d.view g.met.D.Disk.only_now (AppendsTo dig c.args.events.now c.args.time)
+    (λ _ w next. AppendsTo dig c.args.events.now c.args.time w next) s.store c.discard.new.self s.root s.root
+    (Err c.from.result) ps
+    (is_same_on d.view s.store c.append-added.new.pages c.discard.new.self c.in-Err.ensures.adds.kept.same_kept
+    c.discard.ensures.same) rest refl tt
 
 pub returns-in-Err-clause-good : goal.returns-in-Err-clause-good
 returns-in-Err-clause-good g c = λ bad h serves.
@@ -34,15 +37,19 @@ returns-in-Err-clause-good g c = λ bad h serves.
     let s = c.args.self.now.kept in
     let ps : Image = serves.pages in
     let list = told_list d.view root_kind s.store (written_record s.root ps) serves.rests c.args.self.now.clean in
-    let own = added_whole g.H.Hasher.dig (λ text. (g.met.H.Hasher.size text, g.met.H.Hasher.bytes text)) ps h s.root serves.keeps.whole c.args.events.now c.args.time c.requires.step c.requires.limits c.requires.time
+    let own = added_whole g.H.Hasher.dig (λ text. (g.met.H.Hasher.size text, g.met.H.Hasher.bytes text)) ps h s.root
+    serves.keeps.whole c.args.events.now c.args.time c.requires.step c.requires.limits c.requires.time
     (room_written d.view s.store (written_record s.root ps) serves.rests c.requires.step) in
-    no_bad_page c.from.result (appended g.H.Hasher.dig ps s.root.head (Events c.args.events.now) s.root.archive c.args.time) _ own.is
-    (page_found c.in-Err.fault c.from.result (appended g.H.Hasher.dig ps s.root.head (Events c.args.events.now) s.root.archive c.args.time) c.from.ensures (c.in-Err.ensures.adds.answer ps list)) bad
+    no_bad_page c.from.result (appended g.H.Hasher.dig ps s.root.head (Events c.args.events.now) s.root.archive
+    c.args.time) _ own.is
+    (page_found c.in-Err.fault c.from.result (appended g.H.Hasher.dig ps s.root.head (Events c.args.events.now)
+    s.root.archive c.args.time) c.from.ensures (c.in-Err.ensures.adds.answer ps list)) bad
 
 pub returns-in-Err-clause-answer : goal.returns-in-Err-clause-answer
 returns-in-Err-clause-answer g c = λ ps list.
     let s = c.args.self.now.kept in
-    page_found c.in-Err.fault c.from.result (appended g.H.Hasher.dig ps s.root.head (Events c.args.events.now) s.root.archive c.args.time) c.from.ensures (c.in-Err.ensures.adds.answer ps list)
+    page_found c.in-Err.fault c.from.result (appended g.H.Hasher.dig ps s.root.head (Events c.args.events.now)
+    s.root.archive c.args.time) c.from.ensures (c.in-Err.ensures.adds.answer ps list)
 
 -- ---- a step that was committed, or may be
 
@@ -50,8 +57,12 @@ pub returns-in-Ok-commit-clause-answer : goal.returns-in-Ok-commit-clause-answer
 returns-in-Ok-commit-clause-answer g c = λ ps list.
     let s = c.args.self.now.kept in
     let own = c.in-Ok.ensures.adds.answer ps list in
-    let head : c.commit.new.self.root.head ≡ c.in-Ok.head = ap (λ (r : RootRecord). r.head) (c.in-Ok-commit.ensures.root.0 ∙ c.next_root-next.ensures.next) in
-    (own.0, subst (λ (n : Head). appended g.H.Hasher.dig ps s.root.head (Events c.args.events.now) s.root.archive c.args.time ≡ Is (record { pages = own.0; value = n })) (sym head) own.2)
+    let head : c.commit.new.self.root.head ≡ c.in-Ok.head = ap (λ (r : RootRecord). r.head)
+    (c.in-Ok-commit.ensures.root.0 ∙ c.next_root-next.ensures.next) in (
+      own.0,
+      subst (λ (n : Head). appended g.H.Hasher.dig ps s.root.head (Events c.args.events.now) s.root.archive c.args.time
+          ≡ Is (record { pages = own.0; value = n })) (sym head) own.2,
+    )
 
 pub returns-in-Ok-commit-clause-written : goal.returns-in-Ok-commit-clause-written
 returns-in-Ok-commit-clause-written g c = λ ps rest.
@@ -64,14 +75,23 @@ returns-in-Ok-commit-clause-written g c = λ ps rest.
     let list = told_list d.view root_kind s.store (written_record s.root ps) rest c.args.self.now.clean in
     let grown = step.adds.kept.list_grows ps list in
     let found = step.adds.answer ps list in
-    let count = told_pages d.view s.store ((d.view s.store.disk).count) ((d.view s.store.disk).content) ps (λ i is. g.met.D.Disk.count_is_told s.store.disk i is) s.store.room s.store.used_from list in
+    let count = told_pages d.view s.store ((d.view s.store.disk).count) ((d.view s.store.disk).content) ps
+    (λ i is. g.met.D.Disk.count_is_told s.store.disk i is) s.store.room s.store.used_from list in
     let page : c.in-Ok.head.page < store_count mid = omega (arith, step.page) in
-    let put = staged_events d.view dig s.store mid s.root next.result c.in-Ok.head c.args.time ps grown.0 step.adds.kept.same_kept rest count grown.1 next.ensures.auth step.step c.requires.step c.args.self.now.few_commits c.requires.time page
+    let put = staged_events d.view dig s.store mid s.root next.result c.in-Ok.head c.args.time ps grown.0
+    step.adds.kept.same_kept rest count grown.1 next.ensures.auth step.step c.requires.step c.args.self.now.few_commits
+    c.requires.time page
     c.args.events.now next.ensures.next next.ensures.label step.few step.adds.kept.used_grows found.0 found.1 found.2 in
-    let appends = appends_events d.view dig s.store mid s.root next.result c.in-Ok.head c.args.time ps grown.0 step.adds.kept.same_kept rest count grown.1 next.ensures.auth step.step c.requires.step c.args.self.now.few_commits c.requires.time page
-    c.args.events.now next.ensures.next next.ensures.label step.few step.adds.kept.used_grows found.0 found.1 found.2 c.requires.allowed in
-    committed d.view g.met.D.Disk.only_now (AppendsTo dig c.args.events.now c.args.time) (λ _ w after. AppendsTo dig c.args.events.now c.args.time w after) s.store mid c.commit.new.self.store s.root next.result ps (ps ++ grown.0) put appends
-    tt c.commit.new.self.root appends c.in-Ok-commit.ensures.root.0 c.in-Ok-commit.ensures.any_moment c.in-Ok-commit.ensures.told c.in-Ok-commit.ensures.done
+    let appends = appends_events d.view dig s.store mid s.root next.result c.in-Ok.head c.args.time ps grown.0
+    step.adds.kept.same_kept rest count grown.1 next.ensures.auth step.step c.requires.step c.args.self.now.few_commits
+    c.requires.time page
+    c.args.events.now next.ensures.next next.ensures.label step.few step.adds.kept.used_grows found.0 found.1 found.2
+    c.requires.allowed in
+    committed d.view g.met.D.Disk.only_now (AppendsTo dig c.args.events.now c.args.time) (λ _ w after. AppendsTo dig
+    c.args.events.now c.args.time w after) s.store mid c.commit.new.self.store s.root next.result ps (ps ++ grown.0) put
+    appends
+    tt c.commit.new.self.root appends c.in-Ok-commit.ensures.root.0 c.in-Ok-commit.ensures.any_moment
+    c.in-Ok-commit.ensures.told c.in-Ok-commit.ensures.done
 
 pub returns-in-Err-commit-clause-written : goal.returns-in-Err-commit-clause-written
 returns-in-Err-commit-clause-written g c = λ ps rest.
@@ -84,11 +104,19 @@ returns-in-Err-commit-clause-written g c = λ ps rest.
     let list = told_list d.view root_kind s.store (written_record s.root ps) rest c.args.self.now.clean in
     let grown = step.adds.kept.list_grows ps list in
     let found = step.adds.answer ps list in
-    let count = told_pages d.view s.store ((d.view s.store.disk).count) ((d.view s.store.disk).content) ps (λ i is. g.met.D.Disk.count_is_told s.store.disk i is) s.store.room s.store.used_from list in
+    let count = told_pages d.view s.store ((d.view s.store.disk).count) ((d.view s.store.disk).content) ps
+    (λ i is. g.met.D.Disk.count_is_told s.store.disk i is) s.store.room s.store.used_from list in
     let page : c.in-Ok.head.page < store_count mid = omega (arith, step.page) in
-    let put = staged_events d.view dig s.store mid s.root next.result c.in-Ok.head c.args.time ps grown.0 step.adds.kept.same_kept rest count grown.1 next.ensures.auth step.step c.requires.step c.args.self.now.few_commits c.requires.time page
+    let put = staged_events d.view dig s.store mid s.root next.result c.in-Ok.head c.args.time ps grown.0
+    step.adds.kept.same_kept rest count grown.1 next.ensures.auth step.step c.requires.step c.args.self.now.few_commits
+    c.requires.time page
     c.args.events.now next.ensures.next next.ensures.label step.few step.adds.kept.used_grows found.0 found.1 found.2 in
-    let appends = appends_events d.view dig s.store mid s.root next.result c.in-Ok.head c.args.time ps grown.0 step.adds.kept.same_kept rest count grown.1 next.ensures.auth step.step c.requires.step c.args.self.now.few_commits c.requires.time page
-    c.args.events.now next.ensures.next next.ensures.label step.few step.adds.kept.used_grows found.0 found.1 found.2 c.requires.allowed in
-    not_committed d.view g.met.D.Disk.only_now (AppendsTo dig c.args.events.now c.args.time) (λ _ w after. AppendsTo dig c.args.events.now c.args.time w after) s.store mid c.commit.new.self.store s.root next.result ps (ps ++ grown.0) put appends
+    let appends = appends_events d.view dig s.store mid s.root next.result c.in-Ok.head c.args.time ps grown.0
+    step.adds.kept.same_kept rest count grown.1 next.ensures.auth step.step c.requires.step c.args.self.now.few_commits
+    c.requires.time page
+    c.args.events.now next.ensures.next next.ensures.label step.few step.adds.kept.used_grows found.0 found.1 found.2
+    c.requires.allowed in
+    not_committed d.view g.met.D.Disk.only_now (AppendsTo dig c.args.events.now c.args.time) (λ _ w after. AppendsTo dig
+    c.args.events.now c.args.time w after) s.store mid c.commit.new.self.store s.root next.result ps (ps ++ grown.0) put
+    appends
     c.commit.new.self.root c.in-Err-commit.ensures.any_moment c.in-Err-commit.ensures.told

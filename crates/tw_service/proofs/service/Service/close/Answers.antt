@@ -13,4 +13,5 @@ returns-clause-stands g c = λ h served.
     (rest_for_good d.view g.met.D.Disk.only_now g.H.Hasher.dig s.store s.root h served)
 
 pub returns-clause-over : goal.returns-clause-over
-returns-clause-over g c = λ ps over. c.close.ensures.rests g.H.Hasher.dig (written_record c.args.self.recorded.kept.root ps) over
+returns-clause-over g c = λ ps over. c.close.ensures.rests g.H.Hasher.dig (written_record c.args.self.recorded.kept.root
+    ps) over

@@ -8,7 +8,8 @@ use Rattle.tw_service.proofs.service.Service.open.Goals as goal
 
 pub returns-in-Ok-clause-served : goal.returns-in-Ok-clause-served
 returns-in-Ok-clause-served g c = λ i of h told s.
-    serves_opened root_kind (KeepsHistory g.H.Hasher.dig) g.D.Disk.view c.in-Ok.kept.store c.in-Ok.kept.root h i s.stands (c.in-Ok.ensures.found once i s.stands.w told s.stands.is)
+    serves_opened root_kind (KeepsHistory g.H.Hasher.dig) g.D.Disk.view c.in-Ok.kept.store c.in-Ok.kept.root h i
+    s.stands (c.in-Ok.ensures.found once i s.stands.w told s.stands.is)
 
 pub returns-in-Err-clause-served : goal.returns-in-Err-clause-served
 returns-in-Err-clause-served g c = λ i of h told s. c.in-Err.ensures.found once i s.stands.w told s.stands.is

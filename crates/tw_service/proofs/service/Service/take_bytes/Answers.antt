@@ -15,6 +15,8 @@ returns-then-self g c =
     let s = c.args.self.now in
     let failed : s.is_broken ≡ true = c.if-self.true in
     record {
-      malformed = λ nothing. (subst (λ (b : Bool). RefusesNoMessage b c.args.bytes.now (fails Reopen)) (sym failed) refl, refl);
-      message = λ m spells. inr (received_refused g.D.Disk.view g.met.D.Disk.only_now g.H.Hasher.dig m c.args.time s Reopen (own_broken s.is_broken s.recorded.kept.root.name m.thread.from failed));
+      malformed =
+          λ nothing. (subst (λ (b : Bool). RefusesNoMessage b c.args.bytes.now (fails Reopen)) (sym failed) refl, refl);
+      message = λ m spells. inr (received_refused g.D.Disk.view g.met.D.Disk.only_now g.H.Hasher.dig m c.args.time s
+          Reopen (own_broken s.is_broken s.recorded.kept.root.name m.thread.from failed));
     }

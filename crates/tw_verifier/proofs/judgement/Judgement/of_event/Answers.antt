@@ -12,5 +12,6 @@ returns g c =
     let shown : List Check = EventOf 0 c.args.proof.at.opening c.args.proof.event ∷ [] in
     let found : c.with_event-found.result ≡ found_in g.H.Hasher.dig c.args.anchors.now (checks (Exists c.args.proof)) =
     c.with_event-found.ensures c.args.anchors.now
-    ∙ found-onto g.H.Hasher.dig c.args.anchors.now None c.under_anchor-found.result (under_anchor 0 c.args.proof.at) shown c.under_anchor-found.ensures in
+    ∙ found-onto g.H.Hasher.dig c.args.anchors.now None c.under_anchor-found.result (under_anchor 0 c.args.proof.at)
+    shown c.under_anchor-found.ensures in
     rw (c.without_hops.ensures, found, c.seen.ensures) refl

@@ -7,5 +7,6 @@ use Rattle.tw_verifier.proofs.judging.JudgingSegments.attempt.Goals as goal
 
 pub returns : goal.returns
 returns g c =
-    let P : List Thread → Type 0 = λ anchors. Attempts (rest g.H.Hasher.dig anchors) c.args.self.stage c.args.held.now (Ok c.in_ok-found.found) in
+    let P : List Thread → Type 0 = λ anchors. Attempts (rest g.H.Hasher.dig anchors) c.args.self.stage c.args.held.now
+    (Ok c.in_ok-found.found) in
     c.under.ensures c.args.self.stage c.args.held.now (subst P c.as_slice.ensures c.in_ok-found.ensures)

@@ -4,5 +4,7 @@ use Rattle.tw_verifier.proofs.verifier.Verifier.broken.Goals as goal
 
 pub returns-clause-exact : goal.returns-clause-exact
 returns-clause-exact g c = λ anchors strict pieces is unspent.
-    let exact = c.is_broken.ensures.exact (judged_layout g.H.Hasher.dig anchors) pieces is.fed unspent in
-    (λ broken front. exact.0 broken (front-judged g.H.Hasher.dig anchors pieces front), λ none. exact.1 (λ front. none (judged-front g.H.Hasher.dig anchors pieces front)))
+    let exact = c.is_broken.ensures.exact (judged_layout g.H.Hasher.dig anchors) pieces is.fed unspent in (
+      λ broken front. exact.0 broken (front-judged g.H.Hasher.dig anchors pieces front),
+      λ none. exact.1 (λ front. none (judged-front g.H.Hasher.dig anchors pieces front)),
+    )

@@ -20,13 +20,17 @@ returns-in-Ok-clause-verdict g c = λ anchors strict pieces is.
 
 pub returns-in-Ok-clause-binds : goal.returns-in-Ok-clause-binds
 returns-in-Ok-clause-binds g c = λ anchors strict pieces is.
-    verdict-binds g.H.Hasher.dig g.met.H.Hasher.size g.met.H.Hasher.bytes anchors strict pieces c.verdict.result (returns-in-Ok-clause-verdict g c anchors strict pieces is)
+    verdict-binds g.H.Hasher.dig g.met.H.Hasher.size g.met.H.Hasher.bytes anchors strict pieces c.verdict.result
+    (returns-in-Ok-clause-verdict g c anchors strict pieces is)
 
 pub returns-in-Err-Malformed-clause-verdict : goal.returns-in-Err-Malformed-clause-verdict
 returns-in-Err-Malformed-clause-verdict g c = λ anchors strict pieces is.
     let layout = judged_layout g.H.Hasher.dig anchors in
     let Reads : ReadFault → Type 0 = λ fault. ReadsAs (λ x. x) layout pieces (Err fault) in
-    let read : Reads (Malformed c.in-Err-Malformed.place) = subst Reads c.in-Err-Malformed.field-0-is (c.in-Err-Malformed.ensures.whole layout pieces is.fed) in
-    let verdict = malformed_bytes g.H.Hasher.dig anchors strict pieces c.in-Err-Malformed.place (judged-nothing g.H.Hasher.dig anchors pieces read.0)
+    let read : Reads (Malformed c.in-Err-Malformed.place) = subst Reads c.in-Err-Malformed.field-0-is
+    (c.in-Err-Malformed.ensures.whole layout pieces is.fed) in
+    let verdict = malformed_bytes g.H.Hasher.dig anchors strict pieces c.in-Err-Malformed.place
+    (judged-nothing g.H.Hasher.dig anchors pieces read.0)
     (judged-place g.H.Hasher.dig anchors pieces c.in-Err-Malformed.place read.1) in
-    subst (λ (place : ℕ). IsVerdict g.H.Hasher.dig anchors strict pieces (No (reason.Malformed place))) (sym c.in-Err-Malformed.place-is) verdict
+    subst (λ (place : ℕ). IsVerdict g.H.Hasher.dig anchors strict pieces (No (reason.Malformed place)))
+    (sym c.in-Err-Malformed.place-is) verdict

@@ -13,8 +13,10 @@ use Rattle.tw_verifier.proofs.verifier.Verifier.new.Goals as goal
 pub returns : goal.returns
 returns g c =
     let dig : List ℕ → List ℕ = g.H.Hasher.dig in
-    let Begins : Format Judgement → Type 0 = λ layout. StaysFront layout [] 0 → HasFed (judging_rest dig) layout c.begin.result [] in
+    let Begins : Format Judgement → Type 0 = λ layout. StaysFront layout [] 0 → HasFed (judging_rest dig) layout
+    c.begin.result [] in
     let fed : Begins (judged_layout dig c.from_vec.result) = subst Begins (sym (begun dig _)) c.begin.ensures.fed in
     let same = c.from_vec.ensures ∙ c.in_ok-from_slice.ensures.items in
-    let has = subst (λ (list : List Thread). HasFed (judging_rest dig) (judged_layout dig list) c.begin.result []) same (fed (judged-starts dig _)) in
+    let has = subst (λ (list : List Thread). HasFed (judging_rest dig) (judged_layout dig list) c.begin.result []) same
+    (fed (judged-starts dig _)) in
     record { fed = (record { form = refl; fed = has }, c.begin.ensures.unspent) }

@@ -9,7 +9,8 @@ use Rattle.tw_world.proofs.host.Host.append.Goals as goal
 pub returns-clause-goes : goal.returns-clause-goes
 returns-clause-goes c h holds =
     let given : Given = OfEvents c.args.events.now in
-    let taken : StandsForGood c.take_disk.result h = subst (λ d. StandsForGood d h) (sym c.take_disk.ensures.disk) holds.stands in
+    let taken : StandsForGood c.take_disk.result h = subst (λ d. StandsForGood d h) (sym c.take_disk.ensures.disk)
+    holds.stands in
     let answered = c.in_ok-answer.ensures h (c.in_ok-service.ensures.serves h taken) c.in_ok-service.ensures.whole in
     let ended = c.in_ok-ended.ensures given h answered in
     let next : History = ended.next in

@@ -16,8 +16,10 @@ use Rattle.tw_world.proofs.host.Host.ask.Goals as goal
 
 -- what is given is the machine's reply
 gives-reply : (h : History) (q : Question) (Served : History → Type 0) (reply given : Result (List ℕ) Refusal)
-    → AnswersByMachine sha256 h (Ask q) (λ bytes. OfBytes bytes) reply Served → IsGiven reply given → GivesReply h q given
-gives-reply h q Served (Ok bytes) given answers is = let step = answers.1 in subst (GivesReply h q) (sym is) (refl, step.1)
+    → AnswersByMachine sha256 h (Ask q) (λ bytes. OfBytes bytes) reply Served → IsGiven reply given
+    → GivesReply h q given
+gives-reply h q Served (Ok bytes) given answers is = let step = answers.1 in subst (GivesReply h q) (sym is)
+    (refl, step.1)
 gives-reply h q Served (Err (BadPage page)) given answers is = absurd answers
 gives-reply h q Served (Err Reopen) given answers is = absurd answers
 gives-reply h q Served (Err DiskFault) given answers is = absurd is
@@ -27,9 +29,11 @@ gives-reply h q Served (Err _) given answers is = subst (GivesReply h q) (sym is
 pub returns-clause-gives : goal.returns-clause-gives
 returns-clause-gives c h holds =
     let asks = c.ask-reply.ensures.asks in
-    let served = c.in_ok-service.ensures.serves h (subst (λ d. StandsForGood d h) (sym c.take_disk.ensures.disk) holds.stands) in
+    let served = c.in_ok-service.ensures.serves h (subst (λ d. StandsForGood d h) (sym c.take_disk.ensures.disk)
+    holds.stands) in
     let name = name_of c.ask-reply.new.self in (
-      gives-reply h c.args.question.now (Serves sha256 mem_disk_view c.ask-reply.new.self) c.ask-reply.result c.in_ok-given.given
+      gives-reply h c.args.question.now (Serves sha256 mem_disk_view c.ask-reply.new.self) c.ask-reply.result
+          c.in_ok-given.given
           (asks.machine c.in_ok-service.ensures.whole h served) c.in_ok-given.ensures,
       record {
         named = c.take_disk.ensures.same.0 ∙ holds.named;

@@ -23,8 +23,12 @@ use Rattle.tw_world.proofs.player.Player.anchor.Goals as goal
 pub returns-in-Err : goal.returns-in-Err
 returns-in-Err c w f one =
     let given = c.in_ok-refusal.ensures w f in
-    let gives = subst (λ (r : Result (List ℕ) Refusal). GivesReply given.0.history (Link c.args.step None) r) c.in-Err.is given.2 in
-    (after_line w, told-unanchored w c.args.service.now c.args.step given.0 given.1 one c.in-Err.refusal gives, later c.ask.new.self w given.3)
+    let gives = subst (λ (r : Result (List ℕ) Refusal). GivesReply given.0.history (Link c.args.step None) r)
+    c.in-Err.is given.2 in (
+      after_line w,
+      told-unanchored w c.args.service.now c.args.step given.0 given.1 one c.in-Err.refusal gives,
+      later c.ask.new.self w given.3,
+    )
 
 pub returns-in-Ok : goal.returns-in-Ok
 returns-in-Ok c =
@@ -35,13 +39,19 @@ returns-in-Ok c =
     let step = c.args.step in
     if-ok c.hold_linked.result
     (λ (told : Told). (told ≡ Plain Done) × ((w : World) → PlayerFollows mid w → (link : LinkProof)
-    × Spells proof_layout c.as_slice.result.now (Linked link) × PlayerFollows new (after_line (with_anchor w (thread_of_link link)))))
+    × Spells proof_layout c.as_slice.result.now (Linked link) × PlayerFollows new
+    (after_line (with_anchor w (thread_of_link link)))))
     (PlaysLine c.args.self.now new (Anchor name step))
     (λ told held w f one.
     let given = c.in_ok-refusal.ensures w f in
-    let gives = subst (λ (r : Result (List ℕ) Refusal). GivesReply given.0.history (Link step None) r) c.in-Ok.is given.2 in
+    let gives = subst (λ (r : Result (List ℕ) Refusal). GivesReply given.0.history (Link step None) r) c.in-Ok.is
+    given.2 in
     let done = held.1 w given.3 in
     let spells = subst (λ b. Spells proof_layout b (Linked done.0)) c.as_slice.ensures done.1 in
-    let next : World = after_line (with_anchor w (thread_of_link done.0)) in
-    (next, subst (λ (t : Told). IsLineTold sha256 claims_none w (Anchor name step) t next) (sym held.0) (told-anchored w name step given.0 given.1 one bytes done.0 gives spells), done.2))
+    let next : World = after_line (with_anchor w (thread_of_link done.0)) in (
+      next,
+      subst (λ (t : Told). IsLineTold sha256 claims_none w (Anchor name step) t next) (sym held.0)
+          (told-anchored w name step given.0 given.1 one bytes done.0 gives spells),
+      done.2,
+    ))
     c.hold_linked.ensures

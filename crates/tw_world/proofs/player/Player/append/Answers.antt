@@ -10,6 +10,7 @@ returns c w f each =
     let host : Host = c.index_mut.result.now in
     let one : Host = c.append.new.self in
     let served = served-at old name c.in_ok-at.at host one c.in_ok-at.ensures c.index_mut.ensures.value in
-    let moved = follows-moved old (with_host old c.in_ok-at.at one) name c.in_ok-at.at host one served w f (OfEvents c.args.events.now) c.in_ok-told.told
+    let moved = follows-moved old (with_host old c.in_ok-at.at one) name c.in_ok-at.at host one served w f
+    (OfEvents c.args.events.now) c.in_ok-told.told
     c.in_ok-told.ensures.goes c.in_ok-told.ensures.same.0 c.in_ok-told.ensures.same.1 in
     (moved.2.0, (each, (moved.0, moved.1, moved.2.1)), moved.2.2)

@@ -9,5 +9,6 @@ returns c w f =
     let host : Host = c.index_mut.result.now in
     let one : Host = c.ask.new.self in
     let served = served-at old name c.in_ok-at.at host one c.in_ok-at.ensures c.index_mut.ensures.value in
-    follows-asked old (with_host old c.in_ok-at.at one) name c.in_ok-at.at host one served w f c.args.question.now c.in_ok-given.given c.in_ok-given.ensures.gives
+    follows-asked old (with_host old c.in_ok-at.at one) name c.in_ok-at.at host one served w f c.args.question.now
+    c.in_ok-given.given c.in_ok-given.ensures.gives
     c.in_ok-given.ensures.waits

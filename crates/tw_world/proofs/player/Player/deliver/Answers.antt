@@ -21,14 +21,20 @@ returns-in_ok-told-in-Made c w f may =
     let index = c.in_ok-index.index in
     let within : index < length old.messages.items = omega (arith, at.0, c.len.ensures, old.messages.ok.0) in
     let bytes = c.as_slice.result.now in
-    let there = message-there old w index c.index.result.now f within c.index.ensures ∙ ap (λ (k : KeptMail). Some (mail_kept k)) c.in-Made.is
+    let there = message-there old w index c.index.result.now f within c.index.ensures
+    ∙ ap (λ (k : KeptMail). Some (mail_kept k)) c.in-Made.is
     ∙ ap (λ b. Some (Made b)) (sym c.as_slice.ensures) in
     let host : Host = c.index_mut.result.now in
     let one : Host = c.deliver.new.self in
     let served = served-at old name c.in_ok-at.at host one c.in_ok-at.ensures c.index_mut.ensures.value in
-    let moved = follows-moved old (with_host old c.in_ok-at.at one) name c.in_ok-at.at host one served w f (OfBytes bytes) c.in_ok-told-in-Made.told
-    c.in_ok-told-in-Made.ensures.goes c.in_ok-told-in-Made.ensures.same.0 c.in_ok-told-in-Made.ensures.same.1 in
-    (moved.2.0, told-delivered w name c.args.number index moved.0 (Made bytes) c.in_ok-told-in-Made.told moved.2.0 moved.1 at.1 there moved.2.1, moved.2.2)
+    let moved = follows-moved old (with_host old c.in_ok-at.at one) name c.in_ok-at.at host one served w f
+    (OfBytes bytes) c.in_ok-told-in-Made.told
+    c.in_ok-told-in-Made.ensures.goes c.in_ok-told-in-Made.ensures.same.0 c.in_ok-told-in-Made.ensures.same.1 in (
+      moved.2.0,
+      told-delivered w name c.args.number index moved.0 (Made bytes) c.in_ok-told-in-Made.told moved.2.0 moved.1 at.1
+          there moved.2.1,
+      moved.2.2,
+    )
 
 pub returns-in-Unmade : goal.returns-in-Unmade
 returns-in-Unmade c w f may =
@@ -37,7 +43,12 @@ returns-in-Unmade c w f may =
     let at = c.in_ok-index.ensures in
     let index = c.in_ok-index.index in
     let within : index < length old.messages.items = omega (arith, at.0, c.len.ensures, old.messages.ok.0) in
-    let there = message-there old w index c.index.result.now f within c.index.ensures ∙ ap (λ (k : KeptMail). Some (mail_kept k)) c.in-Unmade.is in
+    let there = message-there old w index c.index.result.now f within c.index.ensures
+    ∙ ap (λ (k : KeptMail). Some (mail_kept k)) c.in-Unmade.is in
     let host = host-there old.hosts.items c.in_ok-at.at c.in_ok-at.ensures.0 in
-    let found = find-member old.hosts.items w.members name c.in_ok-at.at host.0 f.hosts c.in_ok-at.ensures.1 host.1 in
-    (after_line w, told-delivered w name c.args.number index found.member Unmade (Plain answer.Nothing) (after_line w) found.there at.1 there (refl, refl), later old w f)
+    let found = find-member old.hosts.items w.members name c.in_ok-at.at host.0 f.hosts c.in_ok-at.ensures.1 host.1 in (
+      after_line w,
+      told-delivered w name c.args.number index found.member Unmade (Plain answer.Nothing) (after_line w) found.there
+          at.1 there (refl, refl),
+      later old w f,
+    )

@@ -8,11 +8,13 @@ use Rattle.tw_world.proofs.player.Player.hold.Goals as goal
 
 pub returns : goal.returns
 returns c w f =
-    let kept = filter_same _ (λ (a : Thread). not (bytes_eq a.from c.args.anchor.from)) _ (λ x b g k. search rules) _ _ c.retain.ensures.filtered in
+    let kept = filter_same _ (λ (a : Thread). not (bytes_eq a.from c.args.anchor.from)) _ (λ x b g k. search rules) _ _
+    c.retain.ensures.filtered in
     record {
       hosts = f.hosts;
       messages = f.messages;
       files = f.files;
       anchors = c.in_ok-push.ensures.items
-          ∙ ap (λ (xs : List Thread). xs ++ c.args.anchor ∷ []) (kept ∙ ap (filter (λ (a : Thread). not (bytes_eq a.from c.args.anchor.from))) f.anchors);
+          ∙ ap (λ (xs : List Thread). xs ++ c.args.anchor ∷ [])
+          (kept ∙ ap (filter (λ (a : Thread). not (bytes_eq a.from c.args.anchor.from))) f.anchors);
     }

@@ -13,6 +13,12 @@ returns c w f may =
     let within : index < length old.messages.items = omega (arith, at.0, c.len.ensures, old.messages.ok.0) in
     let there = message-there old w index c.index.result.now f within c.index.ensures in (
       after_line (without_message w c.args.number),
-      told-lost w c.args.number index (mail_kept c.index.result.now) c.in_ok-answer.answer at.1 there c.in_ok-answer.ensures,
-      record { hosts = f.hosts; messages = message-lost old w index c.args.number f at.1; files = f.files; anchors = f.anchors },
+      told-lost w c.args.number index (mail_kept c.index.result.now) c.in_ok-answer.answer at.1 there
+          c.in_ok-answer.ensures,
+      record {
+        hosts = f.hosts;
+        messages = message-lost old w index c.args.number f at.1;
+        files = f.files;
+        anchors = f.anchors;
+      },
     )

@@ -13,8 +13,10 @@ returns c w f new =
       after_line (with_service w c.args.name),
       (new, refl, refl),
       record {
-        hosts = subst (λ (hosts : List Host). AreHostsOf hosts (with_service w c.args.name).members) (sym c.in_ok-push.ensures.items)
-            (add-host c.args.self.now.hosts.items w.members c.in_ok-host.host m f.hosts (record { holds = c.in_ok-host.ensures.holds; waits = ap is_some c.in_ok-host.ensures.waits }));
+        hosts = subst (λ (hosts : List Host). AreHostsOf hosts (with_service w c.args.name).members)
+            (sym c.in_ok-push.ensures.items)
+            (add-host c.args.self.now.hosts.items w.members c.in_ok-host.host m f.hosts
+            (record { holds = c.in_ok-host.ensures.holds; waits = ap is_some c.in_ok-host.ensures.waits }));
         messages = f.messages;
         files = f.files;
         anchors = f.anchors;

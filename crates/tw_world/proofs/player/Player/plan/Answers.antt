@@ -20,6 +20,9 @@ returns c w f may =
       after_line (with_member w m),
       (found.member, found.there, refl, refl),
       follows-put old (with_host old c.in_ok-at.at one) name c.in_ok-at.at host one served w f m
-          (record { holds = record { named = holds.named; counted = holds.counted; stands = holds.stands }; waits = refl })
+          (record {
+            holds = record { named = holds.named; counted = holds.counted; stands = holds.stands };
+            waits = refl;
+          })
           (named w.members name found.member found.there),
     )

@@ -13,13 +13,19 @@ pub returns-in-Hostile : goal.returns-in-Hostile
 returns-in-Hostile c =
     let old = c.args.self.now in
     subst (λ (l : Line). PlaysLine old old l (Plain Done)) (sym c.in-Hostile.is)
-    (λ w f new. (after_line (with_hostile w c.in-Hostile.name), (new, refl, refl), record { hosts = f.hosts; messages = f.messages; files = f.files; anchors = f.anchors }))
+    (λ w f new. (
+      after_line (with_hostile w c.in-Hostile.name),
+      (new, refl, refl),
+      record { hosts = f.hosts; messages = f.messages; files = f.files; anchors = f.anchors },
+    ))
 
 pub returns-in-Inject : goal.returns-in-Inject
 returns-in-Inject c =
     let old = c.args.self.now in
     let new = c.inject.new.self in
     let name : List ℕ = c.in-Inject.name in
-    if-ok c.inject.result (λ (told : Told). (n : List ℕ) → PlaysLine old new (Inject n c.as_slice.result.now) told) (PlaysLine old new c.args.line.now)
-    (λ told plays. subst (λ (l : Line). PlaysLine old new l told) (sym c.in-Inject.is) (subst (λ b. PlaysLine old new (Inject name b) told) c.as_slice.ensures (plays name)))
+    if-ok c.inject.result (λ (told : Told). (n : List ℕ) → PlaysLine old new (Inject n c.as_slice.result.now) told)
+    (PlaysLine old new c.args.line.now)
+    (λ told plays. subst (λ (l : Line). PlaysLine old new l told) (sym c.in-Inject.is)
+    (subst (λ b. PlaysLine old new (Inject name b) told) c.as_slice.ensures (plays name)))
     c.inject.ensures

@@ -15,7 +15,8 @@ use Rattle.tw_world.proofs.player.Player.play_lines.Goals as goal
 pub loop-numbered-init : goal.loop-numbered-init
 loop-numbered-init c = (
   no_world,
-  subst (λ (told : List Told). RunsLines sha256 claims_none no_world [] told no_world) (sym c.new-told.ensures) (runs-none sha256 claims_none no_world),
+  subst (λ (told : List Told). RunsLines sha256 claims_none no_world [] told no_world) (sym c.new-told.ensures)
+      (runs-none sha256 claims_none no_world),
   c.requires.nothing,
 )
 
@@ -23,7 +24,8 @@ pub play_next-requires : goal.play_next-requires
 play_next-requires c =
     let lines : List NumberedLine = c.as_slice-lines.result.now in
     let read : AreLinesRead lines = subst AreLinesRead (sym c.as_slice-lines.ensures) c.requires.read in
-    asks-next lines c.loop-numbered.numbered-index c.numbered-item.result read c.loop-numbered-test.true (sym c.numbered-item.is)
+    asks-next lines c.loop-numbered.numbered-index c.numbered-item.result read c.loop-numbered-test.true
+    (sym c.numbered-item.is)
 
 pub loop-numbered-preserved : goal.loop-numbered-preserved
 loop-numbered-preserved c =
@@ -36,12 +38,14 @@ loop-numbered-preserved c =
     let before : List Line = script_lines (take i lines) in
     let played : HasPlayed before at.told at.self = at.invariant in
     let read : AreLinesRead lines = subst AreLinesRead (sym c.as_slice-lines.ensures) c.requires.read in
-    let next = c.in_ok-play_next.ensures played.0 played.2 (may-next lines i l at.told played.0 read within is played.1) in
+    let next = c.in_ok-play_next.ensures played.0 played.2 (may-next lines i l at.told played.0 read within is played.1)
+    in
     let more : script_lines (take (i + 1) lines) ≡ before ++ l.line ∷ [] =
     map_more (λ (n : NumberedLine). n.line) lines i l within ∙ ap (λ (n : NumberedLine). before ++ n.line ∷ []) is in (
       next.1,
       subst (λ (ls : List Line). RunsLines sha256 claims_none no_world ls c.play_next.new.told next.1) (sym more)
-          (subst (λ (told : List Told). RunsLines sha256 claims_none no_world (before ++ l.line ∷ []) told next.1) (sym next.3)
+          (subst (λ (told : List Told). RunsLines sha256 claims_none no_world (before ++ l.line ∷ []) told next.1)
+          (sym next.3)
           (runs-more sha256 claims_none before at.told no_world played.0 l.line next.0 next.1 played.1 next.2)),
       next.4,
     )
@@ -51,4 +55,5 @@ returns c =
     let at = c.loop-numbered in
     let lines : List NumberedLine = c.as_slice-lines.result.now in
     let done : length lines ≤ at.numbered-index = omega (arith, c.loop-numbered-test.false) in
-    subst (λ (ls : List NumberedLine). HasPlayed (script_lines ls) at.told at.self) (take_all at.numbered-index lines done ∙ c.as_slice-lines.ensures) at.invariant
+    subst (λ (ls : List NumberedLine). HasPlayed (script_lines ls) at.told at.self)
+    (take_all at.numbered-index lines done ∙ c.as_slice-lines.ensures) at.invariant

@@ -19,7 +19,8 @@ returns-in-None c w f filed =
     let at = c.in_ok-index.ensures in
     let within : index < length old.files.items = omega (arith, at.0, c.len.ensures, old.files.ok.0) in
     let there = file-there old w index c.index.result.now f.files within c.index.ensures ∙ ap Some c.in-None.is in
-    files-without w numbers c.loop-number.number-index 0 c.loop-number-test.true (numbered-at w.files index (get_or numbers c.loop-number.number-index 0) at.1 ∙ there) filed
+    files-without w numbers c.loop-number.number-index 0 c.loop-number-test.true
+    (numbered-at w.files index (get_or numbers c.loop-number.number-index 0) at.1 ∙ there) filed
 
 pub loop-number-preserved : goal.loop-number-preserved
 loop-number-preserved c w same =
@@ -31,7 +32,8 @@ loop-number-preserved c w same =
     let bytes : List ℕ = c.in-Some.bytes in
     let there = file-there old w index c.index.result.now same within c.index.ensures ∙ ap Some c.in-Some.is in
     let sofar = c.loop-number.invariant w same in
-    let spells : Spells proof_layout bytes c.in-Ok.proof = subst (λ b. Spells proof_layout b c.in-Ok.proof) c.as_slice.ensures c.in-Ok.ensures in (
+    let spells : Spells proof_layout bytes c.in-Ok.proof = subst (λ b. Spells proof_layout b c.in-Ok.proof)
+    c.as_slice.ensures c.in-Ok.ensures in (
       sofar.0 ++ Some bytes ∷ [],
       files-next w numbers c.loop-number.number-index 0 sofar.0 (Some bytes) c.loop-number-test.true sofar.1
           (numbered-at w.files index (get_or numbers c.loop-number.number-index 0) at.1 ∙ there),
@@ -41,5 +43,9 @@ loop-number-preserved c w same =
 
 pub returns : goal.returns
 returns c w f filed =
-    let sofar = c.loop-number.invariant w f.files in
-    (sofar.0, subst (λ ns. AreFiles w ns sofar.0) (take_all c.loop-number.number-index c.args.numbers.now c.loop-number-test.false) sofar.1, sofar.2)
+    let sofar = c.loop-number.invariant w f.files in (
+      sofar.0,
+      subst (λ ns. AreFiles w ns sofar.0) (take_all c.loop-number.number-index c.args.numbers.now
+          c.loop-number-test.false) sofar.1,
+      sofar.2,
+    )

@@ -25,7 +25,9 @@ returns c w f may =
     let there = file-there old w index c.index.result.now f.files within c.index.ensures ∙ ap Some c.in-Some.is in
     let is : IsVerdict sha256 w.anchors false bytes judged.0 =
     subst (λ b. IsVerdict sha256 w.anchors false b judged.0) c.as_slice.ensures
-    (subst (λ (held : List Thread). IsVerdict sha256 held false c.as_slice.result.now judged.0) (c.deref.ensures.value ∙ f.anchors) judged.1) in
+    (subst (λ (held : List Thread). IsVerdict sha256 held false c.as_slice.result.now judged.0)
+    (c.deref.ensures.value ∙ f.anchors) judged.1) in
     let told : IsLineTold sha256 claims_none w (Verify number) (Plain c.in_ok-answer.answer) (after_line w) =
-    subst (λ (a : Answer). IsLineTold sha256 claims_none w (Verify number) (Plain a) (after_line w)) (sym judged.2) (told-verified w number index bytes judged.0 at.1 there is) in
+    subst (λ (a : Answer). IsLineTold sha256 claims_none w (Verify number) (Plain a) (after_line w)) (sym judged.2)
+    (told-verified w number index bytes judged.0 at.1 there is) in
     (after_line w, told, later old w f)

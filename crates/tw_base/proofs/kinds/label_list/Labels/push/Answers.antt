@@ -7,7 +7,8 @@ use Rattle.tw_base.proofs.kinds.label_list.Labels.push.Goals as goal
 pub invariant_of-self : goal.invariant_of-self
 invariant_of-self c =
     let more = AllDigests-push _ c.args.label c.self.invariant c.see_digest.ensures in
-    rw c.push.ensures.items (elim (is_ok c.push.result) as (λ t. AllDigests (if t then c.self.inside.items.items ++ c.args.label ∷ [] else c.self.inside.items.items)) [
+    rw c.push.ensures.items (elim (is_ok c.push.result) as
+    (λ t. AllDigests (if t then c.self.inside.items.items ++ c.args.label ∷ [] else c.self.inside.items.items)) [
       | true ↦ more
       | false ↦ c.self.invariant
     ])
