@@ -111,16 +111,6 @@ COMMON = {"--json", "--reference", "--wait"}
 
 ANY = """Each word may end with 0, 2 to 9, 13, 14, 70 and 130; what else one ends with stands with it."""
 
-STATUSES = {
-    "keep": "10 11 12 15",
-    "judge": "1 10 11 12 15 20 21",
-    "log": "10 15 16 17",
-    "exchange": "10 11 15 17",
-    "accept": "10 11 15",
-    "chain": "1 12 20 21",
-    "check": "15 17",
-}
-
 VARIABLES = (
     ("TIMEWEAVE_PROGRAM", "The program timeweave, where it isn't the one on the path."),
     ("TIMEWEAVE_LIBRARY", "The library libtimeweave.so, where it isn't the installed one."),
@@ -162,7 +152,7 @@ def word_lines(word: str) -> Iterator[str]:
     module.add(parser)
     yield f".SS {plain(usage(parser))}"
     yield plain(f"{sentence(module.SUMMARY)} {module.DETAILS}")
-    yield from [".br", f"Status: {STATUSES[word]}."] if word in STATUSES else []
+    yield from [".br", f"Status: {' '.join(str(int(status)) for status in module.STATUSES)}."] if module.STATUSES else []
     for action in parser._actions:
         if not COMMON.intersection(action.option_strings):
             yield from option_lines(action)

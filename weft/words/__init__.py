@@ -1,4 +1,4 @@
-"""The words of weft, a module each: its name, summary, details, example, words and run."""
+"""The words of weft, a module each: its name, summary, details, the statuses that it may end with besides those of any word, example, words and run."""
 
 from __future__ import annotations
 

@@ -22,6 +22,7 @@ DETAILS = (
     "Makes the peer's folders, notes its public key (--key), and accepts it by the line that its waiting message tells. Compare that line with what "
     "the peer gave you by another way (by telephone, on paper, on its page), or name a file that has it: then both have to be the same."
 )
+STATUSES = (Status.LOOK, Status.CONTRADICTION, Status.BUSY)
 EXAMPLE = "weft accept /srv/box bank --key bank_key.pub\nweft accept /srv/box bank bank.line"
 
 

@@ -24,6 +24,7 @@ DETAILS = (
     "judged strictly. Or it says which part is missing and whom to ask. Peers of your boxes are asked, and over them the services that they exchange with; of "
     "others it says the command, to be asked for by hand (--hand). An event is named NAME:STEP:INDEX, or by a file that has its proof."
 )
+STATUSES = (Status.NOT_SHOWN, Status.MISSING, Status.SHOWN_BY_REFERENCE, Status.NOT_SHOWN_BY_REFERENCE)
 EXAMPLE = "weft chain data:1:0 sent.proof --store /srv/log --store /srv/bank --box /srv/box --out chain"
 MOST_FILES = 10_000
 

@@ -26,6 +26,7 @@ DETAILS = (
     "that were kept. Of the events 200 are proved, or with --all each. Where the history is longer than a file may be, it is checked by its links "
     "alone. Do it each month, and after each restart that was none of your doing."
 )
+STATUSES = (Status.BUSY, Status.OLD_STORE)
 EXAMPLE = "weft check /srv/log\nweft check /srv/log --all --kept ~/lines"
 SAMPLE = 200
 

@@ -23,6 +23,7 @@ DETAILS = (
     "threads and links are answered. A new peer waits for weft accept. Unsigned messages are taken where BOX/box.conf says `unsigned = yes`, which "
     "is told each time. Run it each night, before or after the carrier."
 )
+STATUSES = (Status.LOOK, Status.CONTRADICTION, Status.BUSY, Status.OLD_STORE)
 EXAMPLE = "weft exchange /srv/log /srv/box\nrsync -r /srv/box/bank/out/ bank:/srv/box/log/in/"
 
 

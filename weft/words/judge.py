@@ -26,6 +26,7 @@ DETAILS = (
     "vouches for, aren't accepted but with --carried. A history is judged by the line of its last step, and by the rules that it has to keep. Files that are accepted, and contradict each other on what a service received, are told where the "
     "library judges that; name the link between their lines beside them. With --many all files of a folder are judged into a table, over all processors."
 )
+STATUSES = (Status.NOT_SHOWN, Status.LOOK, Status.CONTRADICTION, Status.MISSING, Status.BUSY, Status.SHOWN_BY_REFERENCE, Status.NOT_SHOWN_BY_REFERENCE)
 EXAMPLE = (
     "weft judge proof --file paid.csv\nweft judge chain --svg chain.svg\nweft judge low high\nweft judge --many proofs/ --table proofs.tsv"
 )

@@ -22,6 +22,7 @@ DETAILS = (
     "A line with a signature (FILE.sig beside it, or in the same file) is checked by ssh-keygen against the key that the file of signers has for "
     "the service's name. Lines without one are kept with the words of --by. Two lines of one step that differ are never both kept."
 )
+STATUSES = (Status.LOOK, Status.CONTRADICTION, Status.MISSING, Status.BUSY)
 EXAMPLE = "weft keep --signer shop shop_key.pub\nweft keep shop.line\nweft keep letter.txt --by 'by letter from the notary, 3 May'"
 MOST_BYTES = 1 << 20
 

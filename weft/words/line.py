@@ -17,6 +17,7 @@ DETAILS = (
     "The line is what others keep of the service: its name, the number of the step and its authenticator. Of a service without steps it is that "
     "of step 0. With --sign the line stands in a file, and beside it in a file .sig its signature by ssh-keygen: hand out both."
 )
+STATUSES = ()
 EXAMPLE = "weft line /srv/log > line\nweft line /srv/log --sign ~/.ssh/id_ed25519 --out log.line"
 
 

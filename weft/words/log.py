@@ -23,6 +23,7 @@ DETAILS = (
     "SERVICE.anchor (the line to hand out), and SERVICE.entries (step, index and event of each entry, by which proofs are made). Links, pipes and "
     "the log itself aren't logged. A run that was stopped is brought to its end by the next one."
 )
+STATUSES = (Status.LOOK, Status.BUSY, Status.FEWER, Status.OLD_STORE)
 EXAMPLE = "weft log /srv/data /srv/log data\nweft log /srv/data /srv/log"
 
 

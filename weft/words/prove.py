@@ -22,6 +22,7 @@ DETAILS = (
     "It looks the file's last entry up in SERVICE.entries, has the service prove it under its last line, or under that of the step --top, which the "
     "reader has to hold, and judges the proof before it is handed out. Give the reader the proof; he has the line already."
 )
+STATUSES = ()
 EXAMPLE = "weft prove /srv/log paid.csv --top 2 --out paid.proof"
 
 

@@ -16,6 +16,7 @@ DETAILS = (
     "It knows messages, receipts, proofs, map files, evidence, histories, events files, lines, and texts of timeweave. What a file says may be made "
     "up: weft judge judges."
 )
+STATUSES = ()
 EXAMPLE = "weft tell receipt proof"
 
 

@@ -30,11 +30,11 @@ use Rattle.tw_pages.proofs.AtRest.{untouched_left}
 use Rattle.tw_diskcmd.specs.Leaves.{WritesNothing}
 use Rattle.tw_diskcmd.proofs.AtRest.{left_keeps}
 use Rattle.tw_diskcmd.proofs.StoreCommandLaws.{HasCauses, IsSafe}
-use Rattle.tw_diskcmd.specs.Disks.{IsImageOfHeads, IsLeft, KeepsFollowerDisk, ReadLeavesHistory, ReadsAsHeads}
+use Rattle.tw_diskcmd.specs.Disks.{IsImageOfHistory, IsLeft, KeepsServiceDisk, ReadLeavesHistory, ReadsAsHistory}
 use Rattle.tw_diskcmd.specs.Receiving.{ReceiveComes, ReceiveLeaves, ReceiveSafe}
 use Rattle.tw_diskcmd.proofs.CommandLaws.{append_causes, append_is_safe, ask_causes, asking_is_safe, init_causes}
 use Rattle.tw_diskcmd.proofs.CommandLaws.{init_is_safe, receive_causes, receive_is_safe}
-use Rattle.tw_diskcmd.specs.FollowerDisks.{IsOf as IsOfList, ReadsAs as ReadsAsList}
+use Rattle.tw_diskcmd.specs.FollowerDisks.{IsImageOfHeads, ReadsAsHeads}
 use Rattle.tw_diskcmd.specs.Listing.{HeadsComes, HeadsLeaves, HeadsSafe}
 use Rattle.tw_diskcmd.specs.Offering.{OfferComes, OfferLeaves, OfferSafe}
 use Rattle.tw_diskcmd.specs.Watching.{WatchComes, WatchLeaves, WatchSafe}
@@ -203,7 +203,7 @@ module _ {D : Type 0} (view : D → DiskView)
   pub same_left : IsDiskUntouched view o → Left
   same_left is = untouched_left view o.disk.before o.disk.after only_now is
 
-  same_safe : IsDiskUntouched view o → IsDiskUntouched view o × KeepsFollowerDisk view o.disk.before o.disk.after
+  same_safe : IsDiskUntouched view o → IsDiskUntouched view o × KeepsServiceDisk view o.disk.before o.disk.after
   same_safe is = (is, left_keeps view o.disk.before o.disk.after (same_left is))
 
   -- that it is done, or why it isn't, by its outcome; each fault has its cause, a disk that reads as a history serves
@@ -219,7 +219,7 @@ module _ {D : Type 0} (view : D → DiskView)
     pub undone : (f : CommandFault) → w.does (Undone f) → w.undone f
     pub input : w.undone InputFault → NamesFile c × Rose o.inputs.before o.inputs.after
     pub disk : w.undone DiskFault → w.uses_disk × Rose (view o.disk.before).faults (view o.disk.after).faults
-    pub serves : (IsOfFollower c → ⊥) → (h : History) → ReadsAsHeads (view o.disk.before).content h → (why : StoreCause)
+    pub serves : (IsOfFollower c → ⊥) → (h : History) → ReadsAsHistory (view o.disk.before).content h → (why : StoreCause)
         → w.undone (Unserved why) → ⊥
     pub memory : (outcome : Outcome) → TakesMemory outcome → w.does outcome → w.does (Undone NoMemory)
     pub untouched : IsDiskUntouched view o → w.does (Undone NoMemory)
@@ -233,19 +233,19 @@ module _ {D : Type 0} (view : D → DiskView)
       0 where
     input : Comes (Err InputFault) → NamesFile × Rose o.inputs.before o.inputs.after
     disk : Comes (Err DiskFault) → UsesDisk × Rose (view o.disk.before).faults (view o.disk.after).faults
-    serves : (IsOfFollower c → ⊥) → (h : History) → ReadsAsHeads (view o.disk.before).content h → (why : StoreCause)
+    serves : (IsOfFollower c → ⊥) → (h : History) → ReadsAsHistory (view o.disk.before).content h → (why : StoreCause)
         → Comes (Err (Unserved why)) → ⊥
     memory : Comes (Err NoMemory)
 
   of_service : {X : Type 0} {NamesFile UsesDisk : Type 0} {Comes : Result X CommandFault → Type 0} → (c : Command)
-      → HasCauses IsImageOfHeads o.inputs (found_around view o) NamesFile UsesDisk Comes
+      → HasCauses IsImageOfHistory o.inputs (found_around view o) NamesFile UsesDisk Comes
       → Causes c NamesFile UsesDisk Comes
   of_service c causes =
       record { input = causes.input; disk = causes.disk; serves = λ _. causes.serves; memory = causes.memory }
 
   of_follower : {X : Type 0} {NamesFile UsesDisk : Type 0} {Comes : Result X CommandFault → Type 0} → (c : Command)
       → IsOfFollower c
-      → HasCauses IsOfList o.inputs (found_around view o) NamesFile UsesDisk Comes → Causes c NamesFile UsesDisk Comes
+      → HasCauses IsImageOfHeads o.inputs (found_around view o) NamesFile UsesDisk Comes → Causes c NamesFile UsesDisk Comes
   of_follower c is causes =
       record { input = causes.input; disk = causes.disk; serves = λ other. absurd (other is); memory = causes.memory }
 
@@ -303,19 +303,19 @@ module _ {D : Type 0} (view : D → DiskView)
         (λ x place is comes. absurd (of_disk.unjoined x (Unfit place) is))
 
   files_row : {X : Type 0} (c : Command) (of : X → Outcome) → Tells of → (Comes : Result X CommandFault → Type 0)
-      → HasCauses IsImageOfHeads o.inputs (found_around view o) (NamesFile c) ⊥ Comes
+      → HasCauses IsImageOfHistory o.inputs (found_around view o) (NamesFile c) ⊥ Comes
       → ((x : X) (v : Verdict) → Judged v ≡ of x → Comes (Ok x) → Judges o.inputs.told c v)
       → ((x : X) (place : ℕ) → Joined (Unfit place) ≡ of x → Comes (Ok x) → LeavesGap o.inputs c place)
       → Row c (over_files view o of Comes)
   files_row c of tells Comes causes judging joining =
-      row c of tells Comes (λ r. IsDiskUntouched view o) (IsDiskUntouched view o × KeepsFollowerDisk view o.disk.before
+      row c of tells Comes (λ r. IsDiskUntouched view o) (IsDiskUntouched view o × KeepsServiceDisk view o.disk.before
       o.disk.after) None (of_service c causes)
       (λ r takes same. same) (λ is. is) (λ r zeroth fifth same. same_left same) (λ r same. same_safe same) judging
       joining
 
   -- one that makes a service or a step, and one that asks a service a question
   made_row : {Comes Leaves : Result Thread CommandFault → Type 0} {Safe : Type 0} → (c : Command)
-      → HasCauses IsImageOfHeads o.inputs (found_around view o) (NamesFile c) (Unit {0}) Comes
+      → HasCauses IsImageOfHistory o.inputs (found_around view o) (NamesFile c) (Unit {0}) Comes
       → IsSafe view o.disk.before o.disk.after Leaves Safe → Row c (writing_disk view o Made Comes Leaves Safe)
   made_row {Comes} {Leaves} {Safe} c causes is_safe = disk_row c Made made_tells Comes Leaves Safe (Some Write)
       (of_service c causes) made_of_disk is_safe
@@ -333,7 +333,7 @@ module _ {D : Type 0} (view : D → DiskView)
   asked_row c (Some q) some =
       let causes = ask_causes o.inputs (found_around view o) q in
       disk_row c Written written_tells (AskComes (found_around view o) q) (ReadLeavesHistory view o.disk.before
-      o.disk.after) (Left × KeepsFollowerDisk view o.disk.before o.disk.after) (Some Read)
+      o.disk.after) (Left × KeepsServiceDisk view o.disk.before o.disk.after) (Some Read)
       (record {
         input = λ came. absurd (causes.input came).0;
         disk = causes.disk;
@@ -450,7 +450,7 @@ module _ {D : Type 0} (view : D → DiskView)
 
   -- one over files that reach beyond one proof
   answer_row : {X : Type 0} (c : Command) (of : X → Answer) → (Comes : Result X CommandFault → Type 0)
-      → HasCauses IsImageOfHeads o.inputs (found_around view o) (NamesFile c) ⊥ Comes
+      → HasCauses IsImageOfHistory o.inputs (found_around view o) (NamesFile c) ⊥ Comes
       → Row c (over_files view o (λ x. Answered (of x)) Comes)
   answer_row c of Comes causes =
       files_row c (λ x. Answered (of x)) (answered_tells of) Comes causes (λ x v is comes. cc) (λ x place is comes. cc)
@@ -567,7 +567,7 @@ module _ {D : Type 0} (view : D → DiskView)
   rows c = asked_row c (question_of c) refl
 
   -- a disk that reads as a list of heads serves each command of a follower
-  pub serves_list : (c : Command) → IsOfFollower c → (k : Kept) → ReadsAsList (view o.disk.before).content k
+  pub serves_list : (c : Command) → IsOfFollower c → (k : Kept) → ReadsAsHeads (view o.disk.before).content k
       → (why : StoreCause) → (work view o c).undone (Unserved why) → ⊥
   serves_list (Watch name) of k reads why came =
       (watch_causes o.inputs (found_around view o) name).serves k reads why came.0

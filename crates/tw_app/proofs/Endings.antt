@@ -31,9 +31,9 @@ use Rattle.tw_chain.specs.declared.verdict.Verdict.TheVariants.{Yes, No}
 use Rattle.tw_chain.specs.Accepting.{carried, proof_texts, report_of}
 use Rattle.tw_filecmd.specs.declared.joining.Joined.{Joined as JoinedProofs}
 use Rattle.tw_filecmd.specs.declared.joining.Joined.TheVariants.{Whole, Unfit}
-use Rattle.tw_diskcmd.specs.Disks.{IsLeft, ReadsAsHeads}
+use Rattle.tw_diskcmd.specs.Disks.{IsLeft, ReadsAsHistory}
 use Rattle.tw_follow.specs.HeadLists.{Kept}
-use Rattle.tw_diskcmd.specs.FollowerDisks.{ReadsAs as ReadsAsList}
+use Rattle.tw_diskcmd.specs.FollowerDisks.{ReadsAsHeads}
 use Rattle.tw_app.specs.declared.outcome.Outcome.{Outcome}
 use Rattle.tw_app.specs.declared.outcome.Outcome.TheVariants.{Judged, Written, Joined, Made, Received, Answered}
 use Rattle.tw_app.specs.declared.outcome.Outcome.TheVariants.{BadWords, Undone}
@@ -451,13 +451,13 @@ module _ {D : Type 0} (view : D → DiskView)
     unserved is = unserved_by is (λ cause has written. (cause, said (Unserved cause) (λ none. none) has written))
 
     pub complete : status ≡ 8 → (AreWordsOf IsOfFollower a.words → ⊥) → (h : History)
-        → ReadsAsHeads (view a.outside.disk.before).content h → ⊥
+        → ReadsAsHistory (view a.outside.disk.before).content h → ⊥
     complete is other h reads = unserved_by is (λ cause has written. undone_by (Unserved cause) (λ none. none) has
         (λ c of undone. (known c).serves (λ follows. other (of_option IsOfFollower a.words c of follows)) h reads cause
         undone))
 
     pub list_complete : status ≡ 8 → AreWordsOf IsOfFollower a.words → (k : Kept)
-        → ReadsAsList (view a.outside.disk.before).content k → ⊥
+        → ReadsAsHeads (view a.outside.disk.before).content k → ⊥
     list_complete is follows k reads = unserved_by is (λ cause has written. undone_by (Unserved cause) (λ none. none)
         has
         (λ c of undone. serves_list view only_now as_it_reads a.outside c (of_words IsOfFollower a.words c of follows) k

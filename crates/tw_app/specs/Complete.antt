@@ -25,8 +25,8 @@ use Rattle.tw_script.specs.Scripts.{script_of}
 use Rattle.tw_script.specs.declared.script.NumberedLine.{NumberedLine}
 use Rattle.tw_filecmd.specs.Showing.{IsHistoryFileOf}
 use Rattle.tw_diskcmd.specs.declared.limits.TheConstants.{EVENTS_LIMIT}
-use Rattle.tw_diskcmd.specs.Disks.{ReadsAsHeads}
-use Rattle.tw_diskcmd.specs.FollowerDisks.{ReadsAs as ReadsAsList}
+use Rattle.tw_diskcmd.specs.Disks.{ReadsAsHistory}
+use Rattle.tw_diskcmd.specs.FollowerDisks.{ReadsAsHeads}
 use Rattle.tw_reachcmd.specs.Held.{TellAll}
 use Rattle.tw_reachcmd.specs.Histories.{AreHistories}
 use Rattle.tw_reachcmd.specs.Planning.{AreHops}
@@ -106,11 +106,11 @@ module _ (told : Option Files) where
 
 -- what the disk read as stands for a history
 abbrev pub HasHistoryOnDisk : (found : Option Image) → Type 0
-HasHistoryOnDisk found = (h : History) × ReadsAsHeads found h
+HasHistoryOnDisk found = (h : History) × ReadsAsHistory found h
 
 -- for a list of heads
 abbrev pub HasList : (found : Option Image) → Type 0
-HasList found = (k : Kept) × ReadsAsList found k
+HasList found = (k : Kept) × ReadsAsHeads found k
 
 -- the disk serves the command: it read as a history, or as a list of heads; `init` and `watch` may meet any
 abbrev pub HasItsDisk : (found : Option Image) → Command → Type 0

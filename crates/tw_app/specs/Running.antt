@@ -14,7 +14,7 @@ use Rattle.tw_filecmd.specs.Showing.{ShowComes}
 use Rattle.tw_filecmd.specs.Verifying.{VerifyFileComes, VerifyOneComes}
 use Rattle.tw_diskcmd.specs.Appending.{AppendComes, AppendLeaves, AppendSafe}
 use Rattle.tw_diskcmd.specs.Asking.{AskComes}
-use Rattle.tw_diskcmd.specs.Disks.{IsLeft, KeepsFollowerDisk, ReadLeavesHistory}
+use Rattle.tw_diskcmd.specs.Disks.{IsLeft, KeepsServiceDisk, ReadLeavesHistory}
 use Rattle.tw_diskcmd.specs.Making.{InitComes, InitLeaves, InitSafe}
 use Rattle.tw_diskcmd.specs.Receiving.{ReceiveComes, ReceiveLeaves, ReceiveSafe}
 use Rattle.tw_diskcmd.specs.Listing.{HeadsComes, HeadsLeaves, HeadsSafe}
@@ -91,13 +91,13 @@ module _ {D : Type 0} (view : D → DiskView) (o : Outside D) where
 
   -- a command without a folder
   abbrev pub over_files : {X : Type 0} → (of : X → Outcome) → (Comes : Result X CommandFault → Type 0) → Work
-  over_files of Comes = by_results of (λ result. Comes result × IsDiskUntouched) (IsDiskUntouched × KeepsFollowerDisk view o.disk.before o.disk.after) None
+  over_files of Comes = by_results of (λ result. Comes result × IsDiskUntouched) (IsDiskUntouched × KeepsServiceDisk view o.disk.before o.disk.after) None
 
   -- a command that reads the disk of a folder, and writes nothing
   abbrev pub reading_disk : {X : Type 0} → (of : X → Outcome) → (Comes : Result X CommandFault → Type 0) → Work
   reading_disk of Comes =
       by_results of (λ result. Comes result × ReadLeavesHistory view o.disk.before o.disk.after result)
-      (IsLeft view o.disk.before o.disk.after × KeepsFollowerDisk view o.disk.before o.disk.after) (Some Read)
+      (IsLeft view o.disk.before o.disk.after × KeepsServiceDisk view o.disk.before o.disk.after) (Some Read)
 
   -- one that asks the service of that disk this
   abbrev pub asking : Option Question → Work

@@ -3,14 +3,14 @@
 ghost use Rattle.std.specs.Prelude.{◌⊎◌, ℕ, List};
 ghost use Rattle.tw_base.specs.kinds.Faults.{Rose};
 ghost use Rattle.tw_base.specs.history.History.{History};
-ghost use Rattle.tw_diskcmd.specs.Disks.{IsLeft, ReadsAsHeads};
+ghost use Rattle.tw_diskcmd.specs.Disks.{IsLeft, ReadsAsHistory};
 ghost use Rattle.tw_text.specs.Lines.{no_memory_text};
 ghost use Rattle.tw_text.specs.declared.fault.CommandFault.TheVariants.{Refused, Unreadable, Unserved};
 ghost use Rattle.tw_text.specs.declared.refusal.BadInput.{BadInput};
 ghost use Rattle.tw_text.specs.declared.refusal.Refusal.{Refusal};
 ghost use Rattle.tw_text.specs.declared.refusal.StoreCause.{StoreCause};
 ghost use Rattle.tw_follow.specs.HeadLists.{Kept};
-ghost use Rattle.tw_diskcmd.specs.FollowerDisks.{ReadsAs as ReadsAsList};
+ghost use Rattle.tw_diskcmd.specs.FollowerDisks.{ReadsAsHeads};
 ghost use Rattle.tw_app.specs.Around.{Around, Writes};
 ghost use Rattle.tw_app.specs.Commands.{IsOfFollower};
 ghost use Rattle.tw_app.specs.Running.{EndsAllowed};
@@ -58,9 +58,9 @@ pub fn status_laws<D: Disk>()
     // written whole, and the disk is left as is right for that.
     ensures store { (a : Around D) → EndsAllowed D.view a 8 → (cause : StoreCause) × IsUndoneRun D.view a (Unserved cause) }
     // Status 8 never comes where the disk read as a history, of another command than `watch`, `offer` and `heads`.
-    ensures complete { (a : Around D) → EndsAllowed D.view a 8 → (AreWordsOf IsOfFollower a.words → ⊥) → (h : History) → ReadsAsHeads (D.view a.outside.disk.before).content h → ⊥ }
+    ensures complete { (a : Around D) → EndsAllowed D.view a 8 → (AreWordsOf IsOfFollower a.words → ⊥) → (h : History) → ReadsAsHistory (D.view a.outside.disk.before).content h → ⊥ }
     // Status 8 of these three never comes where the disk read as a list of heads.
-    ensures list_complete { (a : Around D) → EndsAllowed D.view a 8 → AreWordsOf IsOfFollower a.words → (k : Kept) → ReadsAsList (D.view a.outside.disk.before).content k → ⊥ }
+    ensures list_complete { (a : Around D) → EndsAllowed D.view a 8 → AreWordsOf IsOfFollower a.words → (k : Kept) → ReadsAsHeads (D.view a.outside.disk.before).content k → ⊥ }
     // Status 9: the words are of a command that isn't done, since a file that it names isn't what it reads, the
     // line that tells the place was written whole, and the disk is left as is right for that.
     ensures unreadable { (a : Around D) → EndsAllowed D.view a 9 → (bad : BadInput) × IsUndoneRun D.view a (Unreadable bad) }

@@ -1,7 +1,7 @@
 // The texts of outcomes.
 
 ghost use Rattle.std.specs.Prelude.{◌≡◌, IfOk};
-ghost use Rattle.tw_app.specs.Outcomes.{text_of};
+ghost use Rattle.tw_app.specs.Outcomes.{TakesMemory, text_of};
 
 use crate::outcome::Outcome;
 use std::alloc::Global;
@@ -11,8 +11,9 @@ use tw_filecmd::Joined;
 use tw_reachcmd::print_answer;
 use tw_text::{print_fault, print_gap, print_rejected, print_report, print_usage};
 
-/// The text of an outcome. Those that take no memory are written as they are.
+/// The text of an outcome that takes memory. Others are written as they are.
 pub(crate) fn print(alloc: Global, outcome: &Outcome) -> Result<Bytes, NoMemory>
+    requires { TakesMemory outcome.now }
     ensures { IfOk result (λ text. text ≡ text_of outcome.now) }
 {
     match outcome {
@@ -25,6 +26,6 @@ pub(crate) fn print(alloc: Global, outcome: &Outcome) -> Result<Bytes, NoMemory>
         Outcome::Written(_)
         | Outcome::Joined(Joined::Whole(_))
         | Outcome::Made(_)
-        | Outcome::Received(_) => Err(NoMemory),
+        | Outcome::Received(_) => unreachable!(),
     }
 }

@@ -22,7 +22,7 @@ pages-up_to before (n ∷ ns) = by (n.page == 0) (subst (λ (k : ℕ). Each (IsU
   where
     by : (b : Bool) → Each (IsUpTo (before + suc (length ns))) (numbers_of_nodes (suc before) ns)
         → Each (IsUpTo (before + suc (length ns)))
-        (cond b (pages_of (suc before) ns) (record { page = n.page; node = suc before } ∷ pages_of (suc before) ns))
+        (cond b (numbers_of_nodes (suc before) ns) (record { page = n.page; node = suc before } ∷ numbers_of_nodes (suc before) ns))
     by true rest = rest
     by false rest = (omega arith, rest)
 
@@ -69,7 +69,7 @@ module _ (known : PageNumbers) (page : ℕ) (some : page ≢ 0) where
           other false same = refl
 
       by : (b : Bool) → number_of_page (rest ++ known) page ≡ number_of_page known page
-          → number_at (cond b rest (record { page = n.page; node = suc before } ∷ rest) ++ known) page ≡ number_at known
+          → number_of_page (cond b rest (record { page = n.page; node = suc before } ∷ rest) ++ known) page ≡ number_of_page known
           page
       by true same = same
       by false same = ap (λ (b : Bool). cond b (suc before) (number_of_page (rest ++ known) page)) not ∙ same

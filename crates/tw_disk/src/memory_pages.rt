@@ -110,9 +110,9 @@ impl Pages for MemPages {
         requires { mem_count self.old < NUMBER_LIMIT - FIRST_PAGE }
         ensures number { IfOk result (λ n. n ≡ mem_count self.old) }
         ensures list { OnOk result (mem_list self.new ≡ option_map (λ pages. pages ++ page.now ∷ []) (mem_list self.old)) }
-        ensures used { OnOk result (count_of self.new ≡ count_of self.old + 1) }
+        ensures used { OnOk result (mem_count self.new ≡ mem_count self.old + 1) }
         ensures list_err { OnErr result (mem_list self.new ≡ mem_list self.old) }
-        ensures used_err { OnErr result (count_of self.new ≡ count_of self.old) }
+        ensures used_err { OnErr result (mem_count self.new ≡ mem_count self.old) }
         ensures same { IsSame self.old self.new }
         ensures unbroken { ArePagesUnbroken self.old → ArePagesUnbroken self.new }
         ensures faults { faults_of self.new ≡ faults_of self.old }

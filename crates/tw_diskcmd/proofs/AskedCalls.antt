@@ -18,7 +18,7 @@ use Rattle.tw_answers.specs.Refusals.{IsFault}
 use Rattle.tw_answers.proofs.TableAnswers.{Of}
 use Rattle.tw_text.specs.declared.fault.CommandFault.{CommandFault}
 use Rattle.tw_diskcmd.specs.Answers.{ComesTo, IsOpened, MachineAnswers, TableAnswersOr}
-use Rattle.tw_diskcmd.specs.Disks.{FoundDisk, ReadsAsHeads}
+use Rattle.tw_diskcmd.specs.Disks.{FoundDisk, ReadsAsHistory}
 use Rattle.tw_diskcmd.specs.Faults.{fault_of_service}
 use Rattle.tw_diskcmd.proofs.Results.{CanCome, IsByTable, by_table_or, done, fault_can, machine_refuses, no_never}
 use Rattle.tw_diskcmd.proofs.Results.{refused, same_err}
@@ -35,13 +35,13 @@ module _ {X : Type 0} (finds : RootRecord → Image → Found (Result X Refusal)
     Else q = IsFault q ⊎ Further q
 
     pub further_done : (x : X) → table root.head.step ≡ None → ((ps : Image) → pages ≡ Some ps
-        → finds root ps ≡ Is (Ok x)) → ((h : History) → ReadsAsHeads t.found h → Makes x h) → ComesOr (Ok x)
+        → finds root ps ≡ Is (Ok x)) → ((h : History) → ReadsAsHistory t.found h → Makes x h) → ComesOr (Ok x)
     further_done x allows is makes = done finds (TableAnswersOr Further table) (MachineAnswers call Makes) t root pages
         opens x is (root.head.step, allows) makes
 
     pub further_refused : (T : Type 0) (reply : T → Reply) (NewServes : History → Type 0) (r : Refusal)
         (came : CommandFault) → came ≡ fault_of_service r → Of CanCome (table root.head.step)
-        → IsByTable {X = T} Else (table root.head.step) (Err r) → ((h : History) → ReadsAsHeads t.found h
+        → IsByTable {X = T} Else (table root.head.step) (Err r) → ((h : History) → ReadsAsHistory t.found h
         → AnswersByMachine sha256 h (call h) reply (Err r) NewServes)
         → (r ≡ service.DiskFault → Rose t.before t.after)
         → ((ps : Image) → pages ≡ Some ps → IsRefusalFound r (finds root ps)) → ComesOr (Err came)

@@ -23,49 +23,49 @@ use Rattle.tw_diskcmd.proofs.StoreAtRest.{opens_taken}
 use Rattle.tw_diskcmd.proofs.StoreAtRest.{left_keeps as keeps_both}
 use Rattle.tw_diskcmd.proofs.StoreSteps.{refused_adds}
 use Rattle.tw_text.specs.declared.fault.CommandFault.{CommandFault}
-use Rattle.tw_diskcmd.specs.Disks.{IsImageOfHeads, IsLeft, KeepsFollowerDisk, NextBy, RestsAtHeads, StepsBy}
+use Rattle.tw_diskcmd.specs.Disks.{IsImageOfHistory, IsLeft, KeepsServiceDisk, NextBy, RestsAtHistory, StepsBy}
 use Rattle.tw_diskcmd.specs.Faults.{fault_of_service}
 
 -- a history that an image stands for has its own name
-pub own_name : (name : List ℕ) (h : History) (image : Image) → StandsFor sha256 image name h → IsImageOfHeads h image
+pub own_name : (name : List ℕ) (h : History) (image : Image) → StandsFor sha256 image name h → IsImageOfHistory h image
 own_name name h image stands = subst (λ (n : List ℕ). StandsFor sha256 image n h) (sym stands.named) stands
 
 own_names : (name : List ℕ) (h next : History) (image : Image) → StandsForOneOf sha256 name h next image
-    → OneOf IsImageOfHeads h next image
+    → OneOf IsImageOfHistory h next image
 own_names name h next image each = ⊎_elim (λ is. inl (own_name name h image is))
     (λ is. inr (own_name name next image is)) each
 
 -- an image that stands for a history has a store
-pub stands_taken : (h : History) (image : Image) → IsImageOfHeads h image → IsTaken image
+pub stands_taken : (h : History) (image : Image) → IsImageOfHistory h image → IsTaken image
 stands_taken h image is = opens_taken root_kind is.stands.w image is.stands.is
 
-pub left_keeps : {D : Type 0} (view : D → DiskView) (old new : D) → IsLeft view old new → KeepsFollowerDisk view old new
-left_keeps view old new left = keeps_both root_kind IsImageOfHeads view old new left
+pub left_keeps : {D : Type 0} (view : D → DiskView) (old new : D) → IsLeft view old new → KeepsServiceDisk view old new
+left_keeps view old new left = keeps_both root_kind IsImageOfHistory view old new left
 
 -- a disk at rest that stands for a history under some name
 pub own_rest : {D : Type 0} (view : D → DiskView) (d : D) (name : List ℕ) (h : History)
-    → IsAtRest (view d) (λ i. StandsFor sha256 i name h) → RestsAtHeads view d h
+    → IsAtRest (view d) (λ i. StandsFor sha256 i name h) → RestsAtHistory view d h
 own_rest view d name h rest =
-    own_rest_as IsImageOfHeads view d h
+    own_rest_as IsImageOfHistory view d h
     (record { image = rest.image; told = rest.told; only = rest.only; has = own_name name h rest.image rest.has })
 
 module _ {D H X : Type 0} {g : _} {k : _} (view : D → DiskView) (only_now : (d : D) (image : Image)
     → (view d).left_since (view d).moment image → (view d).may_leave image)
     (call : Call) (reply : X → Reply) (old new : Service D H g k) (h : History) where
   abbrev Adds : Result X CommandFault → Type 0
-  Adds came = AddsFrom IsImageOfHeads view (disk_of old) (disk_of new) (NextBy call) (λ x. StepsBy call (reply x)) h
+  Adds came = AddsFrom IsImageOfHistory view (disk_of old) (disk_of new) (NextBy call) (λ x. StepsBy call (reply x)) h
       came
 
-  rests : (s : History) → Serves sha256 view new s → RestsAtHeads view (disk_of new) s
+  rests : (s : History) → Serves sha256 view new s → RestsAtHistory view (disk_of new) s
   rests s served = own_rest view (disk_of new) (name_of new) s
       (rest_for_good view only_now sha256 new.recorded.kept.store (record_of new) s served)
 
   any_moment : (next : History) → LeavesOnly (view (disk_of old)) (view (disk_of new))
       (StandsForOneOf sha256 (name_of old) h next)
-      → LeavesOnly (view (disk_of old)) (view (disk_of new)) (OneOf IsImageOfHeads h next)
+      → LeavesOnly (view (disk_of old)) (view (disk_of new)) (OneOf IsImageOfHistory h next)
   any_moment next left =
       leaves_weaker (view (disk_of old)) (view (disk_of new)) (StandsForOneOf sha256 (name_of old) h next)
-      (OneOf IsImageOfHeads h next) (own_names (name_of old) h next) left
+      (OneOf IsImageOfHistory h next) (own_names (name_of old) h next) left
 
   -- an answer, and a refusal
   pub answered_steps : (x : X) → CallSteps sha256 view call reply old new (Ok x) h → Adds (Ok x)
@@ -75,7 +75,7 @@ module _ {D H X : Type 0} {g : _} {k : _} (view : D → DiskView) (only_now : (d
   pub refused_steps : (r : Refusal) (came : CommandFault) → came ≡ fault_of_service r → CallSteps sha256 view call reply
       old new (Err r) h → Adds (Err came)
   refused_steps r came is made =
-      refused_adds IsImageOfHeads view (NextBy call) (λ x. StepsBy call (reply x)) service.DiskFault fault_of_service
+      refused_adds IsImageOfHistory view (NextBy call) (λ x. StepsBy call (reply x)) service.DiskFault fault_of_service
       refl (disk_of old) (disk_of new) h made.next made.is_next
       (any_moment made.next made.any_moment)
       (record {

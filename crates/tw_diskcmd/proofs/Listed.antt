@@ -23,7 +23,7 @@ use Rattle.tw_text.specs.declared.fault.CommandFault.{CommandFault}
 use Rattle.tw_text.specs.declared.fault.CommandFault.TheVariants as fault
 use Rattle.tw_text.specs.declared.refusal.StoreCause.TheVariants.{BadPage, Blank, NotAStore}
 use Rattle.tw_diskcmd.specs.StoreFaults.{fault_of_store}
-use Rattle.tw_diskcmd.specs.FollowerDisks.{ReadsAs, found_disk}
+use Rattle.tw_diskcmd.specs.FollowerDisks.{ReadsAsHeads, found_disk}
 use Rattle.tw_diskcmd.specs.FollowerFaults.{fault_of_follower}
 use Rattle.tw_diskcmd.specs.Listing.{HeadsComes, IsListed, ListsTo, TableLists, as_lines, head_lines}
 use Rattle.tw_diskcmd.proofs.Offered.{not_opened}
@@ -45,7 +45,7 @@ module _ (found : Option Image) (before after : ℕ) where
   -- a follower was opened, with the list that the disk reads as, where it reads as one
   module _ (root : RootRecord) (pages : Option Image) (opens : (image : Image) → found ≡ Some image
       → OpensWith sha256 image root (λ ps. pages ≡ Some ps))
-      (lists : (k : Kept) → ReadsAs found k → (ps : Image) × (pages ≡ Some ps)
+      (lists : (k : Kept) → ReadsAsHeads found k → (ps : Image) × (pages ≡ Some ps)
       × (found_heads ps root ≡ Is k.heads)) where
     is_listed : (result : Result (List ℕ) CommandFault) → TableLists result
         → ((ps : Image) → pages ≡ Some ps → result ≡ as_lines (found_heads ps root)) → IsListed found result

@@ -28,7 +28,7 @@ use Rattle.tw_text.specs.declared.fault.CommandFault.TheVariants as fault
 use Rattle.tw_text.specs.declared.refusal.StoreCause.{StoreCause}
 use Rattle.tw_text.specs.declared.refusal.StoreCause.TheVariants.{Blank, NotAStore}
 use Rattle.tw_diskcmd.specs.StoreFaults.{fault_of_store}
-use Rattle.tw_diskcmd.specs.FollowerDisks.{ReadsAs, found_disk}
+use Rattle.tw_diskcmd.specs.FollowerDisks.{ReadsAsHeads, found_disk}
 use Rattle.tw_diskcmd.specs.FollowerFaults.{fault_of_follower}
 use Rattle.tw_diskcmd.specs.Offering.{IsOffered, OfferedMessageComes, TableOffers, list_after, next_list, offer_as_told}
 use Rattle.tw_diskcmd.specs.Offering.{offered_to}
@@ -68,7 +68,7 @@ module _ (bytes : List ℕ) (m : Message) (spells : Spells message_layout bytes 
 
   module _ (found : Option Image) (before after : ℕ) (root : RootRecord) (pages : Option Image)
       (opens : (image : Image) → found ≡ Some image → OpensWith sha256 image root (λ ps. pages ≡ Some ps))
-      (list_head : (k : Kept) → ReadsAs found k → last_head sha256 k ≡ root.head) where
+      (list_head : (k : Kept) → ReadsAsHeads found k → last_head sha256 k ≡ root.head) where
     -- an answer of the follower that was opened
     is_offered : (result : Result Thread CommandFault) → result ≡ offered_to root.head m → TableOffers m result
         → IsOffered found m result

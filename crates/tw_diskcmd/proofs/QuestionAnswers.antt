@@ -23,7 +23,7 @@ use Rattle.tw_service.specs.Tops.{top_or_last}
 use Rattle.tw_text.specs.declared.fault.CommandFault.{CommandFault}
 use Rattle.tw_diskcmd.specs.Answers.{IsOpened}
 use Rattle.tw_diskcmd.specs.Asking.{AnswersBy, AskComes, LeadsOn, asked_bytes, asked_call, asked_table, came_of}
-use Rattle.tw_diskcmd.specs.Disks.{FoundDisk, ReadsAsHeads}
+use Rattle.tw_diskcmd.specs.Disks.{FoundDisk, ReadsAsHistory}
 use Rattle.tw_diskcmd.specs.Faults.{fault_of_service}
 use Rattle.tw_diskcmd.proofs.AskedCalls.{further_done, further_refused}
 use Rattle.tw_diskcmd.proofs.Results.{CanCome, IsByTable, allowed}
@@ -59,7 +59,7 @@ leads_by _ bytes h makes = tt
 
 module _ (t : FoundDisk) (q : Question) (is_broken : Bool) (root : RootRecord) (pages : Option Image)
     (opens : IsOpened t.found root pages) (whole : is_broken ≡ false)
-    (OldServes NewServes : History → Type 0) (serves : (h : History) → ReadsAsHeads t.found h → OldServes h) where
+    (OldServes NewServes : History → Type 0) (serves : (h : History) → ReadsAsHistory t.found h → OldServes h) where
   abbrev Else : Refusal → Type 0
   Else why = IsFault why ⊎ Besides q why
 

@@ -22,7 +22,7 @@ use Rattle.tw_service.specs.Machine.Reply.{OfReceipt}
 use Rattle.tw_service.specs.Receiving.{TellsOfMessage}
 use Rattle.tw_text.specs.declared.fault.CommandFault.{CommandFault}
 use Rattle.tw_diskcmd.specs.Answers.{IsOpened}
-use Rattle.tw_diskcmd.specs.Disks.{FoundDisk, ReadsAsHeads}
+use Rattle.tw_diskcmd.specs.Disks.{FoundDisk, ReadsAsHistory}
 use Rattle.tw_diskcmd.specs.Faults.{fault_of_service}
 use Rattle.tw_diskcmd.specs.Receiving.{AnswersMessage, IsReceivedOver, MachineReceives, ReceivedMessageComes}
 use Rattle.tw_diskcmd.specs.Receiving.{RefusesMessage, TableReceives}
@@ -32,7 +32,7 @@ use Rattle.tw_diskcmd.proofs.Tables.{own_can}
 
 module _ (m : Message) (time : Option ℕ) (t : FoundDisk) (is_broken : Bool) (root : RootRecord) (pages : Option Image)
     (opens : IsOpened t.found root pages) (whole : is_broken ≡ false)
-    (OldServes NewServes : History → Type 0) (serves : (h : History) → ReadsAsHeads t.found h → OldServes h)
+    (OldServes NewServes : History → Type 0) (serves : (h : History) → ReadsAsHistory t.found h → OldServes h)
     (head : Head) (archive : Root) where
   abbrev own : Bool → Option Refusal
   own b = own_refusal b root.name m.thread.from

@@ -25,7 +25,7 @@ use Rattle.tw_text.specs.declared.fault.CommandFault.{CommandFault}
 use Rattle.tw_text.specs.declared.fault.CommandFault.TheVariants as fault
 use Rattle.tw_diskcmd.specs.Answers.{ComesOver, ComesTo, IsOpened, IsResult, IsResultOver, IsTheAnswer, MachineRefuses}
 use Rattle.tw_diskcmd.specs.Answers.{TableAnswersOr, TableRefuses, answer_over, result_of}
-use Rattle.tw_diskcmd.specs.Disks.{FoundDisk, ReadsAsHeads, found_disk}
+use Rattle.tw_diskcmd.specs.Disks.{FoundDisk, ReadsAsHistory, found_disk}
 use Rattle.tw_diskcmd.specs.Comes.{TellsContent}
 use Rattle.tw_diskcmd.specs.StoreFaults.{fault_of_store}
 use Rattle.tw_diskcmd.proofs.Landings.{told_result}
@@ -168,7 +168,7 @@ module _ {X : Type 0} (Over : Served → Result X CommandFault → Type 0) (ByTa
   -- of a service that was opened
   module _ (t : FoundDisk) (root : RootRecord) (pages : Option Image) (opens : IsOpened t.found root pages) where
     pub opened_result : (r : Result X CommandFault) → ((ps : Image) → pages ≡ Some ps → Over (Opened root ps) r)
-        → ByTable r → ((h : History) → ReadsAsHeads t.found h → ByMachine h r) → IsOneOver t.found r
+        → ByTable r → ((h : History) → ReadsAsHistory t.found h → ByMachine h r) → IsOneOver t.found r
     opened_result r is table machine = record {
       answer = λ image told. let o = opens image told in (Opened root o.0, o.1, is o.0 o.2);
       table = table;
@@ -237,7 +237,7 @@ module _ {X : Type 0} (finds : RootRecord → Image → Found (Result X Refusal)
   -- of a service that was opened, and what it found
   module _ (t : FoundDisk) (root : RootRecord) (pages : Option Image) (opens : IsOpened t.found root pages) where
     pub done : (x : X) → ((ps : Image) → pages ≡ Some ps → finds root ps ≡ Is (Ok x)) → ByTable (Ok x)
-        → ((h : History) → ReadsAsHeads t.found h → ByMachine h (Ok x)) → Comes t (Ok x)
+        → ((h : History) → ReadsAsHistory t.found h → ByMachine h (Ok x)) → Comes t (Ok x)
     done x is table machine = opened_result (IsTheAnswer finds) ByTable ByMachine t root pages opens (Ok x)
         (λ ps told. sym (ap result_of (is ps told))) table machine
 
@@ -245,7 +245,7 @@ module _ {X : Type 0} (finds : RootRecord → Image → Found (Result X Refusal)
         → (failed {X = X} r ≡ Err service.DiskFault → Rose t.before t.after)
         → ((ps : Image) → pages ≡ Some ps → IsRefusalFound r (finds root ps))
         → (TellsOfDisk r → ByTable (Err (fault_of_service r)))
-        → (TellsOfDisk r → (h : History) → ReadsAsHeads t.found h → ByMachine h (Err (fault_of_service r)))
+        → (TellsOfDisk r → (h : History) → ReadsAsHistory t.found h → ByMachine h (Err (fault_of_service r)))
         → Comes t (Err came)
     refused r came same other rose is table machine =
         opened_refusal (IsTheAnswer finds) ByTable ByMachine t root pages opens r came same other rose (λ tells.

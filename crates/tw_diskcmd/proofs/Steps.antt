@@ -21,7 +21,7 @@ use Rattle.tw_service.specs.Machine.Reply.{OfThread, Refused}
 use Rattle.tw_text.specs.declared.fault.CommandFault.{CommandFault}
 use Rattle.tw_diskcmd.specs.Answers.{IsOpened}
 use Rattle.tw_diskcmd.specs.Appending.{MachineAdds, StepComes, TableAdds, append_found, table_of}
-use Rattle.tw_diskcmd.specs.Disks.{FoundDisk, ReadsAsHeads}
+use Rattle.tw_diskcmd.specs.Disks.{FoundDisk, ReadsAsHistory}
 use Rattle.tw_diskcmd.specs.Faults.{fault_of_service}
 use Rattle.tw_diskcmd.proofs.Results.{Table, allowed, by_table, done, fault_can, machine_refuses, no_never, refused}
 use Rattle.tw_diskcmd.proofs.Tables.{append_can}
@@ -53,7 +53,7 @@ to_longer h next events time thread is = longer_by (append_table h events time) 
 
 module _ (t : FoundDisk) (events : List (List ℕ)) (time : Option ℕ) (is_broken : Bool) (root : RootRecord)
     (pages : Option Image) (opens : IsOpened t.found root pages) (whole : is_broken ≡ false)
-    (OldServes NewServes : History → Type 0) (serves : (h : History) → ReadsAsHeads t.found h → OldServes h) where
+    (OldServes NewServes : History → Type 0) (serves : (h : History) → ReadsAsHistory t.found h → OldServes h) where
   abbrev here : ℕ × Option ℕ
   here = (root.head.step, root.time)
 

@@ -28,7 +28,7 @@ use Rattle.tw_follow.specs.Writing.{IsMovedBy, record_after}
 use Rattle.tw_diskcmd.specs.Steps.{AddsFrom}
 use Rattle.tw_diskcmd.proofs.StoreSteps.{refused_adds, rests_as}
 use Rattle.tw_text.specs.declared.fault.CommandFault.{CommandFault}
-use Rattle.tw_diskcmd.specs.FollowerDisks.{IsFollower, IsOf, Rests}
+use Rattle.tw_diskcmd.specs.FollowerDisks.{IsFollower, IsImageOfHeads, RestsAtHeads}
 use Rattle.tw_diskcmd.specs.FollowerFaults.{fault_of_follower}
 use Rattle.tw_diskcmd.specs.Offering.{IsNextBy, IsNextListBy, next_follower_record, next_list}
 use Rattle.tw_diskcmd.proofs.Offered.{answered_next, judged-ok, widen as widen_list}
@@ -38,19 +38,19 @@ module _ {D H : Type 0} {g : _} {k : _} (view : D → DiskView) (f new : Followe
   -- ---- of a list
 
   module _ (kept : Kept) where
-    rests_list : (s : Kept) → Follows sha256 view new s → Rests view (disk_of new) s
-    rests_list s follows = own_rest IsOf view (disk_of new) s (serves_for_good (root_kind sha256) KeepsList view
+    rests_list : (s : Kept) → Follows sha256 view new s → RestsAtHeads view (disk_of new) s
+    rests_list s follows = own_rest IsImageOfHeads view (disk_of new) s (serves_for_good (root_kind sha256) KeepsList view
         new.recorded.store (record_of new) s follows)
 
     any_list : (next : Kept) → GoesByMove sha256 kept (Stopped bytes) next → LeavesOnly (view (disk_of f))
-        (view (disk_of new)) (OneOf IsOf kept next)
-        → LeavesOnly (view (disk_of f)) (view (disk_of new)) (OneOf IsOf kept (next_list kept m))
+        (view (disk_of new)) (OneOf IsImageOfHeads kept next)
+        → LeavesOnly (view (disk_of f)) (view (disk_of new)) (OneOf IsImageOfHeads kept (next_list kept m))
     any_list next goes left =
-        leaves_weaker (view (disk_of f)) (view (disk_of new)) (OneOf IsOf kept next)
-        (OneOf IsOf kept (next_list kept m)) (widen_list bytes m spells kept next goes) left
+        leaves_weaker (view (disk_of f)) (view (disk_of new)) (OneOf IsImageOfHeads kept next)
+        (OneOf IsImageOfHeads kept (next_list kept m)) (widen_list bytes m spells kept next goes) left
 
     abbrev Adds : Result Thread CommandFault → Type 0
-    Adds came = AddsFrom IsOf view (disk_of f) (disk_of new) (IsNextListBy m) (λ thread. IsNextListBy m) kept came
+    Adds came = AddsFrom IsImageOfHeads view (disk_of f) (disk_of new) (IsNextListBy m) (λ thread. IsNextListBy m) kept came
 
     pub answered_list : (thread : Thread) → OfferSteps sha256 view bytes f new (Ok thread) kept → Adds (Ok thread)
     answered_list thread made =
@@ -64,7 +64,7 @@ module _ {D H : Type 0} {g : _} {k : _} (view : D → DiskView) (f new : Followe
     pub refused_list : (r : FollowRefusal) (came : CommandFault) → came ≡ fault_of_follower r → OfferSteps sha256 view
         bytes f new (Err r) kept → Adds (Err came)
     refused_list r came is made =
-        refused_adds IsOf view (IsNextListBy m) (λ (thread : Thread). IsNextListBy m) follower.DiskFault
+        refused_adds IsImageOfHeads view (IsNextListBy m) (λ (thread : Thread). IsNextListBy m) follower.DiskFault
         fault_of_follower refl (disk_of f) (disk_of new) kept (next_list kept m) refl
         (any_list made.next made.goes made.any_moment)
         (record {

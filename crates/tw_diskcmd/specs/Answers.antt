@@ -16,7 +16,7 @@ use Rattle.tw_text.specs.declared.fault.CommandFault.{CommandFault}
 use Rattle.tw_text.specs.declared.fault.CommandFault.TheVariants as fault
 use Rattle.tw_diskcmd.specs.Comes.{DiskComes, FoundDisk}
 use Rattle.tw_diskcmd.specs.StoreFaults.{fault_of_store}
-use Rattle.tw_diskcmd.specs.Disks.{ReadsAsHeads}
+use Rattle.tw_diskcmd.specs.Disks.{ReadsAsHistory}
 use Rattle.tw_diskcmd.specs.Faults.{fault_of_service}
 
 -- where what the disk read as is told, it opens with this root record and these pages
@@ -88,7 +88,7 @@ module _ {X : Type 0} where
     pub record IsResultOver (found : Option Image) (result : Result X CommandFault) : Type 0 where
       pub answer : IsAnswerOver Over found result
       pub table : ByTable result
-      pub machine : (h : History) → ReadsAsHeads found h → ByMachine h result
+      pub machine : (h : History) → ReadsAsHistory found h → ByMachine h result
 
     -- what it comes to
     abbrev pub ComesOver : FoundDisk → Result X CommandFault → Type 0

@@ -27,7 +27,7 @@ use Rattle.tw_diskcmd.specs.Comes.{FoundDisk, TellsContent}
 use Rattle.tw_diskcmd.specs.Files.{FileComes}
 use Rattle.tw_diskcmd.specs.Leaves.{StaysOr, WriteLeaves, WriteSafe}
 use Rattle.tw_diskcmd.specs.Answers.{ComesTo, IsResult, MachineRefuses, TableRefuses}
-use Rattle.tw_diskcmd.specs.Disks.{IsImageOfHeads, NextBy, StepsBy}
+use Rattle.tw_diskcmd.specs.Disks.{IsImageOfHistory, NextBy, StepsBy}
 
 -- the file is there; where the inputs tell its bytes, they are the events file of these events
 pub record AreEventsOf (told : Option Files) (file : List ℕ) (events : List (List ℕ)) : Type 0 where
@@ -82,11 +82,11 @@ module _ {D : Type 0} (view : D → DiskView) (old new : D) (told : Option Files
   -- the next history is the machine's by the adding of the file's events, and the next record and pages those of the step that is found
   abbrev pub AppendSafe : Type 0
   AppendSafe =
-      WriteSafe root_kind IsImageOfHeads view old new (AreEventsOf told file) (λ events. NextBy (Append events time)) (λ events. StaysOr (AppendsTo sha256 events time))
+      WriteSafe root_kind IsImageOfHistory view old new (AreEventsOf told file) (λ events. NextBy (Append events time)) (λ events. StaysOr (AppendsTo sha256 events time))
 
   -- the answer is the machine's, and the thread of that record
   abbrev pub AppendLeaves : Result Thread CommandFault → Type 0
   AppendLeaves result =
-      WriteLeaves root_kind IsImageOfHeads view old new (AreEventsOf told file) (λ events. NextBy (Append events time)) (λ events. StaysOr (AppendsTo sha256 events time))
+      WriteLeaves root_kind IsImageOfHistory view old new (AreEventsOf told file) (λ events. NextBy (Append events time)) (λ events. StaysOr (AppendsTo sha256 events time))
       (λ events found came. IsStepResult found events time came) (λ events thread. StepsBy (Append events time) (OfThread thread))
       (λ events thread. IsThreadOfNext sha256 events time thread) result

@@ -16,8 +16,8 @@ use Rattle.tw_text.specs.declared.fault.CommandFault.{CommandFault}
 pub use Rattle.tw_diskcmd.specs.Comes.{FoundDisk, found_disk}
 
 -- the image stands for the history, under its name
-abbrev pub IsImageOfHeads : History → Image → Type 0
-IsImageOfHeads h image = StandsFor sha256 image h.name h
+abbrev pub IsImageOfHistory : History → Image → Type 0
+IsImageOfHistory h image = StandsFor sha256 image h.name h
 
 -- the image opens as a service's store with this record and these pages, whatever they keep
 abbrev pub IsService : Written RootRecord → Image → Type 0
@@ -30,23 +30,23 @@ NextBy call h next = NextOf sha256 call h next
 abbrev pub StepsBy : Call → Reply → (h next : History) → Type 0
 StepsBy call reply h next = NextOf sha256 call h next × IsStepOf sha256 h call reply next
 
-abbrev pub ReadsAsHeads : (found : Option Image) → History → Type 0
-ReadsAsHeads found h = ReadsAsState IsImageOfHeads found h
+abbrev pub ReadsAsHistory : (found : Option Image) → History → Type 0
+ReadsAsHistory found h = ReadsAsState IsImageOfHistory found h
 
 module _ {D : Type 0} (view : D → DiskView) where
   abbrev pub StandsAtHistory : (disk : D) → History → Type 0
-  StandsAtHistory disk h = StandsAtState IsImageOfHeads view disk h
+  StandsAtHistory disk h = StandsAtState IsImageOfHistory view disk h
 
-  abbrev pub RestsAtHeads : (disk : D) → History → Type 0
-  RestsAtHeads disk h = RestsAtState IsImageOfHeads view disk h
+  abbrev pub RestsAtHistory : (disk : D) → History → Type 0
+  RestsAtHistory disk h = RestsAtState IsImageOfHistory view disk h
 
   -- the history that the disk stood for stands; and so do the record and pages that it opened with, whatever they keep
-  abbrev pub KeepsFollowerDisk : (old new : D) → Type 0
-  KeepsFollowerDisk old new = KeepsStore root_kind IsImageOfHeads view old new
+  abbrev pub KeepsServiceDisk : (old new : D) → Type 0
+  KeepsServiceDisk old new = KeepsStore root_kind IsImageOfHistory view old new
 
   abbrev pub ReadLeavesHistory : {X : Type 0} → (old new : D) → Result X CommandFault → Type 0
-  ReadLeavesHistory old new result = ReadLeavesOf root_kind IsImageOfHeads view old new result
+  ReadLeavesHistory old new result = ReadLeavesOf root_kind IsImageOfHistory view old new result
 
   -- what is opened as no service, a follower's store among it, is left so, with writes pending or not
-  abbrev pub SparesOtherThanFollower : (old new : D) → Type 0
-  SparesOtherThanFollower old new = SparesOtherStore root_kind IsImageOfHeads view old new
+  abbrev pub SparesOtherThanService : (old new : D) → Type 0
+  SparesOtherThanService old new = SparesOtherStore root_kind IsImageOfHistory view old new

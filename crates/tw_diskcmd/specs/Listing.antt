@@ -17,7 +17,7 @@ use Rattle.tw_text.specs.declared.fault.CommandFault.{CommandFault}
 use Rattle.tw_text.specs.declared.fault.CommandFault.TheVariants as fault
 use Rattle.tw_diskcmd.specs.StoreFaults.{fault_of_store}
 use Rattle.tw_diskcmd.specs.Leaves.{ReadLeaves, ReadSafe}
-use Rattle.tw_diskcmd.specs.FollowerDisks.{FoundDisk, IsOf, ReadsAs}
+use Rattle.tw_diskcmd.specs.FollowerDisks.{FoundDisk, IsImageOfHeads, ReadsAsHeads}
 
 -- the anchor line of each
 abbrev pub head_lines : List Thread → List ℕ
@@ -47,7 +47,7 @@ TableLists _ = Unit {0}
 pub record IsListed (found : Option Image) (result : Result (List ℕ) CommandFault) : Type 0 where
   pub answer : (image : Image) → found ≡ Some image → (served : Served) × IsServed sha256 image served × (result ≡ lines_over served)
   pub table : TableLists result
-  pub list : (kept : Kept) → ReadsAs found kept → result ≡ Ok (head_lines kept.heads)
+  pub list : (kept : Kept) → ReadsAsHeads found kept → result ≡ Ok (head_lines kept.heads)
 
 -- what it comes to; want of memory is free
 abbrev pub HeadsComes : FoundDisk → Result (List ℕ) CommandFault → Type 0
@@ -60,7 +60,7 @@ HeadsComes t _ = ⊥
 module _ {D : Type 0} (view : D → DiskView) (old new : D) where
   -- it only reads
   abbrev pub HeadsLeaves : Result (List ℕ) CommandFault → Type 0
-  HeadsLeaves result = ReadLeaves (root_kind sha256) IsOf view old new result
+  HeadsLeaves result = ReadLeaves (root_kind sha256) IsImageOfHeads view old new result
 
   abbrev pub HeadsSafe : Type 0
-  HeadsSafe = ReadSafe (root_kind sha256) IsOf view old new
+  HeadsSafe = ReadSafe (root_kind sha256) IsImageOfHeads view old new

@@ -23,7 +23,7 @@ use Rattle.tw_diskcmd.specs.Comes.{DiskComes}
 use Rattle.tw_diskcmd.specs.StoreFaults.{fault_of_store}
 use Rattle.tw_diskcmd.specs.Files.{FileComes, IsBadMessageByte, IsMessageIn}
 use Rattle.tw_diskcmd.specs.Leaves.{WriteLeaves, WriteSafe}
-use Rattle.tw_diskcmd.specs.FollowerDisks.{FoundDisk, IsOf, ReadsAs}
+use Rattle.tw_diskcmd.specs.FollowerDisks.{FoundDisk, IsImageOfHeads, ReadsAsHeads}
 use Rattle.tw_diskcmd.specs.FollowerFaults.{fault_of_follower}
 
 -- ---- the message
@@ -52,7 +52,7 @@ TableOffers m result = (head : Thread) × (result ≡ offered_to head m)
 pub record IsOffered (found : Option Image) (m : Message) (result : Result Thread CommandFault) : Type 0 where
   pub answer : (image : Image) → found ≡ Some image → (served : Served) × IsServed sha256 image served × (result ≡ offered_over m served)
   pub table : TableOffers m result
-  pub list : (kept : Kept) → ReadsAs found kept → result ≡ offered_to (last_head sha256 kept) m
+  pub list : (kept : Kept) → ReadsAsHeads found kept → result ≡ offered_to (last_head sha256 kept) m
 
 -- what the message comes to
 abbrev pub OfferedMessageComes : FoundDisk → Message → Result Thread CommandFault → Type 0
@@ -87,9 +87,9 @@ IsNextListBy m kept next = next ≡ next_list kept m
 module _ {D : Type 0} (view : D → DiskView) (old new : D) (told : Option Files) (file : List ℕ) where
   -- next are the list, and the record and pages, that the file's message makes
   abbrev pub OfferSafe : Type 0
-  OfferSafe = WriteSafe (root_kind sha256) IsOf view old new (IsMessageIn told file) IsNextListBy IsNextBy
+  OfferSafe = WriteSafe (root_kind sha256) IsImageOfHeads view old new (IsMessageIn told file) IsNextListBy IsNextBy
 
   abbrev pub OfferLeaves : Result Thread CommandFault → Type 0
   OfferLeaves result =
-      WriteLeaves (root_kind sha256) IsOf view old new (IsMessageIn told file) IsNextListBy IsNextBy (λ m found came. IsOffered found m came)
+      WriteLeaves (root_kind sha256) IsImageOfHeads view old new (IsMessageIn told file) IsNextListBy IsNextBy (λ m found came. IsOffered found m came)
       (λ m thread. IsNextListBy m) (λ m thread. IsNextBy m) result

@@ -31,7 +31,7 @@ use Rattle.tw_diskcmd.specs.StoreFaults.{fault_of_store}
 use Rattle.tw_diskcmd.specs.Files.{FileComes, IsBadMessageByte, IsMessageIn}
 use Rattle.tw_diskcmd.specs.Leaves.{StaysOr, WriteLeaves, WriteSafe}
 use Rattle.tw_diskcmd.specs.Answers.{ComesOver, IsRefusal, IsResultOver, MachineRefuses}
-use Rattle.tw_diskcmd.specs.Disks.{IsImageOfHeads, NextBy, StepsBy}
+use Rattle.tw_diskcmd.specs.Disks.{IsImageOfHistory, NextBy, StepsBy}
 use Rattle.tw_diskcmd.specs.Faults.{fault_of_service}
 
 -- ---- the message
@@ -98,10 +98,10 @@ module _ {D : Type 0} (view : D → DiskView) (old new : D) (told : Option Files
   -- the next history is one by the machine's receiving of the file's message, and the next record and pages those of a step that archives it
   abbrev pub ReceiveSafe : Type 0
   ReceiveSafe =
-      WriteSafe root_kind IsImageOfHeads view old new (IsMessageIn told file) (λ m. NextBy (Receive m time)) (λ m. StaysOr (ArchivesTo sha256 m time))
+      WriteSafe root_kind IsImageOfHistory view old new (IsMessageIn told file) (λ m. NextBy (Receive m time)) (λ m. StaysOr (ArchivesTo sha256 m time))
 
   -- the answer is the machine's, and the receipt of that record, or of an earlier step that received the thread
   abbrev pub ReceiveLeaves : Result Receipt CommandFault → Type 0
   ReceiveLeaves result =
-      WriteLeaves root_kind IsImageOfHeads view old new (IsMessageIn told file) (λ m. NextBy (Receive m time)) (λ m. StaysOr (ArchivesTo sha256 m time))
+      WriteLeaves root_kind IsImageOfHistory view old new (IsMessageIn told file) (λ m. NextBy (Receive m time)) (λ m. StaysOr (ArchivesTo sha256 m time))
       (λ m found came. IsReceived m time found came) (λ m receipt. StepsBy (Receive m time) (OfReceipt receipt)) (λ m receipt. IsReceiptOfRecord sha256 m time receipt) result

@@ -11,7 +11,7 @@ ghost use Rattle.tw_service.specs.Machine.Call.{Append};
 ghost use Rattle.tw_service.specs.Machine.Reply.{OfThread};
 ghost use Rattle.tw_diskcmd.specs.Appending.{AppendComes, AppendLeaves, AreEventsOf, IsBadEventsByte, StepComes};
 ghost use Rattle.tw_diskcmd.specs.Answers.{IsOpened};
-ghost use Rattle.tw_diskcmd.specs.Disks.{IsImageOfHeads, IsLeft, IsService, NextBy, ReadsAsHeads, SparesOtherThanFollower, StepsBy, found_disk};
+ghost use Rattle.tw_diskcmd.specs.Disks.{IsImageOfHistory, IsLeft, IsService, NextBy, ReadsAsHistory, SparesOtherThanService, StepsBy, found_disk};
 ghost use Rattle.tw_pages.specs.Records.{written_record};
 ghost use Rattle.tw_diskcmd.specs.Files.{StopsAt};
 ghost use Rattle.tw_diskcmd.specs.Leaves.{StaysOr, WritesNothing};
@@ -88,10 +88,10 @@ fn append_events<D: Disk>(
     time: Option<ClaimedTime>,
 ) -> Worked<D, Thread>
     ensures comes { StepComes (found_disk (D.view disk).content (D.view disk).faults (D.view result.disk).faults) events.now time result.outcome }
-    ensures leaves { AddsTo IsImageOfHeads D.view disk result.disk (NextBy (Append events.now time))
+    ensures leaves { AddsTo IsImageOfHistory D.view disk result.disk (NextBy (Append events.now time))
         (λ thread. StepsBy (Append events.now time) (OfThread thread)) result.outcome }
     ensures unwritten { WritesNothing result.outcome → IsLeft D.view disk result.disk }
-    ensures spares { SparesOtherThanFollower D.view disk result.disk }
+    ensures spares { SparesOtherThanService D.view disk result.disk }
     ensures writes { AddsTo IsService D.view disk result.disk (StaysOr (AppendsTo sha256 events.now time))
         (IsThreadOfNext sha256 events.now time) result.outcome }
 {
@@ -126,9 +126,9 @@ fn append_to<D: Disk>(
 ) -> Worked<D, Thread>
     requires { has_failed service ≡ false }
     ensures comes { (found : Option Image) (before : ℕ) → IsOpened found (record_of service) (pages_of D.view service)
-        → ((h : History) → ReadsAsHeads found h → Serves sha256 D.view service h) → before ≤ (D.view (disk_of service)).faults
+        → ((h : History) → ReadsAsHistory found h → Serves sha256 D.view service h) → before ≤ (D.view (disk_of service)).faults
         → StepComes (found_disk found before (D.view result.disk).faults) events.now time result.outcome }
-    ensures leaves { (h : History) → Serves sha256 D.view service h → AddsFrom IsImageOfHeads D.view (disk_of service) result.disk
+    ensures leaves { (h : History) → Serves sha256 D.view service h → AddsFrom IsImageOfHistory D.view (disk_of service) result.disk
         (NextBy (Append events.now time)) (λ thread. StepsBy (Append events.now time) (OfThread thread)) h result.outcome }
     ensures unwritten { WritesNothing result.outcome → IsLeft D.view (disk_of service) result.disk }
     ensures writes { (ps : Image) → IsOver D.view service ps → AddsFrom IsService D.view (disk_of service) result.disk

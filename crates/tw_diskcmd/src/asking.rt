@@ -10,7 +10,7 @@ ghost use Rattle.tw_diskcmd.specs.Answers.{IsOpened};
 ghost use Rattle.tw_diskcmd.specs.Asking.{AskComes, came_of};
 ghost use Rattle.tw_pages.specs.Disks.{RestsAtState};
 ghost use Rattle.tw_pages.specs.Records.{written_record};
-ghost use Rattle.tw_diskcmd.specs.Disks.{IsLeft, IsService, ReadLeavesHistory, ReadsAsHeads, RestsAtHeads, found_disk};
+ghost use Rattle.tw_diskcmd.specs.Disks.{IsLeft, IsService, ReadLeavesHistory, ReadsAsHistory, RestsAtHistory, found_disk};
 
 use crate::faults::fault_of_service;
 use crate::store_faults::fault_of_store;
@@ -54,10 +54,10 @@ fn ask_by<D: Disk>(service: Service<D, Sha>, question: &Question) -> Worked<D, B
     requires whole { has_failed service ≡ false }
     requires may { MayAsk question.now }
     ensures comes { (found : Option Image) (before : ℕ) → IsOpened found (record_of service) (pages_of D.view service)
-        → ((h : History) → ReadsAsHeads found h → Serves sha256 D.view service h) → before ≤ (D.view (disk_of service)).faults
+        → ((h : History) → ReadsAsHistory found h → Serves sha256 D.view service h) → before ≤ (D.view (disk_of service)).faults
         → AskComes (found_disk found before (D.view result.disk).faults) question.now result.outcome }
     ensures leaves { IsLeft D.view (disk_of service) result.disk }
-    ensures rests { (h : History) → Serves sha256 D.view service h → RestsAtHeads D.view result.disk h }
+    ensures rests { (h : History) → Serves sha256 D.view service h → RestsAtHistory D.view result.disk h }
     ensures over { (ps : Image) → IsOver D.view service ps → RestsAtState IsService D.view result.disk (written_record (record_of service) ps) }
 {
     let mut service = service;

@@ -10,7 +10,7 @@ ghost use Rattle.tw_text.specs.declared.fault.CommandFault.{CommandFault};
 ghost use Rattle.tw_diskcmd.specs.Comes.{TellsContent};
 ghost use Rattle.tw_diskcmd.specs.Appending.{AppendComes, StepComes, TellsOfFile};
 ghost use Rattle.tw_diskcmd.specs.Asking.{AskComes};
-ghost use Rattle.tw_diskcmd.specs.Disks.{IsLeft, KeepsFollowerDisk, found_disk};
+ghost use Rattle.tw_diskcmd.specs.Disks.{IsLeft, KeepsServiceDisk, found_disk};
 
 use tw_disk::Disk;
 
@@ -41,5 +41,5 @@ pub fn told_laws()
 pub fn idle_laws<D: Disk>()
     // A run that leaves a disk as it was keeps the history that the disk stood for: it stands for it still, for good,
     // and one at rest is still at rest. So at every other status than 0, 4 and 5, by `unwritten` of `run`.
-    ensures kept { (old new : D) → IsLeft D.view old new → KeepsFollowerDisk D.view old new }
+    ensures kept { (old new : D) → IsLeft D.view old new → KeepsServiceDisk D.view old new }
 {}

@@ -10,7 +10,7 @@ ghost use Rattle.tw_pages.specs.Disks.{RestsAtState};
 ghost use Rattle.tw_pages.specs.Records.{written_record};
 ghost use Rattle.tw_text.specs.Lines.{anchor_text};
 ghost use Rattle.tw_text.specs.declared.fault.CommandFault.TheVariants.{NoMemory as WantedMemory};
-ghost use Rattle.tw_diskcmd.specs.FollowerDisks.{IsFollower, IsLeft, ReadsAs, Rests, found_disk};
+ghost use Rattle.tw_diskcmd.specs.FollowerDisks.{IsFollower, IsLeft, ReadsAsHeads, RestsAtHeads, found_disk};
 ghost use Rattle.tw_diskcmd.specs.Listing.{HeadsComes, HeadsLeaves, ListsTo, head_lines};
 
 use crate::follower_faults::fault_of_follower;
@@ -46,12 +46,12 @@ fn list_by<D: Disk>(alloc: Global, follower: Follower<D, Sha>) -> Worked<D, Byte
     requires { has_failed follower ≡ false }
     ensures comes { (found : Option Image) (before : ℕ)
         → ((image : Image) → found ≡ Some image → OpensWith sha256 image (record_of follower) (λ ps. pages_of D.view follower ≡ Some ps))
-        → ((k : Kept) → ReadsAs found k → Follows sha256 D.view follower k) → before ≤ (D.view (disk_of follower)).faults
+        → ((k : Kept) → ReadsAsHeads found k → Follows sha256 D.view follower k) → before ≤ (D.view (disk_of follower)).faults
         → HeadsComes (found_disk found before (D.view result.disk).faults) result.outcome }
     // Over whatever disk, the lines are of heads that rise to the follower's own.
     ensures rises { IfOk result.outcome (λ lines. ListsTo (head_of follower) lines) }
     ensures leaves { IsLeft D.view (disk_of follower) result.disk }
-    ensures rests { (k : Kept) → Follows sha256 D.view follower k → Rests D.view result.disk k }
+    ensures rests { (k : Kept) → Follows sha256 D.view follower k → RestsAtHeads D.view result.disk k }
     ensures over { (ps : Image) → IsOver sha256 D.view follower ps
         → RestsAtState IsFollower D.view result.disk (written_record (record_of follower) ps) }
 {

@@ -10,7 +10,7 @@ ghost use Rattle.tw_follow.specs.HeadLists.{Kept};
 ghost use Rattle.tw_follow.specs.Stands.{OpensWith};
 ghost use Rattle.tw_msg.specs.Messages.{IsLinked, message_layout};
 ghost use Rattle.tw_outside.specs.Asked.{asked};
-ghost use Rattle.tw_diskcmd.specs.FollowerDisks.{IsFollower, IsLeft, IsOf, ReadsAs, SparesOther, found_disk};
+ghost use Rattle.tw_diskcmd.specs.FollowerDisks.{IsFollower, IsImageOfHeads, IsLeft, ReadsAsHeads, SparesOtherThanFollower, found_disk};
 ghost use Rattle.tw_diskcmd.specs.Offering.{IsNextBy, IsNextListBy, OfferComes, OfferLeaves, OfferedMessageComes};
 ghost use Rattle.tw_pages.specs.Records.{written_record};
 ghost use Rattle.tw_diskcmd.specs.Files.{IsBadMessageByte, IsMessageIn, StopsAt};
@@ -79,9 +79,9 @@ fn offer_message<D: Disk>(alloc: Global, disk: D, message: &Message) -> Worked<D
     ensures comes { (bytes : List ℕ) → Spells message_layout bytes message.now
         → OfferedMessageComes (found_disk (D.view disk).content (D.view disk).faults (D.view result.disk).faults) message.now result.outcome }
     ensures leaves { (bytes : List ℕ) → Spells message_layout bytes message.now
-        → AddsTo IsOf D.view disk result.disk (IsNextListBy message.now) (λ thread. IsNextListBy message.now) result.outcome }
+        → AddsTo IsImageOfHeads D.view disk result.disk (IsNextListBy message.now) (λ thread. IsNextListBy message.now) result.outcome }
     ensures unwritten { (bytes : List ℕ) → Spells message_layout bytes message.now → WritesNothing result.outcome → IsLeft D.view disk result.disk }
-    ensures spares { SparesOther D.view disk result.disk }
+    ensures spares { SparesOtherThanFollower D.view disk result.disk }
     ensures writes { (bytes : List ℕ) → Spells message_layout bytes message.now
         → AddsTo IsFollower D.view disk result.disk (IsNextBy message.now) (λ thread. IsNextBy message.now) result.outcome }
 {
@@ -101,10 +101,10 @@ fn offer_to<D: Disk>(follower: Follower<D, Sha>, message: &Message) -> Worked<D,
     requires thread { IsThread message.now.thread }
     ensures comes { (bytes : List ℕ) → Spells message_layout bytes message.now → (found : Option Image) (before : ℕ)
         → ((image : Image) → found ≡ Some image → OpensWith sha256 image (record_of follower) (λ ps. pages_of D.view follower ≡ Some ps))
-        → ((k : Kept) → ReadsAs found k → Follows sha256 D.view follower k) → before ≤ (D.view (disk_of follower)).faults
+        → ((k : Kept) → ReadsAsHeads found k → Follows sha256 D.view follower k) → before ≤ (D.view (disk_of follower)).faults
         → OfferedMessageComes (found_disk found before (D.view result.disk).faults) message.now result.outcome }
     ensures leaves { (bytes : List ℕ) → Spells message_layout bytes message.now → (k : Kept) → Follows sha256 D.view follower k
-        → AddsFrom IsOf D.view (disk_of follower) result.disk (IsNextListBy message.now) (λ thread. IsNextListBy message.now) k result.outcome }
+        → AddsFrom IsImageOfHeads D.view (disk_of follower) result.disk (IsNextListBy message.now) (λ thread. IsNextListBy message.now) k result.outcome }
     ensures unwritten { (bytes : List ℕ) → Spells message_layout bytes message.now → WritesNothing result.outcome
         → IsLeft D.view (disk_of follower) result.disk }
     ensures writes { (bytes : List ℕ) → Spells message_layout bytes message.now → (ps : Image) → IsOver sha256 D.view follower ps

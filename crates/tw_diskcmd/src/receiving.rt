@@ -11,7 +11,7 @@ ghost use Rattle.tw_service.specs.Serves.{IsOver, Serves, disk_of, has_failed, p
 ghost use Rattle.tw_service.specs.Machine.Call.{Receive};
 ghost use Rattle.tw_service.specs.Machine.Reply.{OfReceipt};
 ghost use Rattle.tw_diskcmd.specs.Answers.{IsOpened};
-ghost use Rattle.tw_diskcmd.specs.Disks.{IsImageOfHeads, IsLeft, IsService, NextBy, ReadsAsHeads, SparesOtherThanFollower, StepsBy, found_disk};
+ghost use Rattle.tw_diskcmd.specs.Disks.{IsImageOfHistory, IsLeft, IsService, NextBy, ReadsAsHistory, SparesOtherThanService, StepsBy, found_disk};
 ghost use Rattle.tw_diskcmd.specs.Receiving.{ReceiveComes, ReceiveLeaves, ReceivedMessageComes};
 ghost use Rattle.tw_pages.specs.Records.{written_record};
 ghost use Rattle.tw_diskcmd.specs.Files.{IsBadMessageByte, IsMessageIn, StopsAt};
@@ -93,10 +93,10 @@ fn receive_message<D: Disk>(
     requires linked { IsLinked message.now }
     requires thread { IsThread message.now.thread }
     ensures comes { ReceivedMessageComes message.now time (found_disk (D.view disk).content (D.view disk).faults (D.view result.disk).faults) result.outcome }
-    ensures leaves { AddsTo IsImageOfHeads D.view disk result.disk (NextBy (Receive message.now time))
+    ensures leaves { AddsTo IsImageOfHistory D.view disk result.disk (NextBy (Receive message.now time))
         (λ receipt. StepsBy (Receive message.now time) (OfReceipt receipt)) result.outcome }
     ensures unwritten { WritesNothing result.outcome → IsLeft D.view disk result.disk }
-    ensures spares { SparesOtherThanFollower D.view disk result.disk }
+    ensures spares { SparesOtherThanService D.view disk result.disk }
     ensures writes { AddsTo IsService D.view disk result.disk (StaysOr (ArchivesTo sha256 message.now time))
         (IsReceiptOfRecord sha256 message.now time) result.outcome }
 {
@@ -130,9 +130,9 @@ fn receive_by<D: Disk>(
     requires linked { IsLinked message.now }
     requires thread { IsThread message.now.thread }
     ensures comes { (found : Option Image) (before : ℕ) → IsOpened found (record_of service) (pages_of D.view service)
-        → ((h : History) → ReadsAsHeads found h → Serves sha256 D.view service h) → before ≤ (D.view (disk_of service)).faults
+        → ((h : History) → ReadsAsHistory found h → Serves sha256 D.view service h) → before ≤ (D.view (disk_of service)).faults
         → ReceivedMessageComes message.now time (found_disk found before (D.view result.disk).faults) result.outcome }
-    ensures leaves { (h : History) → Serves sha256 D.view service h → AddsFrom IsImageOfHeads D.view (disk_of service) result.disk
+    ensures leaves { (h : History) → Serves sha256 D.view service h → AddsFrom IsImageOfHistory D.view (disk_of service) result.disk
         (NextBy (Receive message.now time)) (λ receipt. StepsBy (Receive message.now time) (OfReceipt receipt)) h result.outcome }
     ensures unwritten { WritesNothing result.outcome → IsLeft D.view (disk_of service) result.disk }
     ensures writes { (ps : Image) → IsOver D.view service ps → AddsFrom IsService D.view (disk_of service) result.disk

@@ -1,13 +1,14 @@
 -- What the calls of a follower answer.
-use Rattle.std.proofs.Common.{◌≡◌, ◌≢◌, ℕ, ◌≤◌, List, Bool, true, false, length, refl, ap, sym, ◌∙◌, subst, arith, inl}
-use Rattle.std.proofs.Common.{inr, ◌⊎◌, ⊎_elim}
+use Rattle.std.proofs.Common.{◌≡◌, ◌≢◌, ℕ, ◌≤◌, ◌<◌, ◌^◌, List, Bool, true, false, length, refl, ap, sym, ◌∙◌, subst}
+use Rattle.std.proofs.Common.{arith, inl, inr, ◌⊎◌, ⊎_elim}
 use Rattle.std.specs.Prelude.{◌↔◌, IfErr, IfOk, IsTrue, MatchResult, OnOk, Result, Ok, Err, Some}
 use Rattle.tw_base.specs.declared.history.thread.Thread.{Thread}
 use Rattle.tw_base.specs.history.Auth.{auth}
 use Rattle.tw_base.specs.history.History.{History}
+use Rattle.tw_base.specs.history.Limits.{IsThread}
 use Rattle.tw_base.specs.kinds.Faults.{Rose}
 use Rattle.tw_disk.specs.Answers.{AnswersAs, IsShared, is_of_disk}
-use Rattle.tw_disk.specs.Disk.{DiskView, IsAtRest, LeavesOnly, Reads}
+use Rattle.tw_disk.specs.Disk.{DiskView, LeavesOnly, Reads}
 use Rattle.tw_disk.specs.Image.{Image}
 use Rattle.tw_disk.proofs.FoundLaws.{same_found}
 use Rattle.tw_msg.specs.HistoryMessages.{MakesMessage, thread_at_step}
@@ -31,8 +32,10 @@ use Rattle.tw_follow.specs.Stands.{KeepsList, StandsFor, StandsForOneOf, root_ki
 use Rattle.tw_pages.specs.Records.{IsOneOf, IsWritten, Written, written_record}
 use Rattle.tw_pages.specs.Rests.{RestsWith}
 use Rattle.tw_pages.specs.States.{ServesState}
-use Rattle.tw_pages.proofs.Staged.{leaves_before, reads_before}
+use Rattle.tw_pages.proofs.StagedRecords.{leaves_before, reads_before}
+use Rattle.tw_pages.proofs.States.{leaves_states, reads_states}
 use Rattle.tw_pages.proofs.Written.{still_rests, told_list}
+use Rattle.tw_follow.proofs.Growing.{grown}
 use Rattle.tw_follow.proofs.Following.{read_leaves, rest_head, same_leaves, still_keeps}
 use Rattle.tw_follow.proofs.Moved.{none_leaves, none_reads}
 use Rattle.tw_follow.proofs.Offering.{IsJudged, IsMoved, judges-once, judges-table, moved-is, one-message, own-judged}
@@ -209,11 +212,7 @@ module _ {D H : Type 0} {g : _} {k : _} (view : D → DiskView) (only_now : (d :
 
   module _ (old new : Follower D H g k) (bytes : List ℕ) (head : Thread) (whole : has_failed old ≡ false)
       (judges : JudgesOffer dig (head_of old) bytes (Ok (Moves head)))
-      (any_moment : (kept : Kept) → Follows dig view old kept → LeavesOnly (view (disk_of old)) (view (disk_of new))
-      (StandsForOneOf dig kept (with_head kept head)))
-      (told : (kept : Kept) → Follows dig view old kept → Reads (view (disk_of new))
-      (StandsForOneOf dig kept (with_head kept head)))
-      (later : (view (disk_of old)).faults ≤ (view (disk_of new)).faults) where
+      (thread_in : IsThread head) (later : (view (disk_of old)).faults ≤ (view (disk_of new)).faults) where
     -- what is written, whatever the pages keep
     abbrev pub IsWrittenBy : (Done : Written RootRecord → Type 0) → Type 0
     IsWrittenBy Done = (ps : Image) → IsOver dig view old ps
@@ -227,6 +226,48 @@ module _ {D H : Type 0} {g : _} {k : _} (view : D → DiskView) (only_now : (d :
     is : IsMoved dig (head_of old) judges.0 head
     is = moved-is dig (head_of old) judges.0 head judges.2
 
+    -- where a list was kept, the list with the head is kept then
+    abbrev next_of : (kept : Kept) → Follows dig view old kept → Written RootRecord
+    next_of kept follows = moved_to (written_record (record_of old) follows.pages) head
+
+    keeps_next : (kept : Kept) (follows : Follows dig view old kept) → KeepsList (next_of kept follows).pages
+        (next_of kept follows).root (with_head kept head)
+    keeps_next kept follows =
+        let may = follows.rests.has.has.may in
+        let count = ap (λ (ps : Image). length ps) follows.rests.has.pages_are in
+        let from = ap (λ (t : Thread). t.from) is.thread_is ∙ is.from in
+        let above : (head_of old).step < head.step = omega (arith, ap (λ (t : Thread). t.step) is.thread_is, is.above)
+        in
+        let few = may.fits.few_pages in
+        grown follows.pages (record_of old) kept follows.keeps may.fits.page head from above thread_in
+        (let short : head.step < 2 ^ 40 = omega (arith, thread_in.2) in omega (arith, count, few, above, short))
+
+    leaves_list : (Done : Written RootRecord → Type 0) → IsWrittenBy Done → (kept : Kept) → Follows dig view old kept
+        → LeavesOnly (view (disk_of old)) (view (disk_of new)) (StandsForOneOf dig kept (with_head kept head))
+    leaves_list Done writes kept follows =
+        leaves_states (root_kind dig) KeepsList (written_record (record_of old) follows.pages) (next_of kept follows)
+        kept (with_head kept head) follows.keeps (keeps_next kept follows)
+        (view (disk_of old)) (view (disk_of new)) (writes follows.pages follows.rests).0
+
+    reads_list : (Done : Written RootRecord → Type 0) → IsWrittenBy Done → (kept : Kept) → Follows dig view old kept
+        → Reads (view (disk_of new)) (StandsForOneOf dig kept (with_head kept head))
+    reads_list Done writes kept follows =
+        reads_states (root_kind dig) KeepsList (written_record (record_of old) follows.pages) (next_of kept follows)
+        kept (with_head kept head) follows.keeps (keeps_next kept follows)
+        (view (disk_of new)) (writes follows.pages follows.rests).1
+
+    follows_next : IsWrittenBy (λ w. (record_of new ≡ w.root) × RestsWith view (root_kind dig) new.recorded.store w)
+        → (kept : Kept) → Follows dig view old kept → Follows dig view new (with_head kept head)
+    follows_next writes kept follows =
+        let done = (writes follows.pages follows.rests).2 in
+        record {
+          pages = (next_of kept follows).pages;
+          rests = subst (λ (r : RootRecord). RestsWith view (root_kind dig) new.recorded.store
+              (written_record r (next_of kept follows).pages)) (sym done.0) done.1;
+          keeps = subst (λ (r : RootRecord). KeepsList (next_of kept follows).pages r (with_head kept head))
+              (sym done.0) (keeps_next kept follows);
+        }
+
     by : (kept : Kept) → Follows dig view old kept → MovesBy dig kept bytes judges.0 (with_head kept head)
     by kept follows =
         let same = rest_head view only_now dig old.recorded.store old.recorded.root kept follows in
@@ -238,19 +279,20 @@ module _ {D H : Type 0} {g : _} {k : _} (view : D → DiskView) (only_now : (d :
         }
 
     pub moved_offer : (thread : Thread) → (thread ≡ head) × (head_of new ≡ head)
-        → ((kept : Kept) → Follows dig view old kept → Follows dig view new (with_head kept head))
         → (IsTrue (has_failed new) ↔ (◌≡◌ {A = Result Thread FollowRefusal} (Ok thread) (Err DiskFault)))
         → IsWrittenBy (λ w. (record_of new ≡ w.root) × RestsWith view (root_kind dig) new.recorded.store w)
         → Offers dig view bytes old new (Ok thread)
-    moved_offer thread heads done broken writes = record {
+    moved_offer thread heads broken writes = record {
       table = subst (λ (b : Bool). AnswersOffer dig b (head_of old) bytes (Ok thread)) (sym whole)
           (Moves head, judges, heads.0);
       steps = λ kept follows. record {
         next = with_head kept head;
         goes = inr (judges.0, by kept follows);
-        any_moment = any_moment kept follows;
-        told = told kept follows;
-        done = (inr (judges.0, (by kept follows, heads.0 ∙ is.thread_is)), done kept follows);
+        any_moment = leaves_list (λ w. (record_of new ≡ w.root) × RestsWith view (root_kind dig) new.recorded.store w)
+            writes kept follows;
+        told = reads_list (λ w. (record_of new ≡ w.root) × RestsWith view (root_kind dig) new.recorded.store w) writes
+            kept follows;
+        done = (inr (judges.0, (by kept follows, heads.0 ∙ is.thread_is)), follows_next writes kept follows);
         refused = tt;
       };
       written = λ ps over.
@@ -290,8 +332,8 @@ module _ {D H : Type 0} {g : _} {k : _} (view : D → DiskView) (only_now : (d :
       steps = λ kept follows. record {
         next = with_head kept head;
         goes = inr (judges.0, by kept follows);
-        any_moment = any_moment kept follows;
-        told = told kept follows;
+        any_moment = leaves_list (λ w. Unit {0}) writes kept follows;
+        told = reads_list (λ w. Unit {0}) writes kept follows;
         done = tt;
         refused = ⊎_elim (λ e. inl e) (λ same. inr (
           subst (λ (x : RootRecord). ServesState (root_kind dig) KeepsList view new.recorded.store x kept)
@@ -335,16 +377,13 @@ module _ {D H : Type 0} {g : _} {k : _} (view : D → DiskView) (only_now : (d :
     pub moves_answer : (result : Result Thread FollowRefusal)
         → IfOk result (λ thread. (thread ≡ head) × (head_of new ≡ head))
         → IfErr result (λ r. (r ≡ DiskFault) ⊎ (r ≡ NoMemory))
-        → IfOk result (λ _. (kept : Kept) → Follows dig view old kept → Follows dig view new (with_head kept head))
         → IfErr result (λ r. (record_of new ≡ record_of old) × ((r ≡ DiskFault) ⊎ HasSameDisk view old new))
         → (IsTrue (has_failed new) ↔ (result ≡ Err DiskFault))
         → (result ≡ Err DiskFault → Rose (view (disk_of old)).faults (view (disk_of new)).faults)
         → IsWrittenBy (λ w. OnOk result ((record_of new ≡ w.root) × RestsWith view (root_kind dig) new.recorded.store
         w)) → Offers dig view bytes old new result
-    moves_answer (Ok thread) heads answers done kept_is broken fault writes = moved_offer thread heads done broken
-        writes
-    moves_answer (Err r) heads answers done kept_is broken fault writes = stopped_offer r answers kept_is broken fault
-        writes
+    moves_answer (Ok thread) heads answers kept_is broken fault writes = moved_offer thread heads broken writes
+    moves_answer (Err r) heads answers kept_is broken fault writes = stopped_offer r answers kept_is broken fault writes
 
   -- ---- telling the heads
 

@@ -1,5 +1,5 @@
--- One more head: its page was staged on a store that keeps a list, and the record that names it is next.
-use Rattle.std.proofs.Common.{◌≡◌, ℕ, ◌+◌, ◌^◌, ◌<◌, ◌≤◌, List, [], ◌∷◌, ◌++◌, length, refl, ap, sym, ◌∙◌, arith, subst}
+-- One more head: its page was staged, and the record that names it is next.
+use Rattle.std.proofs.Common.{◌≡◌, ℕ, ◌+◌, ◌^◌, ◌<◌, ◌≤◌, List, [], ◌∷◌, ◌++◌, length, ap, ◌∙◌, arith}
 use Rattle.std.specs.Prelude.{Option, Some}
 use Rattle.std.specs.Option.{option_map}
 use Rattle.tw_base.specs.declared.history.thread.Thread.{Thread}
@@ -11,15 +11,13 @@ use Rattle.tw_pages.specs.Same.{IsSameStore, store_count, store_list}
 use Rattle.tw_pages.specs.declared.store.Store.{Store}
 use Rattle.tw_pages.specs.Records.{written_record}
 use Rattle.tw_pages.specs.Rests.{RestsWith}
-use Rattle.tw_pages.proofs.Staged.{IsStaged}
+use Rattle.tw_pages.proofs.StagedRecords.{IsStaged}
 use Rattle.tw_pages.proofs.Written.{told_list}
 use Rattle.tw_follow.specs.declared.root.RootRecord.{RootRecord}
-use Rattle.tw_follow.specs.HeadLists.{Kept, with_head}
 use Rattle.tw_follow.specs.HeadPages.{head_page_bytes}
 use Rattle.tw_follow.specs.Roots.{IsAllowed}
-use Rattle.tw_follow.specs.Stands.{KeepsList, root_kind}
+use Rattle.tw_follow.specs.Stands.{root_kind}
 use Rattle.tw_follow.specs.Writing.{moved_to}
-use Rattle.tw_follow.proofs.Growing.{grown}
 use Rattle.tw_follow.proofs.Spelling.{root-fits}
 
 -- the record of a later head may stand in the store with one page more
@@ -42,7 +40,6 @@ module _ {D : Type 0} {g : _} (view : D → DiskView) (dig : List ℕ → List �
     (head : Thread) (number : ℕ) (page : List ℕ)
     (same : IsSameStore view old mid) (clean : staged_of old ≡ []) (number_is : number ≡ store_count old)
     (one_more : store_count mid ≡ store_count old + 1)
-    (page_is : page ≡ head_page_bytes (record { step = head.step; auth = head.auth; before = r.page }))
     (list : store_list view mid ≡ option_map (λ (pages : Image). pages ++ page ∷ []) (store_list view old))
     (few : store_count old ≤ 4 + r.head.step) (commits : old.generation ≤ r.head.step + 1)
     (above : r.head.step < head.step) (thread : IsThread head)
@@ -62,21 +59,10 @@ module _ {D : Type 0} {g : _} (view : D → DiskView) (dig : List ℕ → List �
         above thread;
   }
 
-  -- the list with the head is kept
-  pub keeps_next : head.from ≡ r.head.from → (k : Kept) → KeepsList ps r k → KeepsList (ps ++ page ∷ []) next
-      (with_head k head)
-  keeps_next from k keeps =
-      let short : head.step < 2 ^ 40 = omega (arith, thread.2) in
-      subst (λ (b : List ℕ). KeepsList (ps ++ b ∷ []) next (with_head k head)) (sym page_is)
-      (subst (λ (n : ℕ). KeepsList
-      (ps ++ head_page_bytes (record { step = head.step; auth = head.auth; before = r.page }) ∷ [])
-      (record { head = head; page = n }) (with_head k head)) (sym (number_is ∙ count))
-      (grown ps r k keeps rest.has.has.may.fits.page head from above thread (omega (arith, count, few, above, short))))
-
 -- the record and pages with a later head are these
 moved_is : (r : RootRecord) (head : Thread) (number : ℕ) (page : List ℕ) (ps : Image) → number ≡ 4 + length ps
     → page ≡ head_page_bytes (record { step = head.step; auth = head.auth; before = r.page })
-    → written (record { head = head; page = number }) (ps ++ page ∷ []) ≡ moved_to (written r ps) head
+    → written_record (record { head = head; page = number }) (ps ++ page ∷ []) ≡ moved_to (written_record r ps) head
 moved_is r head number page ps number_is page_is =
     ap (λ (n : ℕ). written_record (record { head = head; page = n }) (ps ++ page ∷ [])) number_is
     ∙ ap (λ (b : List ℕ). written_record (record { head = head; page = 4 + length ps }) (ps ++ b ∷ [])) page_is
@@ -88,8 +74,6 @@ pub record WasPut {D : Type 0} {g : _} (view : D → DiskView) (dig : List ℕ �
       old mid r (record { head = head; page = number }) ps (ps ++ page ∷ [])
   pub is : (ps : Image) → RestsWith view (root_kind dig) old (written_record r ps)
       → written_record (record { head = head; page = number }) (ps ++ page ∷ []) ≡ moved_to (written_record r ps) head
-  pub keeps : (ps : Image) → RestsWith view (root_kind dig) old (written_record r ps) → (k : Kept) → KeepsList ps r k
-      → KeepsList (ps ++ page ∷ []) (record { head = head; page = number }) (with_head k head)
 
 pub was_put : {D : Type 0} {g : _} (view : D → DiskView) (dig : List ℕ → List ℕ) (old mid : Store D g) (r : RootRecord)
     (head : Thread) (number : ℕ) (page : List ℕ)
@@ -97,16 +81,12 @@ pub was_put : {D : Type 0} {g : _} (view : D → DiskView) (dig : List ℕ → L
     → IsSameStore view old mid → staged_of old ≡ [] → number ≡ store_count old → store_count mid ≡ store_count old + 1
     → page ≡ head_page_bytes (record { step = head.step; auth = head.auth; before = r.page })
     → store_list view mid ≡ option_map (λ (pages : Image). pages ++ page ∷ []) (store_list view old)
-    → store_count old ≤ 4 + r.head.step → old.generation ≤ r.head.step + 1 → head.from ≡ r.head.from
-    → r.head.step < head.step → IsThread head → WasPut view dig old mid r head number page
-was_put view dig old mid r head number page pages_told same clean number_is one_more page_is list few commits from above
+    → store_count old ≤ 4 + r.head.step → old.generation ≤ r.head.step + 1 → r.head.step < head.step → IsThread head
+    → WasPut view dig old mid r head number page
+was_put view dig old mid r head number page pages_told same clean number_is one_more page_is list few commits above
     thread = record {
-      staged = λ ps rest. put view dig old mid r head number page same clean number_is one_more page_is list few commits
-          above thread ps rest (pages_told ps (told_list view (root_kind dig) old (written_record r ps) rest clean));
+      staged = λ ps rest. put view dig old mid r head number page same clean number_is one_more list few commits above
+          thread ps rest (pages_told ps (told_list view (root_kind dig) old (written_record r ps) rest clean));
       is = λ ps rest. moved_is r head number page ps
           (number_is ∙ pages_told ps (told_list view (root_kind dig) old (written_record r ps) rest clean)) page_is;
-      keeps = λ ps rest k keeps. keeps_next view dig old mid r head number page same clean number_is one_more page_is
-          list
-          few commits above thread ps rest
-          (pages_told ps (told_list view (root_kind dig) old (written_record r ps) rest clean)) from k keeps;
     }

@@ -251,8 +251,9 @@ module _ (dig : List ℕ → List ℕ) (h : History) (head : Thread) (m : Messag
   moves : (count ≡ head.step → ⊥) → judged_offer dig head m ≡ Ok (Moves m.thread)
   moves other =
       let climbs : List ℕ = climbed dig m.link.links m.thread.step m.since head.auth in
-      let leads_it = subst (λ (k : List ℕ). Leads dig k m) has.has (subst (λ (s : ℕ). Leads dig (auth dig h s) m)
-      is.at_since (leads-own dig h m.since m (subst (λ (s : ℕ). IsMessageOf dig h s m) (sym is.at_since) is))) in
+      let leads_it = subst (λ (k : List ℕ). Leads dig k m) has.has
+      (subst (λ (s : ℕ). Leads dig (auth dig h s) m) is.at_since
+      (leads-own dig h m.since m (subst (λ (s : ℕ). IsMessageOf dig h s m) (sym is.at_since) is))) in
       table dig head m
       ∙ (λ i. by_tests dig head m ((bytes_eq-Decides m.thread.from head.from).1 from-is i) (not_below i)
       (ne_eqb m.thread.step head.step (λ e. other (sym step-is ∙ e)) i))

@@ -47,8 +47,8 @@ impl<D: Disk, H: Hasher> Follower<D, H> {
     ghost use Rattle.tw_msg.specs.Messages.{IsLinked, message_layout};
     ghost use Rattle.tw_follow.specs.Calls.{OfferSteps, Offers, TellsHeads};
     ghost use Rattle.tw_follow.specs.Follows.{Follows, HasSameDisk, IsOver, disk_of, has_failed, head_of, pages_of, record_of};
-    ghost use Rattle.tw_follow.specs.HeadLists.{HasHead, Kept, first_thread, last_head, no_heads, with_head};
-    ghost use Rattle.tw_follow.specs.Stands.{IsBlankOrNew, IsNotOpenedFor, OpensWith, StandsFor, StandsForOneOf, root_kind};
+    ghost use Rattle.tw_follow.specs.HeadLists.{HasHead, Kept, first_thread, last_head, no_heads};
+    ghost use Rattle.tw_follow.specs.Stands.{IsBlankOrNew, IsNotOpenedFor, OpensWith, StandsFor, root_kind};
     ghost use Rattle.tw_follow.specs.Writing.{moved_to};
     ghost use Rattle.tw_pages.specs.Records.{IsOneOf, IsWritten, written_record};
     ghost use Rattle.tw_pages.specs.Rests.{RestsWith};
@@ -294,11 +294,6 @@ impl<D: Disk, H: Hasher> Follower<D, H> {
             × Reads (D.view (disk_of self.new)) (IsOneOf (root_kind H.dig) (written_record (record_of self.old) ps) (moved_to (written_record (record_of self.old) ps) head.now))
             × OnOk result ((record_of self.new ≡ (moved_to (written_record (record_of self.old) ps) head.now).root)
             × RestsWith D.view (root_kind H.dig) self.new.recorded.store (moved_to (written_record (record_of self.old) ps) head.now)) }
-        ensures done { IfOk result (λ _. (k : Kept) → Follows H.dig D.view self.old k → Follows H.dig D.view self.new (with_head k head.now)) }
-        ensures any_moment { (k : Kept) → Follows H.dig D.view self.old k
-            → LeavesOnly (D.view (disk_of self.old)) (D.view (disk_of self.new)) (StandsForOneOf H.dig k (with_head k head.now)) }
-        ensures told { (k : Kept) → Follows H.dig D.view self.old k
-            → Reads (D.view (disk_of self.new)) (StandsForOneOf H.dig k (with_head k head.now)) }
         ensures kept { IfErr result (λ refusal. (record_of self.new ≡ record_of self.old)
             × ((refusal ≡ FollowRefusal.DiskFault) ⊎ HasSameDisk D.view self.old self.new)) }
         ensures broken { IsTrue (has_failed self.new) ↔ (result ≡ Err FollowRefusal.DiskFault) }

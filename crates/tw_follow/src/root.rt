@@ -23,7 +23,7 @@ pub(crate) struct RootRecord {
 }
 
 /// The bytes of a root record.
-#[tactic(auto, unfolding(crate::specs::Roots::root_codec, tw_base::specs::format::Seen::codecs, tw_base::specs::history::HistoryCodec::thread_codec))]
+#[tactic(auto, unfolding(crate::specs::Roots::root_codec, tw_base::specs::history::Seen::threads))]
 pub(crate) fn root_record(root: &RootRecord) -> ArrayVec<u8, 512>
     ensures bytes { result.items ≡ root_bytes root.now }
     ensures size { length result.items ≤ ROOT_BYTES }

@@ -65,7 +65,7 @@ module _ (dig : List ℕ → List ℕ) where
 
   -- the thread of a step
   pub own-thread : (who : Who) (t : Trio) (step : ℕ) → AreNamed t → step ≤ length (trio_history who t).steps
-      → HasThread dig (family t)
+      → HasThread dig (trio_family t)
       (record { from = (trio_history who t).name; step = step; auth = auth dig (trio_history who t) step })
   own-thread who t step names within = (trio_history who t, has-own who t names, within, refl)
 

@@ -37,7 +37,7 @@ use Rattle.tw_world.specs.Worlds.Mail.{Made}
 use Rattle.tw_world.specs.declared.told.Answer.TheVariants as answer
 use Rattle.tw_world.specs.declared.told.Told.{Told}
 use Rattle.tw_world.specs.declared.told.Told.TheVariants.{Plain}
-use Rattle.tw_laws.specs.ScheduledLines.{AreLinesOf, IsLineTaken, IsScriptRunOf, services, who_name}
+use Rattle.tw_laws.specs.ScheduledLines.{AreLinesOf, IsLineTaken, IsScriptRunOf, service_lines, who_name}
 use Rattle.tw_laws.proofs.ActBytes.{HasBytes}
 use Rattle.tw_laws.proofs.ThreeServices.{AreNamed, Births, births_of, each-who, found, members_of, named, names-put}
 use Rattle.tw_laws.proofs.ThreeServices.{one_of, put, with_births}
@@ -296,7 +296,7 @@ module _ (dig : List ℕ → List ℕ) where
     done = Plain answer.Done
 
     begin-runs : (lines : List Line) (told : List Told) (end : World) → RunsLines dig claims_none first lines told end
-        → RunsLines dig claims_none no_world (services ++ lines) (done ∷ done ∷ done ∷ told) end
+        → RunsLines dig claims_none no_world (service_lines ++ lines) (done ∷ done ∷ done ∷ told) end
     unfolding RunsLines
     begin-runs lines told end run = (
       begun no_world alpha_name,
@@ -317,7 +317,7 @@ module _ (dig : List ℕ → List ℕ) where
       births = record { alpha = []; beta = []; gamma = [] };
       members = refl;
       names = record { alpha = refl; beta = refl; gamma = refl };
-      reached = (services, done ∷ done ∷ done ∷ [], begin-runs [] [] first none-run);
+      reached = (service_lines, done ∷ done ∷ done ∷ [], begin-runs [] [] first none-run);
     }
 
     pub is-run : (acts : List ScheduledAct) (t : Trio) → LeadTo dig acts no_steps t → AllCanBeDone dig acts no_steps

@@ -32,7 +32,8 @@ use Rattle.tw_service.specs.Questions.{question_refusal}
 use Rattle.tw_service.specs.Tops.{top_or_last}
 use Rattle.tw_service.proofs.Serving.{rest_for_good}
 use Rattle.tw_laws.specs.Published.{IsReplyTo}
-use Rattle.tw_laws.specs.Runs.{IsCallAnswered, StaysAs, IsServiceOpened, replied}
+use Rattle.tw_pages.specs.Disks.{IsLeft}
+use Rattle.tw_laws.specs.Runs.{IsCallAnswered, IsServiceOpened, replied}
 
 -- ---- after a disk fault each table says Reopen
 
@@ -122,7 +123,7 @@ module _ {D H : Type 0} {g : _} {k : _} (dig : List ℕ → List ℕ) (view : D 
       (λ e. (view e.0).content ≡ (view disk).content)
       → IfOk result (λ s. LeavesOnly (view disk) (view (disk_of s)) (view disk).may_leave)
       → IfErr result (λ e. LeavesOnly (view disk) (view e.0) (view disk).may_leave)
-      → MatchResult result (λ s. IsServiceOpened dig view disk s) (λ e. StaysAs view disk e.0)
+      → MatchResult result (λ s. IsServiceOpened dig view disk s) (λ e. IsLeft view disk e.0)
   opened (Ok s) served unchanged since left =
       record { serves = λ image of h told stands. served image of h told stands; any_moment = since }
   opened (Err e) served unchanged since left = (unchanged, left)
@@ -133,7 +134,7 @@ module _ {D H : Type 0} {g : _} {k : _} (dig : List ℕ → List ℕ) (view : D 
       → (IsTaken image → IsErrAnd result (λ e. (e.1 ≡ Taken) ⊎ (e.1 ≡ DiskFailed)))
       → (IsTaken image → IfErr result (λ e. ((view e.0).content ≡ Some image) × LeavesOnly (view disk) (view e.0)
       (view disk).may_leave))
-      → IsErrAnd result (λ e. StaysAs view disk e.0)
+      → IsErrAnd result (λ e. IsLeft view disk e.0)
   spared (Ok s) image of h told stands exact held =
       absurd (exact (opened_taken stands.stands.is.opening image stands.stands.is.opens))
   spared (Err e) image of h told stands exact held = let left =

@@ -22,7 +22,7 @@ use Rattle.tw_pages.specs.Disks.{AddsSafe, OneOf}
 use Rattle.tw_pages.proofs.AtRest.{untouched_left}
 use Rattle.tw_diskcmd.specs.Comes.{FoundDisk}
 use Rattle.tw_diskcmd.specs.Files.{IsMessageIn}
-use Rattle.tw_diskcmd.specs.Disks.{IsImageOfHeads, IsLeft, NextBy, ReadLeavesHistory, ReadsAsHeads, RestsAtHeads}
+use Rattle.tw_diskcmd.specs.Disks.{IsImageOfHistory, IsLeft, NextBy, ReadLeavesHistory, ReadsAsHistory, RestsAtHistory}
 use Rattle.tw_diskcmd.specs.Disks.{StandsAtHistory}
 use Rattle.tw_diskcmd.specs.Making.{InitComes, InitLeaves}
 use Rattle.tw_diskcmd.specs.Receiving.{ReceiveComes, ReceiveLeaves, ReceiveSafe}
@@ -51,7 +51,7 @@ pub made_undone : (t : Thread) (f : CommandFault) → Made t ≡ Undone f → �
 made_undone t f is = cc
 
 -- what the answer of a history to a question publishes
-answer_told : (t : FoundDisk) (h : History) (reads : ReadsAsHeads t.found h) (q : Question) (bytes : List ℕ)
+answer_told : (t : FoundDisk) (h : History) (reads : ReadsAsHistory t.found h) (q : Question) (bytes : List ℕ)
     (u : Thread) → AskComes t q (Ok bytes) → IsInAnswer sha256 q bytes u → IsThreadOf sha256 h u
 unfolding AskComes
 answer_told t h reads q bytes u comes told = told_own sha256 h reads.stands.stands.keeps.sound (Ask q) (OfBytes bytes) h
@@ -92,14 +92,14 @@ module _ {D : Type 0} (view : D → DiskView) (name : List ℕ)
       named : read.name ≡ name
       named = waver.0.has.1.named
 
-      abbrev reads : ReadsAsHeads (view o.disk.before).content read
+      abbrev reads : ReadsAsHistory (view o.disk.before).content read
       reads = record {
         image = waver.0.image;
         told = waver.0.told;
         stands = own_name name read waver.0.image waver.0.has.1;
       }
 
-      one_goes : (call : Call) (next : History) → NextOf sha256 call read next → (c : Image) → OneOf IsImageOfHeads read
+      one_goes : (call : Call) (next : History) → NextOf sha256 call read next → (c : Image) → OneOf IsImageOfHistory read
           next c → GoesOnFrom sha256 view name h c
       one_goes call next is_next c one = ⊎_elim
           (λ stands. (read, subst (λ (n : List ℕ). StandsFor sha256 c n read) named stands, read_has))
@@ -128,7 +128,7 @@ module _ {D : Type 0} (view : D → DiskView) (name : List ℕ)
 
       -- nothing was written, and the disk became stable
       settled_behind : (Tells : Thread → Type 0) → IsLeft view o.disk.before o.disk.after
-          → RestsAtHeads view o.disk.after read → ((t : Thread) → Tells t → IsThreadOf sha256 read t) → Behind h Tells
+          → RestsAtHistory view o.disk.after read → ((t : Thread) → Tells t → IsThreadOf sha256 read t) → Behind h Tells
       settled_behind Tells left rests own = record {
         now = read;
         keeps = read_has;
@@ -140,7 +140,7 @@ module _ {D : Type 0} (view : D → DiskView) (name : List ℕ)
       -- ---- a step that may be added
 
       module _ {X : Type 0} (In : X → Type 0) (call : X → Call)
-          (safe : AddsSafe IsImageOfHeads view In (λ x. NextBy (call x)) o.disk.before o.disk.after) where
+          (safe : AddsSafe IsImageOfHistory view In (λ x. NextBy (call x)) o.disk.before o.disk.after) where
         adds_moment : (c : Image) → (view o.disk.after).left_since (view o.disk.before).moment c
             → GoesOnFrom sha256 view name h c
         adds_moment c since = ⊎_elim
@@ -187,7 +187,7 @@ module _ {D : Type 0} (view : D → DiskView) (name : List ℕ)
 
         -- it was
         added_behind : (Tells : Thread → Type 0) (by : Call) (next : History) → NextOf sha256 by read next
-            → RestsAtHeads view o.disk.after next → ((t : Thread) → Tells t → IsThreadOf sha256 next t) → Behind h Tells
+            → RestsAtHistory view o.disk.after next → ((t : Thread) → Tells t → IsThreadOf sha256 next t) → Behind h Tells
         added_behind Tells by next is_next rests own = record {
           now = next;
           keeps = λ t has. next_has sha256 by read next is_next t (read_has t has);

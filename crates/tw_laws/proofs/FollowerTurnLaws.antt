@@ -29,7 +29,7 @@ use Rattle.tw_follow.proofs.DiskRunning.{both, has_on, none, one}
 use Rattle.tw_follow.proofs.Offering.{moved-is}
 use Rattle.tw_follow.proofs.Running.{runs-answered, runs-rise}
 use Rattle.tw_follow.proofs.Standing.{stands_rising}
-use Rattle.tw_diskcmd.specs.FollowerDisks.{IsLeft, ReadsAs, Rests}
+use Rattle.tw_diskcmd.specs.FollowerDisks.{IsLeft, ReadsAsHeads, RestsAtHeads}
 use Rattle.tw_diskcmd.specs.Offering.{OfferComes, OfferLeaves, OfferSafe, list_after, next_list, offer_as_told}
 use Rattle.tw_pages.proofs.AtRest.{untouched_left}
 use Rattle.tw_diskcmd.specs.Files.{IsMessageIn}
@@ -110,7 +110,7 @@ module _ {D : Type 0} (view : D → DiskView)
   holds disk P k goes is =
       (record { image = is.0.image; told = is.0.told; has = goes is.0.image is.0.has }, λ c left. goes c (is.1 c left))
 
-  rests_waver : (disk : D) (k : Kept) → Rests view disk k → Wavers disk k
+  rests_waver : (disk : D) (k : Kept) → RestsAtHeads view disk k → Wavers disk k
   rests_waver disk k rests =
       let own : (c : Image) → (view disk).may_leave c → GoesFrom k c =
       λ c left. (k, rests.stands.each c left, stays_on k) in (
@@ -137,7 +137,7 @@ module _ {D : Type 0} (view : D → DiskView)
       abbrev read : Kept
       read = waver.0.has.0
 
-      abbrev reads : ReadsAs (view o.disk.before).content read
+      abbrev reads : ReadsAsHeads (view o.disk.before).content read
       reads = record { image = waver.0.image; told = waver.0.told; stands = waver.0.has.1 }
 
       -- nothing was written, and nothing is told
@@ -231,7 +231,7 @@ module _ {D : Type 0} (view : D → DiskView)
               now = next_list read m;
               goes_on = goes_then k read (next_list read m) waver.0.has.2
                   (Answered there.bytes (Ok thread) ∷ [], on.0, on.1);
-              settled = rests_waver o.disk.after (next_list read m) (subst (λ (x : Kept). Rests view o.disk.after x)
+              settled = rests_waver o.disk.after (next_list read m) (subst (λ (x : Kept). RestsAtHeads view o.disk.after x)
                   moved.1 moved.2.0);
               any_moment = moments;
               tells = λ t told. subst (λ (u : Thread). In u (next_list read m).heads) (sym told) has;

@@ -21,10 +21,11 @@ use Rattle.tw_app.specs.Around.{Around, Outside, found_around}
 use Rattle.tw_app.specs.Outcomes.{outcome_by}
 use Rattle.tw_app.specs.Running.{HaveNoForm, IsDiskUntouched, IsOutcomeOf, work}
 use Rattle.tw_laws.specs.Published.{IsThreadOf}
-use Rattle.tw_laws.specs.Runs.{HasOneAuthenticator, HoldsImagesOnly, end_of_run}
-use Rattle.tw_laws.specs.Runs.ServiceState.{Closed}
+use Rattle.tw_pages.specs.Runs.{HoldsOnly}
+use Rattle.tw_pages.specs.Runs.State.{Closed}
+use Rattle.tw_laws.specs.Runs.{HasOneAuthenticator}
 use Rattle.tw_laws.proofs.Threads.{last_own}
-use Rattle.tw_laws.proofs.Wavering.{GoesOnFrom, Has, Wavers, ends, holds, one_for, same_has, wavers_at}
+use Rattle.tw_laws.proofs.Wavering.{GoesOnFrom, Has, Wavers, ends, holds, one_for, same_has}
 use Rattle.tw_laws.specs.Publishing.{IsOutBy}
 use Rattle.tw_laws.specs.Turns.{AreTurnsFrom, HasOne, IsMadeFirst, IsMaking, IsOut, IsOutIn, IsRunOn, LeadsTo, StartsAs}
 use Rattle.tw_laws.specs.Turns.{Turn, TurnBehind, last_disk}
@@ -56,7 +57,7 @@ module _ {D : Type 0} (view : D → DiskView) (name : List ℕ)
       (command_of a.words) run.ends.has
 
   -- the disk that is there behind a run, or what a crash then left
-  left_on : (after left : D) (now : History) → Wavers sha256 view name after now → (left ≡ after) ⊎ HoldsImagesOnly view
+  left_on : (after left : D) (now : History) → Wavers sha256 view name after now → (left ≡ after) ⊎ HoldsOnly view
       (view after).may_leave left → Wavers sha256 view name left now
   left_on after left now waver is =
       ⊎_elim (λ same. subst (λ (d : D). Wavers sha256 view name d now) (sym same) waver)
@@ -96,11 +97,10 @@ module _ {D : Type 0} (view : D → DiskView) (name : List ℕ)
         }
     goes (Serves run) disk left h waver leads =
         let end = ends sha256 view name only_now (Closed disk) run h waver leads.0 in
-        let at = wavers_at sha256 view name only_now (end_of_run (Closed disk) run) end.now end.is in
         record {
           now = end.now;
           keeps = end.keeps;
-          is = subst (λ (d : D). Wavers sha256 view name d end.now) (sym leads.1) at;
+          is = subst (λ (d : D). Wavers sha256 view name d end.now) (sym leads.1) end.is;
           tells = end.tells;
         }
 

@@ -1,58 +1,59 @@
--- What holds at each state of a run: each image that the disk reads as, or may be left, goes on from one history, of
--- which all is that is published.
-use Rattle.std.proofs.Common.{◌≡◌, ◌⊎◌, ℕ, List, [], ◌∷◌, refl, ap, sym, ◌∙◌, subst, arith, inl, inr, ⊎_elim, Bool}
-use Rattle.std.proofs.Common.{true, false}
-use Rattle.std.specs.Prelude.{IfErr, IsTrue, OnErr, Result, Ok, Err}
+-- Runs of services on a disk: what is to be shown of them.
+use Rattle.std.proofs.Common.{◌≡◌, ◌⊎◌, ℕ, List, refl, ap, sym, ◌∙◌, subst, arith, inl, inr, ⊎_elim, true}
+use Rattle.std.specs.Prelude.{IfErr, OnErr, Result, Ok, Err}
 use Rattle.tw_base.specs.declared.history.thread.Thread.{Thread}
 use Rattle.tw_base.specs.history.History.{History}
-use Rattle.tw_disk.specs.Disk.{DiskView, IsAtRest}
+use Rattle.tw_disk.specs.Disk.{DiskView, IsAtRest, IsSameDisk, LeavesOnly, Reads}
 use Rattle.tw_disk.specs.Image.{Image}
+use Rattle.tw_disk.proofs.Moments.{no_call}
+use Rattle.tw_pages.specs.Disks.{OneOf}
+use Rattle.tw_pages.specs.Runs.{Acted, Happening, HoldsOnly, IsRunFrom, Laws, State, disk_at, end_of}
+use Rattle.tw_pages.specs.Runs.State.{Closed, Open}
+use Rattle.tw_pages.specs.Runs as runs
+use Rattle.tw_pages.proofs.Wavering as wavering
 use Rattle.tw_answers.specs.declared.refusal.Refusal.{Refusal}
 use Rattle.tw_answers.specs.declared.refusal.Refusal.TheVariants.{DiskFault, Reopen}
 use Rattle.tw_service.specs.declared.service.Service.{Service}
 use Rattle.tw_service.specs.Machine.{Call, Reply, last_thread}
-use Rattle.tw_service.specs.Machine.Call.{CountSteps, TellHead, TellName}
 use Rattle.tw_service.specs.Serves.{HasSameDisk, Serves, disk_of, has_failed, head_of, head_thread, name_of}
 use Rattle.tw_service.specs.Stands.{StandsFor, StandsForOneOf}
 use Rattle.tw_service.proofs.Serving.{rest_for_good}
 use Rattle.tw_laws.specs.Published.{IsThreadOf}
-use Rattle.tw_laws.specs.Runs.{BeginsHistory, ServiceEvent, HasAllKnown, HasOneAuthenticator, ServiceHappening}
-use Rattle.tw_laws.specs.Runs.{HoldsImagesOnly, IsCallAnswered, IsHead, IsKnown, IsServicePublished, IsServiceRunFrom}
-use Rattle.tw_laws.specs.Runs.{IsToldUnchanged, IsToldByEvent, LeadsByCall, ServiceState, disk_at_state, end_of_run}
-use Rattle.tw_laws.specs.Runs.ServiceEvent.{Opens, StaysClosed, Answered, Closes, Crashes, CrashesIn}
-use Rattle.tw_laws.specs.Runs.ServiceState.{Closed, Open}
+use Rattle.tw_laws.specs.Runs.{ServiceAct, BeginsHistory, DoesAct, HasAllKnown, HasOneAuthenticator, IsCallAnswered, IsKnown}
+use Rattle.tw_laws.specs.Runs.{IsServicePublished, ShowsHead, TellsThread, services}
+use Rattle.tw_laws.specs.Runs.ServiceAct.{Answered, Told}
 use Rattle.tw_laws.proofs.Threads.{last_own, next_has, next_name, own_once, told_own}
 
+same_disk : (disk : DiskView) → IsSameDisk disk disk
+same_disk disk = record {
+  content = refl;
+  images = λ c. ((λ left. left), λ left. left);
+  later = omega arith;
+  images_since = λ t c le. ((λ left. left), λ left. left);
+}
+
 module _ {D : Type 0} (dig : List ℕ → List ℕ) (view : D → DiskView) (name : List ℕ) where
+  abbrev pub IsOf : History → Image → Type 0
+  IsOf h image = StandsFor dig image name h
+
   -- the later history has all threads of the earlier one
   abbrev pub Has : (h next : History) → Type 0
   Has h next = (t : Thread) → IsThreadOf dig h t → IsThreadOf dig next t
 
   -- the image stands for a history that goes on from this one
   abbrev pub GoesOnFrom : History → Image → Type 0
-  GoesOnFrom h image = (c : History) × StandsFor dig image name c × Has h c
+  GoesOnFrom h image = runs.GoesOnFrom IsOf Has view h image
 
   -- the disk tells what it reads as, and that, and each image that a crash may leave, is such a one
   abbrev pub Wavers : D → History → Type 0
-  Wavers disk h = HoldsImagesOnly view (GoesOnFrom h) disk
+  Wavers disk h = runs.Wavers IsOf Has view disk h
 
   pub same_has : (h : History) → Has h h
   same_has h t own = own
 
-  one_of : (h next : History) (c : Image) → Has h next → StandsForOneOf dig name h next c → GoesOnFrom h c
-  one_of h next c has one = ⊎_elim (λ stands. (h, stands, same_has h)) (λ stands. (next, stands, has)) one
-
-  -- ---- a disk at rest
-
-  rests : (disk : D) (h : History) → IsAtRest (view disk) (λ i. StandsFor dig i name h) → Wavers disk h
-  rests disk h rest = (
-    record { image = rest.image; told = rest.told; has = (h, rest.has, same_has h) },
-    λ c left. (h, subst (λ (i : Image). StandsFor dig i name h) (sym (rest.only c left)) rest.has, same_has h),
-  )
-
   -- the disk holds images alone that go on
   pub holds : (disk : D) (P : Image → Type 0) (h : History) → ((c : Image) → P c → GoesOnFrom h c)
-      → HoldsImagesOnly view P disk → Wavers disk h
+      → HoldsOnly view P disk → Wavers disk h
   holds disk P h goes is =
       (record { image = is.0.image; told = is.0.told; has = goes is.0.image is.0.has }, λ c left. goes c (is.1 c left))
 
@@ -75,257 +76,177 @@ module _ {D : Type 0} (dig : List ℕ → List ℕ) (view : D → DiskView) (nam
 
   module _ {H : Type 0} {g : _} {k : _} (only_now : (d : D) (c : Image) → (view d).left_since (view d).moment c
       → (view d).may_leave c) where
-    -- an open service has the name and the last thread of the history, and serves it, where no call met a disk fault
-    pub record IsOpenAt (service : Service D H g k) (h : History) : Type 0 where
-      disk : Wavers (disk_of service) h
-      named : name_of service ≡ name
-      head : head_thread service ≡ last_thread dig h
-      serves : has_failed service ≡ false → Serves dig view service h
+    -- the service serves the history, of this name
+    abbrev pub ServesAs : Service D H g k → History → Type 0
+    ServesAs service h = Serves dig view service h × (h.name ≡ name)
 
-    abbrev pub IsAt : ServiceState D (Service D H g k) → History → Type 0
-    IsAt (Closed disk) h = Wavers disk h
-    IsAt (Open service) h = IsOpenAt service h
+    own_name : (service : Service D H g k) (h : History) → ServesAs service h → name_of service ≡ name
+    own_name service h served = sym served.0.keeps.named ∙ served.1
 
-    pub wavers_at : (at : ServiceState D (Service D H g k)) (h : History) → IsAt at h → Wavers (disk_at_state at) h
-    wavers_at (Closed disk) h is = is
-    wavers_at (Open service) h is = is.disk
+    rests : (service : Service D H g k) (h : History) → ServesAs service h → IsAtRest (view (disk_of service)) (IsOf h)
+    rests service h served =
+        subst (λ (n : List ℕ). IsAtRest (view (disk_of service)) (λ i. StandsFor dig i n h)) (own_name service h served)
+        (rest_for_good view only_now dig service.recorded.kept.store service.recorded.kept.root h served.0)
 
-    head_is : (service : Service D H g k) (h : History) → Serves dig view service h → head_thread service ≡ last_thread
-        dig h
-    head_is service h served =
-        let named = sym served.keeps.named in
-        let step = served.keeps.whole.steps.step in
-        let auths = served.keeps.whole.steps.auth in
-        λ j. record { from = named j; step = step j; auth = auths j }
+    shows : (service : Service D H g k) (h : History) (t : Thread) → ServesAs service h → ShowsHead service t
+        → IsThreadOf dig h t
+    shows service h t served shown =
+        let named = sym served.0.keeps.named in
+        let step = served.0.keeps.whole.steps.step in
+        let auths = served.0.keeps.whole.steps.auth in
+        let head : head_thread service ≡ last_thread dig h =
+        λ j. record { from = named j; step = step j; auth = auths j } in
+        subst (λ (u : Thread). IsThreadOf dig h u) (sym (shown ∙ head)) (last_own dig h)
 
-    -- a service that serves the history, of this name
-    opened_at : (service : Service D H g k) (h : History) → h.name ≡ name → Serves dig view service h
-        → IsOpenAt service h
-    opened_at service h named served =
-        let own : name_of service ≡ name = sym served.keeps.named ∙ named in
+    -- after a refusal the value shows the head that it showed
+    shows_still : (old new : Service D H g k) → (head_of new ≡ head_of old) × (name_of new ≡ name_of old) → (t : Thread)
+        → ShowsHead new t → ShowsHead old t
+    shows_still old new same_record t shown =
+        let head = same_record.0 in
+        let named = same_record.1 in
+        let same : head_thread new ≡ head_thread old =
+        λ j. record { from = named j; step = (head j).step; auth = (head j).auth } in
+        shown ∙ same
+
+    abbrev ActsBy : (act : ServiceAct) (old new : Service D H g k) (h : History) → Type 0
+    ActsBy act old new h = Acted view (services dig view) IsOf Has ServesAs (IsThreadOf dig) ShowsHead (TellsThread dig)
+        act old new h
+
+    answered : (call : Call) (answer : Result Reply Refusal) (old new : Service D H g k) (h : History)
+        → IsCallAnswered dig view call answer old new → ServesAs old h → ActsBy (Answered call answer) old new h
+    answered call (Ok reply) old new h a served =
+        let s = a.steps h served.0 in
+        let own = own_name old h served in
         record {
-          disk = rests (disk_of service) h
-              (subst (λ (n : List ℕ). IsAtRest (view (disk_of service)) (λ i. StandsFor dig i n h)) own
-              (rest_for_good view only_now dig service.recorded.kept.store service.recorded.kept.root h served));
-          named = own;
-          head = head_is service h served;
-          serves = λ whole. served;
+          next = s.next;
+          goes = next_has dig call h s.next s.is_next;
+          any_moment = subst (λ (n : List ℕ). LeavesOnly (view (disk_of old)) (view (disk_of new))
+              (StandsForOneOf dig n h s.next)) own s.any_moment;
+          told = subst (λ (n : List ℕ). Reads (view (disk_of new)) (StandsForOneOf dig n h s.next)) own s.told;
+          done = inl (
+            (s.done.1, next_name dig call h s.next s.is_next ∙ served.1),
+            λ t told. told_own dig h served.0.keeps.sound call reply s.next a.kind s.done.0 t told,
+          );
+        }
+    answered call (Err refusal) old new h a served =
+        let s = a.steps h served.0 in
+        let own = own_name old h served in
+        record {
+          next = s.next;
+          goes = next_has dig call h s.next s.is_next;
+          any_moment = subst (λ (n : List ℕ). LeavesOnly (view (disk_of old)) (view (disk_of new))
+              (StandsForOneOf dig n h s.next)) own s.any_moment;
+          told = subst (λ (n : List ℕ). Reads (view (disk_of new)) (StandsForOneOf dig n h s.next)) own s.told;
+          done = ⊎_elim
+              (λ fault. inr
+              (inr (
+                a.broken.1 (inr (ap (λ (r : Refusal). Err r) fault)),
+                (λ t told. told),
+                shows_still old new a.kept,
+              )))
+              (λ on. inr (inl ((on.0, served.1), λ t told. absurd told))) s.refused;
         }
 
-    -- ---- what an event leads to
-
-    record Goes (event : ServiceEvent) (behind : ServiceState D (Service D H g k)) (h : History) : Type 0 where
-      now : History
-      keeps : Has h now
-      is : IsAt behind now
-      tells : (t : Thread) → IsToldByEvent dig event t → IsThreadOf dig now t
-
-    -- a state where nothing is told
-    wavering : (event : ServiceEvent) (behind : ServiceState D (Service D H g k)) (h : History) → IsAt behind h
-        → ((t : Thread) → IsToldByEvent dig event t → ⊥) → Goes event behind h
-    wavering event behind h is none =
-        record { now = h; keeps = same_has h; is = is; tells = λ t told. absurd (none t told) }
-
-    opens_at : (disk : D) (service : Service D H g k) (h : History) → Wavers disk h → LeadsByCall dig view Opens
-        (Closed disk) (Open service) → Goes Opens (Open service) h
-    opens_at disk service h is leads =
-        let read = is.0 in
-        let c = read.has.0 in
-        let stands = read.has.1 in
+    told_still : (call : Call) (answer : Result Reply Refusal) (service : Service D H g k) (h : History)
+        → ServesAs service h → ActsBy (Told call answer) service service h
+    told_still call answer service h served =
+        let rest = rests service h served in
         record {
-          now = c;
-          keeps = read.has.2;
-          is = opened_at service c stands.named (leads.serves read.image name c read.told stands);
-          tells = λ t told. absurd told;
+          next = h;
+          goes = same_has h;
+          any_moment = no_call (view (disk_of service)) (OneOf IsOf h h) (only_now (disk_of service))
+              (λ c left. inl (subst (λ (i : Image). IsOf h i) (sym (rest.only c left)) rest.has));
+          told = record { image = rest.image; told = rest.told; has = inl rest.has };
+          done = inr (inl (served, λ t told. absurd told));
         }
 
-    -- ---- a call
+    acts : (act : ServiceAct) (old new : Service D H g k) (h : History) → DoesAct dig view act old new → ServesAs old h
+        → ActsBy act old new h
+    acts (Answered call answer) old new h does served = answered call answer old new h does served
+    acts (Told call answer) old new h does served = subst (λ (s : Service D H g k). ActsBy (Told call answer) old s h)
+        (sym does.1) (told_still call answer old h served)
 
-    module _ (call : Call) (old new : Service D H g k) (h : History) (is : IsOpenAt old h) where
-      abbrev failed : (X : Type 0) → Refusal → Result X Refusal
-      failed X r = Err r
+    -- ---- after a disk fault
 
-      -- after a refusal the value has name and head as before
-      heads : (head_of new ≡ head_of old) × (name_of new ≡ name_of old) → head_thread new ≡ last_thread dig h
-      heads kept =
-          let named = kept.1 in
-          let head = kept.0 in
-          let same : head_thread new ≡ head_thread old =
-          λ j. record { from = named j; step = (head j).step; auth = (head j).auth } in
-          same ∙ is.head
+    unwritten_by : (answer : Result Reply Refusal) (old new : Service D H g k) → answer ≡ Err Reopen
+        → IfErr answer (λ refusal. (refusal ≡ DiskFault) ⊎ HasSameDisk view old new) → HasSameDisk view old new
+    unwritten_by answer old new reopen unwritten =
+        ⊎_elim (λ no. absurd cc) (λ s. s)
+        (subst (λ (r : Result Reply Refusal). IfErr r (λ refusal. (refusal ≡ DiskFault) ⊎ HasSameDisk view old new))
+        reopen unwritten)
 
-      own_name : Serves dig view old h → h.name ≡ name
-      own_name served = served.keeps.named ∙ is.named
+    abbrev StaysBy : (act : ServiceAct) (old new : Service D H g k) → Type 0
+    StaysBy act old new =
+        (has_failed new ≡ true) × IsSameDisk (view (disk_of old)) (view (disk_of new))
+        × ((t : Thread) → TellsThread dig act t → ⊥) × ((t : Thread) → ShowsHead new t → ShowsHead old t)
 
-      unwritten_by : (answer : Result Reply Refusal) → answer ≡ Err Reopen
-          → IfErr answer (λ refusal. (refusal ≡ DiskFault) ⊎ HasSameDisk view old new) → HasSameDisk view old new
-      unwritten_by answer reopen unwritten =
-          ⊎_elim (λ no. absurd cc) (λ s. s)
-          (subst (λ (r : Result Reply Refusal). IfErr r (λ refusal. (refusal ≡ DiskFault) ⊎ HasSameDisk view old new))
-          reopen unwritten)
+    stays : (act : ServiceAct) (old new : Service D H g k) → DoesAct dig view act old new → has_failed old ≡ true
+        → StaysBy act old new
+    stays (Answered call answer) old new a failed =
+        let reopen = a.reopen failed in
+        let same_record =
+        subst (λ (r : Result Reply Refusal). OnErr r ((head_of new ≡ head_of old) × (name_of new ≡ name_of old))) reopen
+        a.kept in (
+          a.broken.1 (inl failed),
+          (unwritten_by answer old new reopen a.unwritten).disk,
+          (λ t told. subst (λ (r : Result Reply Refusal). TellsThread dig (Answered call r) t) reopen told),
+          shows_still old new same_record,
+        )
+    stays (Told call answer) old new does failed =
+        subst (λ (s : Service D H g k). StaysBy (Told call answer) old s) (sym does.1)
+        (failed, same_disk (view (disk_of old)), (λ t told. told), λ t shown. shown)
 
-      -- an earlier call met a disk fault
-      stays_broken : (answer : Result Reply Refusal) → IsTrue (has_failed old) → IsCallAnswered dig view call answer old
-          new → Goes (Answered call answer) (Open new) h
-      stays_broken answer failed a =
-          let reopen = a.reopen failed in
-          let same = unwritten_by answer reopen a.unwritten in
-          let kept =
-          subst (λ (r : Result Reply Refusal). OnErr r ((head_of new ≡ head_of old) × (name_of new ≡ name_of old)))
-          reopen a.kept in
-          record {
-            now = h;
-            keeps = same_has h;
-            is = record {
-              disk = (
-                record { image = is.disk.0.image; told = same.disk.content ∙ is.disk.0.told; has = is.disk.0.has },
-                λ c left. is.disk.1 c ((same.disk.images c).0 left),
-              );
-              named = kept.1 ∙ is.named;
-              head = heads kept;
-              serves = λ whole. let no = subst (λ b. IsTrue b) whole (a.broken.1 (inl failed)) in absurd cc;
-            };
-            tells = λ t told. absurd (subst (λ (r : Result Reply Refusal). IsToldByEvent dig (Answered call r) t) reopen
-                told);
-          }
+    pub service_laws : Laws {V = Service D H g k} view (services dig view) IsOf Has ServesAs (IsThreadOf dig) ShowsHead
+        (TellsThread dig)
+    service_laws = record {
+      same = same_has;
+      on = λ a b c first second t own. second t (first t own);
+      keeps = λ h next t on own. on t own;
+      rests = rests;
+      shows = shows;
+      opens = λ disk service image h opened told is. (opened.serves image name h told is, is.named);
+      acts = λ act old new h does whole served. acts act old new h does served;
+      stays = stays;
+    }
 
-      -- none did: a history is served
-      goes_on : (answer : Result Reply Refusal) → Serves dig view old h → IsCallAnswered dig view call answer old new
-          → Goes (Answered call answer) (Open new) h
-      goes_on (Ok reply) served a =
-          let s = a.steps h served in
-          record {
-            now = s.next;
-            keeps = next_has dig call h s.next s.is_next;
-            is = opened_at new s.next (next_name dig call h s.next s.is_next ∙ own_name served) s.done.1;
-            tells = λ t told. told_own dig h served.keeps.sound call reply s.next a.kind s.done.0 t told;
-          }
-      goes_on (Err refusal) served a =
-          let s = a.steps h served in
-          let has = next_has dig call h s.next s.is_next in
-          let own : (c : Image) → StandsForOneOf dig (name_of old) h s.next c → GoesOnFrom h c =
-          λ c one. one_of h s.next c has (subst (λ (n : List ℕ). StandsForOneOf dig n h s.next c) is.named one) in
-          ⊎_elim
-          (λ fault. record {
-            now = h;
-            keeps = same_has h;
-            is = record {
-              disk = (
-                record { image = s.told.image; told = s.told.told; has = own s.told.image s.told.has },
-                λ c left. own c (s.any_moment.now c left),
-              );
-              named = a.kept.1 ∙ is.named;
-              head = heads a.kept;
-              serves = λ whole. let no = subst (λ b. IsTrue b) whole
-                  (a.broken.1 (inr (ap (λ (r : Refusal). failed Reply r) fault))) in absurd cc;
-            };
-            tells = λ t told. absurd told;
-          })
-          (λ on. wavering (Answered call (Err refusal)) (Open new) h (opened_at new h (own_name served) on.0)
-          (λ t told. told))
-          s.refused
+    -- ---- over every run
 
-      answered_at : (b : Bool) → has_failed old ≡ b → (answer : Result Reply Refusal) → IsCallAnswered dig view call
-          answer old new → Goes (Answered call answer) (Open new) h
-      answered_at true failed answer a = stays_broken answer (subst (λ b. IsTrue b) (sym failed) refl) a
-      answered_at false whole answer a = goes_on answer (is.serves whole) a
+    abbrev pub IsAt : State D (Service D H g k) → History → Type 0
+    IsAt at h = wavering.IsAt view (services dig view) IsOf Has ServesAs (IsThreadOf dig) ShowsHead (TellsThread dig)
+        service_laws only_now at h
 
-      -- what a crash in the midst of it leaves
-      images_of : (b : Bool) → has_failed old ≡ b → (answer : Result Reply Refusal) → IsCallAnswered dig view call
-          answer old new
-          → (c : Image) → (view (disk_of new)).left_since (view (disk_of old)).moment c → GoesOnFrom h c
-      images_of true failed answer a c left =
-          let reopen = a.reopen (subst (λ b. IsTrue b) (sym failed) refl) in
-          let same = unwritten_by answer reopen a.unwritten in
-          is.disk.1 c (only_now (disk_of old) c ((same.disk.images_since (view (disk_of old)).moment c (omega arith)).0
-          left))
-      images_of false whole answer a c left =
-          let s = a.steps h (is.serves whole) in
-          one_of h s.next c (next_has dig call h s.next s.is_next)
-          (subst (λ (n : List ℕ). StandsForOneOf dig n h s.next c) is.named (s.any_moment.each c left))
-
-      -- it is told without the disk
-      told_at : (answer : Result Reply Refusal) → IsToldUnchanged call answer old → new ≡ old
-          → Goes (Answered call answer) (Open new) h
-      told_at answer told same = record {
-        now = h;
-        keeps = same_has h;
-        is = subst (λ (s : Service D H g k). IsOpenAt s h) (sym same) is;
-        tells = λ t by. told_thread call answer told t by;
-      }
-        where
-          told_thread : (call : Call) (answer : Result Reply Refusal) → IsToldUnchanged call answer old → (t : Thread)
-              → IsToldByEvent dig (Answered call answer) t → IsThreadOf dig h t
-          told_thread CountSteps answer told t by =
-              absurd (subst (λ (r : Result Reply Refusal). IsToldByEvent dig (Answered CountSteps r) t) told by)
-          told_thread TellName answer told t by =
-              absurd (subst (λ (r : Result Reply Refusal). IsToldByEvent dig (Answered TellName r) t) told by)
-          told_thread TellHead answer told t by =
-              let one : t ≡ head_thread old =
-              subst (λ (r : Result Reply Refusal). IsToldByEvent dig (Answered TellHead r) t) told by in
-              subst (λ (u : Thread). IsThreadOf dig h u) (sym (one ∙ is.head)) (last_own dig h)
-          told_thread _ answer told t by = absurd told
-
-    goes : (event : ServiceEvent) (at behind : ServiceState D (Service D H g k)) (h : History) → IsAt at h
-        → LeadsByCall dig view event at behind → Goes event behind h
-    goes Opens (Closed disk) (Open service) h is leads = opens_at disk service h is leads
-    goes StaysClosed (Closed disk) (Closed left) h is leads = wavering StaysClosed (Closed left) h (
-      record { image = is.0.image; told = leads.0 ∙ is.0.told; has = is.0.has },
-      (λ c may. is.1 c (leads.1.now c may)),
-    ) (λ t told. told)
-    goes (Answered call answer) (Open old) (Open new) h is leads =
-        ⊎_elim (answered_at call old new h is (has_failed old) refl answer) (λ told. told_at call old new h is answer
-        told.0 told.1) leads
-    goes Closes (Open service) (Closed disk) h is leads =
-        wavering Closes (Closed disk) h (subst (λ (d : D). Wavers d h) (sym leads) is.disk) (λ t told. told)
-    goes Crashes at (Closed disk) h is leads =
-        wavering Crashes (Closed disk) h (holds disk _ h (λ c left. (wavers_at at h is).1 c left) leads)
-        (λ t told. told)
-    goes (CrashesIn call) (Open old) (Closed disk) h is leads =
-        wavering (CrashesIn call) (Closed disk) h
-        (holds disk _ h (images_of call old leads.1 h is (has_failed old) refl leads.0 leads.2) leads.3)
-        (λ t told. told)
-    goes _ _ _ h is leads = absurd leads
-
-    -- ---- a run
-
-    pub record Ends (start : ServiceState D (Service D H g k)) (run : List (ServiceHappening D (Service D H g k)))
+    -- at the end all images go on from one history, which has all that the first one had, and all that was published
+    pub record Ends (start : State D (Service D H g k)) (run : List (Happening D (Service D H g k) ServiceAct))
         (h : History) : Type 0 where
       pub now : History
       pub keeps : Has h now
-      pub is : IsAt (end_of_run start run) now
+      pub is : Wavers (disk_at view (services dig view) (end_of start run)) now
       pub tells : (t : Thread) → IsServicePublished dig start run t → IsThreadOf dig now t
 
-    head_own : (at : ServiceState D (Service D H g k)) (h : History) → IsAt at h → (t : Thread) → IsHead at t
-        → IsThreadOf dig h t
-    head_own (Closed disk) h is t told = absurd told
-    head_own (Open service) h is t told = subst (λ (u : Thread). IsThreadOf dig h u) (sym (told ∙ is.head))
-        (last_own dig h)
-
-    pub ends : (start : ServiceState D (Service D H g k)) (run : List (ServiceHappening D (Service D H g k)))
-        (h : History) → IsAt start h → IsServiceRunFrom dig view start run → Ends start run h
-    ends start [] h is leads = record { now = h; keeps = same_has h; is = is; tells = head_own start h is }
-    ends start (x ∷ run) h is leads =
-        let first = goes x.event start x.behind h is leads.0 in
-        let rest = ends x.behind run first.now first.is leads.1 in
+    pub ends : (start : State D (Service D H g k)) (run : List (Happening D (Service D H g k) ServiceAct)) (h : History)
+        → IsAt start h → IsRunFrom view (services dig view) start run → Ends start run h
+    ends start run h is leads =
+        let end = wavering.ends view (services dig view) IsOf Has ServesAs (IsThreadOf dig) ShowsHead (TellsThread dig)
+        service_laws only_now start run h is leads in
         record {
-          now = rest.now;
-          keeps = λ t own. rest.keeps t (first.keeps t own);
-          is = rest.is;
-          tells = λ t told. ⊎_elim (λ head. rest.keeps t (first.keeps t (head_own start h is t head)))
-              (λ more. ⊎_elim (λ by. rest.keeps t (first.tells t by)) (λ later. rest.tells t later) more) told;
+          now = end.now;
+          keeps = end.goes_on;
+          is = wavering.wavers_at view (services dig view) IsOf Has ServesAs (IsThreadOf dig) ShowsHead
+              (TellsThread dig) service_laws only_now (end_of start run) end.now end.is;
+          tells = end.tells;
         }
 
-    begins : (start : ServiceState D (Service D H g k)) (h : History) → BeginsHistory dig view name h start
-        → IsAt start h
+    begins : (start : State D (Service D H g k)) (h : History) → BeginsHistory dig view name h start → IsAt start h
     begins (Closed disk) h is = holds disk (λ i. StandsFor dig i name h) h (λ c stands. (h, stands, same_has h)) is
-    begins (Open service) h is = opened_at service h is.0 is.1
+    begins (Open service) h is = wavering.opened_at view (services dig view) IsOf Has ServesAs (IsThreadOf dig)
+        ShowsHead (TellsThread dig) service_laws only_now service h (is.1, is.0)
 
-    pub one_authenticator : (start : ServiceState D (Service D H g k)) (h : History)
-        (run : List (ServiceHappening D (Service D H g k))) → BeginsHistory dig view name h start → IsServiceRunFrom dig
-        view start run
-        → HasOneAuthenticator dig view name h (IsServicePublished dig start run) (disk_at_state (end_of_run start run))
+    pub one_authenticator : (start : State D (Service D H g k)) (h : History)
+        (run : List (Happening D (Service D H g k) ServiceAct)) → BeginsHistory dig view name h start
+        → IsRunFrom view (services dig view) start run
+        → HasOneAuthenticator dig view name h (IsServicePublished dig start run)
+        (disk_at view (services dig view) (end_of start run))
     one_authenticator start h run is leads =
         let end = ends start run h (begins start h is) leads in
-        one_for h (IsServicePublished dig start run) (disk_at_state (end_of_run start run)) end.now
-        (wavers_at (end_of_run start run) end.now end.is) end.keeps end.tells
+        one_for h (IsServicePublished dig start run) (disk_at view (services dig view) (end_of start run)) end.now
+        end.is end.keeps end.tells

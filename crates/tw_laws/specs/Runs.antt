@@ -1,11 +1,14 @@
 -- What comes to a service and its disk, one after the other, and what is published meanwhile.
-use Rattle.std.specs.Prelude.{◌≡◌, ◌⊎◌, ◌↔◌, ℕ, List, [], ◌∷◌, Some, Result, Ok, Err, IfErr, IfOk, IsTrue, OnErr}
+use Rattle.std.specs.Prelude.{◌≡◌, ◌⊎◌, ◌↔◌, ℕ, List, Some, Result, Ok, Err, IfErr, IfOk, IsTrue, OnErr}
 use Rattle.tw_answers.specs.declared.refusal.Refusal.{Refusal}
 use Rattle.tw_answers.specs.declared.refusal.Refusal.TheVariants.{DiskFault, Reopen}
 use Rattle.tw_base.specs.declared.history.thread.Thread.{Thread}
 use Rattle.tw_base.specs.history.History.{History}
-use Rattle.tw_disk.specs.Disk.{DiskView, LeavesOnly, Reads}
+use Rattle.tw_disk.specs.Disk.{DiskView, LeavesOnly}
 use Rattle.tw_disk.specs.Image.{Image}
+use Rattle.tw_pages.specs.Runs.{Happening, HoldsOnly, State, Values}
+use Rattle.tw_pages.specs.Runs.State.{Closed, Open}
+use Rattle.tw_pages.specs.Runs as runs
 use Rattle.tw_service.specs.declared.service.Service.{Service}
 use Rattle.tw_service.specs.Adding.{CallSteps}
 use Rattle.tw_service.specs.Machine.{Call, Reply}
@@ -15,25 +18,10 @@ use Rattle.tw_service.specs.Serves.{HasSameDisk, Serves, disk_of, has_failed, he
 use Rattle.tw_service.specs.Stands.{StandsFor}
 use Rattle.tw_laws.specs.Published.{IsReplyTo, IsThreadOf, PublishesBy}
 
--- what there is: the disk alone, or a service over it
-pub data ServiceState (D S : Type 0) : Type 0 where
-  Closed : D → ServiceState D S
-  Open : S → ServiceState D S
-
--- what comes: opening the disk is answered by a service, or by a fault; a call is answered; the service is given up; or the program or
--- its machine stops, between two calls or in the midst of one
-pub data ServiceEvent : Type 0 where
-  Opens : ServiceEvent
-  StaysClosed : ServiceEvent
-  Answered : Call → Result Reply Refusal → ServiceEvent
-  Closes : ServiceEvent
-  Crashes : ServiceEvent
-  CrashesIn : Call → ServiceEvent
-
--- an event, and what there is behind it
-pub record ServiceHappening (D S : Type 0) : Type 0 where
-  pub event : ServiceEvent
-  pub behind : ServiceState D S
+-- a call with its answer; or what is told without the disk
+pub data ServiceAct : Type 0 where
+  Answered : Call → Result Reply Refusal → ServiceAct
+  Told : Call → Result Reply Refusal → ServiceAct
 
 -- what a call answers, as a reply
 abbrev pub replied : {T : Type 0} → (T → Reply) → Result T Refusal → Result Reply Refusal
@@ -41,29 +29,15 @@ replied reply (Ok value) = Ok (reply value)
 replied reply (Err refusal) = Err refusal
 
 -- the state is one of services as this one
-abbrev pub IsStateOf : {D S : Type 0} → S → ServiceState D S → Type 0
+abbrev pub IsStateOf : {D S : Type 0} → S → State D S → Type 0
 IsStateOf service state = Unit {0}
 
--- the disk that there is
-abbrev pub disk_at_state : {D H : Type 0} {g : _} {k : _} → ServiceState D (Service D H g k) → D
-disk_at_state (Closed disk) = disk
-disk_at_state (Open service) = disk_of service
-
--- what is told without the disk changes nothing, and is told after a disk fault too
+-- what is told without the disk is told after a disk fault too
 abbrev pub IsToldUnchanged : {D H : Type 0} {g : _} {k : _} → Call → Result Reply Refusal → Service D H g k → Type 0
 IsToldUnchanged CountSteps answer service = answer ≡ Ok (OfNumber (steps_of service))
 IsToldUnchanged TellHead answer service = answer ≡ Ok (OfThread (head_thread service))
 IsToldUnchanged TellName answer service = answer ≡ Ok (OfName (name_of service))
 IsToldUnchanged _ answer service = ⊥
-
-module _ {D : Type 0} (view : D → DiskView) where
-  -- the disk reads as before, and a crash leaves nothing else than before
-  abbrev pub StaysAs : (disk left : D) → Type 0
-  StaysAs disk left = ((view left).content ≡ (view disk).content) × LeavesOnly (view disk) (view left) (view disk).may_leave
-
-  -- the disk reads as one of these images, and a crash may leave no others
-  abbrev pub HoldsImagesOnly : (P : Image → Type 0) → D → Type 0
-  HoldsImagesOnly P disk = Reads (view disk) P × ((image : Image) → (view disk).may_leave image → P image)
 
 module _ {D H : Type 0} {g : _} {k : _} (dig : List ℕ → List ℕ) (view : D → DiskView) where
   -- where the disk reads as a history, with writes pending or not, the service serves that one; a crash since leaves nothing else than before
@@ -84,49 +58,31 @@ module _ {D H : Type 0} {g : _} {k : _} (dig : List ℕ → List ℕ) (view : D 
     pub kept : OnErr answer ((head_of new ≡ head_of old) × (name_of new ≡ name_of old))
     pub unwritten : IfErr answer (λ refusal. (refusal ≡ DiskFault) ⊎ HasSameDisk view old new)
 
-  -- The event leads from one state to another. After a crash the disk holds images of that moment alone, or, in the midst of a call, of some
-  -- moments since its start: one, all of it stable, where power was lost, or with writes pending, where the program was killed; what the
-  -- call would have answered isn't known. While a disk is opened a crash leaves nothing else than before.
-  abbrev pub LeadsByCall : ServiceEvent → (old new : ServiceState D (Service D H g k)) → Type 0
-  LeadsByCall Opens (Closed disk) (Open service) = IsServiceOpened disk service
-  LeadsByCall StaysClosed (Closed disk) (Closed left) = StaysAs view disk left
-  LeadsByCall (Answered call answer) (Open old) (Open new) = IsCallAnswered call answer old new ⊎ (IsToldUnchanged call answer old × (new ≡ old))
-  LeadsByCall Closes (Open service) (Closed disk) = disk ≡ disk_of service
-  LeadsByCall Crashes old (Closed disk) = HoldsImagesOnly view (view (disk_at_state old)).may_leave disk
-  LeadsByCall (CrashesIn call) (Open old) (Closed disk) =
-      (answer : Result Reply Refusal) × (new : Service D H g k) × IsCallAnswered call answer old new
-      × HoldsImagesOnly view ((view (disk_of new)).left_since (view (disk_of old)).moment) disk
-  LeadsByCall _ _ _ = ⊥
+  -- what is told changes nothing
+  abbrev pub DoesAct : ServiceAct → (old new : Service D H g k) → Type 0
+  DoesAct (Answered call answer) old new = IsCallAnswered call answer old new
+  DoesAct (Told call answer) old new = IsToldUnchanged call answer old × (new ≡ old)
 
-  -- a run from a state: each event leads to what there is behind it
-  abbrev pub IsServiceRunFrom : (start : ServiceState D (Service D H g k)) → List (ServiceHappening D (Service D H g k)) → Type 0
-  IsServiceRunFrom start [] = Unit {0}
-  IsServiceRunFrom start (x ∷ run) = LeadsByCall x.event start x.behind × IsServiceRunFrom x.behind run
+  abbrev pub services : Values D (Service D H g k) ServiceAct
+  services = record { disk_of = disk_of; has_failed = has_failed; IsOpenedAs = IsServiceOpened; Does = DoesAct }
 
   -- the disk stands for this history of this name for good, or the service serves it
-  abbrev pub BeginsHistory : (name : List ℕ) → History → ServiceState D (Service D H g k) → Type 0
-  BeginsHistory name h (Closed disk) = HoldsImagesOnly view (λ i. StandsFor dig i name h) disk
+  abbrev pub BeginsHistory : (name : List ℕ) → History → State D (Service D H g k) → Type 0
+  BeginsHistory name h (Closed disk) = HoldsOnly view (λ i. StandsFor dig i name h) disk
   BeginsHistory name h (Open service) = (h.name ≡ name) × Serves dig view service h
 
--- what there is at the end of a run
-abbrev pub end_of_run : {D S : Type 0} → (start : ServiceState D S) → List (ServiceHappening D S) → ServiceState D S
-end_of_run start [] = start
-end_of_run start (x ∷ run) = end_of_run x.behind run
-
 -- a service that is open tells the thread of its head at any time
-abbrev pub IsHead : {D H : Type 0} {g : _} {k : _} → ServiceState D (Service D H g k) → Thread → Type 0
-IsHead (Closed disk) t = ⊥
-IsHead (Open service) t = t ≡ head_thread service
+abbrev pub ShowsHead : {D H : Type 0} {g : _} {k : _} → Service D H g k → Thread → Type 0
+ShowsHead service t = t ≡ head_thread service
 
--- the event publishes the thread: a call is answered so
-abbrev pub IsToldByEvent : (dig : List ℕ → List ℕ) → ServiceEvent → Thread → Type 0
-IsToldByEvent dig (Answered call (Ok reply)) t = PublishesBy dig call reply t
-IsToldByEvent dig _ t = ⊥
+-- besides, a call publishes what stands in its answer; of what is told without the disk the head alone counts, which is shown anyway
+abbrev pub TellsThread : (dig : List ℕ → List ℕ) → ServiceAct → Thread → Type 0
+TellsThread dig (Answered call (Ok reply)) t = PublishesBy dig call reply t
+TellsThread dig _ t = ⊥
 
 -- the thread is published in the run
-abbrev pub IsServicePublished : {D H : Type 0} {g : _} {k : _} → (dig : List ℕ → List ℕ) → (start : ServiceState D (Service D H g k)) → List (ServiceHappening D (Service D H g k)) → Thread → Type 0
-IsServicePublished dig start [] t = IsHead start t
-IsServicePublished dig start (x ∷ run) t = IsHead start t ⊎ (IsToldByEvent dig x.event t ⊎ IsServicePublished dig x.behind run t)
+abbrev pub IsServicePublished : {D H : Type 0} {g : _} {k : _} → (dig : List ℕ → List ℕ) → (start : State D (Service D H g k)) → List (Happening D (Service D H g k) ServiceAct) → Thread → Type 0
+IsServicePublished dig start run t = runs.IsPublished ShowsHead (TellsThread dig) start run t
 
 module _ {D : Type 0} (dig : List ℕ → List ℕ) (view : D → DiskView) (name : List ℕ) (first : History) (Published : Thread → Type 0) where
   -- the thread is one of the history that was there first, or published since
@@ -141,4 +97,4 @@ module _ {D : Type 0} (dig : List ℕ → List ℕ) (view : D → DiskView) (nam
   -- that has all
   pub record HasOneAuthenticator (last : D) : Type 0 where
     pub one : (t u : Thread) → IsKnown t → IsKnown u → t.step ≡ u.step → t ≡ u
-    pub at_end : HoldsImagesOnly view HasAllKnown last
+    pub at_end : HoldsOnly view HasAllKnown last

@@ -20,8 +20,8 @@ who_name Beta = beta_name
 who_name Gamma = gamma_name
 
 -- the lines that make the three services
-abbrev pub services : List Line
-services = Service alpha_name ∷ Service beta_name ∷ Service gamma_name ∷ []
+abbrev pub service_lines : List Line
+service_lines = Service alpha_name ∷ Service beta_name ∷ Service gamma_name ∷ []
 
 -- the lines do what the acts do, where so many messages were made before: a service appends the events; or a service sends the next message,
 -- of its last step since some step, and that message is delivered to the other one
@@ -45,6 +45,6 @@ pub record IsScriptRunOf (dig : List ℕ → List ℕ) (acts : List ScheduledAct
   pub told : List Told
   pub end : World
   pub are : AreLinesOf 0 acts lines
-  pub runs : RunsLines dig claims_none no_world (services ++ lines) told end
+  pub runs : RunsLines dig claims_none no_world (service_lines ++ lines) told end
   pub taken : Each IsLineTaken told
   pub histories : family end ≡ trio_family t

@@ -15,8 +15,9 @@ use Rattle.tw_app.specs.declared.outcome.Outcome.TheVariants.{Made}
 use Rattle.tw_app.specs.Around.{Around}
 use Rattle.tw_app.specs.Running.{EndsAsOutcome}
 use Rattle.tw_app.specs.Statuses.{AreWordsOf}
-use Rattle.tw_laws.specs.Runs.{HasOneAuthenticator, HoldsImagesOnly, IsServicePublished, IsServiceRunFrom, ServiceHappening, disk_at_state, end_of_run}
-use Rattle.tw_laws.specs.Runs.ServiceState.{Closed}
+use Rattle.tw_pages.specs.Runs.{Happening, HoldsOnly, IsRunFrom, disk_at, end_of}
+use Rattle.tw_pages.specs.Runs.State.{Closed}
+use Rattle.tw_laws.specs.Runs.{ServiceAct, HasOneAuthenticator, IsServicePublished, services}
 use Rattle.tw_laws.specs.Publishing.{IsOutBy}
 
 -- What comes to a disk. A run of the program writes when its work on the disk is done: that it is stopped before that means that nothing is
@@ -27,7 +28,7 @@ pub data Turn (D S : Type 0) : Type 0 where
   -- it is stopped in its work, or its machine is, and nothing is out: status and outcome are those that it would have come to
   StopsBefore : Around D → (status : ℕ) → Outcome → Turn D S
   -- services are opened over the disk
-  Serves : List (ServiceHappening D S) → Turn D S
+  Serves : List (Happening D S ServiceAct) → Turn D S
 
 -- a turn, and the disk that is there behind it
 pub record TurnBehind (D S : Type 0) : Type 0 where
@@ -49,10 +50,10 @@ module _ {D H : Type 0} {g : _} {k : _} (view : D → DiskView) where
   -- one image, all of it stable, and a program that was killed may leave writes pending.
   abbrev pub LeadsTo : Turn D (Service D H g k) → (disk left : D) → Type 0
   LeadsTo (Runs around status outcome) disk left =
-      IsRunOn view disk around status outcome × ((left ≡ around.outside.disk.after) ⊎ HoldsImagesOnly view (view around.outside.disk.after).may_leave left)
+      IsRunOn view disk around status outcome × ((left ≡ around.outside.disk.after) ⊎ HoldsOnly view (view around.outside.disk.after).may_leave left)
   LeadsTo (StopsBefore around status outcome) disk left =
-      IsRunOn view disk around status outcome × HoldsImagesOnly view ((view around.outside.disk.after).left_since (view disk).moment) left
-  LeadsTo (Serves run) disk left = IsServiceRunFrom sha256 view (Closed disk) run × (left ≡ disk_at_state (end_of_run (Closed disk) run))
+      IsRunOn view disk around status outcome × HoldsOnly view ((view around.outside.disk.after).left_since (view disk).moment) left
+  LeadsTo (Serves run) disk left = IsRunFrom view (services sha256 view) (Closed disk) run × (left ≡ disk_at view (services sha256 view) (end_of (Closed disk) run))
 
   abbrev pub AreTurnsFrom : D → List (TurnBehind D (Service D H g k)) → Type 0
   AreTurnsFrom disk [] = Unit {0}

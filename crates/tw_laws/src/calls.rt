@@ -13,7 +13,8 @@ ghost use Rattle.tw_service.specs.Machine.Call.{Append, Receive};
 ghost use Rattle.tw_service.specs.Machine.Reply.{OfReceipt, OfThread};
 ghost use Rattle.tw_service.specs.Serves.{Serves, disk_of};
 ghost use Rattle.tw_service.specs.Stands.{StandsFor, no_history};
-ghost use Rattle.tw_laws.specs.Runs.{IsCallAnswered, IsServiceOpened, StaysAs, replied};
+ghost use Rattle.tw_pages.specs.Disks.{IsLeft};
+ghost use Rattle.tw_laws.specs.Runs.{IsCallAnswered, IsServiceOpened, replied};
 
 use std::alloc::Global;
 use tw_answers::Refusal;
@@ -31,7 +32,7 @@ pub fn init<D: Disk, H: Hasher>(
 ) -> Result<Service<D, H>, (D, StoreFault)>
     // Making a service on a disk that reads as a history is answered by a fault, and leaves the disk as it was.
     ensures held { (image : Image) (of : List ℕ) (h : History) → (D.view disk).content ≡ Some image → StandsFor H.dig image of h
-        → IsErrAnd result (λ e. StaysAs D.view disk e.0) }
+        → IsErrAnd result (λ e. IsLeft D.view disk e.0) }
     // A service that is made on a disk that tells its content serves the history of that name without a step.
     ensures begins { IfOk result (λ s. (image : Image) → (D.view disk).content ≡ Some image → Serves H.dig D.view s (no_history name)) }
 {
@@ -41,7 +42,7 @@ pub fn init<D: Disk, H: Hasher>(
 /// Opens the service that a disk holds, by `Service::open`, with its answers.
 pub fn open<D: Disk, H: Hasher>(alloc: Global, disk: D) -> Result<Service<D, H>, (D, StoreFault)>
     // Opening a disk leads to the service of the history that it reads as, or leaves the disk as it was.
-    ensures { MatchResult result (λ s. IsServiceOpened H.dig D.view disk s) (λ e. StaysAs D.view disk e.0) }
+    ensures { MatchResult result (λ s. IsServiceOpened H.dig D.view disk s) (λ e. IsLeft D.view disk e.0) }
 {
     Service::<D, H>::open(alloc, disk)
 }

@@ -2,7 +2,8 @@
 
 ghost use Rattle.std.specs.Prelude.{ℕ, List};
 ghost use Rattle.tw_base.specs.history.History.{History};
-ghost use Rattle.tw_laws.specs.Runs.{BeginsHistory, HasOneAuthenticator, IsServicePublished, IsServiceRunFrom, IsStateOf, disk_at_state, end_of_run};
+ghost use Rattle.tw_pages.specs.Runs.{IsRunFrom, disk_at, end_of};
+ghost use Rattle.tw_laws.specs.Runs.{BeginsHistory, HasOneAuthenticator, IsServicePublished, IsStateOf, services};
 
 use tw_base::Hasher;
 use tw_disk::Disk;
@@ -19,5 +20,6 @@ pub fn run_laws<D: Disk, H: Hasher>(service: &Service<D, H>)
     // history. At the end the disk tells what it reads as; that, and each image that a crash may then leave, stands for a
     // history of that name which has all of them.
     ensures runs { (start : _) (name : List ℕ) (h : History) (run : _) → IsStateOf service.now start → BeginsHistory H.dig D.view name h start →
-        IsServiceRunFrom H.dig D.view start run → HasOneAuthenticator H.dig D.view name h (IsServicePublished H.dig start run) (disk_at_state (end_of_run start run)) }
+        IsRunFrom D.view (services H.dig D.view) start run →
+        HasOneAuthenticator H.dig D.view name h (IsServicePublished H.dig start run) (disk_at D.view (services H.dig D.view) (end_of start run)) }
 {}

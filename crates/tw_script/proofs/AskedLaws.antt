@@ -9,7 +9,7 @@ use Rattle.tw_base.specs.declared.history.question.Question.TheVariants as ask
 use Rattle.tw_base.specs.declared.kinds.limits.TheConstants.{LAST_STEP}
 use Rattle.tw_words.specs.CommandLine.{prove_absent, prove_event, prove_link, prove_thread}
 use Rattle.tw_words.specs.Forms.{Form as CommandForm, go_on, maybe as maybe_command, maybe_number as maybe_of_command}
-use Rattle.tw_words.specs.Forms.{name_value, next as next_command, no_words, number_value, then_form as then_command}
+use Rattle.tw_words.specs.Forms.{name_value, next as next_command, no_words as no_command_words, number_value, then_form as then_command}
 use Rattle.tw_words.specs.declared.command.Command.{Command}
 use Rattle.tw_words.specs.declared.command.Command.TheVariants.{ProveEvent, ProveThread, ProveAbsent, ProveLink}
 use Rattle.tw_script.specs.AskedWords.{AskAlike, asked_of}
@@ -39,7 +39,7 @@ module _ (one : Option ℕ → Command) (other : Option ℕ → Question) (same 
   -- the last word is there
   alike-last : (word : List ℕ) (words : List (List ℕ)) (o : Option ℕ) → any_number_value word ≡ o
       → option_and_then asked_of (result_ok (maybe_command one (word ∷ words))) ≡ maybe other (word ∷ words)
-  unfolding next next_command no_words no_words maybe_number maybe_of_command
+  unfolding next next_command no_words no_command_words maybe_number maybe_of_command
   alike-last word words None is = rw is refl
   alike-last word [] (Some n) is = rw is (same (Some n))
   alike-last word (more ∷ words) (Some n) is = rw is refl

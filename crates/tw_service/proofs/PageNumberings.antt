@@ -43,7 +43,7 @@ with_pages-list known before (n ∷ ns) = by (n.page == 0) (with_pages-list know
         (numbers_of_nodes (suc before) ns ++ known)
         → cond b (with_pages (numbers_of known) (suc before) ns)
         (update nat_eq (with_pages (numbers_of known) (suc before) ns) n.page (Some (suc before)))
-        ≡ numbers_of (cond b (pages_of (suc before) ns) (record { page = n.page; node = suc before } ∷ pages_of
+        ≡ numbers_of (cond b (numbers_of_nodes (suc before) ns) (record { page = n.page; node = suc before } ∷ numbers_of_nodes
         (suc before) ns) ++ known)
     by true same = same
     by false same = ap (λ (f : Numbers). update nat_eq f n.page (Some (suc before))) same

@@ -18,7 +18,7 @@ use Rattle.tw_disk.proofs.FoundLaws.{same_found}
 use Rattle.tw_disk.specs.Image.{Image}
 use Rattle.tw_pages.specs.Records.{IsOneOf, Written, written_record}
 use Rattle.tw_pages.specs.Rests.{RestsWith}
-use Rattle.tw_pages.proofs.Staged.{IsStaged, leaves_since, of_these}
+use Rattle.tw_pages.proofs.StagedRecords.{IsStaged, leaves_since, of_these}
 use Rattle.tw_pages.specs.declared.store.Store.{Store}
 use Rattle.tw_pages.specs.Same.{IsSameStore, store_count, store_list}
 use Rattle.tw_pages.specs.StoreValue.{store_disk}

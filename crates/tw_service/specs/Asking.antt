@@ -55,5 +55,6 @@ module _ {D H : Type 0} {g : _} {k : _} (dig : List ℕ → List ℕ) (view : D 
     pub made : IfOk result (λ bytes. (h : History) → Serves dig view old h → Makes dig h q bytes)
     -- a proof is accepted under every list of anchors that has the history's authenticator of the top, and a file is read as the history
     pub accepted : IfOk result (λ bytes. (h : History) → Serves dig view old h → IsAcceptedFor dig h q bytes)
-    -- the tree proof that a thread was received, or wasn't, and that of a map file, has at most 9 nodes for each level of the tree, and at most 99
+    -- the tree proof that a thread was received, or wasn't, and that of a map file, has at most 9 nodes for each level of the tree, and at most 99;
+    -- it follows of `made`, since the history fixes the bytes, and of the trees that the pages keep
     pub few : IfOk result (λ bytes. (h : History) → Serves dig view old h → HasFewFor h q bytes)

@@ -48,7 +48,7 @@ module _ {D : Type 0} {g : _} (dig : List ℕ → List ℕ) (view : D → DiskVi
     pub answer : (ps : Image) → store_list view old ≡ Some ps
         → ReceivesAs dig ps before m time after.head after.archive result (found_reception dig ps before.name before.head before.archive before.time m time)
     pub steps : (h : History) → StoreServes dig view old before h → m.thread.from ≢ before.name → StepsIn m time old new before after result h
-    pub written : (ps : Image) → RestsWith view root_kind old (written before ps) → CommitsRoot view (ArchivesTo dig m time) (IsReceiptOfRecord dig m time) old new before after result ps
+    pub written : (ps : Image) → RestsWith view root_kind old (written_record before ps) → CommitsRoot view (ArchivesTo dig m time) (IsReceiptOfRecord dig m time) old new before after result ps
     pub receipt : IfOk result (λ receipt. (receipt.thread ≡ m.thread) × (receipt.by.from ≡ before.name))
     pub record_is : IfOk result (λ receipt. (IsStep receipt.by.step × (receipt.by.step ≤ before.head.step) × (after ≡ before) × IsSameStore view old new)
         ⊎ ((receipt ≡ receipt_at before.name after.head m.thread) × (after.head.step ≡ before.head.step + 1)

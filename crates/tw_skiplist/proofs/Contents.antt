@@ -20,7 +20,7 @@ content_records (Received t) within together =
 
 content_counts : (c : Content) (first : ℕ) → IsWithinLimits c → FitTogether (appended_events c)
     → (length (stream (appended_events c)) ≡ 0 → first ≡ 0) → first < 2 ^ 64
-    → HasCounts (thread_in c) (length (events_in c))
+    → HasCounts (appended_thread c) (length (appended_events c))
     (record { page = first; size = length (stream (appended_events c)) })
 content_counts (Events events) first within together none small =
     (within.count, (let size = length-stream events in omega (arith, size, within.count, together), small))

@@ -45,7 +45,7 @@ module _ (dig : List ℕ → List ℕ) (w : World) (o : IsOrderedWorld dig w) wh
       p.first_stands.stands in
       let begun : IsEarlier (born w (place_key first.place))
       (born w (record { from = second.place.service; step = second.place.step - 1 })) =
-      leads-later dig w o hops (step_of first.place)
+      leads-later dig w o hops (place_key first.place)
       (record { from = second.place.service; step = second.place.step - 1 }) h some p.leads from.0 p.second_stands.has
       (omega (arith, at.1)) in
       to-step dig w o second.place.service h (second.place.step - 1) second.place.step (born w (place_key first.place))

@@ -140,7 +140,7 @@ module _ (w : World) (name : List ℕ) (step : ℕ) (m : Member) (is : IsMember 
   -- the authenticator that a proof of the history's own tells
   linked-thread : (bytes : List ℕ) (link : LinkProof) → Makes sha256 m.history (Link step None) bytes
       → Spells proof_layout bytes (Linked link)
-      → thread_of link ≡ record { from = name; step = step; auth = auth sha256 m.history step }
+      → thread_of_link link ≡ record { from = name; step = step; auth = auth sha256 m.history step }
   unfolding Makes
   linked-thread bytes link makes spells =
       let made : MakesLink sha256 m.history step (length m.history.steps) bytes = makes in

@@ -1,4 +1,4 @@
-"""Acceptance cases of a small stack: each command works in 256 KiB of it, over inputs that are large or reach deep."""
+"""Acceptance cases of a small stack: each form of the command line works in 256 KiB of it, over inputs that are large or reach deep."""
 
 from functools import cache
 
@@ -81,7 +81,7 @@ def grown_service(room):
 
 
 def large_history(room):
-    """the history of a service of 1,500 threads is shown, audited and taken over"""
+    """the history of a service of 1,500 threads is shown, audited and taken over, and a proof is judged under one line"""
     service, other = notary().copied(), Service("other")
     service.append([b"the end"])
     top = service.steps
@@ -93,6 +93,7 @@ def large_history(room):
         room.put(name, data)
     works(room, f"show h {top} 0", 0, service.event_proof(top, 0, top))
     as_ever(room, "audit p k h", 0, b"stands")
+    as_ever(room, f"verify p {service.anchor(top).decode().strip()}", 0, b"accepted thread")
     works(room, "adopt h l q", 0, service.history())
 
 

@@ -7,7 +7,7 @@ use Rattle.tw_service.specs.Writing.{AppendsTo, IsThreadOfNext}
 use Rattle.tw_diskcmd.specs.Leaves.{StaysOr}
 use Rattle.tw_diskcmd.proofs.Landings.{comes_of_file, leaves_of_file, stop_leaves, stopped_comes}
 use Rattle.tw_diskcmd.specs.Appending.{AreEventsOf, IsBadEventsByte, IsStepResult}
-use Rattle.tw_diskcmd.specs.Disks.{IsImageOfHeads, NextBy, StepsBy, found_disk}
+use Rattle.tw_diskcmd.specs.Disks.{IsImageOfHistory, NextBy, StepsBy, found_disk}
 use Rattle.tw_diskcmd.proofs.appending.append.Goals as goal
 
 pub returns-in-Ok-clause-comes : goal.returns-in-Ok-clause-comes
@@ -24,7 +24,7 @@ pub returns-in-Ok-clause-leaves : goal.returns-in-Ok-clause-leaves
 returns-in-Ok-clause-leaves g c =
     let d = g.D.Disk in
     let time = c.args.time in
-    leaves_of_file root_kind IsImageOfHeads d.view (AreEventsOf (g.I.Inputs.told c.args.inputs.now) c.args.file.now)
+    leaves_of_file root_kind IsImageOfHistory d.view (AreEventsOf (g.I.Inputs.told c.args.inputs.now) c.args.file.now)
     (λ events. NextBy (Append events time)) (λ events. StaysOr (AppendsTo sha256 events time))
     (λ events found came. IsStepResult found events time came) (λ events thread. StepsBy (Append events time)
     (OfThread thread)) (λ events thread. IsThreadOfNext sha256 events time thread)
@@ -46,7 +46,7 @@ pub returns-in-Err-clause-leaves : goal.returns-in-Err-clause-leaves
 returns-in-Err-clause-leaves g c =
     let d = g.D.Disk in
     let time = c.args.time in
-    stop_leaves root_kind IsImageOfHeads d.view (AreEventsOf (g.I.Inputs.told c.args.inputs.now) c.args.file.now)
+    stop_leaves root_kind IsImageOfHistory d.view (AreEventsOf (g.I.Inputs.told c.args.inputs.now) c.args.file.now)
     (λ events. NextBy (Append events time)) (λ events. StaysOr (AppendsTo sha256 events time))
     (λ events found came. IsStepResult found events time came) (λ events thread. StepsBy (Append events time)
     (OfThread thread)) (λ events thread. IsThreadOfNext sha256 events time thread)

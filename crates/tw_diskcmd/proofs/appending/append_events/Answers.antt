@@ -16,7 +16,7 @@ use Rattle.tw_diskcmd.specs.Leaves.{StaysOr}
 use Rattle.tw_diskcmd.specs.Steps.{AddsFrom}
 use Rattle.tw_diskcmd.proofs.StoreSteps.{adds_on, unopened_adds}
 use Rattle.tw_diskcmd.specs.Appending.{MachineAdds, TableAdds, append_found}
-use Rattle.tw_diskcmd.specs.Disks.{IsImageOfHeads, IsService, NextBy, StepsBy}
+use Rattle.tw_diskcmd.specs.Disks.{IsImageOfHistory, IsService, NextBy, StepsBy}
 use Rattle.tw_diskcmd.proofs.Results.{unserved}
 use Rattle.tw_diskcmd.proofs.appending.append_events.Goals as goal
 
@@ -30,7 +30,7 @@ pub returns-in-Ok-clause-leaves : goal.returns-in-Ok-clause-leaves
 returns-in-Ok-clause-leaves g c =
     let d = g.D.Disk in
     let call = Append c.args.events.now c.args.time in
-    adds_on IsImageOfHeads d.view (NextBy call) (λ (thread : Thread). StepsBy call (OfThread thread)) c.args.disk
+    adds_on IsImageOfHistory d.view (NextBy call) (λ (thread : Thread). StepsBy call (OfThread thread)) c.args.disk
     (disk_of c.in-Ok.service) c.append_to.result.disk c.append_to.result.outcome
     c.in-Ok.ensures.any_moment (λ h reads. c.append_to.ensures.leaves h (c.in-Ok.ensures.served reads.image h.name h
     reads.told reads.stands))
@@ -47,7 +47,7 @@ returns-in-Err-clause-comes g c =
 pub returns-in-Err-clause-leaves : goal.returns-in-Err-clause-leaves
 returns-in-Err-clause-leaves g c =
     let call = Append c.args.events.now c.args.time in
-    unopened_adds IsImageOfHeads g.D.Disk.view (NextBy call) (λ (thread : Thread). StepsBy call (OfThread thread))
+    unopened_adds IsImageOfHistory g.D.Disk.view (NextBy call) (λ (thread : Thread). StepsBy call (OfThread thread))
     (λ h. (with_events_at h c.args.events.now c.args.time, refl)) c.args.disk c.in-Err.disk
     c.in-Err.fault c.fault_of_store.result c.fault_of_store.ensures c.in-Err.ensures.answers c.in-Err.ensures.unchanged
     c.in-Err.ensures.any_moment_err

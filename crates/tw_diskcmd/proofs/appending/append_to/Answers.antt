@@ -14,7 +14,7 @@ use Rattle.tw_diskcmd.specs.Leaves.{StaysOr}
 use Rattle.tw_diskcmd.specs.Steps.{AddsFrom}
 use Rattle.tw_diskcmd.proofs.StoreAtRest.{rose_since, same_left}
 use Rattle.tw_diskcmd.proofs.StoreSteps.{answered_commits, nothing_written, refused_commits}
-use Rattle.tw_diskcmd.specs.Disks.{IsImageOfHeads, IsLeft, IsService, NextBy, StepsBy, found_disk}
+use Rattle.tw_diskcmd.specs.Disks.{IsImageOfHistory, IsLeft, IsService, NextBy, StepsBy, found_disk}
 use Rattle.tw_diskcmd.specs.Faults.{fault_of_service}
 use Rattle.tw_diskcmd.proofs.AtRest.{answered_steps, refused_steps}
 use Rattle.tw_diskcmd.proofs.Steps.{step_done, step_refused}
@@ -46,7 +46,7 @@ pub returns-in-Ok-clause-leaves : goal.returns-in-Ok-clause-leaves
 returns-in-Ok-clause-leaves g c = λ h served.
     let d = g.D.Disk in
     let call = Append c.args.events.now c.args.time in
-    subst (λ disk. AddsFrom IsImageOfHeads d.view (disk_of c.args.service) disk (NextBy call)
+    subst (λ disk. AddsFrom IsImageOfHistory d.view (disk_of c.args.service) disk (NextBy call)
     (λ thread. StepsBy call (OfThread thread)) h (Ok c.in-Ok.thread)) (sym c.close.ensures.disk)
     (answered_steps d.view g.met.D.Disk.only_now call (λ (thread : Thread). OfThread thread) c.args.service
     c.add.new.service h c.in-Ok.thread (c.in-Ok.ensures.steps h served))
@@ -55,7 +55,7 @@ pub returns-in-Err-clause-leaves : goal.returns-in-Err-clause-leaves
 returns-in-Err-clause-leaves g c = λ h served.
     let d = g.D.Disk in
     let call = Append c.args.events.now c.args.time in
-    subst (λ disk. AddsFrom IsImageOfHeads d.view (disk_of c.args.service) disk (NextBy call)
+    subst (λ disk. AddsFrom IsImageOfHistory d.view (disk_of c.args.service) disk (NextBy call)
     (λ thread. StepsBy call (OfThread thread)) h (Err c.fault_of_service.result)) (sym c.close-in-Err.ensures.disk)
     (refused_steps d.view g.met.D.Disk.only_now call (λ (thread : Thread). OfThread thread) c.args.service
     c.add.new.service h c.in-Err.refusal c.fault_of_service.result c.fault_of_service.ensures

@@ -10,7 +10,7 @@ use Rattle.tw_text.specs.declared.fault.CommandFault.{CommandFault}
 use Rattle.tw_pages.specs.Disks.{RestsAtState}
 use Rattle.tw_pages.proofs.AtRest.{own_rest}
 use Rattle.tw_diskcmd.proofs.StoreAtRest.{rose_since, same_left}
-use Rattle.tw_diskcmd.specs.FollowerDisks.{IsFollower, IsLeft, IsOf, found_disk}
+use Rattle.tw_diskcmd.specs.FollowerDisks.{IsFollower, IsImageOfHeads, IsLeft, found_disk}
 use Rattle.tw_diskcmd.specs.Listing.{HeadsComes, head_lines}
 use Rattle.tw_diskcmd.proofs.Listed.{listed, never_reopened, unlisted}
 use Rattle.tw_diskcmd.proofs.listing.list_by.Goals as goal
@@ -39,7 +39,7 @@ returns-in-Ok-clause-leaves g c =
 
 pub returns-in-Ok-clause-rests : goal.returns-in-Ok-clause-rests
 returns-in-Ok-clause-rests g c = λ k follows.
-    own_rest IsOf g.D.Disk.view c.close.result k (c.close.ensures.stands k (c.in-Ok.ensures.still k follows).0)
+    own_rest IsImageOfHeads g.D.Disk.view c.close.result k (c.close.ensures.stands k (c.in-Ok.ensures.still k follows).0)
 
 pub returns-in-Err-clause-comes : goal.returns-in-Err-clause-comes
 returns-in-Err-clause-comes g c = λ found before opens follows le.
@@ -71,7 +71,7 @@ returns-in-Err-clause-leaves g c =
 
 pub returns-in-Err-clause-rests : goal.returns-in-Err-clause-rests
 returns-in-Err-clause-rests g c = λ k follows.
-    own_rest IsOf g.D.Disk.view c.close-in-Err.result k
+    own_rest IsImageOfHeads g.D.Disk.view c.close-in-Err.result k
     (c.close-in-Err.ensures.stands k (c.in-Err.ensures.still k follows).0)
 
 pub returns-in-Ok-clause-over : goal.returns-in-Ok-clause-over

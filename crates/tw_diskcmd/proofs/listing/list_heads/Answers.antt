@@ -8,7 +8,7 @@ use Rattle.tw_follow.specs.Follows.{disk_of, record_of}
 use Rattle.tw_follow.specs.Stands.{root_kind}
 use Rattle.tw_follow.specs.declared.root.RootRecord.{RootRecord}
 use Rattle.tw_follow.proofs.Standing.{once}
-use Rattle.tw_diskcmd.specs.FollowerDisks.{IsFollower, IsOf, found_disk}
+use Rattle.tw_diskcmd.specs.FollowerDisks.{IsFollower, IsImageOfHeads, found_disk}
 use Rattle.tw_text.specs.declared.fault.CommandFault.{CommandFault}
 use Rattle.tw_diskcmd.specs.Listing.{HeadsComes}
 use Rattle.tw_pages.proofs.AtRest.{left_on}
@@ -25,7 +25,7 @@ returns-in-Ok-clause-comes g c =
 pub returns-in-Ok-clause-leaves : goal.returns-in-Ok-clause-leaves
 returns-in-Ok-clause-leaves g c =
     let d = g.D.Disk in
-    leaves_of_reading (root_kind sha256) IsOf d.view c.args.disk c.list_by.result.disk c.list_by.result.outcome
+    leaves_of_reading (root_kind sha256) IsImageOfHeads d.view c.args.disk c.list_by.result.disk c.list_by.result.outcome
     (left_on d.view c.args.disk (disk_of c.in-Ok.follower) c.list_by.result.disk
     (c.in-Ok.ensures.unchanged, c.in-Ok.ensures.any_moment) c.list_by.ensures.leaves) (
       λ k reads. c.list_by.ensures.rests k (c.in-Ok.ensures.follows reads.image k reads.told reads.stands),
@@ -47,6 +47,6 @@ returns-in-Err-clause-comes g c =
 
 pub returns-in-Err-clause-leaves : goal.returns-in-Err-clause-leaves
 returns-in-Err-clause-leaves g c =
-    unopened_reading_leaves (root_kind sha256) IsOf g.D.Disk.view c.args.disk c.in-Err.disk (List ℕ) c.in-Err.fault
+    unopened_reading_leaves (root_kind sha256) IsImageOfHeads g.D.Disk.view c.args.disk c.in-Err.disk (List ℕ) c.in-Err.fault
     c.fault_of_store.result c.fault_of_store.ensures
     c.in-Err.ensures.answers.0 (c.in-Err.ensures.unchanged, c.in-Err.ensures.any_moment_err)

@@ -3,7 +3,7 @@ use Rattle.tw_follow.specs.Stands.{root_kind}
 use Rattle.tw_outside.specs.Asked.{asked}
 use Rattle.tw_diskcmd.specs.Files.{IsBadMessageByte, IsMessageIn}
 use Rattle.tw_diskcmd.proofs.Landings.{comes_of_file, leaves_of_file, stop_leaves, stopped_comes}
-use Rattle.tw_diskcmd.specs.FollowerDisks.{IsOf, found_disk}
+use Rattle.tw_diskcmd.specs.FollowerDisks.{IsImageOfHeads, found_disk}
 use Rattle.tw_diskcmd.specs.Offering.{IsNextBy, IsNextListBy, IsOffered}
 use Rattle.tw_diskcmd.proofs.offering.offer.Goals as goal
 
@@ -29,7 +29,7 @@ pub returns-in-Ok-clause-leaves : goal.returns-in-Ok-clause-leaves
 returns-in-Ok-clause-leaves g c =
     let d = g.D.Disk in
     let read = c.in-Ok.ensures.read in
-    leaves_of_file (root_kind sha256) IsOf d.view (IsMessageIn (g.I.Inputs.told c.args.inputs.now) c.args.file.now)
+    leaves_of_file (root_kind sha256) IsImageOfHeads d.view (IsMessageIn (g.I.Inputs.told c.args.inputs.now) c.args.file.now)
     IsNextListBy IsNextBy (λ m found came. IsOffered found m came)
     (λ m thread. IsNextListBy m) (λ m thread. IsNextBy m) c.args.disk c.offer_message.result.disk
     (d.view c.args.disk).faults (d.view c.offer_message.result.disk).faults
@@ -49,7 +49,7 @@ returns-in-Err-clause-comes g c =
 
 pub returns-in-Err-clause-leaves : goal.returns-in-Err-clause-leaves
 returns-in-Err-clause-leaves g c =
-    stop_leaves (root_kind sha256) IsOf g.D.Disk.view (IsMessageIn (g.I.Inputs.told c.args.inputs.now) c.args.file.now)
+    stop_leaves (root_kind sha256) IsImageOfHeads g.D.Disk.view (IsMessageIn (g.I.Inputs.told c.args.inputs.now) c.args.file.now)
     IsNextListBy IsNextBy (λ m found came. IsOffered found m came)
     (λ m thread. IsNextListBy m) (λ m thread. IsNextBy m) g.met.D.Disk.only_now
     (asked (g.I.Inputs.told c.args.inputs.now) (g.I.Inputs.faults c.args.inputs.now)

@@ -12,7 +12,7 @@ use Rattle.tw_follow.proofs.Standing.{once}
 use Rattle.tw_diskcmd.specs.Steps.{AddsFrom}
 use Rattle.tw_diskcmd.proofs.StoreSteps.{adds_on, unopened_adds}
 use Rattle.tw_text.specs.declared.fault.CommandFault.{CommandFault}
-use Rattle.tw_diskcmd.specs.FollowerDisks.{IsFollower, IsOf, found_disk}
+use Rattle.tw_diskcmd.specs.FollowerDisks.{IsFollower, IsImageOfHeads, found_disk}
 use Rattle.tw_diskcmd.specs.Offering.{IsNextBy, IsNextListBy, OfferedMessageComes, next_follower_record, next_list}
 use Rattle.tw_diskcmd.proofs.Offered.{unserved}
 use Rattle.tw_diskcmd.proofs.offering.offer_message.Goals as goal
@@ -50,7 +50,7 @@ returns-in-Err-clause-spares g c = λ image why told not. (c.in-Err.ensures.unch
 pub returns-in-Ok-clause-leaves : goal.returns-in-Ok-clause-leaves
 returns-in-Ok-clause-leaves g c = λ bytes spells.
     let m = c.args.message.now in
-    adds_on IsOf g.D.Disk.view (IsNextListBy m) (λ (thread : Thread). IsNextListBy m) c.args.disk
+    adds_on IsImageOfHeads g.D.Disk.view (IsNextListBy m) (λ (thread : Thread). IsNextListBy m) c.args.disk
     (disk_of c.in-Ok.follower) c.offer_to.result.disk c.offer_to.result.outcome
     c.in-Ok.ensures.any_moment (λ k reads. c.offer_to.ensures.leaves bytes spells k
     (c.in-Ok.ensures.follows reads.image k reads.told reads.stands))
@@ -58,7 +58,7 @@ returns-in-Ok-clause-leaves g c = λ bytes spells.
 pub returns-in-Err-clause-leaves : goal.returns-in-Err-clause-leaves
 returns-in-Err-clause-leaves g c = λ bytes spells.
     let m = c.args.message.now in
-    unopened_adds IsOf g.D.Disk.view (IsNextListBy m) (λ (thread : Thread). IsNextListBy m) (λ k. (next_list k m, refl))
+    unopened_adds IsImageOfHeads g.D.Disk.view (IsNextListBy m) (λ (thread : Thread). IsNextListBy m) (λ k. (next_list k m, refl))
     c.args.disk c.in-Err.disk
     c.in-Err.fault c.fault_of_store.result c.fault_of_store.ensures c.in-Err.ensures.answers c.in-Err.ensures.unchanged
     c.in-Err.ensures.any_moment_err

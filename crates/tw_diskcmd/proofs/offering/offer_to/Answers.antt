@@ -12,7 +12,7 @@ use Rattle.tw_diskcmd.specs.Steps.{AddsFrom}
 use Rattle.tw_diskcmd.proofs.StoreAtRest.{rose_since, same_left}
 use Rattle.tw_diskcmd.proofs.StoreSteps.{nothing_written}
 use Rattle.tw_text.specs.declared.fault.CommandFault.{CommandFault}
-use Rattle.tw_diskcmd.specs.FollowerDisks.{IsFollower, IsLeft, IsOf, found_disk}
+use Rattle.tw_diskcmd.specs.FollowerDisks.{IsFollower, IsImageOfHeads, IsLeft, found_disk}
 use Rattle.tw_diskcmd.specs.FollowerFaults.{fault_of_follower}
 use Rattle.tw_diskcmd.specs.Offering.{IsNextBy, IsNextListBy, OfferedMessageComes}
 use Rattle.tw_diskcmd.proofs.Offered.{answered, refused}
@@ -55,7 +55,7 @@ returns-in-Ok-clause-leaves g c = λ bytes spells k follows.
     let d = g.D.Disk in
     let old = c.args.follower in
     let m = c.args.message.now in
-    subst (λ disk. AddsFrom IsOf d.view (disk_of old) disk (IsNextListBy m) (λ thread. IsNextListBy m) k
+    subst (λ disk. AddsFrom IsImageOfHeads d.view (disk_of old) disk (IsNextListBy m) (λ thread. IsNextListBy m) k
     (Ok c.in-Ok.head)) (sym c.close.ensures.disk)
     (answered_list d.view old c.take.new.self bytes m spells k c.in-Ok.head
     ((c.in-Ok.ensures bytes spells).steps k follows))
@@ -65,7 +65,7 @@ returns-in-Err-clause-leaves g c = λ bytes spells k follows.
     let d = g.D.Disk in
     let old = c.args.follower in
     let m = c.args.message.now in
-    subst (λ disk. AddsFrom IsOf d.view (disk_of old) disk (IsNextListBy m) (λ (thread : Thread). IsNextListBy m) k
+    subst (λ disk. AddsFrom IsImageOfHeads d.view (disk_of old) disk (IsNextListBy m) (λ (thread : Thread). IsNextListBy m) k
     (Err c.fault_of_follower.result)) (sym c.close-in-Err.ensures.disk)
     (refused_list d.view old c.take.new.self bytes m spells k c.in-Err.refusal c.fault_of_follower.result
     c.fault_of_follower.ensures ((c.in-Err.ensures bytes spells).steps k follows))

@@ -7,7 +7,7 @@ use Rattle.tw_service.specs.Writing.{ArchivesTo, IsReceiptOfRecord}
 use Rattle.tw_diskcmd.specs.Files.{IsBadMessageByte, IsMessageIn}
 use Rattle.tw_diskcmd.specs.Leaves.{StaysOr}
 use Rattle.tw_diskcmd.proofs.Landings.{comes_of_file, leaves_of_file, stop_leaves, stopped_comes}
-use Rattle.tw_diskcmd.specs.Disks.{IsImageOfHeads, NextBy, StepsBy, found_disk}
+use Rattle.tw_diskcmd.specs.Disks.{IsImageOfHistory, NextBy, StepsBy, found_disk}
 use Rattle.tw_diskcmd.specs.Receiving.{IsReceived}
 use Rattle.tw_diskcmd.proofs.receiving.receive.Goals as goal
 
@@ -25,7 +25,7 @@ pub returns-in-Ok-clause-leaves : goal.returns-in-Ok-clause-leaves
 returns-in-Ok-clause-leaves g c =
     let d = g.D.Disk in
     let time = c.args.time in
-    leaves_of_file root_kind IsImageOfHeads d.view (IsMessageIn (g.I.Inputs.told c.args.inputs.now) c.args.file.now)
+    leaves_of_file root_kind IsImageOfHistory d.view (IsMessageIn (g.I.Inputs.told c.args.inputs.now) c.args.file.now)
     (λ m. NextBy (Receive m time)) (λ m. StaysOr (ArchivesTo sha256 m time))
     (λ m found came. IsReceived m time found came) (λ m receipt. StepsBy (Receive m time) (OfReceipt receipt))
     (λ m receipt. IsReceiptOfRecord sha256 m time receipt)
@@ -47,7 +47,7 @@ pub returns-in-Err-clause-leaves : goal.returns-in-Err-clause-leaves
 returns-in-Err-clause-leaves g c =
     let d = g.D.Disk in
     let time = c.args.time in
-    stop_leaves root_kind IsImageOfHeads d.view (IsMessageIn (g.I.Inputs.told c.args.inputs.now) c.args.file.now)
+    stop_leaves root_kind IsImageOfHistory d.view (IsMessageIn (g.I.Inputs.told c.args.inputs.now) c.args.file.now)
     (λ m. NextBy (Receive m time)) (λ m. StaysOr (ArchivesTo sha256 m time))
     (λ m found came. IsReceived m time found came) (λ m receipt. StepsBy (Receive m time) (OfReceipt receipt))
     (λ m receipt. IsReceiptOfRecord sha256 m time receipt)

@@ -16,7 +16,7 @@ use Rattle.tw_diskcmd.specs.Leaves.{StaysOr}
 use Rattle.tw_diskcmd.specs.Steps.{AddsFrom}
 use Rattle.tw_diskcmd.proofs.StoreAtRest.{rose_since, same_left}
 use Rattle.tw_diskcmd.proofs.StoreSteps.{answered_commits, nothing_written, refused_commits}
-use Rattle.tw_diskcmd.specs.Disks.{IsImageOfHeads, IsLeft, IsService, NextBy, StepsBy, found_disk}
+use Rattle.tw_diskcmd.specs.Disks.{IsImageOfHistory, IsLeft, IsService, NextBy, StepsBy, found_disk}
 use Rattle.tw_diskcmd.specs.Faults.{fault_of_service}
 use Rattle.tw_diskcmd.proofs.AtRest.{answered_steps, refused_steps}
 use Rattle.tw_diskcmd.proofs.Received.{received_done, received_refused}
@@ -64,7 +64,7 @@ returns-in-Ok-clause-leaves g c = λ h served.
     let r = subst (λ (time : Option ℕ). Receives sha256 d.view c.args.message.now time old new (Ok c.in-Ok.receipt))
     c.seconds_of.ensures.value c.in-Ok.ensures in
     let call = Receive c.args.message.now c.args.time in
-    subst (λ disk. AddsFrom IsImageOfHeads d.view (disk_of old) disk (NextBy call)
+    subst (λ disk. AddsFrom IsImageOfHistory d.view (disk_of old) disk (NextBy call)
     (λ receipt. StepsBy call (OfReceipt receipt)) h (Ok c.in-Ok.receipt)) (sym c.close.ensures.disk)
     (answered_steps d.view g.met.D.Disk.only_now call (λ (receipt : Receipt). OfReceipt receipt) old new h
     c.in-Ok.receipt (r.steps h served))
@@ -77,7 +77,7 @@ returns-in-Err-clause-leaves g c = λ h served.
     let r = subst (λ (time : Option ℕ). Receives sha256 d.view c.args.message.now time old new (Err c.in-Err.refusal))
     c.seconds_of.ensures.value c.in-Err.ensures in
     let call = Receive c.args.message.now c.args.time in
-    subst (λ disk. AddsFrom IsImageOfHeads d.view (disk_of old) disk (NextBy call)
+    subst (λ disk. AddsFrom IsImageOfHistory d.view (disk_of old) disk (NextBy call)
     (λ receipt. StepsBy call (OfReceipt receipt)) h (Err c.fault_of_service.result)) (sym c.close-in-Err.ensures.disk)
     (refused_steps d.view g.met.D.Disk.only_now call (λ (receipt : Receipt). OfReceipt receipt) old new h
     c.in-Err.refusal c.fault_of_service.result c.fault_of_service.ensures (r.steps h served))

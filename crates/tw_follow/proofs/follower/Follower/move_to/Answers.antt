@@ -1,17 +1,13 @@
-use Rattle.std.proofs.Common.{◌≡◌, ◌∙◌, ◌++◌, ◌∷◌, ℕ, List, [], ap, arith, length, refl, subst, sym}
+use Rattle.std.proofs.Common.{◌∙◌, ◌++◌, ◌∷◌, [], ap, arith, length, subst}
 use Rattle.tw_disk.specs.Disk.{LeavesOnly, Reads}
-use Rattle.tw_disk.specs.Image.{Image}
 use Rattle.tw_pages.specs.SameSteps.{told_pages}
 use Rattle.tw_pages.specs.StoreValue.{store_disk}
 use Rattle.tw_pages.specs.Records.{IsOneOf, Written, written_record}
 use Rattle.tw_pages.specs.Rests.{RestsWith}
-use Rattle.tw_pages.specs.States.{ServesState}
-use Rattle.tw_pages.proofs.Staged.{leaves_before, leaves_since, of_these, reads_before}
+use Rattle.tw_pages.proofs.StagedRecords.{leaves_before, leaves_since, of_these, reads_before}
 use Rattle.tw_follow.specs.declared.root.RootRecord.{RootRecord}
-use Rattle.tw_follow.specs.HeadLists.{with_head}
-use Rattle.tw_follow.specs.Stands.{KeepsList, root_kind}
+use Rattle.tw_follow.specs.Stands.{root_kind}
 use Rattle.tw_follow.specs.Writing.{moved_to}
-use Rattle.tw_follow.proofs.Moved.{moved_leaves, moved_reads, moved_serves, none_leaves, none_reads}
 use Rattle.tw_follow.proofs.Moving.{was_put}
 use Rattle.tw_follow.proofs.follower.Follower.move_to.Goals as goal
 
@@ -29,20 +25,6 @@ returns-in-Err-clause-written g c = λ ps rest.
       tt,
     )
 
-pub returns-in-Err-clause-any_moment : goal.returns-in-Err-clause-any_moment
-returns-in-Err-clause-any_moment g c = λ k serves.
-    let d = g.D.Disk in
-    let s = c.args.self.now in
-    none_leaves d.view g.met.D.Disk.only_now g.H.Hasher.dig s.recorded.store c.stage.new.self s.recorded.root k
-    (with_head k c.args.head.now) c.in-Err.ensures.same serves
-
-pub returns-in-Err-clause-told : goal.returns-in-Err-clause-told
-returns-in-Err-clause-told g c = λ k serves.
-    let d = g.D.Disk in
-    let s = c.args.self.now in
-    none_reads d.view g.met.D.Disk.only_now g.H.Hasher.dig s.recorded.store c.stage.new.self s.recorded.root k
-    (with_head k c.args.head.now) c.in-Err.ensures.same serves
-
 -- ---- committed
 
 pub returns-in-Ok-commit-clause-written : goal.returns-in-Ok-commit-clause-written
@@ -56,7 +38,7 @@ returns-in-Ok-commit-clause-written g c = λ ps rest.
     ((d.view s.recorded.store.disk).content) ps (λ i is. g.met.D.Disk.count_is_told s.recorded.store.disk i is)
     s.recorded.store.room s.recorded.store.used_from list)
     c.in-Ok.ensures.same s.clean c.in-Ok.ensures.number c.in-Ok.ensures.used c.head_page-page.ensures
-    c.in-Ok.ensures.list s.few_pages s.few_commits c.requires.from c.requires.above c.requires.thread in
+    c.in-Ok.ensures.list s.few_pages s.few_commits c.requires.above c.requires.thread in
     let put = w.staged ps rest in
     let is = w.is ps rest in (
       subst (λ (x : Written RootRecord). LeavesOnly (d.view (store_disk s.recorded.store))
@@ -81,50 +63,6 @@ returns-in-Ok-commit-clause-written g c = λ ps rest.
       ),
     )
 
-pub returns-in-Ok-commit-clause-any_moment : goal.returns-in-Ok-commit-clause-any_moment
-returns-in-Ok-commit-clause-any_moment g c = λ k serves.
-    let d = g.D.Disk in
-    let s = c.args.self.now in
-    let w = was_put d.view g.H.Hasher.dig s.recorded.store c.stage.new.self s.recorded.root c.args.head.now
-    c.in-Ok.number c.head_page-page.result
-    (λ ps list. told_pages d.view s.recorded.store ((d.view s.recorded.store.disk).count)
-    ((d.view s.recorded.store.disk).content) ps (λ i is. g.met.D.Disk.count_is_told s.recorded.store.disk i is)
-    s.recorded.store.room s.recorded.store.used_from list)
-    c.in-Ok.ensures.same s.clean c.in-Ok.ensures.number c.in-Ok.ensures.used c.head_page-page.ensures
-    c.in-Ok.ensures.list s.few_pages s.few_commits c.requires.from c.requires.above c.requires.thread in
-    moved_leaves d.view g.met.D.Disk.only_now g.H.Hasher.dig s.recorded.store c.stage.new.self c.commit.new.self.store
-    s.recorded.root c.args.head.now c.in-Ok.number c.head_page-page.result w k serves c.in-Ok-commit.ensures.any_moment
-
-pub returns-in-Ok-commit-clause-told : goal.returns-in-Ok-commit-clause-told
-returns-in-Ok-commit-clause-told g c = λ k serves.
-    let d = g.D.Disk in
-    let s = c.args.self.now in
-    let w = was_put d.view g.H.Hasher.dig s.recorded.store c.stage.new.self s.recorded.root c.args.head.now
-    c.in-Ok.number c.head_page-page.result
-    (λ ps list. told_pages d.view s.recorded.store ((d.view s.recorded.store.disk).count)
-    ((d.view s.recorded.store.disk).content) ps (λ i is. g.met.D.Disk.count_is_told s.recorded.store.disk i is)
-    s.recorded.store.room s.recorded.store.used_from list)
-    c.in-Ok.ensures.same s.clean c.in-Ok.ensures.number c.in-Ok.ensures.used c.head_page-page.ensures
-    c.in-Ok.ensures.list s.few_pages s.few_commits c.requires.from c.requires.above c.requires.thread in
-    moved_reads d.view g.met.D.Disk.only_now g.H.Hasher.dig s.recorded.store c.stage.new.self c.commit.new.self.store
-    s.recorded.root c.args.head.now c.in-Ok.number c.head_page-page.result w k serves c.in-Ok-commit.ensures.told
-
-pub returns-in-Ok-commit-clause-done : goal.returns-in-Ok-commit-clause-done
-returns-in-Ok-commit-clause-done g c = λ k serves.
-    let d = g.D.Disk in
-    let s = c.args.self.now in
-    let w = was_put d.view g.H.Hasher.dig s.recorded.store c.stage.new.self s.recorded.root c.args.head.now
-    c.in-Ok.number c.head_page-page.result
-    (λ ps list. told_pages d.view s.recorded.store ((d.view s.recorded.store.disk).count)
-    ((d.view s.recorded.store.disk).content) ps (λ i is. g.met.D.Disk.count_is_told s.recorded.store.disk i is)
-    s.recorded.store.room s.recorded.store.used_from list)
-    c.in-Ok.ensures.same s.clean c.in-Ok.ensures.number c.in-Ok.ensures.used c.head_page-page.ensures
-    c.in-Ok.ensures.list s.few_pages s.few_commits c.requires.from c.requires.above c.requires.thread in
-    subst (λ (r : RootRecord). ServesState (root_kind g.H.Hasher.dig) KeepsList d.view c.commit.new.self.store r
-    (with_head k c.args.head.now)) (sym c.in-Ok-commit.ensures.root.0)
-    (moved_serves d.view g.met.D.Disk.only_now g.H.Hasher.dig s.recorded.store c.stage.new.self c.commit.new.self.store
-    s.recorded.root c.args.head.now c.in-Ok.number c.head_page-page.result w k serves c.in-Ok-commit.ensures.done)
-
 -- ---- a disk fault
 
 pub returns-in-Err-commit-clause-written : goal.returns-in-Err-commit-clause-written
@@ -138,7 +76,7 @@ returns-in-Err-commit-clause-written g c = λ ps rest.
     ((d.view s.recorded.store.disk).content) ps (λ i is. g.met.D.Disk.count_is_told s.recorded.store.disk i is)
     s.recorded.store.room s.recorded.store.used_from list)
     c.in-Ok.ensures.same s.clean c.in-Ok.ensures.number c.in-Ok.ensures.used c.head_page-page.ensures
-    c.in-Ok.ensures.list s.few_pages s.few_commits c.requires.from c.requires.above c.requires.thread in
+    c.in-Ok.ensures.list s.few_pages s.few_commits c.requires.above c.requires.thread in
     let put = w.staged ps rest in
     let is = w.is ps rest in (
       subst (λ (x : Written RootRecord). LeavesOnly (d.view (store_disk s.recorded.store))
@@ -155,34 +93,6 @@ returns-in-Err-commit-clause-written g c = λ ps rest.
           (written_record s.recorded.root qs) (written_record next some))) c.in-Err-commit.ensures.told),
       tt,
     )
-
-pub returns-in-Err-commit-clause-any_moment : goal.returns-in-Err-commit-clause-any_moment
-returns-in-Err-commit-clause-any_moment g c = λ k serves.
-    let d = g.D.Disk in
-    let s = c.args.self.now in
-    let w = was_put d.view g.H.Hasher.dig s.recorded.store c.stage.new.self s.recorded.root c.args.head.now
-    c.in-Ok.number c.head_page-page.result
-    (λ ps list. told_pages d.view s.recorded.store ((d.view s.recorded.store.disk).count)
-    ((d.view s.recorded.store.disk).content) ps (λ i is. g.met.D.Disk.count_is_told s.recorded.store.disk i is)
-    s.recorded.store.room s.recorded.store.used_from list)
-    c.in-Ok.ensures.same s.clean c.in-Ok.ensures.number c.in-Ok.ensures.used c.head_page-page.ensures
-    c.in-Ok.ensures.list s.few_pages s.few_commits c.requires.from c.requires.above c.requires.thread in
-    moved_leaves d.view g.met.D.Disk.only_now g.H.Hasher.dig s.recorded.store c.stage.new.self c.commit.new.self.store
-    s.recorded.root c.args.head.now c.in-Ok.number c.head_page-page.result w k serves c.in-Err-commit.ensures.any_moment
-
-pub returns-in-Err-commit-clause-told : goal.returns-in-Err-commit-clause-told
-returns-in-Err-commit-clause-told g c = λ k serves.
-    let d = g.D.Disk in
-    let s = c.args.self.now in
-    let w = was_put d.view g.H.Hasher.dig s.recorded.store c.stage.new.self s.recorded.root c.args.head.now
-    c.in-Ok.number c.head_page-page.result
-    (λ ps list. told_pages d.view s.recorded.store ((d.view s.recorded.store.disk).count)
-    ((d.view s.recorded.store.disk).content) ps (λ i is. g.met.D.Disk.count_is_told s.recorded.store.disk i is)
-    s.recorded.store.room s.recorded.store.used_from list)
-    c.in-Ok.ensures.same s.clean c.in-Ok.ensures.number c.in-Ok.ensures.used c.head_page-page.ensures
-    c.in-Ok.ensures.list s.few_pages s.few_commits c.requires.from c.requires.above c.requires.thread in
-    moved_reads d.view g.met.D.Disk.only_now g.H.Hasher.dig s.recorded.store c.stage.new.self c.commit.new.self.store
-    s.recorded.root c.args.head.now c.in-Ok.number c.head_page-page.result w k serves c.in-Err-commit.ensures.told
 
 pub invariant_of-self-in-Err-commit : goal.invariant_of-self-in-Err-commit
 invariant_of-self-in-Err-commit g c =

@@ -54,6 +54,7 @@ returns-in-Ok-Moves g c = λ bytes spells.
     let judges = judges-table g.H.Hasher.dig f.recorded.root.head bytes (Ok (Moves c.in-Ok-Moves.head))
     c.args.message.now spells (sym c.in-Ok-Moves.ensures ∙ ap (λ (o : Offered). Ok o) c.in-Ok-Moves.field-0-is) in
     moves_answer g.D.Disk.view g.met.D.Disk.only_now g.H.Hasher.dig f _ bytes c.in-Ok-Moves.head c.if-self.false judges
-    c.move_to.ensures.any_moment c.move_to.ensures.told c.move_to.ensures.later
-    c.move_to.result c.move_to.ensures.head c.move_to.ensures.answers c.move_to.ensures.done c.move_to.ensures.kept
-    c.move_to.ensures.broken c.move_to.ensures.fault c.move_to.ensures.written
+    (moved-next g.H.Hasher.dig f.recorded.root.head c.args.message.now c.in-Ok-Moves.head c.requires.thread
+    (sym c.in-Ok-Moves.ensures ∙ ap (λ (o : Offered). Ok o) c.in-Ok-Moves.field-0-is)).2 c.move_to.ensures.later
+    c.move_to.result c.move_to.ensures.head c.move_to.ensures.answers c.move_to.ensures.kept c.move_to.ensures.broken
+    c.move_to.ensures.fault c.move_to.ensures.written

@@ -1,6 +1,6 @@
 use Rattle.tw_evidence.proofs.Joined.{joined-none}
 use Rattle.tw_evidence.proofs.Judgements.{keeper-none, none-alone}
-use Rattle.tw_evidence.proofs.contradiction_laws.contradiction_laws.Goals as goal
+use Rattle.tw_evidence.proofs.rule_laws.contradiction_laws.Goals as goal
 
 pub returns-clause-no_keeper : goal.returns-clause-no_keeper
 returns-clause-no_keeper g c = λ anchors others first second p q one other.

@@ -1,5 +1,5 @@
 use Rattle.tw_pages.proofs.Standing.{has_numbers, other_kind, served_once}
-use Rattle.tw_pages.proofs.record_laws.record_laws.Goals as goal
+use Rattle.tw_pages.proofs.recorded_laws.record_laws.Goals as goal
 
 pub returns-clause-served : goal.returns-clause-served
 returns-clause-served g c = λ once. served_once (g.R.Record.kind g.H.Hasher.dig) once
