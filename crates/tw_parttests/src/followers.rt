@@ -1,4 +1,4 @@
-// A follower on a disk in memory: made, moved by one message, and opened again.
+// A follower on a disk in memory, by the call that takes a message as bytes: made, moved by one message, and opened again.
 
 use std::alloc::Global;
 use std::test::Fail;
@@ -36,26 +36,10 @@ fn opened(alloc: Global, disk: MemDisk) -> Option<Follower<MemDisk, Sha>> {
     }
 }
 
-// How many heads it tells.
-fn count(follower: &mut Follower<MemDisk, Sha>) -> Option<usize> {
-    match follower.heads() {
-        Ok(heads) => Some(heads.len()),
-        Err(_) => None,
-    }
-}
-
-#[test]
-fn a_new_follower_has_no_head(rt: HostRuntime) -> Result<(), Fail> {
-    let mut follower = made(rt.alloc()).ok_or("no follower")?;
-    assert_eq!(rt; count(&mut follower), Some(0));
-    Ok(())
-}
-
 #[test]
 fn a_head_is_there_when_it_is_opened_again(rt: HostRuntime) -> Result<(), Fail> {
     let disk = moved(rt.alloc()).ok_or("not moved")?;
-    let mut follower = opened(rt.alloc(), disk).ok_or("not opened")?;
+    let follower = opened(rt.alloc(), disk).ok_or("not opened")?;
     assert_eq!(rt; follower.head().step, 1);
-    assert_eq!(rt; count(&mut follower), Some(1));
     Ok(())
 }

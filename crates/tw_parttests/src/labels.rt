@@ -1,71 +1,56 @@
 // The worked values of two small timelines, under the digest whose first byte is the sum of the text.
 
+use crate::weak::short;
 use std::process::Abort;
 use tw_base::{
-    Digest, Entry, Name, Thread, Weak, authenticator, datum, empty_tree, event_leaf, genesis,
-    link_label, no_events, step_datum, timed_datum, tree_node,
+    Entry, Name, Thread, Weak, authenticator, datum, empty_tree, event_leaf, genesis, link_label,
+    no_events, step_datum, tree_node,
 };
-
-/// A digest of the weak hasher.
-fn short(first: u8) -> Digest {
-    let mut bytes = [0; 32];
-    bytes[0] = first;
-    Digest(bytes)
-}
 
 fn name_of(rt: &impl Abort, text: &[u8]) -> Name {
     Name::read(text).expect(rt, "a name")
 }
 
-#[test]
-fn two_steps_of_events(rt: HostRuntime) {
-    let genesis = genesis::<Weak>(&name_of(&rt, b"a"));
-    assert_eq!(rt; genesis, short(0x71));
+/// Step 1 of `a`, of one event of no bytes: its time, and its datum, label and authenticator.
+const FIRST: [(Option<u64>, u8, u8, u8); 2] = [
+    (None, 0x28, 0xab, 0xbf),
+    (Some(5), 0x30, 0xb3, 0xc7),
+];
 
-    let first_datum = datum::<Weak>(&event_leaf::<Weak>(b""), &empty_tree::<Weak>(), 1);
-    assert_eq!(rt; first_datum, short(0x28));
-    let first_label = link_label::<Weak>(1, 0, &first_datum, &genesis);
-    assert_eq!(rt; first_label, short(0xab));
-    let first = authenticator::<Weak>(1, &[first_label]);
-    assert_eq!(rt; first, short(0xbf));
+/// Step 2 of `a`, of the event `hi`: the authenticator of step 1, its label over that, and its authenticator.
+const SECOND: [(u8, u8, u8); 2] = [(0xbf, 0xcb, 0x5f), (0xc7, 0xd3, 0x67)];
 
-    let leaf = event_leaf::<Weak>(b"hi");
-    assert_eq!(rt; leaf, short(0xd1));
-    let second_datum = datum::<Weak>(&leaf, &empty_tree::<Weak>(), 1);
-    assert_eq!(rt; second_datum, short(0xf9));
-    let labels = [
-        link_label::<Weak>(2, 0, &second_datum, &first),
-        link_label::<Weak>(2, 1, &second_datum, &genesis),
-    ];
-    assert_eq!(rt; labels, [short(0xcb), short(0x7e)]);
-    assert_eq!(rt; authenticator::<Weak>(2, &labels), short(0x5f));
+/// Whether a step 1 of this time has these.
+fn is_first(time: Option<u64>, datum: u8, label: u8, auth: u8) -> bool {
+    let leaf = event_leaf::<Weak>(b"");
+    let own = step_datum::<Weak>(&leaf, &empty_tree::<Weak>(), 1, time);
+    let labels = [link_label::<Weak>(1, 0, &own, &short(0x71))];
+    own == short(datum)
+        && labels == [short(label)]
+        && authenticator::<Weak>(1, &labels) == short(auth)
 }
 
-/// The same two steps, of which the first claims the time 5.
-#[test]
-fn a_step_with_a_time(rt: HostRuntime) {
-    let genesis = genesis::<Weak>(&name_of(&rt, b"a"));
-    let leaf = event_leaf::<Weak>(b"");
-    let timed = step_datum::<Weak>(&leaf, &empty_tree::<Weak>(), 1, Some(5));
-    assert_eq!(rt; timed, short(0x30));
-    assert_eq!(rt;
-        timed,
-        timed_datum::<Weak>(&leaf, &empty_tree::<Weak>(), 1, 5)
-    );
-    let first_label = link_label::<Weak>(1, 0, &timed, &genesis);
-    assert_eq!(rt; first_label, short(0xb3));
-    let first = authenticator::<Weak>(1, &[first_label]);
-    assert_eq!(rt; first, short(0xc7));
-
+/// Whether the step 2 behind that authenticator has these.
+fn is_second(first: u8, label: u8, auth: u8) -> bool {
     let leaf = event_leaf::<Weak>(b"hi");
-    let second_datum = step_datum::<Weak>(&leaf, &empty_tree::<Weak>(), 1, None);
-    assert_eq!(rt; second_datum, short(0xf9));
-    let labels = [
-        link_label::<Weak>(2, 0, &second_datum, &first),
-        link_label::<Weak>(2, 1, &second_datum, &genesis),
-    ];
-    assert_eq!(rt; labels, [short(0xd3), short(0x7e)]);
-    assert_eq!(rt; authenticator::<Weak>(2, &labels), short(0x67));
+    let own = step_datum::<Weak>(&leaf, &empty_tree::<Weak>(), 1, None);
+    let lower = link_label::<Weak>(2, 0, &own, &short(first));
+    let labels = [lower, link_label::<Weak>(2, 1, &own, &short(0x71))];
+    own == short(0xf9)
+        && labels == [short(label), short(0x7e)]
+        && authenticator::<Weak>(2, &labels) == short(auth)
+}
+
+#[test]
+fn two_steps_of_events(rt: HostRuntime) {
+    assert_eq!(rt; genesis::<Weak>(&name_of(&rt, b"a")), short(0x71));
+    assert_eq!(rt; event_leaf::<Weak>(b"hi"), short(0xd1));
+    for (time, datum, label, auth) in FIRST {
+        assert!(rt; is_first(time, datum, label, auth));
+    }
+    for (first, label, auth) in SECOND {
+        assert!(rt; is_second(first, label, auth));
+    }
 }
 
 #[test]

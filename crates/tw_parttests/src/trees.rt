@@ -1,23 +1,19 @@
-// Small trees: worked values, under the digest whose first byte is the sum of the text, and what they have of keys.
+// The plain tree, by the worked values of an archive of one thread. What trees answer is what their clauses say of the sorted list.
 
+use crate::weak::short;
+use std::alloc::Global;
 use std::process::Abort;
 use std::test::Fail;
-use tw_base::{Digest, Entry, Key, Name, Thread, Weak, entry_key};
-use tw_tree::{InsertFault, Tree, after, before, get, insert_plain, label, list};
+use tw_base::{Bytes, Entry, Name, Thread, Weak};
+use tw_tree::{Tree, insert_plain, label, list, prove};
+use tw_treeproof::{Ask, Shown, check, put_tree_proof, take_present};
 
-/// A digest of the weak hasher.
-fn short(first: u8) -> Digest {
-    let mut bytes = [0; 32];
-    bytes[0] = first;
-    Digest(bytes)
-}
-
-/// The entry of a step of the service `a`, received at step 1.
-fn entry_of(rt: &impl Abort, step: u64) -> Entry {
+/// The entry of step 1 of the service `a`, received at step 1.
+fn only_entry(rt: &impl Abort) -> Entry {
     Entry {
         thread: Thread {
             from: Name::read(b"a").expect(rt, "a name"),
-            step,
+            step: 1,
             auth: short(0xbf),
         },
         archived: 1,
@@ -25,52 +21,42 @@ fn entry_of(rt: &impl Abort, step: u64) -> Entry {
 }
 
 #[test]
-fn label_of_the_archive_of_a_first_thread(rt: HostRuntime) -> Result<(), Fail> {
+fn the_label_of_an_only_entry(rt: HostRuntime) -> Result<(), Fail> {
     assert_eq!(rt; label::<Weak>(&Tree::empty()), short(0x14));
-    let tree = Tree::branch(rt.alloc(), Tree::empty(), entry_of(&rt, 1), Tree::empty())?;
+    let tree = Tree::branch(rt.alloc(), Tree::empty(), only_entry(&rt), Tree::empty())?;
     assert_eq!(rt; label::<Weak>(&tree), short(0x5f));
+    assert_eq!(rt; list(rt.alloc(), &tree)?.len(), 1);
     Ok(())
 }
 
-#[test]
-fn entries_are_listed_in_order(rt: HostRuntime) -> Result<(), Fail> {
-    let alloc = rt.alloc();
-    let left = Tree::branch(alloc, Tree::empty(), entry_of(&rt, 1), Tree::empty())?;
-    let tree = Tree::branch(alloc, left, entry_of(&rt, 2), Tree::empty())?;
-    let listed = list(alloc, &tree)?;
-    assert_eq!(rt; listed.len(), 2);
-    assert_eq!(rt; listed.as_slice()[0].thread.step, 1);
-    Ok(())
+/// The bytes of the tree's proof of its only entry.
+fn spelled(rt: &impl Abort, alloc: Global) -> Result<Bytes, Fail> {
+    let tree = insert_plain(alloc, &Tree::empty(), only_entry(rt))?;
+    let proof = prove::<Weak>(alloc, &tree, &Ask::Present(only_entry(rt)))?;
+    let mut bytes = Bytes::new(alloc);
+    put_tree_proof(&mut bytes, &proof)?;
+    Ok(bytes)
 }
 
-/// The step of the entry, 0 where there is none.
-fn step_of(entry: Option<Entry>) -> u64 {
-    match entry {
-        Some(entry) => entry.thread.step,
-        None => 0,
+/// Whether they are no node above, and two empty places beside.
+fn has_empty_sides(bytes: &[u8]) -> bool {
+    bytes.len() == 65 && bytes[0] == 0 && bytes[1] == 0x14 && bytes[33] == 0x14
+}
+
+/// Whether they show the entry under the tree's label.
+fn is_shown(rt: &impl Abort, alloc: Global, bytes: &[u8]) -> bool {
+    match take_present(alloc, bytes, &mut 0) {
+        Ok(read) => {
+            check::<Weak>(&short(0x5f), &Ask::Present(only_entry(rt)), &read) == Shown::Present
+        }
+        Err(_) => false,
     }
 }
 
-/// The key of a step of the service `a`.
-fn key_of(rt: &impl Abort, step: u64) -> Key {
-    entry_key(&entry_of(rt, step))
-}
-
 #[test]
-fn entries_are_put_in_their_places_and_found(rt: HostRuntime) -> Result<(), Fail> {
-    let alloc = rt.alloc();
-    let tree = insert_plain(alloc, &Tree::empty(), entry_of(&rt, 4))?;
-    let tree = insert_plain(alloc, &tree, entry_of(&rt, 2))?;
-    let tree = insert_plain(alloc, &tree, entry_of(&rt, 6))?;
-    let again = insert_plain(alloc, &tree, entry_of(&rt, 6));
-    assert!(rt; matches!(again, Err(InsertFault::Present)));
-    assert_eq!(rt; step_of(get(&tree, &key_of(&rt, 2))), 2);
-    assert_eq!(rt; step_of(get(&tree, &key_of(&rt, 5))), 0);
-    assert_eq!(rt; step_of(before(&tree, &key_of(&rt, 6))), 4);
-    assert_eq!(rt; step_of(before(&tree, &key_of(&rt, 2))), 0);
-    assert_eq!(rt; step_of(after(&tree, &key_of(&rt, 2))), 4);
-    assert_eq!(rt; step_of(after(&tree, &key_of(&rt, 6))), 0);
-    let listed = list(alloc, &tree)?;
-    assert_eq!(rt; listed.len(), 3);
+fn the_proof_of_an_only_entry(rt: HostRuntime) -> Result<(), Fail> {
+    let bytes = spelled(&rt, rt.alloc())?;
+    assert!(rt; has_empty_sides(bytes.as_slice()));
+    assert!(rt; is_shown(&rt, rt.alloc(), bytes.as_slice()));
     Ok(())
 }

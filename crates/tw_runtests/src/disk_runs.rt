@@ -1,139 +1,218 @@
-// Runs of the commands that work on a service, over a disk in memory.
+// Runs of the commands that work on a service, over a disk in memory: how many calls and reads of the disk they make, and what stands
+// where a call is stopped or fails.
 
 ghost use Rattle.std.specs.Prelude.{◌≤◌};
 
-use crate::runs::{LINE, words};
+use crate::playing::{after_all, event_file, files, ran, status_of};
 use std::alloc::Global;
 use std::process::Abort;
-use tw_app::run;
 use tw_disk::MemDisk;
 use tw_outside::{MemInputs, MemSink};
 use tw_skipproof::LEAST_EXISTENCE;
 
-/// The line of step 0 of the service `a`.
-const FIRST: &str = "a 0 712a98165e96cb35d4ff3630786a060f8670f726c26cdb94247ec0f033a632af\n";
+/// What makes a service of one step, with the device calls and the reads that are made. Opening takes a call, and reads two gates and two
+/// bodies; a commit of an event page and a step page takes eight calls.
+const MADE: [(&str, u64, u64); 2] = [("init d a", 10, 0), ("append d e", 9, 4)];
 
-/// The line of its step 2, where each step has one empty event.
-const SECOND: &str = "a 2 42ecf76a1a15b2b9d451f7de6e855c52d41acec95e38cf5fe3d6938bd86932de\n";
+/// Five steps more.
+const MORE: [(&str, &str); 5] = [
+    ("append d e", "line"),
+    ("append d e", "line"),
+    ("append d e", "line"),
+    ("append d e", "line"),
+    ("append d e", "line"),
+];
 
-/// An events file of one empty event.
-const EVENT: [u8; 12] = [0x54, 0x57, 0x45, 0x31, 0, 0, 0, 1, 0, 0, 0, 0];
+/// What is asked of it then, and what that costs.
+const ASKED: [(&str, u64, u64); 6] = [
+    // (step 7 has one link, to the last step)
+    ("append d e", 9, 4),
+    // (step 8 has four, by the pages of steps 7, 6 and 4)
+    ("append d e", 9, 7),
+    // (the pages of steps 8, 4, 2 and 1, and an event page)
+    ("prove d event 1 0", 1, 9),
+    // (the pages of steps 8, 4 and 2)
+    ("prove d link 1", 1, 7),
+    ("thread d 1", 1, 7),
+    // (each step's page, and its event page)
+    ("export d", 1, 20),
+];
 
-/// The words that append a step of that event.
-const APPEND: [&str; 3] = ["append", "d", "e"];
+/// What makes a follower and moves it, and what that costs.
+const FOLLOWED: [(&str, u64, u64); 2] = [("watch d b", 10, 0), ("offer d m", 8, 4)];
 
-/// The words that prove the event of step 1.
-const PROVE: [&str; 5] = ["prove", "d", "event", "1", "0"];
-
-/// The same, with step 1 as its top.
-const UNDER_FIRST: [&str; 6] = ["prove", "d", "event", "1", "0", "1"];
-
-/// Inputs with the events file `e`.
-fn inputs(rt: &impl Abort, alloc: Global) -> MemInputs {
-    let mut inputs = MemInputs::new(alloc);
-    inputs.put("e", &EVENT).expect(rt, "memory");
-    inputs
-}
-
-/// Runs the words over the disk and the events file, sees that this status and these bytes come,
-/// and gives the disk back.
-fn expect<R: Abort>(
-    rt: &R,
-    alloc: Global,
-    disk: MemDisk,
-    texts: &[&str],
-    status: u8,
-    bytes: &[u8],
-) -> MemDisk {
-    let words = words(rt, alloc, texts);
-    let mut inputs = inputs(rt, alloc);
-    let mut out = MemSink::new(alloc);
-    let ran = run(alloc, words.as_slice(), disk, &mut inputs, &mut out);
-    assert_eq!(rt; ran.status, status);
-    assert_eq!(rt; out.taken(), bytes);
-    ran.disk
-}
+/// The lines that add a step to the service, each with one that proves what it recorded.
+const ADDED: [(&str, &str); 2] = [
+    ("append d e", "prove d event 1 0"),
+    ("receive d m", "prove d thread 1 b 1"),
+];
 
 /// A disk with the service `a`, without a step.
-fn made<R: Abort>(rt: &R, alloc: Global) -> MemDisk {
+fn made(rt: &impl Abort, alloc: Global, inputs: &mut MemInputs) -> MemDisk {
+    let made = [("init d a", "line")];
+    after_all(rt, alloc, MemDisk::new(alloc), inputs, &made)
+}
+
+/// The disk after a run that is done, and makes so many device calls and reads.
+fn after_costs(
+    rt: &impl Abort,
+    alloc: Global,
+    disk: MemDisk,
+    inputs: &mut MemInputs,
+    line: &str,
+    costs: (u64, u64),
+) -> MemDisk {
+    let (calls, reads) = (disk.device_calls(), disk.reads());
+    let (status, disk) = status_of(rt, alloc, disk, inputs, line);
+    let calls = disk.device_calls().saturating_sub(calls);
+    let reads = disk.reads().saturating_sub(reads);
+    assert_eq!(rt; status, 0, "{line}");
+    assert_eq!(rt; (calls, reads), costs, "{line}");
+    disk
+}
+
+/// The disk after such runs, one after another.
+fn after_all_costs(
+    rt: &impl Abort,
+    alloc: Global,
+    disk: MemDisk,
+    inputs: &mut MemInputs,
+    lines: &[(&str, u64, u64)],
+) -> MemDisk {
+    let mut disk = disk;
+    for (line, calls, reads) in lines {
+        disk = after_costs(rt, alloc, disk, inputs, line, (*calls, *reads));
+    }
+    disk
+}
+
+#[test]
+fn each_page_of_a_way_is_read_once(rt: HostRuntime) {
+    let alloc = rt.alloc();
+    let mut inputs = files(&rt, alloc);
+    let disk = after_all_costs(&rt, alloc, MemDisk::new(alloc), &mut inputs, &MADE);
+    let disk = after_all(&rt, alloc, disk, &mut inputs, &MORE);
+    drop(after_all_costs(&rt, alloc, disk, &mut inputs, &ASKED));
     let disk = MemDisk::new(alloc);
-    expect(rt, alloc, disk, &["init", "d", "a"], 0, FIRST.as_bytes())
+    drop(after_all_costs(&rt, alloc, disk, &mut inputs, &FOLLOWED));
 }
 
-/// A disk with the service `a` and its step 1.
-fn with_step<R: Abort>(rt: &R, alloc: Global) -> MemDisk {
-    let disk = made(rt, alloc);
-    expect(rt, alloc, disk, &APPEND, 0, LINE.as_bytes())
+/// The disk, on which the line isn't done, since this call of it fails.
+fn after_fault(
+    rt: &impl Abort,
+    alloc: Global,
+    disk: MemDisk,
+    inputs: &mut MemInputs,
+    line: &str,
+) -> MemDisk {
+    let mut out = MemSink::new(alloc);
+    let ended = ran(rt, alloc, disk, inputs, line, &mut out);
+    assert_eq!(rt; ended.status, 5, "{line}");
+    assert_eq!(rt; out.taken(), b"fault disk\n".as_slice());
+    ended.disk
 }
 
-/// A disk with the service `a`, after an append during which this call of the disk failed.
-fn after_fault<R: Abort>(rt: &R, alloc: Global, call: u64) -> MemDisk
-    requires { 1 ≤ call }
+/// The disk, on which the line is done, and what it recorded is proved then.
+fn after_going_on(
+    rt: &impl Abort,
+    alloc: Global,
+    disk: MemDisk,
+    inputs: &mut MemInputs,
+    line: &str,
+    proved: &str,
+) -> MemDisk {
+    let (status, disk) = status_of(rt, alloc, disk, inputs, line);
+    assert_eq!(rt; status, 0, "{line}");
+    let (status, disk) = status_of(rt, alloc, disk, inputs, proved);
+    assert_eq!(rt; status, 0, "{proved}");
+    disk
+}
+
+/// A run of the line is stopped at this call, and a crash leaves the outcome of the choice: the step is there or not, and the line is done then.
+fn stopped(
+    rt: &impl Abort,
+    alloc: Global,
+    inputs: &mut MemInputs,
+    line: &str,
+    proved: &str,
+    call: u64,
+    choice: u8,
+)
+    requires called { 1 ≤ call }
+    requires chosen { choice ≤ 3 }
 {
-    let mut disk = made(rt, alloc);
-    disk.fail(call).expect(rt, "memory");
-    expect(rt, alloc, disk, &APPEND, 5, b"fault disk\n")
-}
-
-/// The status of the words over the disk, and the disk.
-fn status_of<R: Abort>(rt: &R, alloc: Global, disk: MemDisk, texts: &[&str]) -> (u8, MemDisk) {
-    let mut inputs = inputs(rt, alloc);
-    let words = words(rt, alloc, texts);
-    let mut out = MemSink::new(alloc);
-    let ran = run(alloc, words.as_slice(), disk, &mut inputs, &mut out);
-    (ran.status, ran.disk)
-}
-
-#[test]
-fn an_event_of_a_service_is_proved(rt: HostRuntime) {
-    let alloc = rt.alloc();
-    let disk = with_step(&rt, alloc);
-    let disk = expect(&rt, alloc, disk, &PROVE, 0, &LEAST_EXISTENCE);
-    let disk = expect(&rt, alloc, disk, &APPEND, 0, SECOND.as_bytes());
-    drop(expect(&rt, alloc, disk, &UNDER_FIRST, 0, &LEAST_EXISTENCE));
-}
-
-#[test]
-fn a_step_stands_that_could_not_be_told(rt: HostRuntime) {
-    let alloc = rt.alloc();
-    let disk = made(&rt, alloc);
-    let words = words(&rt, alloc, &APPEND);
-    let mut inputs = inputs(&rt, alloc);
-    let mut out = MemSink::new(alloc);
-    out.fail(1).expect(&rt, "memory");
-    let ran = run(alloc, words.as_slice(), disk, &mut inputs, &mut out);
-    assert_eq!(rt; ran.status, 4);
-    drop(expect(&rt, alloc, ran.disk, &PROVE, 0, &LEAST_EXISTENCE));
+    let mut disk = made(rt, alloc, inputs);
+    disk.stop_at(call);
+    let mut disk = after_fault(rt, alloc, disk, inputs, line);
+    disk.crash(choice);
+    let (status, disk) = status_of(rt, alloc, disk, inputs, proved);
+    assert!(rt; status == 0 || status == 7, "{proved}");
+    drop(after_going_on(rt, alloc, disk, inputs, line, proved));
 }
 
 #[test]
 fn a_crash_at_each_call_leaves_the_step_or_none(rt: HostRuntime) {
     let alloc = rt.alloc();
-    for call in 1u64..9 {
-        for choice in 0u8..4 {
-            let mut disk = made(&rt, alloc);
-            disk.stop_at(call);
-            let mut disk = expect(&rt, alloc, disk, &APPEND, 5, b"fault disk\n");
-            disk.crash(choice);
-            let (status, disk) = status_of(&rt, alloc, disk, &PROVE);
-            assert!(rt; status == 0 || status == 7);
-            let (status, disk) = status_of(&rt, alloc, disk, &APPEND);
-            assert_eq!(rt; status, 0);
-            drop(disk);
+    let mut inputs = files(&rt, alloc);
+    for (line, proved) in ADDED {
+        for call in 1u64..10 {
+            for choice in 0u8..4 {
+                stopped(&rt, alloc, &mut inputs, line, proved, call, choice);
+            }
         }
     }
+}
+
+/// A call fails in a run of the line; it is done then, and stands after a crash.
+fn failed(
+    rt: &impl Abort,
+    alloc: Global,
+    inputs: &mut MemInputs,
+    line: &str,
+    proved: &str,
+    call: u64,
+    choice: u8,
+)
+    requires { choice ≤ 3 }
+{
+    let mut disk = made(rt, alloc, inputs);
+    disk.fail(call).expect(rt, "memory");
+    let disk = after_fault(rt, alloc, disk, inputs, line);
+    let mut disk = after_going_on(rt, alloc, disk, inputs, line, proved);
+    disk.crash(choice);
+    let (status, disk) = status_of(rt, alloc, disk, inputs, proved);
+    assert_eq!(rt; status, 0, "{proved}");
+    drop(disk);
 }
 
 #[test]
 fn a_step_made_after_a_disk_fault_stands_after_a_crash(rt: HostRuntime) {
     let alloc = rt.alloc();
-    for call in 1u64..9 {
-        for choice in 0u8..4 {
-            let disk = after_fault(&rt, alloc, call);
-            let (status, mut disk) = status_of(&rt, alloc, disk, &APPEND);
-            assert_eq!(rt; status, 0);
-            disk.crash(choice);
-            drop(expect(&rt, alloc, disk, &UNDER_FIRST, 0, &LEAST_EXISTENCE));
+    let mut inputs = files(&rt, alloc);
+    for (line, proved) in ADDED {
+        for call in 1u64..10 {
+            for choice in 0u8..4 {
+                failed(&rt, alloc, &mut inputs, line, proved, call, choice);
+            }
         }
     }
+}
+
+#[test]
+fn a_step_stands_that_could_not_be_told(rt: HostRuntime) {
+    let alloc = rt.alloc();
+    let mut inputs = event_file(&rt, alloc);
+    let disk = made(&rt, alloc, &mut inputs);
+    let mut out = MemSink::new(alloc);
+    out.fail(1).expect(&rt, "memory");
+    let ended = ran(&rt, alloc, disk, &mut inputs, "append d e", &mut out);
+    assert_eq!(rt; ended.status, 4);
+    inputs.fail(1).expect(&rt, "memory");
+    let (status, mut disk) = status_of(&rt, alloc, ended.disk, &mut inputs, "append d e");
+    assert_eq!(rt; status, 3);
+    disk.fail_read(1).expect(&rt, "memory");
+    let disk = after_fault(&rt, alloc, disk, &mut inputs, "prove d event 1 0");
+    let proved = ran(&rt, alloc, disk, &mut inputs, "prove d event 1 0", &mut out);
+    assert_eq!(rt; proved.status, 0);
+    assert_eq!(rt; out.taken(), LEAST_EXISTENCE.as_slice());
 }

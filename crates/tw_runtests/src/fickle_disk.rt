@@ -1,4 +1,4 @@
-// A disk that isn't honest.
+// A disk that isn't honest: its reads contradict each other.
 
 ghost use Rattle.std.specs.Prelude.{◌≡◌, ◌<◌, None};
 ghost use Rattle.tw_disk.specs.DiskSteps.{no_content};
@@ -39,11 +39,6 @@ impl FickleDisk {
             honest,
             seed,
         }
-    }
-
-    /// How many reads it has had, those of the disk under it before it was made among them.
-    pub fn reads(&self) -> u64 {
-        self.inner.reads()
     }
 
     /// The next number of the sequence, below 2^31.

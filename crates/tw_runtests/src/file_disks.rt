@@ -1,4 +1,5 @@
-// Disks that are files. Each fact stands in a function that answers yes or no, since a test of few facts is quick to prove.
+// Disks that are files, where the file is cut, ends within a page, or is only read. Each fact stands in a function that answers yes or no,
+// since a test of few facts is quick to prove.
 
 use crate::folders::{make_folder, remove_folder, size_of, write_file};
 use tw_disk::Disk;
@@ -26,34 +27,6 @@ fn is_page(disk: &mut FileDisk<HostRuntime>, page: u64, byte: u8) -> bool {
 // Whether the disk has so many pages.
 fn has_pages(disk: &mut FileDisk<HostRuntime>, pages: u64) -> bool {
     disk.pages() == Ok(pages)
-}
-
-#[test]
-fn a_disk_is_made_by_its_first_call(rt: HostRuntime) {
-    let path = "tw_disktests_made/disk";
-    assert!(rt; make_folder(&rt, "tw_disktests_made"));
-    let mut disk = FileDisk::new(&rt, path, Access::Write);
-    assert!(rt; size_of(&rt, path).is_none());
-    assert!(rt; disk.barrier().is_ok());
-    assert!(rt; size_of(&rt, path) == Some(0));
-    assert!(rt; has_pages(&mut disk, 0));
-    assert!(rt; remove_folder(&rt, "tw_disktests_made"));
-}
-
-#[test]
-fn a_disk_lies_in_its_file(rt: HostRuntime) {
-    let path = "tw_disktests_lies/disk";
-    assert!(rt; make_folder(&rt, "tw_disktests_lies"));
-    let mut disk = FileDisk::new(&rt, path, Access::Write);
-    assert!(rt; put(&mut disk, 0, 5));
-    assert!(rt; put(&mut disk, 1, 6));
-    assert!(rt; put(&mut disk, 2, 7));
-    assert!(rt; put(&mut disk, 1, 8));
-    assert!(rt; has_pages(&mut disk, 3));
-    assert!(rt; is_page(&mut disk, 1, 8));
-    assert!(rt; !is_page(&mut disk, 3, 0));
-    assert!(rt; size_of(&rt, path) == Some(3 * 4096));
-    assert!(rt; remove_folder(&rt, "tw_disktests_lies"));
 }
 
 // The first disk's count stands where the file was cut; a read of a page that is gone is a fault.
@@ -100,16 +73,4 @@ fn a_disk_that_is_read(rt: HostRuntime) {
     assert!(rt; other.barrier().is_ok());
     assert!(rt; size_of(&rt, path) == Some(4096));
     assert!(rt; remove_folder(&rt, "tw_disktests_read"));
-}
-
-#[test]
-fn a_disk_in_the_folder_at_hand(rt: HostRuntime) {
-    let path = "tw_disktests_disk";
-    assert!(rt; write_file(&rt, path, b""));
-    let mut disk = FileDisk::new(&rt, path, Access::Write);
-    assert!(rt; put(&mut disk, 0, 5));
-    assert!(rt; disk.barrier().is_ok());
-    drop(disk);
-    let mut again = FileDisk::new(&rt, path, Access::Read);
-    assert!(rt; is_page(&mut again, 0, 5));
 }

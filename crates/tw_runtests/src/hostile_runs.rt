@@ -1,6 +1,7 @@
 // Runs of the commands with a folder over a disk whose reads contradict each other: each ends with a status that such a disk may bring about.
 
 use crate::fickle_disk::FickleDisk;
+use crate::playing::{after_all, files, words};
 use std::alloc::Global;
 use std::process::Abort;
 use tw_app::run;
@@ -13,7 +14,16 @@ const SEEDS: u64 = 6;
 /// After how many reads the disk gives other bytes: at once, and once a service or a follower is opened.
 const HONEST: [u64; 2] = [0, 4];
 
-/// The words of each command that works on a service; `e` is an events file, and `n` a message that goes on from the thread that was received.
+/// The lines that make a service `a` of four steps, of which the second received a thread of `b`.
+const MADE: [(&str, &str); 5] = [
+    ("init d a", "line"),
+    ("append d e", "line"),
+    ("receive d m", "line"),
+    ("append d e", "line"),
+    ("append d e", "line"),
+];
+
+/// The words of each command that works on it.
 const ASKED: [&str; 11] = [
     "init d a",
     "append d e",
@@ -28,82 +38,15 @@ const ASKED: [&str; 11] = [
     "export d",
 ];
 
-/// The words of each command that works on a follower.
+/// The lines that make a follower of `b`, at its first step.
+const WATCHED: [(&str, &str); 2] = [("watch d b", "line"), ("offer d m", "line")];
+
+/// The words of each command that works on it.
 const FOLLOWED: [&str; 3] = ["watch d b", "offer d n", "heads d"];
 
-/// The words of a line, with one blank between.
-fn words(rt: &impl Abort, alloc: Global, line: &str) -> Vec<String> {
-    let mut words = Vec::new(alloc);
-    for text in line.split_whitespace() {
-        let word = String::from_str(alloc, text).expect(rt, "memory");
-        words.push(word).expect(rt, "memory");
-    }
-    words
-}
-
-/// The disk after a run over it that has to be done, of which what is written becomes the file of this name.
-fn after<R: Abort>(
-    rt: &R,
-    alloc: Global,
-    disk: MemDisk,
-    inputs: &mut MemInputs,
-    line: &str,
-    file: &str,
-) -> MemDisk {
-    let words = words(rt, alloc, line);
-    let mut out = MemSink::new(alloc);
-    let ran = run(alloc, words.as_slice(), disk, inputs, &mut out);
-    assert_eq!(rt; ran.status, 0);
-    inputs.put(file, out.taken()).expect(rt, "memory");
-    ran.disk
-}
-
-/// The files that the commands read: `e`, and the messages of two steps of a service `b`.
-fn files<R: Abort>(rt: &R, alloc: Global) -> MemInputs {
-    let mut inputs = MemInputs::new(alloc);
-    inputs
-        .put("e", b"TWE1\0\0\0\x01\0\0\0\0")
-        .expect(rt, "memory");
-    let mut disk = MemDisk::new(alloc);
-    for (line, file) in [
-        ("init d b", "line"),
-        ("append d e", "line"),
-        ("thread d 0", "m"),
-        ("append d e", "line"),
-        ("thread d 1", "n"),
-    ] {
-        disk = after(rt, alloc, disk, &mut inputs, line, file);
-    }
-    inputs
-}
-
-/// A disk with the service `a` of four steps, of which the second received a thread of `b`.
-fn made<R: Abort>(rt: &R, alloc: Global, inputs: &mut MemInputs) -> MemDisk {
-    let mut disk = MemDisk::new(alloc);
-    for line in [
-        "init d a",
-        "append d e",
-        "receive d m",
-        "append d e",
-        "append d e",
-    ] {
-        disk = after(rt, alloc, disk, inputs, line, "line");
-    }
-    disk
-}
-
-/// A disk with a follower of `b` that was moved to its first step.
-fn followed<R: Abort>(rt: &R, alloc: Global, inputs: &mut MemInputs) -> MemDisk {
-    let mut disk = MemDisk::new(alloc);
-    for line in ["watch d b", "offer d m"] {
-        disk = after(rt, alloc, disk, inputs, line, "line");
-    }
-    disk
-}
-
-/// The status of the words over this disk, which gives other bytes after so many reads.
-fn status_of<R: Abort>(
-    rt: &R,
+/// The status of the words over this disk.
+fn status_of(
+    rt: &impl Abort,
     alloc: Global,
     disk: FickleDisk,
     inputs: &mut MemInputs,
@@ -114,16 +57,28 @@ fn status_of<R: Abort>(
     run(alloc, words.as_slice(), disk, inputs, &mut out).status
 }
 
+/// The words end by name over the disk that these lines made, which gives other bytes after so many reads.
+fn ends_by_name(
+    rt: &impl Abort,
+    alloc: Global,
+    made: &[(&str, &str)],
+    line: &str,
+    honest: u64,
+    seed: u64,
+) {
+    let mut inputs = files(rt, alloc);
+    let disk = after_all(rt, alloc, MemDisk::new(alloc), &mut inputs, made);
+    let disk = FickleDisk::new(disk, honest, seed);
+    let status = status_of(rt, alloc, disk, &mut inputs, line);
+    assert!(rt; status == 0 || status == 7 || status == 8, "{line}");
+}
+
 #[test]
 fn each_command_ends_by_name(rt: HostRuntime) {
-    let alloc = rt.alloc();
     for line in ASKED {
         for honest in HONEST {
             for seed in 0..SEEDS {
-                let mut inputs = files(&rt, alloc);
-                let disk = FickleDisk::new(made(&rt, alloc, &mut inputs), honest, seed);
-                let status = status_of(&rt, alloc, disk, &mut inputs, line);
-                assert!(rt; status == 0 || status == 7 || status == 8, "{line}");
+                ends_by_name(&rt, rt.alloc(), &MADE, line, honest, seed);
             }
         }
     }
@@ -131,14 +86,10 @@ fn each_command_ends_by_name(rt: HostRuntime) {
 
 #[test]
 fn each_command_of_a_follower_ends_by_name(rt: HostRuntime) {
-    let alloc = rt.alloc();
     for line in FOLLOWED {
         for honest in HONEST {
             for seed in 0..SEEDS {
-                let mut inputs = files(&rt, alloc);
-                let disk = FickleDisk::new(followed(&rt, alloc, &mut inputs), honest, seed);
-                let status = status_of(&rt, alloc, disk, &mut inputs, line);
-                assert!(rt; status == 0 || status == 7 || status == 8, "{line}");
+                ends_by_name(&rt, rt.alloc(), &WATCHED, line, honest, seed);
             }
         }
     }

@@ -1,5 +1,5 @@
-//! Tests of the program and of services and followers over disks that aren't honest, are stopped or fail, and over the host's files:
-//! each call answers one of its named answers, and ends.
+//! Tests of the whole program over files and disks in memory, disks that aren't honest, are stopped or fail among them, and over the
+//! host's files.
 #![tactic(auto)]
 
 #[cfg(test)]
@@ -9,16 +9,10 @@ mod fickle_disk;
 #[cfg(test)]
 mod file_disks;
 #[cfg(test)]
-mod file_inputs;
-#[cfg(test)]
 mod folders;
-#[cfg(test)]
-mod followers;
 #[cfg(test)]
 mod hostile_runs;
 #[cfg(test)]
+mod playing;
+#[cfg(test)]
 mod runs;
-#[cfg(test)]
-mod services;
-#[cfg(test)]
-mod stops;

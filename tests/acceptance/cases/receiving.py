@@ -25,6 +25,9 @@ from timeweave_reference.tree_pages import PAGE
 MAKING = {"receive": None, "receive at a time": 9}
 ASKING = ("prove thread", "prove absent", "map low", "map high", "export")
 
+# How many pages each of the two commands of `few_reads` reads, those of the store's front among them: two gates and two bodies.
+RECEIVING_READS, PROVING_READS = 6, 18
+
 
 # ---- what is received
 
@@ -311,6 +314,27 @@ def synced_first(room):
         expect((status, found, made[:1], {*made}), (0, proof, ["fsync"], {"fsync", "pread64"}), f"timeweave prove beta {asked}, and its calls on the store")
 
 
+def few_reads(room):
+    """of a service that keeps 60 threads of a peer below a thousand steps more, the next message and the proof of an old thread read few pages"""
+    peer, own = Service("peer"), Service("own")
+    for since in range(60):
+        peer.append([])
+        own.receive(peer.message(since))
+    for _ in range(1000):
+        own.append([])
+    peer.append([])
+    room.put("m", peer.message(60))
+    (room.folder / "own").mkdir()
+    (room.folder / "own/timeline.tw").write_bytes(own.file())
+    store = os.path.realpath(room.folder / "own/timeline.tw")
+    receipt = own.receive(peer.message(60))
+    asked = (("receive own m", receipt, RECEIVING_READS), ("prove own thread 3 peer 3", own.thread_proof(3, "peer", 3, own.steps), PROVING_READS))
+    for line, wanted, reads in asked:
+        status, found, calls = calls_of(room.program, line.split(), room.folder)
+        made = sum(call.name == "pread64" and call.path == store for call in calls)
+        expect((status, found, made), (0, wanted, reads), f"timeweave {line}, and how many pages it reads")
+
+
 def races(room):
     """50 races of two messages, of which one builds on the other: each receipt that was written is of the store"""
     for number in range(50):
@@ -333,7 +357,7 @@ def races(room):
 
 def cases():
     works = (
-        each_receipt, repeated, refused_messages, bad_messages, many_threads, refused_proofs, bad_pages, killed, synced_first, races,
+        each_receipt, repeated, refused_messages, bad_messages, many_threads, refused_proofs, bad_pages, killed, synced_first, few_reads, races,
         *(make(command) for make in (lost_power, killed_at) for command in MAKING),
         *(make(command, Run) for make in (failing, short) for command in (*MAKING, *ASKING)),
     )

@@ -1,0 +1,10 @@
+// Digests of the weak hasher.
+
+use tw_base::Digest;
+
+/// The digest of a text whose bytes' sum is this.
+pub(crate) fn short(first: u8) -> Digest {
+    let mut bytes = [0; 32];
+    bytes[0] = first;
+    Digest(bytes)
+}
