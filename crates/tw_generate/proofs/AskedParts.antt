@@ -10,8 +10,10 @@ use Rattle.tw_base.specs.declared.history.question.Question.TheVariants as ask
 use Rattle.tw_base.specs.declared.history.thread.Entry.{Entry}
 use Rattle.tw_base.specs.history.Entries.{key_of}
 use Rattle.tw_base.specs.history.History.{History, Step, entry_at, events_at, events_of, plus, root_of, step_at}
+use Rattle.tw_base.specs.history.Limits.{IsStep}
 use Rattle.tw_base.specs.history.Sound.{IsSound}
 use Rattle.tw_base.proofs.lemmas.history.Plus.{step_at-new}
+use Rattle.tw_base.proofs.lemmas.history.Trees.{entry_at-parts, received-sound}
 use Rattle.tw_chain.proofs.ArchiveAnswers.{received-is_so}
 use Rattle.tw_chain.proofs.Completeness.{from_1_of_entry}
 use Rattle.tw_service.specs.EventSteps.{event_step, with_events_at}
@@ -50,6 +52,11 @@ module _ (dig : List ℕ → List ℕ) (h : History) where
       question-goes dig h (ask.Thread step (key_of e) (Some top))
       (omega (arith, before, from_1_of_entry h e.archived e at), order, within)
       (ap no_thread (received-is_so h step sound (omega (arith, order, within)) e at before))
+
+-- the step of a thread that a sound history received
+thread-may : (h : History) (e : Entry) → IsSound h → entry_at h e.archived ≡ Some e → IsStep e.thread.step
+thread-may h e sound at = let got = received-sound h sound e.archived e.thread (entry_at-parts h e.archived e at).1 in
+    (got.0.1, got.0.2)
 
 -- ---- the events that are asked for
 
@@ -170,3 +177,15 @@ module _ (dig : List ℕ → List ℕ) where
           event-goes dig t.alpha 1 of_alpha.thread.step (omega arith) alpha_is.2 alpha_had.0
               (led-begins number rounds t led).1,
         )
+
+    -- the threads' steps are steps, as a question asks for
+    pub threads-may : (of_alpha of_beta : Entry) → first_from t.alpha.name 1 (received_by t.beta) ≡ Some of_alpha
+        → first_from t.beta.name of_alpha.archived (received_by t.gamma) ≡ Some of_beta
+        → IsStep of_alpha.thread.step × IsStep of_beta.thread.step
+    threads-may of_alpha of_beta first_alpha first_beta =
+        let s = played-stands dig number rounds t led.0 led.1 in
+        let alpha_at = received-at t.beta (last t.beta) of_alpha (first-is t.alpha.name 1 (received_by t.beta) of_alpha
+        first_alpha).0 in
+        let beta_at = received-at t.gamma (last t.gamma) of_beta
+        (first-is t.beta.name of_alpha.archived (received_by t.gamma) of_beta first_beta).0 in
+        (thread-may t.beta of_alpha s.sound.1.0 alpha_at.0, thread-may t.gamma of_beta s.sound.1.1.0 beta_at.0)

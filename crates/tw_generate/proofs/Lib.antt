@@ -19,3 +19,5 @@ mod Results
 mod SixParts
 mod Standing
 mod SummaryValues
+mod ToldSteps
+mod Unrefused

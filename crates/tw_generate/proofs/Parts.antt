@@ -6,10 +6,11 @@ use Rattle.tw_base.specs.declared.history.question.Question.{Question}
 use Rattle.tw_base.specs.declared.history.question.Question.TheVariants as ask
 use Rattle.tw_base.specs.declared.history.thread.Key.{Key}
 use Rattle.tw_base.specs.format.Codecs.{IsUnambiguous}
+use Rattle.tw_base.specs.format.Formats.{Spells}
 use Rattle.tw_base.specs.history.Entries.{key_of}
 use Rattle.tw_base.specs.history.History.{History}
 use Rattle.tw_chain.specs.OwnProofs.{IsLinkProofOf, IsThreadProofOf}
-use Rattle.tw_chain.specs.Proofs.{proof_codec}
+use Rattle.tw_chain.specs.Proofs.{proof_codec, proof_layout}
 use Rattle.tw_chain.specs.declared.proof.LinkProof.{LinkProof}
 use Rattle.tw_chain.specs.declared.proof.Proof.{Proof}
 use Rattle.tw_chain.specs.declared.proof.Proof.TheVariants.{Archived, Exists, Linked}
@@ -21,6 +22,7 @@ use Rattle.tw_service.specs.Questions.{history_refusal}
 use Rattle.tw_skipproof.specs.HistoryProofs.{IsExistenceOf}
 use Rattle.tw_skipproof.specs.declared.existence.ExistenceProof.{ExistenceProof}
 use Rattle.tw_generate.specs.Summing.{IsPartAsked, IsQuestionAnswered}
+use Rattle.tw_generate.specs.Unrefused.{AsksProof}
 
 module _ (dig : List ℕ → List ℕ) where
   -- the bytes that answer a question are what the history makes of it
@@ -33,6 +35,21 @@ module _ (dig : List ℕ → List ℕ) where
           → Makes dig h q bytes
       by None is = let same : is.0 ≡ bytes = cc (is.2) in subst (Makes dig h q) same is.1
       by (Some refusal) is = cc
+
+  -- where a proof is asked for, they spell one
+  pub proof-made : (h : History) (q : Question) (bytes : List ℕ) → AsksProof q → IsQuestionAnswered dig h q bytes
+      → (p : Proof) × Spells proof_layout bytes p
+  unfolding Makes
+  proof-made h (ask.Event step index top) bytes asks is =
+      let made = made-of h (ask.Event step index top) bytes is in
+      (Exists made.0, from_existence bytes made.0 made.1)
+  proof-made h (ask.Thread step key top) bytes asks is =
+      let made = made-of h (ask.Thread step key top) bytes is in
+      (Archived made.0, made.1)
+  proof-made h (ask.Link step top) bytes asks is =
+      let made = made-of h (ask.Link step top) bytes is in
+      (Linked made.0, made.1)
+  proof-made h _ bytes asks is = absurd asks
 
   -- ---- one part
 

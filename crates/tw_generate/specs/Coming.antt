@@ -32,13 +32,17 @@ module _ (dig : List ℕ → List ℕ) where
   abbrev pub IsNotRefused : History → Call → Type 0
   IsNotRefused h call = (refusal : Refusal) (next : History) → IsStepOf dig h call (Refused refusal) next → ⊥
 
-  -- no call of the act is refused: that a service appends; that one tells its last step, and that the other one receives any message of that
-  -- step since the last one that it has archived
+  -- the one can tell its last step to the other: it isn't refused the message since the last step that the other has archived of it, and the
+  -- other isn't refused to receive any such message
+  abbrev pub CanTell : (from to : History) → Type 0
+  CanTell from to =
+      let since : ℕ = last_heard to from.name in
+      IsNotRefused from (Ask (ThreadOut since)) × ((m : Message) → IsMessageOf dig from since m → IsNotRefused to (Receive m None))
+
+  -- no call of the act is refused: that a service appends; that one tells its last step to another one
   abbrev pub CanBeDone : ScheduledAct → Trio → Type 0
   CanBeDone (Appends who events) t = IsNotRefused (trio_history who t) (Append events None)
-  CanBeDone (Tells from to) t =
-      let since : ℕ = last_heard (trio_history to t) (trio_history from t).name in
-      IsNotRefused (trio_history from t) (Ask (ThreadOut since)) × ((m : Message) → IsMessageOf dig (trio_history from t) since m → IsNotRefused (trio_history to t) (Receive m None))
+  CanBeDone (Tells from to) t = CanTell (trio_history from t) (trio_history to t)
 
   -- no call of the acts is, wherever those before it led
   unfoldable pub AllCanBeDone : List ScheduledAct → Trio → Type 0

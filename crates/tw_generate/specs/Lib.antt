@@ -4,4 +4,5 @@ pub mod Schedules
 pub mod Playing
 pub mod Summing
 pub mod Coming
+pub mod Unrefused
 pub mod Generating

@@ -12,5 +12,5 @@ mod services;
 mod summary;
 mod telling;
 
-pub use generating::{Generated, generate};
+pub use generating::{GenerateFault, Generated, generate};
 pub use laws::generate_laws;

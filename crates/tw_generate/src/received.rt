@@ -1,4 +1,4 @@
-// What histories received.
+// What a history of a schedule received: its first thread of a service from a step on, and how many threads.
 
 ghost use Rattle.std.specs.Prelude.{◌≡◌, ◌≤◌, length, option_and_then, Some};
 ghost use Rattle.std.specs.Option.{option_to_list};

@@ -1,11 +1,15 @@
 // The three services of a schedule.
 
-ghost use Rattle.std.specs.Prelude.{◌≡◌, ◌%◌, ◌==◌, [], Some, IfOk, OnOk, if◌then◌else◌};
-ghost use Rattle.tw_base.specs.kinds.Names.{padded_name};
+ghost use Rattle.std.specs.Prelude.{◌≡◌, ◌%◌, ◌==◌, [], ◌∷◌, Some, IfOk, IsTrue, OnOk, if◌then◌else◌};
+ghost use Rattle.tw_base.specs.kinds.Names.{is_name_text, padded_name};
 ghost use Rattle.tw_disk.specs.Image.{Image};
+ghost use Rattle.tw_pages.specs.Slots.{IsTaken};
 ghost use Rattle.tw_generate.specs.Draws.{after_step};
 ghost use Rattle.tw_generate.specs.Playing.{ArePlaying, LeadsByActs};
+ghost use Rattle.tw_generate.specs.Schedules.ScheduledAct.{Tells};
+ghost use Rattle.tw_generate.specs.Schedules.Who.{Alpha, Beta, Gamma};
 ghost use Rattle.tw_generate.specs.Schedules.{all_append, all_tell, end_event, no_steps, round_of_acts, rounds_of, schedule};
+ghost use Rattle.tw_generate.specs.Unrefused.{CanPlay};
 
 use crate::draws::Draws;
 use crate::telling::{append, make, tell};
@@ -38,12 +42,13 @@ pub(crate) struct Services<D: Disk, H: Hasher> {
 }
 
 /// The name of this text.
-fn name(text: &[u8]) -> Result<Name, NoMemory>
-    ensures { IfOk result (λ name. name ≡ padded_name text.now) }
+fn name(text: &[u8]) -> Name
+    requires { IsTrue (is_name_text text.now) }
+    ensures { result ≡ padded_name text.now }
 {
     match Name::read(text) {
-        Some(name) => Ok(name),
-        None => Err(NoMemory),
+        Some(name) => name,
+        None => unreachable!(),
     }
 }
 
@@ -57,13 +62,16 @@ fn is_fiftieth(number: u64) -> bool
 impl<D: Disk + Drop, H: Hasher> Services<D, H> {
     /// Makes the services on blank disks.
     pub(crate) fn make(alloc: Global, alpha: D, beta: D, gamma: D) -> Result<Self, NoMemory>
+        requires alpha { (a : Image) × ((D.view alpha).content ≡ Some a) × (IsTaken a → ⊥) }
+        requires beta { (b : Image) × ((D.view beta).content ≡ Some b) × (IsTaken b → ⊥) }
+        requires gamma { (c : Image) × ((D.view gamma).content ≡ Some c) × (IsTaken c → ⊥) }
         ensures { (a b c : Image) → (D.view alpha).content ≡ Some a → (D.view beta).content ≡ Some b → (D.view gamma).content ≡ Some c
             → IfOk result (λ services. ArePlaying H.dig D.view services no_steps) }
     {
         Ok(Services {
-            alpha: make(alloc, alpha, name(b"alpha")?)?,
-            beta: make(alloc, beta, name(b"beta")?)?,
-            gamma: make(alloc, gamma, name(b"gamma")?)?,
+            alpha: make(alloc, alpha, name(b"alpha"))?,
+            beta: make(alloc, beta, name(b"beta"))?,
+            gamma: make(alloc, gamma, name(b"gamma"))?,
             heard: Heard {
                 alpha_of_beta: 0,
                 alpha_of_gamma: 0,
@@ -84,6 +92,7 @@ impl<D: Disk, H: Hasher> Services<D, H> {
         beta: &EventList,
         gamma: &EventList,
     ) -> Result<(), NoMemory>
+        requires { CanPlay H.dig D.view (all_append alpha.now beta.now gamma.now) self.old }
         ensures { OnOk result (LeadsByActs H.dig D.view (all_append alpha.now beta.now gamma.now) self.old self.new) }
     {
         append(&mut self.alpha, alpha)?;
@@ -92,9 +101,10 @@ impl<D: Disk, H: Hasher> Services<D, H> {
         Ok(())
     }
 
-    /// Each tells its last step to the two others.
-    fn exchange(&mut self) -> Result<(), NoMemory>
-        ensures { OnOk result (LeadsByActs H.dig D.view all_tell self.old self.new) }
+    /// Alpha tells its last step to the two others.
+    fn alpha_tells(&mut self) -> Result<(), NoMemory>
+        requires { CanPlay H.dig D.view (Tells Alpha Beta ∷ Tells Alpha Gamma ∷ []) self.old }
+        ensures { OnOk result (LeadsByActs H.dig D.view (Tells Alpha Beta ∷ Tells Alpha Gamma ∷ []) self.old self.new) }
     {
         let Services {
             alpha,
@@ -104,15 +114,54 @@ impl<D: Disk, H: Hasher> Services<D, H> {
         } = self;
         tell(alpha, beta, &mut heard.beta_of_alpha)?;
         tell(alpha, gamma, &mut heard.gamma_of_alpha)?;
+        Ok(())
+    }
+
+    /// Beta tells its last step to the two others.
+    fn beta_tells(&mut self) -> Result<(), NoMemory>
+        requires { CanPlay H.dig D.view (Tells Beta Alpha ∷ Tells Beta Gamma ∷ []) self.old }
+        ensures { OnOk result (LeadsByActs H.dig D.view (Tells Beta Alpha ∷ Tells Beta Gamma ∷ []) self.old self.new) }
+    {
+        let Services {
+            alpha,
+            beta,
+            gamma,
+            heard,
+        } = self;
         tell(beta, alpha, &mut heard.alpha_of_beta)?;
         tell(beta, gamma, &mut heard.gamma_of_beta)?;
+        Ok(())
+    }
+
+    /// Gamma tells its last step to the two others.
+    fn gamma_tells(&mut self) -> Result<(), NoMemory>
+        requires { CanPlay H.dig D.view (Tells Gamma Alpha ∷ Tells Gamma Beta ∷ []) self.old }
+        ensures { OnOk result (LeadsByActs H.dig D.view (Tells Gamma Alpha ∷ Tells Gamma Beta ∷ []) self.old self.new) }
+    {
+        let Services {
+            alpha,
+            beta,
+            gamma,
+            heard,
+        } = self;
         tell(gamma, alpha, &mut heard.alpha_of_gamma)?;
         tell(gamma, beta, &mut heard.beta_of_gamma)?;
         Ok(())
     }
 
+    /// Each tells its last step to the two others.
+    fn exchange(&mut self) -> Result<(), NoMemory>
+        requires { CanPlay H.dig D.view all_tell self.old }
+        ensures { OnOk result (LeadsByActs H.dig D.view all_tell self.old self.new) }
+    {
+        self.alpha_tells()?;
+        self.beta_tells()?;
+        self.gamma_tells()
+    }
+
     /// The messages of the round of this number.
     fn exchange_in(&mut self, number: u64) -> Result<(), NoMemory>
+        requires { CanPlay H.dig D.view (if number % 50 == 0 then all_tell else []) self.old }
         ensures { OnOk result (LeadsByActs H.dig D.view (if number % 50 == 0 then all_tell else []) self.old self.new) }
     {
         if is_fiftieth(number) {
@@ -123,6 +172,7 @@ impl<D: Disk, H: Hasher> Services<D, H> {
 
     /// The round of this number.
     fn round(&mut self, alloc: Global, draws: &mut Draws, number: u64) -> Result<(), NoMemory>
+        requires { CanPlay H.dig D.view (round_of_acts draws.old.state number) self.old }
         ensures leads { OnOk result (LeadsByActs H.dig D.view (round_of_acts draws.old.state number) self.old self.new) }
         ensures state { OnOk result (draws.new.state ≡ after_step (after_step (after_step draws.old.state))) }
     {
@@ -135,6 +185,7 @@ impl<D: Disk, H: Hasher> Services<D, H> {
 
     /// So many rounds, whose events are drawn from this number on.
     fn rounds(&mut self, alloc: Global, number: u64, rounds: u64) -> Result<(), NoMemory>
+        requires { CanPlay H.dig D.view (rounds_of number rounds) self.old }
         ensures { OnOk result (LeadsByActs H.dig D.view (rounds_of number rounds) self.old self.new) }
     {
         let mut draws = Draws::new(number);
@@ -146,6 +197,7 @@ impl<D: Disk, H: Hasher> Services<D, H> {
 
     /// Each appends a step of the one event `end`.
     fn append_end(&mut self, alloc: Global) -> Result<(), NoMemory>
+        requires { CanPlay H.dig D.view (all_append end_event end_event end_event) self.old }
         ensures { OnOk result (LeadsByActs H.dig D.view (all_append end_event end_event end_event) self.old self.new) }
     {
         let mut events = EventList::new(alloc);
@@ -155,6 +207,7 @@ impl<D: Disk, H: Hasher> Services<D, H> {
 
     /// Plays so many rounds, whose events are drawn from this number on, and the end.
     pub(crate) fn play(&mut self, alloc: Global, number: u64, rounds: u64) -> Result<(), NoMemory>
+        requires { CanPlay H.dig D.view (schedule number rounds) self.old }
         ensures { OnOk result (LeadsByActs H.dig D.view (schedule number rounds) self.old self.new) }
     {
         self.rounds(alloc, number, rounds)?;

@@ -1,59 +1,78 @@
 // What services on disks do in a schedule.
 
-ghost use Rattle.std.specs.Prelude.{◌≡◌, Some, None, Ok, IfOk, OnOk, true, nat_lt, if◌then◌else◌};
+ghost use Rattle.std.specs.Prelude.{◌≡◌, Some, None, Ok, IfErr, IfOk, OnOk, nat_lt, if◌then◌else◌};
+ghost use Rattle.tw_base.specs.declared.kinds.failure.ReadFault.TheVariants.{NoMemory as WantedMemory};
 ghost use Rattle.tw_base.specs.history.History.{History};
 ghost use Rattle.tw_base.specs.history.Questions.{MayAsk};
 ghost use Rattle.tw_disk.specs.Image.{Image};
+ghost use Rattle.tw_pages.specs.Slots.{IsTaken};
+ghost use Rattle.tw_pages.specs.declared.open.StoreFault.TheVariants.{DiskFault as FailedDisk};
 ghost use Rattle.tw_service.specs.Answered.{IsAcceptedFor};
 ghost use Rattle.tw_service.specs.EventSteps.{with_events_at};
+ghost use Rattle.tw_service.specs.Machine.Call.{Append, Ask};
 ghost use Rattle.tw_service.specs.Stands.{no_history};
 ghost use Rattle.tw_generate.specs.Playing.{HasTold, PlaysHistory};
 ghost use Rattle.tw_generate.specs.Schedules.{last_heard};
 ghost use Rattle.tw_generate.specs.Summing.{IsQuestionAnswered};
+ghost use Rattle.tw_generate.specs.Unrefused.{CanHear, IsFailure, TakesCall};
 
 use std::alloc::Global;
 use tw_answers::Refusal;
-use tw_base::limits::LAST_STEP;
-use tw_base::{Bytes, EventList, Hasher, Name, NoMemory, Question};
+use tw_base::{Bytes, EventList, Hasher, Name, NoMemory, Question, ReadFault};
 use tw_disk::Disk;
+use tw_pages::StoreFault;
 use tw_service::Service;
 
-/// The answer of a call that isn't refused.
+/// The answer of a call that can't be refused. A fault of a disk in memory is want of memory.
 pub(crate) fn given<T: Drop>(answer: Result<T, Refusal>) -> Result<T, NoMemory>
+    requires { IfErr answer IsFailure }
     ensures { IfOk result (λ value. answer ≡ Ok value) }
 {
     match answer {
         Ok(value) => Ok(value),
-        Err(_) => Err(NoMemory),
+        Err(Refusal::DiskFault | Refusal::NoMemory) => Err(NoMemory),
+        Err(_) => unreachable!(),
     }
 }
 
-/// Whether a question may be asked: a peer's step in it is one.
-fn may_ask(question: &Question) -> bool
-    ensures { result ≡ true → MayAsk question.now }
+/// What was read of bytes that are a word of its format.
+pub(crate) fn read_whole<T: Drop>(read: Result<T, ReadFault>) -> Result<T, NoMemory>
+    requires { IfErr read (λ fault. fault ≡ WantedMemory) }
+    ensures { IfOk result (λ value. read ≡ Ok value) }
 {
-    match question {
-        Question::Thread { key, .. } | Question::Absent { key, .. } => {
-            0 < key.step && key.step <= LAST_STEP
-        }
-        Question::High { step, .. } => 0 < *step && *step <= LAST_STEP,
-        _ => true,
+    match read {
+        Ok(value) => Ok(value),
+        Err(ReadFault::NoMemory) => Err(NoMemory),
+        Err(ReadFault::Malformed { .. }) => unreachable!(),
     }
 }
 
-/// The answer to a question that isn't refused.
+/// The answer to a question that can't be refused.
 pub(crate) fn answered<D: Disk, H: Hasher>(
     service: &mut Service<D, H>,
     question: &Question,
 ) -> Result<Bytes, NoMemory>
+    requires may { MayAsk question.now }
+    requires takes { TakesCall H.dig D.view (Ask question.now) service.old }
     ensures asked { (h : History) → PlaysHistory H.dig D.view service.old h
         → IfOk result (λ bytes. PlaysHistory H.dig D.view service.new h × IsQuestionAnswered H.dig h question.now bytes) }
     ensures accepted { (h : History) → PlaysHistory H.dig D.view service.old h → IfOk result (λ bytes. IsAcceptedFor H.dig h question.now bytes) }
 {
-    if !may_ask(question) {
-        return Err(NoMemory);
-    }
     given(service.ask(question))
+}
+
+/// What was made on a disk that has no store.
+fn service_made<D: Disk + Drop, H: Hasher>(
+    made: Result<Service<D, H>, (D, StoreFault)>,
+) -> Result<Service<D, H>, NoMemory>
+    requires { IfErr made (λ e. e.1 ≡ FailedDisk) }
+    ensures { IfOk result (λ service. made ≡ Ok service) }
+{
+    match made {
+        Ok(service) => Ok(service),
+        Err((_, StoreFault::DiskFault)) => Err(NoMemory),
+        Err((_, _)) => unreachable!(),
+    }
 }
 
 /// Makes a service of this name on a blank disk.
@@ -62,12 +81,10 @@ pub(crate) fn make<D: Disk + Drop, H: Hasher>(
     disk: D,
     name: Name,
 ) -> Result<Service<D, H>, NoMemory>
+    requires { (image : Image) × ((D.view disk).content ≡ Some image) × (IsTaken image → ⊥) }
     ensures { (image : Image) → (D.view disk).content ≡ Some image → IfOk result (λ service. PlaysHistory H.dig D.view service (no_history name)) }
 {
-    match Service::<D, H>::init(alloc, disk, name) {
-        Ok(service) => Ok(service),
-        Err((_, _)) => Err(NoMemory),
-    }
+    service_made(Service::<D, H>::init(alloc, disk, name))
 }
 
 /// Appends a step of these events.
@@ -75,6 +92,7 @@ pub(crate) fn append<D: Disk, H: Hasher>(
     service: &mut Service<D, H>,
     events: &EventList,
 ) -> Result<(), NoMemory>
+    requires { TakesCall H.dig D.view (Append events.now None) service.old }
     ensures { (h : History) → PlaysHistory H.dig D.view service.old h → OnOk result (PlaysHistory H.dig D.view service.new (with_events_at h events.now None)) }
 {
     given(service.append(events))?;
@@ -95,6 +113,7 @@ pub(crate) fn tell<D: Disk, H: Hasher>(
     to: &mut Service<D, H>,
     last: &mut u64,
 ) -> Result<(), NoMemory>
+    requires { CanHear H.dig D.view from.old to.old last.old }
     ensures { (a b : History) → PlaysHistory H.dig D.view from.old a → PlaysHistory H.dig D.view to.old b → last.old ≡ last_heard b a.name
         → OnOk result (HasTold H.dig D.view a b from.new to.new last.new) }
 {

@@ -30,8 +30,6 @@ LARGE = {
     "tw_history": (2027, 103),
     "tw_skiplist": (1568, 100),
     "tw_verifier": (1943, 100),
-    "tw_parttests": (2801, 212),
-    "tw_runtests": (1504, 117),
 }
 
 # The names that stand for a definition in two modules of `specs`: one notion over two subjects, which a reader always sees with their module.
@@ -215,16 +213,13 @@ WANTS = {
         tree_pages/src/versions.rt: insert, tw_disk/src/memory_disk.rt: see_countable, tw_export/src/events.rt: add_events,
         tw_export/src/nodes.rt: side_number, tw_export/src/received.rt: take_in, tw_pieces/src/resumed.rt: feed""",
     "a fault of a disk in memory, which isn't stopped": """
-        tw_generate/src/telling.rt: given, tw_generate/src/telling.rt: make, tw_world/src/serving.rt: end_line, tw_world/src/serving.rt: given,
-        tw_world/src/serving.rt: make, tw_world/src/serving.rt: open, tw_world/src/serving.rt: see_stopped""",
+        tw_generate/src/telling.rt: given, tw_generate/src/telling.rt: service_made, tw_world/src/serving.rt: end_line,
+        tw_world/src/serving.rt: given, tw_world/src/serving.rt: make, tw_world/src/serving.rt: open, tw_world/src/serving.rt: see_stopped""",
+    "such a fault, or that a history's file would be too long": "tw_generate/src/judging.rt: file_given",
     "what can't come, as a reader of the code sees, and no clause says": """
-        tw_audit/src/finder.rt: into_pair, tw_audit/src/holding.rt: hold_bytes,
-        tw_generate/src/claiming.rt: found,
-        tw_generate/src/claiming.rt: joined_bytes, tw_generate/src/claiming.rt: proof_of, tw_generate/src/judging.rt: checked,
-        tw_generate/src/judging.rt: history_of, tw_generate/src/judging.rt: judge, tw_generate/src/judging.rt: stands,
-        tw_generate/src/services.rt: name, tw_generate/src/telling.rt: answered, tw_world/src/player.rt: deliver,
-        tw_world/src/player.rt: find, tw_world/src/player.rt: index_of, tw_world/src/player.rt: linked_thread,
-        tw_world/src/player.rt: loss_answer, tw_world/src/player.rt: proofs, tw_world/src/summary.rt: put_steps""",
+        tw_audit/src/finder.rt: into_pair, tw_audit/src/holding.rt: hold_bytes, tw_world/src/player.rt: deliver, tw_world/src/player.rt: find,
+        tw_world/src/player.rt: index_of, tw_world/src/player.rt: linked_thread, tw_world/src/player.rt: loss_answer,
+        tw_world/src/player.rt: proofs, tw_world/src/summary.rt: put_steps""",
 }
 
 # In code: a line that makes want of memory, which is no pattern, type, declaration or clause.

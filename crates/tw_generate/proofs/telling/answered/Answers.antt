@@ -1,5 +1,6 @@
 use Rattle.tw_generate.proofs.AskedCalls.{asked}
 use Rattle.tw_generate.proofs.Results.{if-ok}
+use Rattle.tw_generate.proofs.Unrefused.{asked-fails}
 use Rattle.tw_generate.proofs.telling.answered.Goals as goal
 
 pub returns-clause-asked : goal.returns-clause-asked
@@ -10,3 +11,9 @@ returns-clause-asked g c = λ h plays.
 pub returns-clause-accepted : goal.returns-clause-accepted
 returns-clause-accepted g c = λ h plays. if-ok c.given.result (λ bytes is. let accepted =
     rw is at c.ask.ensures.accepted in accepted h plays.0) c.given.ensures
+
+pub given-requires : goal.given-requires
+given-requires g c =
+    let t = c.requires.takes in
+    asked-fails g.H.Hasher.dig g.D.Disk.view c.args.service.now c.ask.new.self t.0 t.1 c.args.question.now c.ask.result
+    t.2 c.ask.ensures

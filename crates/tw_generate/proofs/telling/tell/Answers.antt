@@ -12,6 +12,9 @@ use Rattle.tw_generate.specs.Playing.{HasHeard}
 use Rattle.tw_generate.proofs.AskedCalls.{received-by}
 use Rattle.tw_generate.proofs.HeardSteps.{has-heard}
 use Rattle.tw_generate.proofs.Parts.{made-of}
+use Rattle.tw_service.specs.Machine.Call.{Ask}
+use Rattle.tw_generate.specs.Coming.{IsNotRefused}
+use Rattle.tw_generate.proofs.Unrefused.{received-fails}
 use Rattle.tw_generate.proofs.telling.tell.Goals as goal
 
 pub returns : goal.returns
@@ -48,3 +51,21 @@ returns g c = λ a b sends takes known.
           (has-heard a b next m.thread _ _ (ap (λ (t : Thread). t.from) made.2.thread)
           (ap (λ (t : Thread). t.step) made.2.thread) received.2 since known);
     }
+
+pub answered-requires-clause-takes : goal.answered-requires-clause-takes
+answered-requires-clause-takes g c =
+    let can = c.requires in
+    (can.0, can.2, subst (λ n. IsNotRefused g.H.Hasher.dig can.0 (Ask (ThreadOut n))) (sym can.4) can.5.0)
+
+pub given-requires : goal.given-requires
+unfolding Makes
+given-requires g c =
+    let dig : List ℕ → List ℕ = g.H.Hasher.dig in
+    let can = c.requires in
+    let told = c.in_ok-bytes.ensures.asked can.0 can.2 in
+    let made = made-of dig can.0 (ThreadOut c.args.last.now) c.in_ok-bytes.bytes told.1 in
+    let m : Message = made.0 in
+    received-fails dig g.D.Disk.view c.args.to.now c.receive.new.self can.1 can.3 c.as_slice.result.now m
+    c.receive.result
+    (can.5.1 m (subst (λ n. IsMessageOf dig can.0 n m) can.4 made.2))
+    (subst (λ (bytes : List ℕ). Spells message_layout bytes m) (sym c.as_slice.ensures) made.1) c.receive.ensures

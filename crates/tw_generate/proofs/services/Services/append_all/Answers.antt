@@ -1,5 +1,6 @@
-use Rattle.std.proofs.Common.{List, ℕ}
+use Rattle.std.proofs.Common.{List, ℕ, refl}
 use Rattle.tw_generate.proofs.Leading.{all-append, heard-events, with_steps}
+use Rattle.tw_generate.specs.Coming.{AllCanBeDone}
 use Rattle.tw_generate.proofs.services.Services.append_all.Goals as goal
 
 pub returns : goal.returns
@@ -19,3 +20,15 @@ returns g c = λ t plays.
         gamma_heard = heard-events _ _ _ t.gamma _ _ e plays.gamma_heard;
       },
     )
+
+pub append-requires : goal.append-requires
+unfolding AllCanBeDone
+append-requires g c = let can = c.requires in (can.0.alpha, can.1.alpha, can.2.0)
+
+pub append-requires-2 : goal.append-requires-2
+unfolding AllCanBeDone
+append-requires-2 g c = let can = c.requires in (can.0.beta, can.1.beta, (can.2.1 _ refl).0)
+
+pub append-requires-3 : goal.append-requires-3
+unfolding AllCanBeDone
+append-requires-3 g c = let can = c.requires in (can.0.gamma, can.1.gamma, ((can.2.1 _ refl).1 _ refl).0)

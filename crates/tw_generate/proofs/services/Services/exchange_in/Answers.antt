@@ -3,6 +3,7 @@ use Rattle.std.specs.Prelude.{◌==◌, OnOk, if◌then◌else◌}
 use Rattle.tw_generate.specs.Playing.{LeadsByActs}
 use Rattle.tw_generate.specs.Schedules.{all_tell}
 use Rattle.tw_generate.proofs.Leading.{leads-none}
+use Rattle.tw_generate.specs.Unrefused.{CanPlay}
 use Rattle.tw_generate.proofs.services.Services.exchange_in.Goals as goal
 
 pub returns-then-is_fiftieth : goal.returns-then-is_fiftieth
@@ -16,3 +17,9 @@ returns g c =
     let no : (c.args.number % 50 == 0) ≡ false = cc in
     subst (λ (b : Bool). LeadsByActs g.H.Hasher.dig g.D.Disk.view (if b then all_tell else []) c.args.self.now
     c.args.self.now) (sym no) (leads-none g.H.Hasher.dig g.D.Disk.view c.args.self.now)
+
+pub exchange-requires : goal.exchange-requires
+exchange-requires g c =
+    let yes : (c.args.number % 50 == 0) ≡ true = cc in
+    subst (λ (b : Bool). CanPlay g.H.Hasher.dig g.D.Disk.view (if b then all_tell else []) c.args.self.now) yes
+    c.requires
