@@ -1,7 +1,8 @@
 -- What was read of the files of parts, file after file.
 use Rattle.std.proofs.Common.{◌≡◌, ℕ, ◌+◌, ◌<◌, ◌≤◌, List, [], ◌∷◌, ◌++◌, length, take, ap, ◌∙◌, refl, sym, subst}
 use Rattle.std.proofs.Common.{arith, inl, inr}
-use Rattle.std.specs.Prelude.{Option, Some, None, Ok, Err, true, false, is_some}
+use Rattle.std.specs.Prelude.{Option, Some, None, Result, Ok, Err, true, false, is_some}
+use Rattle.std.proofs.lemmas.Bool.{cases_lt}
 use Rattle.std.proofs.lemmas.List.{length-append, length-take, take-append-le, take_all}
 use Rattle.tw_base.specs.kinds.Faults.{Rose}
 use Rattle.tw_base.specs.format.Formats.{IsPlace, Spells, SpellsNothing}
@@ -13,18 +14,21 @@ use Rattle.tw_base.specs.declared.kinds.failure.InputFault.{InputFault as Readin
 use Rattle.tw_base.specs.declared.kinds.failure.InputFault.TheVariants.{Failed, NoMemory}
 use Rattle.tw_text.specs.Faults.{fault_of_input}
 use Rattle.tw_text.specs.declared.fault.CommandFault.{CommandFault}
-use Rattle.tw_text.specs.declared.fault.CommandFault.TheVariants.{Unreadable}
+use Rattle.tw_text.specs.declared.fault.CommandFault.TheVariants.{DiskFault, InputFault, NoMemory as WantedMemory}
+use Rattle.tw_text.specs.declared.fault.CommandFault.TheVariants.{Refused, Unreadable, Unserved}
 use Rattle.tw_text.specs.declared.refusal.BadInput.{BadInput}
 use Rattle.tw_text.specs.declared.refusal.BadInput.TheVariants.{BadByte, BadLine, Unsound}
 use Rattle.tw_chain.specs.declared.proof.Proof.{Proof}
 use Rattle.tw_chain.specs.declared.proof.Proof.TheVariants.{Precedes}
+use Rattle.tw_join.specs.declared.joining.JoinFault.{JoinFault}
 use Rattle.tw_join.specs.declared.joining.JoinFault.TheVariants.{Gap}
 use Rattle.tw_join.specs.Joining.{Joins}
 use Rattle.tw_join.proofs.JoinedFronts.{joins-front}
 use Rattle.tw_chain.specs.Proofs.{proof_bytes, proof_layout}
 use Rattle.tw_join.proofs.JoinedSpelling.{joined-spelled}
 use Rattle.tw_chain.proofs.ProofSizes.{proof-size}
-use Rattle.tw_filecmd.specs.Joining.{AreProofsOfFiles, HasBadPartFile, IsNoProof, IsProofOf, JoinComes}
+use Rattle.tw_filecmd.specs.Joining.{AreProofsOfFiles, HasBadPartFile, IsNoProof, IsProofOf, JoinComes, TellsJoined}
+use Rattle.tw_filecmd.specs.declared.joining.Joined.{Joined}
 use Rattle.tw_filecmd.specs.Parts.{AreFirstOf, ArePartsRead, PartsCome}
 use Rattle.tw_filecmd.specs.declared.parts.TheConstants.{MOST_KEPT}
 use Rattle.tw_filecmd.specs.declared.joining.Joined.TheVariants.{Whole, Unfit}
@@ -116,19 +120,30 @@ module _ (told : Option Files) where
       )
 
   -- one that holds a proof, behind others that do: it is kept where there is room, and else not
-  pub read-kept : (files : List (List ℕ)) (kept : List Proof) (bad : Option BadInput) (file : List ℕ) (p : Proof)
+  read-kept : (files : List (List ℕ)) (kept : List Proof) (bad : Option BadInput) (file : List ℕ) (p : Proof)
       → is_some bad ≡ false
       → length kept < MOST_KEPT → IsProofOf told file p → ArePartsRead told files kept bad
       → ArePartsRead told (files ++ file ∷ []) (kept ++ p ∷ []) bad
   read-kept files kept None file p is few holds are = kept-more files kept file p few holds are
   read-kept files kept (Some bad) file p is few holds are = cc
 
-  pub read-full : (files : List (List ℕ)) (kept : List Proof) (bad : Option BadInput) (file : List ℕ) (p : Proof)
+  read-full : (files : List (List ℕ)) (kept : List Proof) (bad : Option BadInput) (file : List ℕ) (p : Proof)
       → is_some bad ≡ false
       → MOST_KEPT ≤ length kept → IsProofOf told file p → ArePartsRead told files kept bad
       → ArePartsRead told (files ++ file ∷ []) kept bad
   read-full files kept None file p is full holds are = kept-full files kept file p full holds are
   read-full files kept (Some bad) file p is full holds are = cc
+
+  pub read-more : (files : List (List ℕ)) (kept more : List Proof) (bad : Option BadInput) (file : List ℕ) (p : Proof)
+      → is_some bad ≡ false
+      → (length kept < MOST_KEPT → more ≡ kept ++ p ∷ []) → (MOST_KEPT ≤ length kept → more ≡ kept)
+      → IsProofOf told file p → ArePartsRead told files kept bad → ArePartsRead told (files ++ file ∷ []) more bad
+  read-more files kept more bad file p is room full holds are = elim (cases_lt (length kept) MOST_KEPT) [
+    | inl few ↦ subst (λ ps. ArePartsRead told (files ++ file ∷ []) ps bad) (sym (room few))
+        (read-kept files kept bad file p is few holds are)
+    | inr many ↦ subst (λ ps. ArePartsRead told (files ++ file ∷ []) ps bad) (sym (full many))
+        (read-full files kept bad file p is many holds are)
+  ]
 
   -- the first that holds none
   pub read-none : (files : List (List ℕ)) (kept : List Proof) (bad : Option BadInput) (file : List ℕ) (place : ℕ)
@@ -185,3 +200,18 @@ module _ (a : Asked) where
   leaves_gap files kept place are kept_join =
       let parts = are.0 in
       (parts, are.1, joins-front parts (Err (Gap place)) (subst (λ ps. Joins ps (Err (Gap place))) are.2 kept_join))
+
+  -- what the command tells of what they join to
+  pub tells_joined : (files : List (List ℕ)) (kept : List Proof) (joined : Result Proof JoinFault)
+      (told : Result Joined CommandFault) → AreFirstOf a.told files kept → Joins kept joined
+      → TellsJoined joined told → JoinComes a files told
+  tells_joined files kept joined (Ok (Whole bytes)) are joins told =
+      joins_parts files kept told.0 bytes are (subst (λ j. Joins kept j) told.1 joins) told.2
+  tells_joined files kept joined (Ok (Unfit place)) are joins told =
+      leaves_gap files kept place are (subst (λ j. Joins kept j) told joins)
+  tells_joined files kept joined (Err WantedMemory) are joins told = tt
+  tells_joined files kept joined (Err InputFault) are joins told = absurd told
+  tells_joined files kept joined (Err DiskFault) are joins told = absurd told
+  tells_joined files kept joined (Err (Refused refusal)) are joins told = absurd told
+  tells_joined files kept joined (Err (Unserved cause)) are joins told = absurd told
+  tells_joined files kept joined (Err (Unreadable bad)) are joins told = absurd told

@@ -8,10 +8,11 @@ use Rattle.tw_outside.specs.Files.{Files, IsThere, TellsBytes}
 use Rattle.tw_text.specs.declared.refusal.BadInput.TheVariants.{BadByte}
 use Rattle.tw_text.specs.declared.fault.CommandFault.{CommandFault}
 use Rattle.tw_text.specs.declared.fault.CommandFault.TheVariants.{Unreadable, InputFault, NoMemory}
+use Rattle.tw_join.specs.declared.joining.JoinFault.{JoinFault}
 use Rattle.tw_join.specs.declared.joining.JoinFault.TheVariants.{Gap}
 use Rattle.tw_chain.specs.declared.proof.Proof.{Proof}
 use Rattle.tw_join.specs.Joining.{Joins}
-use Rattle.tw_chain.specs.Proofs.{proof_layout}
+use Rattle.tw_chain.specs.Proofs.{proof_bytes, proof_layout}
 use Rattle.tw_filecmd.specs.declared.joining.Joined.{Joined}
 use Rattle.tw_filecmd.specs.declared.joining.Joined.TheVariants.{Whole, Unfit}
 
@@ -51,3 +52,10 @@ JoinComes a files (Err (Unreadable (BadByte named place))) = HasBadPartFile a.to
 JoinComes a files (Err InputFault) = (files ≢ []) × Rose a.before a.after
 JoinComes a files (Err NoMemory) = Unit {0}
 JoinComes a files _ = ⊥
+
+-- what the command tells of what parts join to: the bytes of the proof, or the number of the part that doesn't fit. Want of memory is free
+abbrev pub TellsJoined : Result Proof JoinFault → Result Joined CommandFault → Type 0
+TellsJoined joined (Ok (Whole bytes)) = (p : Proof) × (joined ≡ Ok p) × (bytes ≡ proof_bytes p)
+TellsJoined joined (Ok (Unfit place)) = joined ≡ Err (Gap place)
+TellsJoined joined (Err NoMemory) = Unit {0}
+TellsJoined joined (Err _) = ⊥

@@ -1,6 +1,6 @@
 // Reading the files of proofs that are to be joined.
 
-ghost use Rattle.std.specs.Prelude.{ℕ, List, [], ◌∷◌, ◌++◌, OnOk, Option};
+ghost use Rattle.std.specs.Prelude.{◌≡◌, ◌<◌, ◌≤◌, ℕ, List, [], ◌∷◌, ◌++◌, length, OnOk, Option};
 ghost use Rattle.tw_base.specs.kinds.Lists.{Each};
 ghost use Rattle.tw_outside.specs.Asked.{asked};
 ghost use Rattle.tw_outside.specs.Files.{Files, IsReadTo, IsThere};
@@ -62,14 +62,24 @@ impl Parts {
             return Ok(());
         }
         match read_proof(alloc, bytes) {
-            Ok(proof) => {
-                if self.proofs.len() < MOST_KEPT {
-                    self.proofs.push(proof)?;
-                }
-            }
+            Ok(proof) => self.keep(proof)?,
             Err(ReadFault::Malformed { place }) => self.bad = Some(bad_byte(alloc, file, place)?),
             Err(ReadFault::NoMemory) => return Err(NoMemory),
         }
         Ok(())
+    }
+
+    /// Keeps the proof behind the others, unless as many are kept as decide.
+    fn keep(&mut self, proof: Proof) -> Result<(), NoMemory>
+        ensures bad { self.new.bad ≡ self.old.bad }
+        ensures room { OnOk result (length self.old.proofs < MOST_KEPT → self.new.proofs ≡ self.old.proofs ++ proof ∷ []) }
+        ensures full { MOST_KEPT ≤ length self.old.proofs → self.new.proofs ≡ self.old.proofs }
+    {
+        if self.proofs.len() < MOST_KEPT {
+            self.proofs.push(proof)
+        } else {
+            drop(proof);
+            Ok(())
+        }
     }
 }

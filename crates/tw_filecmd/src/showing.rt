@@ -1,4 +1,4 @@
-// The command that shows an event of a history file.
+// The command `show`, which proves an event of a history file.
 
 ghost use Rattle.std.specs.Prelude.{IfErr, IfOk};
 ghost use Rattle.tw_base.specs.history.Sound.{IsSound};
@@ -15,6 +15,8 @@ use tw_outside::{Inputs, read_all};
 use tw_text::CommandFault;
 
 /// Shows the event of this index in this step of the named history.
+// It stays a call, so that other commands don't have its frame on the stack.
+#[inline(never)]
 pub fn show<I: Inputs>(
     alloc: Global,
     inputs: &mut I,

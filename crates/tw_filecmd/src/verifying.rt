@@ -1,4 +1,4 @@
-// The commands that judge a proof.
+// The commands `verify` and `strict`, which judge a proof.
 
 ghost use Rattle.tw_outside.specs.Asked.{asked};
 ghost use Rattle.tw_filecmd.specs.Verifying.{JudgingComes, VerifyFileComes, VerifyOneComes};

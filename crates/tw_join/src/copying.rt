@@ -4,7 +4,7 @@ ghost use Rattle.std.specs.Prelude.{◌≡◌, IfOk};
 
 use std::alloc::Global;
 use tw_base::{AncestorList, Bytes, EventPart, Labels, NoMemory, TreeProof};
-use tw_skipproof::{Link, LinkList, Opening, Part, Path};
+use tw_skipproof::{ExistenceProof, Link, LinkList, Opening, Part, Path};
 
 /// A copy of the labels.
 fn copy_labels(alloc: Global, labels: &Labels) -> Result<Labels, NoMemory>
@@ -53,7 +53,7 @@ pub(crate) fn copy_path(alloc: Global, path: &Path) -> Result<Path, NoMemory>
 }
 
 /// A copy of the step under a top.
-pub(crate) fn copy_part(alloc: Global, at: &Part) -> Result<Part, NoMemory>
+fn copy_part(alloc: Global, at: &Part) -> Result<Part, NoMemory>
     ensures { IfOk result (λ copy. copy ≡ at.now) }
 {
     Ok(Part {
@@ -62,6 +62,19 @@ pub(crate) fn copy_part(alloc: Global, at: &Part) -> Result<Part, NoMemory>
         top: at.top,
         path: copy_path(alloc, &at.path)?,
         opening: copy_opening(alloc, &at.opening)?,
+    })
+}
+
+/// A copy of the proof that an event exists.
+pub(crate) fn copy_existence(
+    alloc: Global,
+    proof: &ExistenceProof,
+) -> Result<ExistenceProof, NoMemory>
+    ensures { IfOk result (λ copy. copy ≡ proof.now) }
+{
+    Ok(ExistenceProof {
+        at: copy_part(alloc, &proof.at)?,
+        event: copy_event(alloc, &proof.event)?,
     })
 }
 

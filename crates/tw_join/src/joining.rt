@@ -1,15 +1,14 @@
 // Joining proofs to one from event to event.
 
-ghost use Rattle.std.specs.Prelude.{◌≡◌, [], None, IfOk};
+ghost use Rattle.std.specs.Prelude.{◌≡◌, [], ◌∷◌, None, Some, IfOk};
 ghost use Rattle.std.specs.Option.{option_map};
-ghost use Rattle.tw_skipproof.specs.declared.existence.ExistenceProof.{ExistenceProof as AnyExistence};
 ghost use Rattle.tw_join.specs.declared.joining.JoinFault.TheVariants.{NoMemory as WantedMemory};
-ghost use Rattle.tw_chain.specs.declared.proof.Proof.TheVariants.{Linked};
+ghost use Rattle.tw_chain.specs.declared.proof.Proof.TheVariants.{Archived, Exists, Linked};
 ghost use Rattle.tw_join.specs.Joining.{Joins, hop_of as hop_of_joint, hops_before, is_key as is_key_of, is_link_of as is_link_of_thread, joined_of, wanted as wanted_of, with_part as with_part_more};
-ghost use Rattle.tw_join.specs.Joining.Taken.{Hops};
+ghost use Rattle.tw_join.specs.Joining.Taken.{Hops, Nothing};
 ghost use Rattle.tw_join.specs.TakenParts.{joint_of, joints_of, taken_of};
 
-use crate::copying::{copy_event, copy_opening, copy_part, copy_path, copy_tree_proof};
+use crate::copying::{copy_event, copy_existence, copy_opening, copy_path, copy_tree_proof};
 use std::alloc::Global;
 use tw_base::limits::MOST_HOPS;
 use tw_base::{Key, Name, NoMemory, Thread, entry_key};
@@ -77,24 +76,39 @@ fn is_link_of(thread: &Thread, link: &LinkProof) -> bool
     thread.from == link.service && thread.step == link.step && thread.auth == link.auth
 }
 
-/// The joints with the last one linked, where it isn't yet and the link is of its thread.
+/// The hops with these parts of one more.
+fn with_joint<'a>(
+    second: &'a ExistenceProof,
+    mut joints: Vec<Joint<'a>>,
+    joint: Joint<'a>,
+) -> Result<Option<Taken<'a>>, NoMemory>
+    ensures { IfOk result (λ next. option_map taken_of next
+        ≡ Some (Hops second.now (joint_of joint.entry ∷ joints_of joints.entry.items))) }
+{
+    joints.push(joint)?;
+    Ok(Some(Taken::Hops(second, joints)))
+}
+
+/// The hops with the last one linked, where it isn't yet and the link is of its thread.
 fn with_link<'a>(
+    second: &'a ExistenceProof,
     mut joints: Vec<Joint<'a>>,
     link: &'a LinkProof,
-) -> Result<Option<Vec<Joint<'a>>>, NoMemory>
-    ensures { (second : AnyExistence) → IfOk result (λ next. option_map (λ held. Hops second (joints_of held.items)) next
-        ≡ with_part_more (Hops second (joints_of joints.entry.items)) (Linked link.now)) }
+) -> Result<Option<Taken<'a>>, NoMemory>
+    ensures { IfOk result (λ next. option_map taken_of next
+        ≡ with_part_more (Hops second.now (joints_of joints.entry.items)) (Linked link.now)) }
 {
     if let Some(joint) = joints.pop()
         && joint.link.is_none()
         && is_link_of(&joint.thread.entry.thread, link)
     {
-        joints.push(Joint {
+        let linked = Joint {
             thread: joint.thread,
             link: Some(link),
-        })?;
-        return Ok(Some(joints));
+        };
+        return with_joint(second, joints, linked);
     }
+    drop(joints);
     Ok(None)
 }
 
@@ -106,31 +120,77 @@ fn with_part<'a>(
 ) -> Result<Option<Taken<'a>>, NoMemory>
     ensures { IfOk result (λ next. option_map taken_of next ≡ with_part_more (taken_of taken.entry) part.now) }
 {
-    match (taken, part) {
-        (Taken::Nothing, Proof::Exists(second)) => {
-            Ok(Some(Taken::Hops(second, Vec::new(alloc))))
+    match taken {
+        Taken::Nothing => Ok(with_second(alloc, part)),
+        Taken::Hops(second, joints) => with_hop_part(second, joints, part),
+        whole => {
+            drop(whole);
+            Ok(None)
         }
-        (Taken::Hops(second, mut joints), Proof::Archived(thread)) => {
-            let key = wanted(second, joints.as_slice());
-            if joints.len() as u64 >= MOST_HOPS
-                || !is_key(&key, &thread.at.service, thread.at.step)
-            {
-                return Ok(None);
-            }
-            joints.push(Joint { thread, link: None })?;
-            Ok(Some(Taken::Hops(second, joints)))
+    }
+}
+
+/// What is taken with this part as the first one, or none where it is no event's.
+fn with_second(alloc: Global, part: &Proof) -> Option<Taken<'_>>
+    ensures { option_map taken_of result ≡ with_part_more Nothing part.now }
+{
+    match part {
+        Proof::Exists(second) => Some(Taken::Hops(second, Vec::new(alloc))),
+        _ => None,
+    }
+}
+
+/// What is taken with one part more behind hops, or none where the part doesn't fit.
+fn with_hop_part<'a>(
+    second: &'a ExistenceProof,
+    joints: Vec<Joint<'a>>,
+    part: &'a Proof,
+) -> Result<Option<Taken<'a>>, NoMemory>
+    ensures { IfOk result (λ next. option_map taken_of next
+        ≡ with_part_more (Hops second.now (joints_of joints.entry.items)) part.now) }
+{
+    match part {
+        Proof::Archived(thread) => with_thread(second, joints, thread),
+        Proof::Linked(link) => with_link(second, joints, link),
+        Proof::Exists(first) => Ok(with_first(second, joints, first)),
+        Proof::Precedes(_) | Proof::Absent(_) => {
+            drop(joints);
+            Ok(None)
         }
-        (Taken::Hops(second, joints), Proof::Linked(link)) => {
-            Ok(with_link(joints, link)?.map(|joints| Taken::Hops(second, joints)))
-        }
-        (Taken::Hops(second, joints), Proof::Exists(first)) => {
-            let key = wanted(second, joints.as_slice());
-            if !is_key(&key, &first.at.service, first.at.top) {
-                return Ok(None);
-            }
-            Ok(Some(Taken::Whole(second, joints, first)))
-        }
-        _ => Ok(None),
+    }
+}
+
+/// The hops with that of one thread more, where it is wanted and they are few enough.
+fn with_thread<'a>(
+    second: &'a ExistenceProof,
+    joints: Vec<Joint<'a>>,
+    thread: &'a ThreadProof,
+) -> Result<Option<Taken<'a>>, NoMemory>
+    ensures { IfOk result (λ next. option_map taken_of next
+        ≡ with_part_more (Hops second.now (joints_of joints.entry.items)) (Archived thread.now)) }
+{
+    let key = wanted(second, joints.as_slice());
+    if joints.len() as u64 >= MOST_HOPS || !is_key(&key, &thread.at.service, thread.at.step) {
+        drop(joints);
+        return Ok(None);
+    }
+    with_joint(second, joints, Joint { thread, link: None })
+}
+
+/// All parts with the first event's, where that is under the step that is wanted.
+fn with_first<'a>(
+    second: &'a ExistenceProof,
+    joints: Vec<Joint<'a>>,
+    first: &'a ExistenceProof,
+) -> Option<Taken<'a>>
+    ensures { option_map taken_of result ≡ with_part_more (Hops second.now (joints_of joints.entry.items)) (Exists first.now) }
+{
+    let key = wanted(second, joints.as_slice());
+    if is_key(&key, &first.at.service, first.at.top) {
+        Some(Taken::Whole(second, joints, first))
+    } else {
+        drop(joints);
+        None
     }
 }
 
@@ -184,17 +244,26 @@ fn whole(
     ensures { IfOk result (λ p. p ≡ joined_of second.now (joints_of joints.entry.items) first.now) }
 {
     let (before, hops) = hops_of(alloc, joints)?;
+    let tail = tail_of(alloc, first)?;
+    let ExistenceProof { at: head, event } = copy_existence(alloc, second)?;
     Ok(PrecedenceProof {
-        head: copy_part(alloc, &second.at)?,
-        event: copy_event(alloc, &second.event)?,
+        head,
+        event,
         before,
         hops,
-        tail: Tail {
-            step: first.at.step,
-            path: copy_path(alloc, &first.at.path)?,
-            opening: copy_opening(alloc, &first.at.opening)?,
-            event: copy_event(alloc, &first.event)?,
-        },
+        tail,
+    })
+}
+
+/// The tail of a proof, of that of the first event.
+fn tail_of(alloc: Global, first: &ExistenceProof) -> Result<Tail, NoMemory>
+    ensures { IfOk result (λ tail. tail ≡ (joined_of first.now [] first.now).tail) }
+{
+    Ok(Tail {
+        step: first.at.step,
+        path: copy_path(alloc, &first.at.path)?,
+        opening: copy_opening(alloc, &first.at.opening)?,
+        event: copy_event(alloc, &first.event)?,
     })
 }
 

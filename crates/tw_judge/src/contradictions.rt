@@ -1,4 +1,4 @@
-// What is told of two files that may contradict each other.
+// What the library tells of two files that may contradict each other. The program has no command for it.
 
 ghost use Rattle.std.specs.Prelude.{◌≡◌, ◌++◌, IfOk, codes};
 // (The check has to know the type of a reason within a verdict.)
@@ -49,7 +49,7 @@ pub fn judge_contradiction(
         Err(AnchorFault::NoMemory) => return Err(NoMemory),
     };
     match read_anchors(alloc, second_anchors) {
-        Ok(others) => judge_under(
+        Ok(others) => judge_both(
             alloc,
             first,
             held.as_slice(),
@@ -63,7 +63,7 @@ pub fn judge_contradiction(
 }
 
 /// What is told of both files under these anchors.
-fn judge_under(
+fn judge_both(
     alloc: Global,
     first: &[u8],
     anchors: &[Thread],

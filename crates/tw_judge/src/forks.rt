@@ -1,4 +1,4 @@
-// What is told of the evidence of a fork.
+// What the library tells of the evidence of a fork: the status and the text of `checkfork`.
 
 ghost use Rattle.std.specs.Prelude.{◌≡◌, IfOk};
 // (The check has to know the type of a reason within a verdict.)

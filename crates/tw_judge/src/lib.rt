@@ -1,4 +1,6 @@
-// Judging the bytes of a proof under the bytes of an anchors file: the status and the text that the program ends with for them.
+// What the library tells of the bytes of a proof, of map files, of a fork's evidence and of two files that may
+// contradict each other, under those of anchors files: a status and a text. For all but the last they are those with
+// which the program ends for such files, as `tw_app/src/judging.rt` proves.
 #![tactic(auto)]
 
 mod contradictions;

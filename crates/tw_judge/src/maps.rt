@@ -1,14 +1,16 @@
-// What is told of two map files.
+// What the library tells of two map files: the status and the text of `checkmap`.
 
-ghost use Rattle.std.specs.Prelude.{◌≡◌, IfOk};
+ghost use Rattle.std.specs.Prelude.{◌≡◌, ℕ, List, IfOk};
+ghost use Rattle.tw_base.specs.format.Formats.{Spells};
 ghost use Rattle.tw_judge.specs.Maps.{AreMapsTold, map_status};
+ghost use Rattle.tw_tmap.specs.MapFiles.{high_codec, high_layout, low_codec, low_layout};
 ghost use Rattle.tw_tmap.specs.Texts.{map_text};
 
 use crate::told::{Told, tell_byte, tell_line};
 use std::alloc::Global;
 use tw_base::{NoMemory, ReadFault, Sha};
 use tw_msg::{AnchorFault, read_anchors};
-use tw_tmap::{MapVerdict, check_map, print_map, read_high, read_low};
+use tw_tmap::{HighFile, LowFile, MapVerdict, check_map, print_map, read_high, read_low};
 
 /// Judges the bytes of a low and of a high map file under those of an anchors file, each with the name of
 /// its file beside it. The status and the text are those of the program's `checkmap`: 0 with the bounds, 1
@@ -29,19 +31,60 @@ pub fn judge_maps(
     ensures { IfOk result (λ told. AreMapsTold (record { low = low.now; high = high.now; anchors = anchors.now })
         (record { low = low_file.now; high = high_file.now; anchors = anchors_file.now }) told.status told.text) }
 {
-    let low = match read_low(alloc, low) {
-        Ok(low) => low,
-        Err(ReadFault::Malformed { place }) => return Ok(tell_byte(alloc, low_file, place)?),
-        Err(ReadFault::NoMemory) => return Err(NoMemory),
-    };
-    let high = match read_high(alloc, high) {
-        Ok(high) => high,
-        Err(ReadFault::Malformed { place }) => return Ok(tell_byte(alloc, high_file, place)?),
-        Err(ReadFault::NoMemory) => return Err(NoMemory),
-    };
+    match read_low(alloc, low) {
+        Ok(low) => {
+            let told = judge_high(alloc, &low, high_file, high, anchors_file, anchors);
+            drop(low);
+            told
+        }
+        Err(ReadFault::Malformed { place }) => Ok(tell_byte(alloc, low_file, place)?),
+        Err(ReadFault::NoMemory) => Err(NoMemory),
+    }
+}
+
+/// Judges the bytes of a high map file beside a low one, under those of an anchors file.
+fn judge_high(
+    alloc: Global,
+    low: &LowFile,
+    high_file: &str,
+    high: &[u8],
+    anchors_file: &str,
+    anchors: &[u8],
+) -> Result<Told, NoMemory>
+    requires { low_codec.Fits low.now }
+    ensures { IfOk result (λ told. (low_bytes low_name : List ℕ) → Spells low_layout low_bytes low.now →
+        AreMapsTold (record { low = low_bytes; high = high.now; anchors = anchors.now })
+        (record { low = low_name; high = high_file.now; anchors = anchors_file.now }) told.status told.text) }
+{
+    match read_high(alloc, high) {
+        Ok(high) => {
+            let told = judge_files(alloc, low, &high, anchors_file, anchors);
+            drop(high);
+            told
+        }
+        Err(ReadFault::Malformed { place }) => Ok(tell_byte(alloc, high_file, place)?),
+        Err(ReadFault::NoMemory) => Err(NoMemory),
+    }
+}
+
+/// Judges both map files under the bytes of an anchors file.
+fn judge_files(
+    alloc: Global,
+    low: &LowFile,
+    high: &HighFile,
+    anchors_file: &str,
+    anchors: &[u8],
+) -> Result<Told, NoMemory>
+    requires low { low_codec.Fits low.now }
+    requires high { high_codec.Fits high.now }
+    ensures { IfOk result (λ told. (low_bytes low_name high_bytes high_name : List ℕ) → Spells low_layout low_bytes low.now →
+        Spells high_layout high_bytes high.now → AreMapsTold (record { low = low_bytes; high = high_bytes; anchors = anchors.now })
+        (record { low = low_name; high = high_name; anchors = anchors_file.now }) told.status told.text) }
+{
     match read_anchors(alloc, anchors) {
         Ok(held) => {
-            let verdict = check_map::<Sha>(&low, &high, held.as_slice());
+            let verdict = check_map::<Sha>(low, high, held.as_slice());
+            drop(held);
             Ok(tell_verdict(alloc, &verdict)?)
         }
         Err(AnchorFault::BadLine { line }) => Ok(tell_line(alloc, anchors_file, line)?),

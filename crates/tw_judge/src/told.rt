@@ -1,4 +1,5 @@
-// What is told of a proof.
+// What the library tells of a proof, the status and text of `verify` and `strict`; and of a bad line or byte of any
+// file.
 
 ghost use Rattle.std.specs.Prelude.{◌≡◌, IfOk};
 ghost use Rattle.tw_judge.specs.Told.{IsTold, verdict_status, verdict_text};

@@ -1,11 +1,15 @@
 -- Words that are none of a table's, and paths counted word by word.
 use Rattle.std.proofs.Common.{◌≡◌, ℕ, ◌+◌, ◌<◌, List, ◌∷◌, length, drop, map, suc, get_or, if◌then◌else◌, ap, ◌∙◌, sym}
-use Rattle.std.proofs.Common.{add-one, Bool, true, false, refl, subst, nat_le, None, Some, Err, []}
+use Rattle.std.proofs.Common.{add-one, Bool, true, false, refl, subst, nat_le, Option, None, Some, Result, Ok, Err, [], ◌++◌}
 use Rattle.std.proofs.Math.Seq.{drop-cons}
 use Rattle.std.specs.Bool.{Decides}
+use Rattle.std.specs.Option.{option_map_or}
 use Rattle.std.specs.Str.{bytes_eq}
 use Rattle.std.proofs.lemmas.Slice.Eq.{bytes_eq-Decides}
-use Rattle.tw_words.specs.Forms.{Form, choose_form, count_paths, form_named, next}
+use Rattle.tw_words.specs.Forms.{Form, choose_form, count_paths, form_named, go_on, next}
+use Rattle.tw_words.specs.Takings.{MakesCommand, MakesNamed}
+use Rattle.tw_words.specs.declared.command.Command.{Command}
+use Rattle.tw_words.specs.declared.cursor.Stop.{Stop}
 
 -- the word names no form of the table
 abbrev pub IsOther : List (List ℕ × Form) → List ℕ → Type 0
@@ -31,6 +35,57 @@ none_chosen rows words word behind is other = subst (λ ws. choose_form rows ws 
   where
     stops : choose_form rows (word ∷ behind) ≡ Err (suc (length behind))
     stops = rw (none_named rows word other) refl
+
+module _ (word : List ℕ) (behind : List (List ℕ)) where
+  -- what is made of a form of the first of two tables is made of both
+  pub first_table : (one other : List (List ℕ × Form)) (made : Result Command Stop)
+      → MakesNamed (form_named one word) behind (Some made) → MakesNamed (form_named (one ++ other) word) behind (Some made)
+  first_table [] other made makes = absurd makes
+  first_table (row ∷ one) other made makes = by (bytes_eq word row.0) (first_table one other made) makes
+    where
+      by : (b : Bool) → (MakesNamed (form_named one word) behind (Some made)
+          → MakesNamed (form_named (one ++ other) word) behind (Some made))
+          → MakesNamed (if b then Some row.1 else form_named one word) behind (Some made)
+          → MakesNamed (if b then Some row.1 else form_named (one ++ other) word) behind (Some made)
+      by true further makes = makes
+      by false further makes = further makes
+
+  -- where the first names none, of the second
+  pub second_table : (one other : List (List ℕ × Form)) (made : Option (Result Command Stop))
+      → MakesNamed (form_named one word) behind None → MakesNamed (form_named other word) behind made
+      → MakesNamed (form_named (one ++ other) word) behind made
+  second_table [] other made none makes = makes
+  second_table (row ∷ one) other made none makes = by (bytes_eq word row.0)
+      (λ none. second_table one other made none makes) none
+    where
+      by : (b : Bool) → (MakesNamed (form_named one word) behind None
+          → MakesNamed (form_named (one ++ other) word) behind made)
+          → MakesNamed (if b then Some row.1 else form_named one word) behind None
+          → MakesNamed (if b then Some row.1 else form_named (one ++ other) word) behind made
+      by true further none = absurd none
+      by false further none = further none
+
+  -- what is made of the form that the first word names is what the table makes of the words
+  pub makes_chosen : (rows : List (List ℕ × Form)) (words : List (List ℕ)) (made : Result Command Stop) → words ≡ word ∷ behind
+      → MakesNamed (form_named rows word) behind (Some made) → MakesCommand (choose_form rows words) made
+  unfolding next
+  makes_chosen rows words made is makes = subst (λ ws. MakesCommand (choose_form rows ws) made) (sym is) (by (form_named rows word) makes)
+    where
+      by : (o : Option Form) → MakesNamed o behind (Some made)
+          → MakesCommand (go_on (option_map_or (λ form. Ok (form, behind)) o (Err (suc (length behind)))) (λ form. form)) made
+      by (Some form) makes = makes
+      by None makes = absurd makes
+
+  -- where it names none, none goes on at it
+  pub none_made : (rows : List (List ℕ × Form)) (words : List (List ℕ)) → words ≡ word ∷ behind
+      → MakesNamed (form_named rows word) behind None → choose_form rows words ≡ Err (length words)
+  unfolding next
+  none_made rows words is none = subst (λ ws. choose_form rows ws ≡ Err (length ws)) (sym is) (by (form_named rows word) none)
+    where
+      by : (o : Option Form) → MakesNamed o behind None
+          → go_on (option_map_or (λ form. Ok (form, behind)) o (Err (suc (length behind)))) (λ form. form) ≡ Err (suc (length behind))
+      by (Some form) none = absurd none
+      by None none = refl
 
 -- the count from a word on, by whether that word is a path
 pub count_paths-drop : {S : Type 0} (text : S → List ℕ) (words : List S) (i : ℕ) (word : S) → i < length words

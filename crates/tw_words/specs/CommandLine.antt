@@ -134,13 +134,24 @@ generate = any_number (λ seed. number_form 1 MOST_GENERATED (λ steps. end (Gen
 
 -- ---- all forms, by their first word
 
-abbrev pub commands : List (List ℕ × Form)
-commands =
+-- those over a store
+abbrev pub store_commands : List (List ℕ × Form)
+store_commands =
     (codes "init", init) ∷ (codes "append", append) ∷ (codes "thread", thread) ∷ (codes "receive", receive) ∷ (codes "prove", prove)
-    ∷ (codes "map", map) ∷ (codes "export", export) ∷ (codes "show", show) ∷ (codes "join", join) ∷ (codes "verify", verify)
-    ∷ (codes "strict", strict) ∷ (codes "checkmap", check_map) ∷ (codes "audit", audit) ∷ (codes "atlas", atlas)
-    ∷ (codes "accuse", accuse) ∷ (codes "checkfork", check_fork) ∷ (codes "adopt", adopt) ∷ (codes "watch", watch)
-    ∷ (codes "offer", offer) ∷ (codes "heads", heads) ∷ (codes "replay", replay) ∷ (codes "generate", generate) ∷ []
+    ∷ (codes "map", map) ∷ (codes "export", export) ∷ (codes "watch", watch) ∷ (codes "offer", offer) ∷ (codes "heads", heads) ∷ []
+
+-- those over files alone
+abbrev pub file_commands : List (List ℕ × Form)
+file_commands =
+    (codes "show", show) ∷ (codes "join", join) ∷ (codes "verify", verify) ∷ (codes "strict", strict) ∷ (codes "checkmap", check_map)
+    ∷ (codes "audit", audit) ∷ (codes "replay", replay) ∷ (codes "generate", generate) ∷ []
+
+-- those over files that reach beyond one proof
+abbrev pub reach_commands : List (List ℕ × Form)
+reach_commands = (codes "atlas", atlas) ∷ (codes "accuse", accuse) ∷ (codes "checkfork", check_fork) ∷ (codes "adopt", adopt) ∷ []
+
+abbrev pub commands : List (List ℕ × Form)
+commands = store_commands ++ file_commands ++ reach_commands
 
 -- ---- the meaning of words
 

@@ -1,6 +1,6 @@
 -- What the code's walk over words answers, by the forms.
-use Rattle.std.specs.Prelude.{◌≡◌, ℕ, List, Option, Result, Ok, Err, IsOk}
-use Rattle.tw_words.specs.Forms.{WordsReading, next}
+use Rattle.std.specs.Prelude.{◌≡◌, ℕ, List, Option, Some, None, Result, Ok, Err, IsOk}
+use Rattle.tw_words.specs.Forms.{Form, WordsReading, next}
 use Rattle.tw_words.specs.Ranges.{IsWithinRanges}
 use Rattle.tw_words.specs.declared.command.Command.{Command}
 use Rattle.tw_words.specs.declared.cursor.Stop.{Stop}
@@ -25,3 +25,10 @@ abbrev pub MakesCommand : WordsReading Command → Result Command Stop → Type 
 MakesCommand reading (Ok command) = (reading ≡ Ok command) × IsWithinRanges command
 MakesCommand reading (Err (At left)) = reading ≡ Err left
 MakesCommand reading (Err NoMemory) = IsOk reading
+
+-- it is what the named form makes of the words behind its name, or none where no form is named
+abbrev pub MakesNamed : Option Form → List (List ℕ) → Option (Result Command Stop) → Type 0
+MakesNamed (Some form) behind (Some made) = MakesCommand (form behind) made
+MakesNamed (Some form) behind None = ⊥
+MakesNamed None behind (Some made) = ⊥
+MakesNamed None behind None = Unit {0}

@@ -1,10 +1,12 @@
-// The forms of commands over files alone, behind their first word.
+// The forms of `show`, `join`, `verify`, `strict`, `checkmap`, `audit`, `replay` and `generate`, behind their first word;
+// reach_forms.rt has those of `atlas`, `accuse`, `checkfork` and `adopt`, store_forms.rt those over stores.
 
-ghost use Rattle.std.specs.Prelude.{◌≡◌, ◌++◌, ℕ, List, map, Err, OnOk};
+ghost use Rattle.std.specs.Prelude.{◌≡◌, ◌++◌, ◌∷◌, [], ℕ, List, map, Err, IfOk, OnOk};
 ghost use Rattle.std.specs.String.{string_bytes};
 ghost use Rattle.tw_words.specs.CommandLine as forms;
-ghost use Rattle.tw_words.specs.Forms.{Form, either};
-ghost use Rattle.tw_words.specs.Takings.{MakesCommand};
+ghost use Rattle.tw_words.specs.declared.command.Command.TheVariants as Command;
+ghost use Rattle.tw_words.specs.Forms.{Form, either, form_named};
+ghost use Rattle.tw_words.specs.Takings.{MakesCommand, MakesNamed};
 
 use crate::command::Command;
 use crate::cursor::{Stop, Words};
@@ -14,9 +16,30 @@ use tw_base::limits::LAST_STEP;
 use tw_base::{NoMemory, Sequence, Thread};
 use tw_text::FilePath;
 
+/// The command of the form over files alone that the word names, of the words behind it; None where it names none of them.
+pub(crate) fn file_command(
+    alloc: Global,
+    word: &str,
+    behind: Words<'_>,
+) -> Option<Result<Command, Stop>>
+    ensures { MakesNamed (form_named forms.file_commands word.now) (map string_bytes behind.entry.left.now) result }
+{
+    match word {
+        "show" => Some(show(alloc, behind)),
+        "join" => Some(join(alloc, behind)),
+        "verify" => Some(verify(alloc, behind)),
+        "strict" => Some(strict(alloc, behind)),
+        "checkmap" => Some(check_map(alloc, behind)),
+        "audit" => Some(audit(alloc, behind)),
+        "replay" => Some(replay(alloc, behind)),
+        "generate" => Some(generate(behind)),
+        _ => None,
+    }
+}
+
 /// `show HISTORY STEP INDEX`
 #[tactic(auto, unfolding(crate::specs::CommandLine::show))]
-pub(crate) fn show(alloc: Global, mut words: Words<'_>) -> Result<Command, Stop>
+fn show(alloc: Global, mut words: Words<'_>) -> Result<Command, Stop>
     ensures { MakesCommand (forms.show (map string_bytes words.entry.left.now)) result }
 {
     let history = words.path()?;
@@ -33,22 +56,29 @@ pub(crate) fn show(alloc: Global, mut words: Words<'_>) -> Result<Command, Stop>
 
 /// `join FILE FILE ..`
 #[tactic(auto, unfolding(crate::specs::CommandLine::join))]
-pub(crate) fn join(alloc: Global, mut words: Words<'_>) -> Result<Command, Stop>
+fn join(alloc: Global, mut words: Words<'_>) -> Result<Command, Stop>
     ensures { MakesCommand (forms.join (map string_bytes words.entry.left.now)) result }
 {
     let one = words.path()?;
     let two = words.path()?;
     let more = words.paths(words.left.len())?;
+    Ok(join_of(alloc, one, two, more)?)
+}
+
+/// The command that joins the files of these paths.
+fn join_of(alloc: Global, one: &str, two: &str, more: &[String]) -> Result<Command, NoMemory>
+    ensures { IfOk result (λ command. command ≡ Command.Join (one.now ∷ two.now ∷ map string_bytes more.now)) }
+{
     let mut files = Sequence::new(alloc);
-    files.push(FilePath::new(alloc, one)?)?;
-    files.push(FilePath::new(alloc, two)?)?;
+    push_path(alloc, &mut files, one)?;
+    push_path(alloc, &mut files, two)?;
     push_paths(alloc, &mut files, more)?;
     Ok(Command::Join { files })
 }
 
 /// `verify PROOF ANCHORS`, and else `verify PROOF NAME POS HEX`
 #[tactic(auto, unfolding(crate::specs::CommandLine::verify))]
-pub(crate) fn verify(alloc: Global, mut words: Words<'_>) -> Result<Command, Stop>
+fn verify(alloc: Global, mut words: Words<'_>) -> Result<Command, Stop>
     ensures { MakesCommand (forms.verify (map string_bytes words.entry.left.now)) result }
 {
     let proof = words.path()?;
@@ -86,7 +116,7 @@ fn verify_one(alloc: Global, proof: &str, mut words: Words<'_>) -> Result<Comman
 
 /// `strict PROOF ANCHORS`
 #[tactic(auto, unfolding(crate::specs::CommandLine::strict))]
-pub(crate) fn strict(alloc: Global, mut words: Words<'_>) -> Result<Command, Stop>
+fn strict(alloc: Global, mut words: Words<'_>) -> Result<Command, Stop>
     ensures { MakesCommand (forms.strict (map string_bytes words.entry.left.now)) result }
 {
     let proof = words.path()?;
@@ -99,7 +129,7 @@ pub(crate) fn strict(alloc: Global, mut words: Words<'_>) -> Result<Command, Sto
 
 /// `checkmap LOW HIGH ANCHORS`
 #[tactic(auto, unfolding(crate::specs::CommandLine::check_map))]
-pub(crate) fn check_map(alloc: Global, mut words: Words<'_>) -> Result<Command, Stop>
+fn check_map(alloc: Global, mut words: Words<'_>) -> Result<Command, Stop>
     ensures { MakesCommand (forms.check_map (map string_bytes words.entry.left.now)) result }
 {
     let low = words.path()?;
@@ -115,16 +145,26 @@ pub(crate) fn check_map(alloc: Global, mut words: Words<'_>) -> Result<Command, 
 
 /// `audit PROOF ANCHORS HISTORY ..`
 #[tactic(auto, unfolding(crate::specs::CommandLine::audit))]
-pub(crate) fn audit(alloc: Global, mut words: Words<'_>) -> Result<Command, Stop>
+fn audit(alloc: Global, mut words: Words<'_>) -> Result<Command, Stop>
     ensures { MakesCommand (forms.audit (map string_bytes words.entry.left.now)) result }
 {
     let proof = words.path()?;
     let anchors = words.path()?;
     let one = words.path()?;
     let more = words.paths(MOST_HISTORIES - 1)?;
-    let mut histories = Sequence::new(alloc);
-    histories.push(FilePath::new(alloc, one)?)?;
-    push_paths(alloc, &mut histories, more)?;
+    let histories = paths_of(alloc, one, more)?;
+    Ok(audit_of(alloc, proof, anchors, histories)?)
+}
+
+/// The command that audits the proof of this path under the anchors of that one, over these histories.
+fn audit_of(
+    alloc: Global,
+    proof: &str,
+    anchors: &str,
+    histories: Sequence<FilePath>,
+) -> Result<Command, NoMemory>
+    ensures { IfOk result (λ command. command ≡ Command.Audit proof.now anchors.now histories) }
+{
     Ok(Command::Audit {
         proof: FilePath::new(alloc, proof)?,
         anchors: FilePath::new(alloc, anchors)?,
@@ -134,7 +174,7 @@ pub(crate) fn audit(alloc: Global, mut words: Words<'_>) -> Result<Command, Stop
 
 /// `replay FILE`
 #[tactic(auto, unfolding(crate::specs::CommandLine::replay))]
-pub(crate) fn replay(alloc: Global, mut words: Words<'_>) -> Result<Command, Stop>
+fn replay(alloc: Global, mut words: Words<'_>) -> Result<Command, Stop>
     ensures { MakesCommand (forms.replay (map string_bytes words.entry.left.now)) result }
 {
     let file = words.path()?;
@@ -145,7 +185,7 @@ pub(crate) fn replay(alloc: Global, mut words: Words<'_>) -> Result<Command, Sto
 
 /// `generate NUMBER STEPS`
 #[tactic(auto, unfolding(crate::specs::CommandLine::generate))]
-pub(crate) fn generate(mut words: Words<'_>) -> Result<Command, Stop>
+fn generate(mut words: Words<'_>) -> Result<Command, Stop>
     ensures { MakesCommand (forms.generate (map string_bytes words.entry.left.now)) result }
 {
     let number = words.number(0, u64::MAX)?;
@@ -166,6 +206,27 @@ pub(crate) fn or_further(left: usize, second: Result<Command, Stop>) -> Result<C
     }
 }
 
+/// The first path, and these behind it.
+pub(crate) fn paths_of(
+    alloc: Global,
+    first: &str,
+    more: &[String],
+) -> Result<Sequence<FilePath>, NoMemory>
+    ensures { IfOk result (λ paths. paths ≡ first.now ∷ map string_bytes more.now) }
+{
+    let mut paths = Sequence::new(alloc);
+    push_path(alloc, &mut paths, first)?;
+    push_paths(alloc, &mut paths, more)?;
+    Ok(paths)
+}
+
+/// Puts the word as a path at the end.
+fn push_path(alloc: Global, paths: &mut Sequence<FilePath>, word: &str) -> Result<(), NoMemory>
+    ensures { OnOk result (paths.new ≡ paths.old ++ word.now ∷ []) }
+{
+    paths.push(FilePath::new(alloc, word)?)
+}
+
 /// Puts the words as paths at the end.
 pub(crate) fn push_paths(
     alloc: Global,
@@ -175,7 +236,7 @@ pub(crate) fn push_paths(
     ensures { OnOk result (paths.new ≡ paths.old ++ map string_bytes words.now) }
 {
     for word in words {
-        paths.push(FilePath::new(alloc, word.as_str())?)?;
+        push_path(alloc, paths, word.as_str())?;
     }
     Ok(())
 }

@@ -1,4 +1,4 @@
-// The limits of commands.
+// The limits of commands: how many histories, files of receipts, proofs and generated steps one may have.
 
 ghost use Rattle.std.specs.Prelude.{◌≡◌};
 

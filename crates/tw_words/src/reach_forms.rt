@@ -1,37 +1,54 @@
 // The forms of commands over files that reach beyond one proof, behind their first word.
 
-ghost use Rattle.std.specs.Prelude.{map};
+ghost use Rattle.std.specs.Prelude.{◌≡◌, map, IfOk};
 ghost use Rattle.std.specs.String.{string_bytes};
 ghost use Rattle.tw_words.specs.CommandLine as forms;
-ghost use Rattle.tw_words.specs.Takings.{MakesCommand};
+ghost use Rattle.tw_words.specs.declared.command.Command.TheVariants as Command;
+ghost use Rattle.tw_words.specs.Forms.{form_named};
+ghost use Rattle.tw_words.specs.Takings.{MakesCommand, MakesNamed};
 
 use crate::command::Command;
 use crate::cursor::{Stop, Words};
-use crate::file_forms::{or_further, push_paths};
+use crate::file_forms::{or_further, paths_of, push_paths};
 use crate::limits::{MOST_ADOPTING, MOST_RECEIPT_FILES};
 use std::alloc::Global;
-use tw_base::Sequence;
 use tw_base::limits::LAST_STEP;
+use tw_base::{NoMemory, Sequence};
 use tw_text::FilePath;
+
+/// The command of the form over files that reach beyond one proof that the word names, of the words behind it; None where it names none of them.
+pub(crate) fn reach_command(
+    alloc: Global,
+    word: &str,
+    behind: Words<'_>,
+) -> Option<Result<Command, Stop>>
+    ensures { MakesNamed (form_named forms.reach_commands word.now) (map string_bytes behind.entry.left.now) result }
+{
+    match word {
+        "atlas" => Some(atlas(alloc, behind)),
+        "accuse" => Some(accuse(alloc, behind)),
+        "checkfork" => Some(check_fork(alloc, behind)),
+        "adopt" => Some(adopt(alloc, behind)),
+        _ => None,
+    }
+}
 
 /// `atlas NAME POS FILE ..`
 #[tactic(auto, unfolding(crate::specs::CommandLine::atlas))]
-pub(crate) fn atlas(alloc: Global, mut words: Words<'_>) -> Result<Command, Stop>
+fn atlas(alloc: Global, mut words: Words<'_>) -> Result<Command, Stop>
     ensures { MakesCommand (forms.atlas (map string_bytes words.entry.left.now)) result }
 {
     let name = words.name()?;
     let pos = words.number(1, LAST_STEP)?;
     let one = words.path()?;
     let more = words.paths(MOST_RECEIPT_FILES - 1)?;
-    let mut files = Sequence::new(alloc);
-    files.push(FilePath::new(alloc, one)?)?;
-    push_paths(alloc, &mut files, more)?;
+    let files = paths_of(alloc, one, more)?;
     Ok(Command::Atlas { name, pos, files })
 }
 
 /// `accuse PROOF PROOF`, and else `accuse PROOF PROOF LINK`
 #[tactic(auto, unfolding(crate::specs::CommandLine::accuse))]
-pub(crate) fn accuse(alloc: Global, mut words: Words<'_>) -> Result<Command, Stop>
+fn accuse(alloc: Global, mut words: Words<'_>) -> Result<Command, Stop>
     ensures { MakesCommand (forms.accuse (map string_bytes words.entry.left.now)) result }
 {
     let first = words.path()?;
@@ -76,7 +93,7 @@ fn accuse_linked(
 
 /// `checkfork FILE ANCHORS`
 #[tactic(auto, unfolding(crate::specs::CommandLine::check_fork))]
-pub(crate) fn check_fork(alloc: Global, mut words: Words<'_>) -> Result<Command, Stop>
+fn check_fork(alloc: Global, mut words: Words<'_>) -> Result<Command, Stop>
     ensures { MakesCommand (forms.check_fork (map string_bytes words.entry.left.now)) result }
 {
     let file = words.path()?;
@@ -89,7 +106,7 @@ pub(crate) fn check_fork(alloc: Global, mut words: Words<'_>) -> Result<Command,
 
 /// `adopt HISTORY ANCHORS PROOF ..`
 #[tactic(auto, unfolding(crate::specs::CommandLine::adopt))]
-pub(crate) fn adopt(alloc: Global, mut words: Words<'_>) -> Result<Command, Stop>
+fn adopt(alloc: Global, mut words: Words<'_>) -> Result<Command, Stop>
     ensures { MakesCommand (forms.adopt (map string_bytes words.entry.left.now)) result }
 {
     let history = words.path()?;
@@ -98,6 +115,19 @@ pub(crate) fn adopt(alloc: Global, mut words: Words<'_>) -> Result<Command, Stop
     let others = words.paths(MOST_ADOPTING - 1)?;
     let mut more = Sequence::new(alloc);
     push_paths(alloc, &mut more, others)?;
+    Ok(adopt_of(alloc, history, anchors, proof, more)?)
+}
+
+/// The command that takes over the history of this path under the anchors of that one, as far as these proofs show it.
+fn adopt_of(
+    alloc: Global,
+    history: &str,
+    anchors: &str,
+    proof: &str,
+    more: Sequence<FilePath>,
+) -> Result<Command, NoMemory>
+    ensures { IfOk result (λ command. command ≡ Command.Adopt history.now anchors.now proof.now more) }
+{
     Ok(Command::Adopt {
         history: FilePath::new(alloc, history)?,
         anchors: FilePath::new(alloc, anchors)?,

@@ -3,7 +3,8 @@
 ghost use Rattle.std.specs.Prelude.{map};
 ghost use Rattle.std.specs.String.{string_bytes};
 ghost use Rattle.tw_words.specs.CommandLine as forms;
-ghost use Rattle.tw_words.specs.Takings.{MakesCommand};
+ghost use Rattle.tw_words.specs.Forms.{form_named};
+ghost use Rattle.tw_words.specs.Takings.{MakesCommand, MakesNamed};
 
 use crate::command::Command;
 use crate::cursor::{Stop, Words};
@@ -11,9 +12,32 @@ use std::alloc::Global;
 use tw_base::limits::LAST_STEP;
 use tw_text::FilePath;
 
+/// The command of the form over a store that the word names, of the words behind it; None where it names none of them.
+pub(crate) fn store_command(
+    alloc: Global,
+    word: &str,
+    behind: Words<'_>,
+) -> Option<Result<Command, Stop>>
+    ensures { MakesNamed (form_named forms.store_commands word.now) (map string_bytes behind.entry.left.now) result }
+{
+    match word {
+        "init" => Some(init(behind)),
+        "append" => Some(append(alloc, behind)),
+        "thread" => Some(thread(behind)),
+        "receive" => Some(receive(alloc, behind)),
+        "prove" => Some(prove(behind)),
+        "map" => Some(map(behind)),
+        "export" => Some(export(behind)),
+        "watch" => Some(watch(behind)),
+        "offer" => Some(offer(alloc, behind)),
+        "heads" => Some(heads(behind)),
+        _ => None,
+    }
+}
+
 /// `init DIR NAME`
 #[tactic(auto, unfolding(crate::specs::CommandLine::init))]
-pub(crate) fn init(mut words: Words<'_>) -> Result<Command, Stop>
+fn init(mut words: Words<'_>) -> Result<Command, Stop>
     ensures { MakesCommand (forms.init (map string_bytes words.entry.left.now)) result }
 {
     words.path()?;
@@ -24,7 +48,7 @@ pub(crate) fn init(mut words: Words<'_>) -> Result<Command, Stop>
 
 /// `append DIR FILE [TIME]`
 #[tactic(auto, unfolding(crate::specs::CommandLine::append))]
-pub(crate) fn append(alloc: Global, mut words: Words<'_>) -> Result<Command, Stop>
+fn append(alloc: Global, mut words: Words<'_>) -> Result<Command, Stop>
     ensures { MakesCommand (forms.append (map string_bytes words.entry.left.now)) result }
 {
     words.path()?;
@@ -36,7 +60,7 @@ pub(crate) fn append(alloc: Global, mut words: Words<'_>) -> Result<Command, Sto
 
 /// `thread DIR SINCE`
 #[tactic(auto, unfolding(crate::specs::CommandLine::thread))]
-pub(crate) fn thread(mut words: Words<'_>) -> Result<Command, Stop>
+fn thread(mut words: Words<'_>) -> Result<Command, Stop>
     ensures { MakesCommand (forms.thread (map string_bytes words.entry.left.now)) result }
 {
     words.path()?;
@@ -47,7 +71,7 @@ pub(crate) fn thread(mut words: Words<'_>) -> Result<Command, Stop>
 
 /// `receive DIR FILE [TIME]`
 #[tactic(auto, unfolding(crate::specs::CommandLine::receive))]
-pub(crate) fn receive(alloc: Global, mut words: Words<'_>) -> Result<Command, Stop>
+fn receive(alloc: Global, mut words: Words<'_>) -> Result<Command, Stop>
     ensures { MakesCommand (forms.receive (map string_bytes words.entry.left.now)) result }
 {
     words.path()?;
@@ -59,7 +83,7 @@ pub(crate) fn receive(alloc: Global, mut words: Words<'_>) -> Result<Command, St
 
 /// `prove DIR event`, `thread`, `absent` or `link`, each with what its kind has
 #[tactic(auto, unfolding(crate::specs::CommandLine::prove, crate::specs::Forms::next))]
-pub(crate) fn prove(mut words: Words<'_>) -> Result<Command, Stop>
+fn prove(mut words: Words<'_>) -> Result<Command, Stop>
     ensures { MakesCommand (forms.prove (map string_bytes words.entry.left.now)) result }
 {
     words.path()?;
@@ -122,7 +146,7 @@ fn prove_link(mut words: Words<'_>) -> Result<Command, Stop>
 
 /// `map DIR low` or `high`, each with what its bound has
 #[tactic(auto, unfolding(crate::specs::CommandLine::map, crate::specs::Forms::next))]
-pub(crate) fn map(mut words: Words<'_>) -> Result<Command, Stop>
+fn map(mut words: Words<'_>) -> Result<Command, Stop>
     ensures { MakesCommand (forms.map (map string_bytes words.entry.left.now)) result }
 {
     words.path()?;
@@ -160,7 +184,7 @@ fn map_high(mut words: Words<'_>) -> Result<Command, Stop>
 
 /// `export DIR`
 #[tactic(auto, unfolding(crate::specs::CommandLine::export))]
-pub(crate) fn export(mut words: Words<'_>) -> Result<Command, Stop>
+fn export(mut words: Words<'_>) -> Result<Command, Stop>
     ensures { MakesCommand (forms.export (map string_bytes words.entry.left.now)) result }
 {
     words.path()?;
@@ -170,7 +194,7 @@ pub(crate) fn export(mut words: Words<'_>) -> Result<Command, Stop>
 
 /// `watch DIR NAME`
 #[tactic(auto, unfolding(crate::specs::CommandLine::watch))]
-pub(crate) fn watch(mut words: Words<'_>) -> Result<Command, Stop>
+fn watch(mut words: Words<'_>) -> Result<Command, Stop>
     ensures { MakesCommand (forms.watch (map string_bytes words.entry.left.now)) result }
 {
     words.path()?;
@@ -181,7 +205,7 @@ pub(crate) fn watch(mut words: Words<'_>) -> Result<Command, Stop>
 
 /// `offer DIR FILE`
 #[tactic(auto, unfolding(crate::specs::CommandLine::offer))]
-pub(crate) fn offer(alloc: Global, mut words: Words<'_>) -> Result<Command, Stop>
+fn offer(alloc: Global, mut words: Words<'_>) -> Result<Command, Stop>
     ensures { MakesCommand (forms.offer (map string_bytes words.entry.left.now)) result }
 {
     words.path()?;
@@ -193,7 +217,7 @@ pub(crate) fn offer(alloc: Global, mut words: Words<'_>) -> Result<Command, Stop
 
 /// `heads DIR`
 #[tactic(auto, unfolding(crate::specs::CommandLine::heads))]
-pub(crate) fn heads(mut words: Words<'_>) -> Result<Command, Stop>
+fn heads(mut words: Words<'_>) -> Result<Command, Stop>
     ensures { MakesCommand (forms.heads (map string_bytes words.entry.left.now)) result }
 {
     words.path()?;

@@ -1,4 +1,4 @@
-// Reading the words of the command line.
+// Reading the words of the command line as a command, by the form that the first one names.
 
 ghost use Rattle.std.specs.Prelude.{◌≡◌, map, IfNone, IfOk, IfSome, IsErrAnd, MatchResult};
 ghost use Rattle.std.specs.String.{string_bytes};
@@ -9,9 +9,9 @@ ghost use Rattle.tw_words.specs.Takings.{MakesCommand};
 
 use crate::command::Command;
 use crate::cursor::{Stop, Words};
-use crate::file_forms::{audit, check_map, generate, join, replay, show, strict, verify};
-use crate::reach_forms::{accuse, adopt, atlas, check_fork};
-use crate::store_forms::{append, export, heads, init, map, offer, prove, receive, thread, watch};
+use crate::file_forms::file_command;
+use crate::reach_forms::reach_command;
+use crate::store_forms::store_command;
 use std::alloc::Global;
 
 /// Why words are no command.
@@ -50,30 +50,15 @@ fn command(alloc: Global, words: Words<'_>) -> Result<Command, Stop>
     let Some((word, left)) = words.left.split_first() else {
         return Err(words.stop());
     };
-    let behind = Words { left };
-    match word.as_str() {
-        "init" => init(behind),
-        "append" => append(alloc, behind),
-        "thread" => thread(behind),
-        "receive" => receive(alloc, behind),
-        "prove" => prove(behind),
-        "map" => map(behind),
-        "export" => export(behind),
-        "show" => show(alloc, behind),
-        "join" => join(alloc, behind),
-        "verify" => verify(alloc, behind),
-        "strict" => strict(alloc, behind),
-        "checkmap" => check_map(alloc, behind),
-        "audit" => audit(alloc, behind),
-        "atlas" => atlas(alloc, behind),
-        "accuse" => accuse(alloc, behind),
-        "checkfork" => check_fork(alloc, behind),
-        "adopt" => adopt(alloc, behind),
-        "watch" => watch(behind),
-        "offer" => offer(alloc, behind),
-        "heads" => heads(behind),
-        "replay" => replay(alloc, behind),
-        "generate" => generate(behind),
-        _ => Err(words.stop()),
+    let (word, behind) = (word.as_str(), Words { left });
+    if let Some(made) = store_command(alloc, word, behind) {
+        return made;
+    }
+    if let Some(made) = file_command(alloc, word, behind) {
+        return made;
+    }
+    match reach_command(alloc, word, behind) {
+        Some(made) => made,
+        None => Err(words.stop()),
     }
 }
