@@ -1,4 +1,4 @@
-// The arguments of the program.
+// Reading the arguments of the program, each a word of the command line.
 
 use std::alloc::Global;
 use std::env::{Env, FillError};

@@ -1,4 +1,4 @@
-// The buffer of the caller.
+// Putting a text into the buffer of the caller, as much as it has room for.
 
 ghost use Rattle.std.specs.Prelude.{◌≡◌, length};
 ghost use Rattle.timeweave_c.specs.Buffers.{put_in};

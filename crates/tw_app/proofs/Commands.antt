@@ -35,7 +35,7 @@ use Rattle.tw_diskcmd.specs.Receiving.{ReceiveComes, ReceiveLeaves, ReceiveSafe}
 use Rattle.tw_diskcmd.proofs.CommandLaws.{append_causes, append_is_safe, ask_causes, asking_is_safe, init_causes}
 use Rattle.tw_diskcmd.proofs.CommandLaws.{init_is_safe, receive_causes, receive_is_safe}
 use Rattle.tw_diskcmd.specs.FollowerDisks.{IsImageOfHeads, ReadsAsHeads}
-use Rattle.tw_diskcmd.specs.Listing.{HeadsComes, HeadsLeaves, HeadsSafe}
+use Rattle.tw_diskcmd.specs.Heads.{HeadsComes, HeadsLeaves, HeadsSafe}
 use Rattle.tw_diskcmd.specs.Offering.{OfferComes, OfferLeaves, OfferSafe}
 use Rattle.tw_diskcmd.specs.Watching.{WatchComes, WatchLeaves, WatchSafe}
 use Rattle.tw_diskcmd.proofs.FollowerCommandLaws.{heads_causes, heads_is_safe, offer_causes, offer_is_safe}
@@ -49,9 +49,9 @@ use Rattle.tw_reachcmd.specs.declared.answer.Answer.TheVariants as answers
 use Rattle.tw_reachcmd.specs.Accusing.{AccuseComes}
 use Rattle.tw_reachcmd.specs.Adopting.{AdoptComes}
 use Rattle.tw_reachcmd.specs.Auditing.{AuditComes}
-use Rattle.tw_reachcmd.specs.Forks.{CheckForkComes}
-use Rattle.tw_reachcmd.specs.Maps.{CheckMapComes}
-use Rattle.tw_reachcmd.specs.Planning.{AtlasComes}
+use Rattle.tw_reachcmd.specs.CheckFork.{CheckForkComes}
+use Rattle.tw_reachcmd.specs.CheckMap.{CheckMapComes}
+use Rattle.tw_reachcmd.specs.Atlas.{AtlasComes}
 use Rattle.tw_app.specs.declared.store.StoreAccess.{StoreAccess}
 use Rattle.tw_app.specs.declared.store.StoreAccess.TheVariants.{Read, Write}
 use Rattle.tw_app.specs.Around.{Outside, found_around}

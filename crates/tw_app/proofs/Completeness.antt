@@ -36,9 +36,9 @@ use Rattle.tw_diskcmd.specs.Offering.{OfferComes}
 use Rattle.tw_reachcmd.specs.Accusing.{AccuseComes}
 use Rattle.tw_reachcmd.specs.Adopting.{AdoptComes}
 use Rattle.tw_reachcmd.specs.Auditing.{AuditComes}
-use Rattle.tw_reachcmd.specs.Forks.{CheckForkComes}
-use Rattle.tw_reachcmd.specs.Maps.{CheckMapComes}
-use Rattle.tw_reachcmd.specs.Planning.{AtlasComes}
+use Rattle.tw_reachcmd.specs.CheckFork.{CheckForkComes}
+use Rattle.tw_reachcmd.specs.CheckMap.{CheckMapComes}
+use Rattle.tw_reachcmd.specs.Atlas.{AtlasComes}
 use Rattle.tw_app.specs.Around.{Around, Outside, found_around}
 use Rattle.tw_app.specs.Commands.{question_of}
 use Rattle.tw_app.specs.Complete.{HasAllNeeded, HasFile, HasFiles, HasHistoryOnDisk, HasItsDisk, HasLinkFile}

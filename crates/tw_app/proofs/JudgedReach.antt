@@ -28,9 +28,9 @@ use Rattle.tw_tmap.specs.Checking.{map_verdict}
 use Rattle.tw_tmap.specs.MapFiles.{high_layout, low_layout}
 use Rattle.tw_msg.specs.AnchorsFile.{AllGood, IsFirstBadLine, anchor_on, lines}
 use Rattle.tw_filecmd.specs.Verifying.{HasAnchors}
-use Rattle.tw_reachcmd.specs.Forks.{CheckForkComes}
+use Rattle.tw_reachcmd.specs.CheckFork.{CheckForkComes}
 use Rattle.tw_reachcmd.specs.Held.{FileHolds, HoldsNone}
-use Rattle.tw_reachcmd.specs.Maps.{CheckMapComes, HoldMaps}
+use Rattle.tw_reachcmd.specs.CheckMap.{CheckMapComes, HoldMaps}
 use Rattle.tw_judge.specs.Forks.{IsForkTold, fork_status}
 use Rattle.tw_judge.specs.Maps.{AreMaps, AreMapsTold, AreMapsUnjudged, ThreeFiles, map_status}
 use Rattle.tw_judge.specs.Told.{IsUnjudged}

@@ -15,7 +15,7 @@ use Rattle.tw_tmap.specs.Binding.{BindsMap}
 use Rattle.tw_tmap.specs.Checking.{high_told, low_told}
 use Rattle.tw_tmap.specs.Texts.{map_text}
 use Rattle.tw_tmap.proofs.MapChecks.{yes-accepted}
-use Rattle.tw_reachcmd.specs.Maps.{CheckMapComes, map_command_status}
+use Rattle.tw_reachcmd.specs.CheckMap.{CheckMapComes, map_command_status}
 use Rattle.tw_app.specs.declared.outcome.Outcome.{Outcome}
 use Rattle.tw_app.specs.declared.outcome.Outcome.TheVariants.{Undone}
 use Rattle.tw_app.specs.Around.{Around, Outside}

@@ -30,14 +30,14 @@ use Rattle.tw_evidence.specs.declared.fork.ForkVerdict.{ForkVerdict}
 use Rattle.tw_evidence.specs.Forks.{IsForkVerdict}
 use Rattle.tw_reachcmd.specs.declared.accusing.Accused.{Accused}
 use Rattle.tw_reachcmd.specs.declared.auditing.Audited.{Audited}
-use Rattle.tw_reachcmd.specs.declared.planning.Planned.{Planned}
+use Rattle.tw_reachcmd.specs.declared.atlas.Planned.{Planned}
 use Rattle.tw_reachcmd.specs.Accusing.{AccuseComes}
 use Rattle.tw_reachcmd.specs.declared.adopting.Taken.{Taken}
 use Rattle.tw_reachcmd.specs.Adopting.{AdoptComes, IsAdoptionTaken}
 use Rattle.tw_reachcmd.specs.Auditing.{AuditComes, finding_answer}
-use Rattle.tw_reachcmd.specs.Forks.{CheckForkComes}
-use Rattle.tw_reachcmd.specs.Maps.{CheckMapComes}
-use Rattle.tw_reachcmd.specs.Planning.{AtlasComes}
+use Rattle.tw_reachcmd.specs.CheckFork.{CheckForkComes}
+use Rattle.tw_reachcmd.specs.CheckMap.{CheckMapComes}
+use Rattle.tw_reachcmd.specs.Atlas.{AtlasComes}
 use Rattle.tw_app.specs.declared.outcome.Outcome.{Outcome}
 use Rattle.tw_app.specs.Alike.{AreRunsAlike, ReachesBeyond, TellsEach}
 use Rattle.tw_app.specs.Around.{Around, Writes}

@@ -10,8 +10,8 @@ use Rattle.tw_atlas.specs.ReceiptFiles.{AddsHops, receipt_hop, room}
 use Rattle.tw_atlas.proofs.ArrivalLaws.{one-atlas}
 use Rattle.tw_atlas.proofs.ReceiptFileLaws.{one-list, one-place}
 use Rattle.tw_msg.specs.declared.receipt.Receipt.{Receipt}
-use Rattle.tw_reachcmd.specs.declared.planning.Planned.{Planned}
-use Rattle.tw_reachcmd.specs.Planning.{AreHops, HasBadReceipts}
+use Rattle.tw_reachcmd.specs.declared.atlas.Planned.{Planned}
+use Rattle.tw_reachcmd.specs.Atlas.{AreHops, HasBadReceipts}
 
 -- ---- one file
 

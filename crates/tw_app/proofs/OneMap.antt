@@ -15,7 +15,7 @@ use Rattle.tw_tmap.specs.declared.map_file.LowFile.{LowFile}
 use Rattle.tw_tmap.specs.declared.map_verdict.MapVerdict.{MapVerdict}
 use Rattle.tw_tmap.specs.Checking.{map_verdict}
 use Rattle.tw_tmap.specs.MapFiles.{high_layout, low_layout}
-use Rattle.tw_reachcmd.specs.Maps.{CheckMapComes, HasBadFile, HoldMaps, IsBadLineOf}
+use Rattle.tw_reachcmd.specs.CheckMap.{CheckMapComes, HasBadFile, HoldMaps, IsBadLineOf}
 use Rattle.tw_app.specs.Alike.{TellsEach}
 use Rattle.tw_app.specs.Commands.{command_files}
 use Rattle.tw_app.proofs.ToldFiles.{anchors_once, bad_line_once, good_not_bad, held_not_none, held_once, none_once}

@@ -24,7 +24,7 @@ use Rattle.tw_tmap.specs.MapFiles.{high_layout, low_layout}
 use Rattle.tw_tmap.specs.Texts.{map_text}
 use Rattle.tw_tmap.proofs.OwnMaps.{own-accepted}
 use Rattle.tw_reachcmd.specs.Held.{FileHolds}
-use Rattle.tw_reachcmd.specs.Maps.{CheckMapComes, map_command_status}
+use Rattle.tw_reachcmd.specs.CheckMap.{CheckMapComes, map_command_status}
 use Rattle.tw_app.specs.declared.outcome.Outcome.{Outcome}
 use Rattle.tw_app.specs.Alike.{TellsEach}
 use Rattle.tw_app.specs.Around.{Around, Writes}

@@ -29,7 +29,7 @@ use Rattle.tw_diskcmd.specs.Disks.{ReadsAsHistory}
 use Rattle.tw_diskcmd.specs.FollowerDisks.{ReadsAsHeads}
 use Rattle.tw_reachcmd.specs.Held.{TellAll}
 use Rattle.tw_reachcmd.specs.Histories.{AreHistories}
-use Rattle.tw_reachcmd.specs.Planning.{AreHops}
+use Rattle.tw_reachcmd.specs.Atlas.{AreHops}
 use Rattle.tw_app.specs.Around.{Around, Writes}
 use Rattle.tw_app.specs.Commands.{question_of}
 use Rattle.tw_app.specs.Judging.{NoneFailed}

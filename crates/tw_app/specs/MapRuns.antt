@@ -23,7 +23,7 @@ use Rattle.tw_tmap.specs.MapFiles.{high_layout, low_layout}
 use Rattle.tw_tmap.specs.OwnFiles.{IsAnchoredAt, IsOwnHigh, IsOwnLow}
 use Rattle.tw_tmap.specs.Texts.{map_text}
 use Rattle.tw_reachcmd.specs.Anchors.{AreAnchorsOf}
-use Rattle.tw_reachcmd.specs.Maps.{HasBadFile, HoldMaps, map_command_status}
+use Rattle.tw_reachcmd.specs.CheckMap.{HasBadFile, HoldMaps, map_command_status}
 use Rattle.tw_app.specs.Alike.{TellsEach}
 use Rattle.tw_app.specs.Around.{Around, Writes}
 use Rattle.tw_app.specs.Commands.{command_files}

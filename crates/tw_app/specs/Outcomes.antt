@@ -15,7 +15,7 @@ use Rattle.tw_reachcmd.specs.declared.adopting.Taken.{Taken}
 use Rattle.tw_reachcmd.specs.declared.adopting.Taken.TheVariants as taken
 use Rattle.tw_reachcmd.specs.declared.answer.Answer.TheVariants as answers
 use Rattle.tw_reachcmd.specs.declared.auditing.Audited.{Audited}
-use Rattle.tw_reachcmd.specs.declared.planning.Planned.{Planned}
+use Rattle.tw_reachcmd.specs.declared.atlas.Planned.{Planned}
 use Rattle.tw_tmap.specs.declared.map_verdict.MapVerdict.{MapVerdict}
 use Rattle.tw_reachcmd.specs.Answers.{answer_status, answer_text}
 use Rattle.tw_app.specs.declared.outcome.Outcome.{Outcome}

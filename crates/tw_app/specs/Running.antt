@@ -15,17 +15,17 @@ use Rattle.tw_filecmd.specs.Verifying.{VerifyFileComes, VerifyOneComes}
 use Rattle.tw_diskcmd.specs.Appending.{AppendComes, AppendLeaves, AppendSafe}
 use Rattle.tw_diskcmd.specs.Asking.{AskComes}
 use Rattle.tw_diskcmd.specs.Disks.{IsLeft, KeepsServiceDisk, ReadLeavesHistory}
-use Rattle.tw_diskcmd.specs.Making.{InitComes, InitLeaves, InitSafe}
+use Rattle.tw_diskcmd.specs.Init.{InitComes, InitLeaves, InitSafe}
 use Rattle.tw_diskcmd.specs.Receiving.{ReceiveComes, ReceiveLeaves, ReceiveSafe}
-use Rattle.tw_diskcmd.specs.Listing.{HeadsComes, HeadsLeaves, HeadsSafe}
+use Rattle.tw_diskcmd.specs.Heads.{HeadsComes, HeadsLeaves, HeadsSafe}
 use Rattle.tw_diskcmd.specs.Offering.{OfferComes, OfferLeaves, OfferSafe}
 use Rattle.tw_diskcmd.specs.Watching.{WatchComes, WatchLeaves, WatchSafe}
 use Rattle.tw_reachcmd.specs.Accusing.{AccuseComes}
 use Rattle.tw_reachcmd.specs.Adopting.{AdoptComes}
 use Rattle.tw_reachcmd.specs.Auditing.{AuditComes}
-use Rattle.tw_reachcmd.specs.Forks.{CheckForkComes}
-use Rattle.tw_reachcmd.specs.Maps.{CheckMapComes}
-use Rattle.tw_reachcmd.specs.Planning.{AtlasComes}
+use Rattle.tw_reachcmd.specs.CheckFork.{CheckForkComes}
+use Rattle.tw_reachcmd.specs.CheckMap.{CheckMapComes}
+use Rattle.tw_reachcmd.specs.Atlas.{AtlasComes}
 use Rattle.tw_app.specs.declared.outcome.Outcome.{Outcome}
 use Rattle.tw_app.specs.declared.outcome.Outcome.TheVariants.{Judged, Written, Joined, Made, Received, BadWords, Undone}
 use Rattle.tw_app.specs.declared.store.StoreAccess.{StoreAccess}

@@ -20,8 +20,12 @@ access_of (Offer file) = Some Write
 access_of Heads = Some Read
 access_of command = option_map (λ (q : Question). Read) (question_of command)
 
+-- what the command of the words does with the store of its folder: none where they have no form, or one whose command works on none
+abbrev pub IsAccessOf : (words : List (List ℕ)) → Option StoreAccess → Type 0
+IsAccessOf words None = MatchOption (command_of words) (Unit {0}) (λ command. access_of command ≡ None)
+IsAccessOf words (Some access) = MatchOption (command_of words) ⊥ (λ command. access_of command ≡ Some access)
+
 -- the store that the words ask for: that of their command, in the folder that the second word names
 abbrev pub IsStoreOf : (words : List (List ℕ)) → Option Store → Type 0
-IsStoreOf words None = MatchOption (command_of words) (Unit {0}) (λ command. access_of command ≡ None)
-IsStoreOf words (Some store) =
-    MatchOption (command_of words) ⊥ (λ command. access_of command ≡ Some store.access) × (store.folder.now ≡ slice_index_or words 1 [])
+IsStoreOf words None = IsAccessOf words None
+IsStoreOf words (Some store) = IsAccessOf words (Some store.access) × (store.folder.now ≡ slice_index_or words 1 [])

@@ -1,7 +1,7 @@
-// How a run ends.
+// How a run ends: `run`, which does what the words ask, writes its text, and answers its status.
 
 ghost use Rattle.std.specs.Prelude.{◌≡◌, ◌⊎◌, ℕ, List, map, string_bytes, IfSome, MatchOption};
-ghost use Rattle.tw_base.specs.declared.history.thread.Thread.{Thread as AnchorThread};
+ghost use Rattle.tw_base.specs.declared.history.thread.Thread.{Thread as Anchor};
 ghost use Rattle.tw_base.specs.history.History.{History};
 ghost use Rattle.tw_base.specs.kinds.Lists.{Each};
 ghost use Rattle.tw_base.specs.kinds.Faults.{Rose};
@@ -213,7 +213,7 @@ pub fn run<D: Disk, I: Inputs, S: Sink>(
     // all threads held, it is 1, with the first of them that they lack and what they have there. Where they have them, and
     // two different texts of the histories and the proof have one SHA-256 digest, it is 10, with the pair: the first text
     // whose digest an earlier different one has, and the earliest such text. Where no two have, it is 0, with the report.
-    ensures finds { (bytes : List ℕ) (anchors : List AnchorThread) (family : List History) →
+    ensures finds { (bytes : List ℕ) (anchors : List Anchor) (family : List History) →
         IsAuditOf (I.told inputs.old) (map string_bytes words.now) bytes anchors family →
         IsFoundRun (around (map string_bytes words.now)
         (outside (asked (I.told inputs.old) (I.faults inputs.old) (I.faults inputs.new)) disk result.disk)
@@ -233,7 +233,7 @@ pub fn run<D: Disk, I: Inputs, S: Sink>(
     // file is that of a sound history: unless the inputs or the sink failed or there was no memory, each of the proofs is good
     // and the status 0, with the file of the steps up to the furthest that they show; or one has a fault, each before it being
     // good, and the status is 1, with the line of that fault.
-    ensures adopts { (h : History) (anchors : List AnchorThread) (proofs : List (List ℕ)) →
+    ensures adopts { (h : History) (anchors : List Anchor) (proofs : List (List ℕ)) →
         IsAdoptionOf (I.told inputs.old) (map string_bytes words.now) h anchors proofs →
         IsAdoptingRun (around (map string_bytes words.now)
         (outside (asked (I.told inputs.old) (I.faults inputs.old) (I.faults inputs.new)) disk result.disk)

@@ -20,12 +20,13 @@ use crate::replaying::play_file;
 use std::alloc::Global;
 use tw_base::{Bytes, Key, Name, Question, Thread};
 use tw_disk::Disk;
-use tw_diskcmd::{Worked, append, ask, list_heads, make, offer, receive, watch};
+use tw_diskcmd::{Worked, append, ask, init_service, list_heads, offer, receive, watch};
 use tw_filecmd::{join_files, show, verify_file, verify_one};
 use tw_msg::Receipt;
 use tw_outside::Inputs;
 use tw_reachcmd::{
-    accuse_linked, accuse_pair, adopt_files, audit_files, check_fork, check_maps, plan_files,
+    accuse_linked, accuse_pair, adopt_files, atlas_files, audit_files, check_fork_files,
+    check_map_files,
 };
 use tw_text::CommandFault;
 use tw_words::{Command, WordFault, read_words};
@@ -74,7 +75,7 @@ fn follow<D: Disk, I: Inputs>(
     ensures { (work D.view (outside (asked (I.told inputs.old) (I.faults inputs.old) (I.faults inputs.new)) disk result.disk) command.now).does result.outcome }
 {
     match command {
-        Command::Init { name } => with_thread(make(alloc, disk, *name)),
+        Command::Init { name } => with_thread(init_service(alloc, disk, *name)),
         Command::Append { file, time } => {
             with_thread(append(alloc, disk, inputs, file.as_str(), *time))
         }
@@ -132,7 +133,7 @@ fn follow<D: Disk, I: Inputs>(
             disk,
         },
         Command::CheckMap { low, high, anchors } => Followed {
-            outcome: mapped(check_maps(
+            outcome: mapped(check_map_files(
                 alloc,
                 inputs,
                 low.as_str(),
@@ -142,7 +143,7 @@ fn follow<D: Disk, I: Inputs>(
             disk,
         },
         Command::Atlas { name, pos, files } => Followed {
-            outcome: planned(plan_files(alloc, inputs, *name, *pos, files.as_slice())),
+            outcome: planned(atlas_files(alloc, inputs, *name, *pos, files.as_slice())),
             disk,
         },
         Command::Audit {
@@ -198,7 +199,7 @@ fn follow<D: Disk, I: Inputs>(
             disk,
         },
         Command::CheckFork { file, anchors } => Followed {
-            outcome: fork_judged(check_fork(alloc, inputs, file.as_str(), anchors.as_str())),
+            outcome: fork_judged(check_fork_files(alloc, inputs, file.as_str(), anchors.as_str())),
             disk,
         },
         Command::Replay { file } => Followed {

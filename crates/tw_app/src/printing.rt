@@ -1,4 +1,4 @@
-// The texts of outcomes.
+// The texts of outcomes, by which `run` ends.
 
 ghost use Rattle.std.specs.Prelude.{◌≡◌, IfOk};
 ghost use Rattle.tw_app.specs.Outcomes.{TakesMemory, text_of};

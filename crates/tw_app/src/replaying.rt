@@ -1,4 +1,4 @@
-// The command that plays a script.
+// The command `replay`, which reads a script's file and plays it by `tw_world`.
 
 ghost use Rattle.std.specs.Prelude.{◌≡◌, IfOk};
 ghost use Rattle.tw_outside.specs.Asked.{asked};

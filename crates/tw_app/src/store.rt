@@ -4,7 +4,7 @@ ghost use Rattle.std.specs.Prelude.{◌≡◌, [], map, slice_index_or, string_b
 ghost use Rattle.tw_words.specs.declared.command.Command.{Command as AnyCommand};
 ghost use Rattle.tw_app.specs.Around.{Outside};
 ghost use Rattle.tw_app.specs.Running.{work};
-ghost use Rattle.tw_app.specs.Stores.{IsStoreOf, access_of as access_of_command};
+ghost use Rattle.tw_app.specs.Stores.{IsAccessOf, IsStoreOf, access_of as access_of_command};
 
 use std::alloc::Global;
 use tw_base::NoMemory;
@@ -52,6 +52,21 @@ fn access_of(command: &Command) -> Option<StoreAccess>
     }
 }
 
+/// What the command of the words does with the store of its folder; none where they have no form, or their command works on none.
+fn access_in(alloc: Global, words: &[String]) -> Result<Option<StoreAccess>, NoMemory>
+    ensures { IfOk result (IsAccessOf (map string_bytes words.now)) }
+{
+    match read_words(alloc, words) {
+        Ok(command) => {
+            let access = access_of(&command);
+            drop(command);
+            Ok(access)
+        }
+        Err(WordFault::BadWord { .. }) => Ok(None),
+        Err(WordFault::NoMemory) => Err(NoMemory),
+    }
+}
+
 /// The word of the folder: the second one, or the empty one where there is none.
 fn folder_of(words: &[String]) -> &str
     ensures { result.now ≡ slice_index_or (map string_bytes words.now) 1 [] }
@@ -69,12 +84,7 @@ pub fn store_of(alloc: Global, words: &[String]) -> Result<Option<Store<'_>>, No
     // answered where the words have no form, or their command works on no folder.
     ensures { IfOk result (IsStoreOf (map string_bytes words.now)) }
 {
-    let command = match read_words(alloc, words) {
-        Ok(command) => command,
-        Err(WordFault::BadWord { .. }) => return Ok(None),
-        Err(WordFault::NoMemory) => return Err(NoMemory),
-    };
-    match access_of(&command) {
+    match access_in(alloc, words)? {
         Some(access) => Ok(Some(Store {
             folder: folder_of(words),
             access,

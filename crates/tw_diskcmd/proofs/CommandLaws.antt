@@ -22,7 +22,7 @@ use Rattle.tw_diskcmd.specs.Appending.{AppendComes, AppendLeaves, AppendSafe, Ar
 use Rattle.tw_diskcmd.specs.Appending.{IsStepResult}
 use Rattle.tw_diskcmd.specs.Asking.{AskComes}
 use Rattle.tw_diskcmd.specs.Disks.{IsImageOfHistory, IsLeft, KeepsServiceDisk, NextBy, ReadLeavesHistory, StepsBy}
-use Rattle.tw_diskcmd.specs.Making.{InitComes, InitLeaves, InitSafe}
+use Rattle.tw_diskcmd.specs.Init.{InitComes, InitLeaves, InitSafe}
 use Rattle.tw_diskcmd.specs.Receiving.{IsReceived, ReceiveComes, ReceiveLeaves, ReceiveSafe}
 
 module _ (a : Asked) (t : FoundDisk) where

@@ -13,7 +13,7 @@ use Rattle.tw_diskcmd.specs.Files.{IsBadMessageByte, IsMessageIn}
 use Rattle.tw_diskcmd.proofs.StoreCommandLaws.{HasCauses, IsSafe, file_causes, make_causes, making_is_safe}
 use Rattle.tw_diskcmd.proofs.StoreCommandLaws.{reading_is_safe, writing_is_safe}
 use Rattle.tw_diskcmd.specs.FollowerDisks.{IsImageOfHeads}
-use Rattle.tw_diskcmd.specs.Listing.{HeadsComes, HeadsLeaves, HeadsSafe}
+use Rattle.tw_diskcmd.specs.Heads.{HeadsComes, HeadsLeaves, HeadsSafe}
 use Rattle.tw_diskcmd.specs.Offering.{IsNextBy, IsNextListBy, IsOffered, OfferComes, OfferLeaves, OfferSafe}
 use Rattle.tw_diskcmd.specs.Watching.{WatchComes, WatchLeaves, WatchSafe}
 use Rattle.tw_diskcmd.proofs.Offered.{never_unserved}

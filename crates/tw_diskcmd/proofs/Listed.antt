@@ -25,7 +25,7 @@ use Rattle.tw_text.specs.declared.refusal.StoreCause.TheVariants.{BadPage, Blank
 use Rattle.tw_diskcmd.specs.StoreFaults.{fault_of_store}
 use Rattle.tw_diskcmd.specs.FollowerDisks.{ReadsAsHeads, found_disk}
 use Rattle.tw_diskcmd.specs.FollowerFaults.{fault_of_follower}
-use Rattle.tw_diskcmd.specs.Listing.{HeadsComes, IsListed, ListsTo, TableLists, as_lines, head_lines}
+use Rattle.tw_diskcmd.specs.Heads.{HeadsComes, IsListed, ListsTo, TableLists, as_lines, head_lines}
 use Rattle.tw_diskcmd.proofs.Offered.{not_opened}
 
 -- a follower that was just opened hasn't to be opened anew

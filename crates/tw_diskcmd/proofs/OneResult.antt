@@ -9,7 +9,7 @@ use Rattle.tw_follow.specs.Stands.{Served}
 use Rattle.tw_follow.proofs.Standing.{served_once}
 use Rattle.tw_text.specs.declared.fault.CommandFault.{CommandFault}
 use Rattle.tw_text.specs.declared.fault.CommandFault.TheVariants as fault
-use Rattle.tw_diskcmd.specs.Listing.{HeadsComes, IsListed, lines_over}
+use Rattle.tw_diskcmd.specs.Heads.{HeadsComes, IsListed, lines_over}
 use Rattle.tw_diskcmd.specs.Offering.{IsOffered, OfferedMessageComes, offered_over}
 use Rattle.tw_diskcmd.specs.Comes.{TellsContent, found_disk}
 use Rattle.tw_diskcmd.proofs.Landings.{told_result}

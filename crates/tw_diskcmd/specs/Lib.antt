@@ -6,7 +6,7 @@ pub mod Steps
 pub mod Faults
 pub mod Disks
 pub mod Answers
-pub mod Making
+pub mod Init
 pub mod Receiving
 pub mod Appending
 pub mod Asking
@@ -14,4 +14,4 @@ pub mod FollowerFaults
 pub mod FollowerDisks
 pub mod Watching
 pub mod Offering
-pub mod Listing
+pub mod Heads

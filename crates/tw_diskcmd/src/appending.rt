@@ -1,4 +1,4 @@
-// The command that adds a step.
+// The command `append`, which adds a step of the events of a file.
 
 ghost use Rattle.std.specs.Prelude.{◌≡◌, ◌≤◌, ℕ, Option, Some, IfErr, IfOk, false};
 ghost use Rattle.sha2.specs.Sha256.{sha256};

@@ -1,4 +1,4 @@
-// The commands that ask a service a question.
+// The commands that ask a service a question, all by one function, which gives the disk back.
 
 ghost use Rattle.std.specs.Prelude.{◌≡◌, ◌≤◌, ℕ, Option, false};
 ghost use Rattle.sha2.specs.Sha256.{sha256};

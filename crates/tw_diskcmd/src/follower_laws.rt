@@ -1,4 +1,4 @@
-// The laws of what commands come to over a disk that tells its content, and of what they leave.
+// The laws of what commands come to over a follower's disk that tells its content, and of what they leave of it.
 
 ghost use Rattle.std.specs.Prelude.{◌≡◌, ℕ, List, Option, Some, Result};
 ghost use Rattle.tw_base.specs.declared.history.thread.Thread.{Thread};
@@ -6,7 +6,7 @@ ghost use Rattle.tw_disk.specs.Image.{Image};
 ghost use Rattle.tw_msg.specs.declared.message.Message.{Message};
 ghost use Rattle.tw_text.specs.declared.fault.CommandFault.{CommandFault};
 ghost use Rattle.tw_diskcmd.specs.FollowerDisks.{IsLeft, KeepsPage, found_disk};
-ghost use Rattle.tw_diskcmd.specs.Listing.{HeadsComes};
+ghost use Rattle.tw_diskcmd.specs.Heads.{HeadsComes};
 ghost use Rattle.tw_diskcmd.specs.Offering.{OfferedMessageComes};
 ghost use Rattle.tw_diskcmd.specs.Comes.{TellsContent};
 

@@ -1,4 +1,4 @@
-// The laws of what commands come to over a disk that tells its content, and of what they leave.
+// The laws of what commands come to over a service's disk that tells its content, and of what they leave of it.
 
 ghost use Rattle.std.specs.Prelude.{◌≡◌, ℕ, List, Option, Some, Result};
 ghost use Rattle.tw_base.specs.declared.history.thread.Thread.{Thread};

@@ -1,4 +1,4 @@
-// The command that offers a message.
+// The command `offer`, which offers a follower a message.
 
 ghost use Rattle.std.specs.Prelude.{◌≡◌, ◌≤◌, ℕ, List, Option, Some, IfErr, IfOk, false};
 ghost use Rattle.sha2.specs.Sha256.{sha256};
@@ -31,6 +31,8 @@ use tw_text::CommandFault;
 
 /// Offers the message of the named file to the follower on the disk, and answers its head then, which is
 /// the message's thread. The file is read and judged before the disk is touched.
+// It stays a call, so that other commands don't have its frame on the stack.
+#[inline(never)]
 pub fn offer<D: Disk, I: Inputs>(
     alloc: Global,
     disk: D,

@@ -1,4 +1,4 @@
-// The command that archives the thread of a message.
+// The command `receive`, which has a service archive the thread of a message.
 
 ghost use Rattle.std.specs.Prelude.{◌≡◌, ◌≤◌, ℕ, Option, IfErr, IfOk, false};
 ghost use Rattle.sha2.specs.Sha256.{sha256};
@@ -34,6 +34,8 @@ use tw_text::{ClaimedTime, CommandFault};
 /// Archives the thread of the message in the named file in a step of the service on the disk, at this time
 /// or at none, and answers the receipt of that step; or, where the archive has the thread, that of the step
 /// that received it. The file is read and judged before the disk is touched.
+// It stays a call, so that other commands don't have its frame on the stack.
+#[inline(never)]
 pub fn receive<D: Disk, I: Inputs>(
     alloc: Global,
     disk: D,

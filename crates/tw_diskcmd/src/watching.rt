@@ -1,4 +1,4 @@
-// The command that makes a follower.
+// The command `watch`, which makes a follower.
 
 ghost use Rattle.tw_diskcmd.specs.FollowerDisks.{found_disk};
 ghost use Rattle.tw_diskcmd.specs.Watching.{WatchComes, WatchLeaves};

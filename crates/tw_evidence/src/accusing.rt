@@ -1,4 +1,4 @@
-// Accusing a service of a fork.
+// Making evidence of a fork of two proofs, and of a link where their steps differ; `checking.rt` judges evidence.
 
 ghost use Rattle.std.specs.Prelude.{◌≡◌, ℕ, Ok, Err, IfErr, IfOk};
 ghost use Rattle.tw_join.specs.declared.joining.JoinFault.TheVariants.{Gap};

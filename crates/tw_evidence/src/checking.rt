@@ -1,4 +1,4 @@
-// Checking evidence of a fork.
+// Checking evidence of a fork under anchors; `contradicting.rt` judges two files that may contradict each other.
 
 ghost use Rattle.std.specs.Prelude.{◌≡◌, ◌≤◌, IfOk, IsTrue};
 ghost use Rattle.tw_base.specs.declared.kinds.limits.TheConstants.{LAST_STEP};

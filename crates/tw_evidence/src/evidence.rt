@@ -1,4 +1,4 @@
-// Evidence of a fork.
+// Evidence of a fork as a value: two proofs of received threads, and a path between their steps.
 
 use tw_base::Digest;
 use tw_chain::ThreadProof;

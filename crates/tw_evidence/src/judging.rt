@@ -21,7 +21,7 @@ use tw_base::{Ask, Entry, Hasher, Name, NoMemory, Reason, Thread, find_anchor};
 use tw_chain::{under_anchor, with_answer, with_order};
 use tw_treeproof::{Shown, check};
 
-/// What is told of one file.
+/// What is told of one of two files that may contradict each other.
 #[derive(Clone, Copy, Debug, Drop)]
 pub(crate) enum Judged {
     /// It is accepted, and says this.
@@ -166,6 +166,7 @@ fn judge_passing<H: Hasher>(proof: &ArchiveProof, anchors: &[Thread]) -> Judged
 {
     match find_anchor(anchors, &proof.at.service, proof.at.top) {
         Some(line) => Judged::Accepted(facts_of::<H>(proof, line)),
+        // Never: that the line is held was among the checks.
         None => Judged::Rejected(Reason::Malformed { place: 0 }),
     }
 }

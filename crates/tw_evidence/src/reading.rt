@@ -1,4 +1,4 @@
-// Reading evidence of a fork, and the proofs of which it is made.
+// Reading evidence of a fork, and the proofs alone of which it is made; other proofs are read in `tw_chain`.
 #![tactic(auto, unfolding(crate::specs::Seen::evidence_reading))]
 
 ghost use Rattle.std.specs.Prelude.{◌≡◌, ◌≤◌, length};

@@ -1,4 +1,4 @@
-// What is told of evidence.
+// The text of the verdict on evidence of a fork; that on two files that contradict each other is in `tw_judge`.
 
 ghost use Rattle.std.specs.Prelude.{◌≡◌, [], ◌∷◌, ◌++◌, IfOk, OnOk, codes};
 ghost use Rattle.tw_text.specs.Lines.{line};

@@ -1,4 +1,4 @@
-// What is told of two files.
+// The verdict on two files that may contradict each other; that on evidence of a fork is in `fork.rt`.
 
 use crate::facts::Conflict;
 use tw_base::Reason;

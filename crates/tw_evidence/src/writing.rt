@@ -1,4 +1,4 @@
-// Writing evidence of a fork.
+// Writing evidence of a fork, for whoever accuses.
 #![tactic(auto, unfolding(crate::specs::Seen::evidence_writing))]
 
 ghost use Rattle.std.specs.Prelude.{◌≡◌, ◌++◌, IfOk, OnOk};

@@ -24,7 +24,7 @@ use Rattle.tw_diskcmd.specs.Comes.{FoundDisk}
 use Rattle.tw_diskcmd.specs.Files.{IsMessageIn}
 use Rattle.tw_diskcmd.specs.Disks.{IsImageOfHistory, IsLeft, NextBy, ReadLeavesHistory, ReadsAsHistory, RestsAtHistory}
 use Rattle.tw_diskcmd.specs.Disks.{StandsAtHistory}
-use Rattle.tw_diskcmd.specs.Making.{InitComes, InitLeaves}
+use Rattle.tw_diskcmd.specs.Init.{InitComes, InitLeaves}
 use Rattle.tw_diskcmd.specs.Receiving.{ReceiveComes, ReceiveLeaves, ReceiveSafe}
 use Rattle.tw_diskcmd.proofs.AtRest.{own_name, stands_taken}
 use Rattle.tw_diskcmd.proofs.CommandLaws.{asking_is_safe}

@@ -11,7 +11,7 @@ use Rattle.tw_service.specs.declared.service.Service.{Service}
 use Rattle.tw_service.specs.Machine.{last_thread}
 use Rattle.tw_service.specs.Stands.{no_history}
 use Rattle.tw_text.specs.declared.fault.CommandFault.{CommandFault}
-use Rattle.tw_diskcmd.specs.Making.{InitComes, InitLeaves}
+use Rattle.tw_diskcmd.specs.Init.{InitComes, InitLeaves}
 use Rattle.tw_pages.proofs.AtRest.{untouched_left}
 use Rattle.tw_words.specs.CommandLine.{command_of}
 use Rattle.tw_words.specs.declared.command.Command.{Command}

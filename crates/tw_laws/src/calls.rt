@@ -1,4 +1,4 @@
-// The calls of a service that make, open and close it, or add a step, as what comes in a run. They stand for the law alone: each is the
+// The calls of a service that init, open and close it, or add a step, as what comes in a run. They stand for the law alone: each is the
 // service's own call, whose contract makes its answer an event.
 
 ghost use Rattle.std.specs.Prelude.{◌≡◌, ◌⊎◌, ◌≤◌, ℕ, List, None, Some, Err, IfOk, IsErr, IsErrAnd, MatchResult};

@@ -1,4 +1,4 @@
-// The law of runs.
+// The law of runs of a service's calls on one disk; `published.rt` has that of whole runs of the program.
 
 ghost use Rattle.std.specs.Prelude.{ℕ, List};
 ghost use Rattle.tw_base.specs.history.History.{History};

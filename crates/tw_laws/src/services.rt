@@ -70,7 +70,7 @@ pub fn standing_laws<H: Hasher>()
 /// than 2^47 pages are used and the archive is the history's; the path down to an earlier step; what
 /// becomes of a message, and its receipt; for steps in their order, the history's own proof of a step's
 /// authenticator, of the event at the index, or that there is none, of a thread, and of its absence, and
-/// the history's own map files; and its own file.
+/// the history's own map files; and its own file; and how few nodes a proof of its archives has.
 pub fn finding_laws<H: Hasher>()
     // Where pages keep a history whole, fewer than 2^47 pages are used, the events and the time are within the limits of
     // a step and the table doesn't refuse them, what `append` finds with the history's archive is the last thread of the

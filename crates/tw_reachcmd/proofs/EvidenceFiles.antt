@@ -21,7 +21,7 @@ use Rattle.tw_filecmd.proofs.AnchorFronts.{file_limit, first_bad_of_front}
 use Rattle.tw_filecmd.proofs.FormatFronts.{none_is_none, word_is_whole}
 use Rattle.tw_filecmd.proofs.Judging.{has_anchors}
 use Rattle.tw_reachcmd.specs.Anchors.{AreAnchorsOf, IsNoAnchors}
-use Rattle.tw_reachcmd.specs.Forks.{CheckForkComes, IsForkJudged}
+use Rattle.tw_reachcmd.specs.CheckFork.{CheckForkComes, IsForkJudged}
 use Rattle.tw_reachcmd.proofs.FileFronts.{evidence-short}
 
 -- ---- the anchors

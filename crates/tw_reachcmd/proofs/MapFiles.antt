@@ -15,9 +15,9 @@ use Rattle.tw_tmap.specs.declared.map_verdict.MapVerdict.{MapVerdict}
 use Rattle.tw_tmap.specs.MapFiles.{high_layout, low_layout}
 use Rattle.tw_tmap.proofs.MapSizes.{high-size, low-size}
 use Rattle.tw_filecmd.proofs.AnchorFronts.{file_limit}
-use Rattle.tw_reachcmd.specs.declared.maps.MapFiles.{MapFiles}
+use Rattle.tw_reachcmd.specs.declared.check_map.MapFiles.{MapFiles}
 use Rattle.tw_reachcmd.specs.Held.{FileHolds}
-use Rattle.tw_reachcmd.specs.Maps.{CheckMapComes, HoldMaps}
+use Rattle.tw_reachcmd.specs.CheckMap.{CheckMapComes, HoldMaps}
 use Rattle.tw_reachcmd.specs.Parts.{IsPartRead}
 use Rattle.tw_reachcmd.specs.ReadMaps.{AreMapsOf, MapsCome}
 use Rattle.tw_reachcmd.proofs.EvidenceFiles.{anchors_held, bad_line_of}

@@ -30,9 +30,9 @@ use Rattle.tw_atlas.proofs.ReceiptFileLaws.{bad-front, file-size}
 use Rattle.tw_atlas.proofs.ReceiptLaws.{receipts-size}
 use Rattle.tw_filecmd.proofs.AnchorFronts.{file_limit}
 use Rattle.tw_filecmd.proofs.FormatFronts.{whole_below}
-use Rattle.tw_reachcmd.specs.declared.planning.Receipts.{Receipts}
+use Rattle.tw_reachcmd.specs.declared.atlas.Receipts.{Receipts}
 use Rattle.tw_reachcmd.specs.Held.{TellAll}
-use Rattle.tw_reachcmd.specs.Planning.{AreHops, AtlasComes, HasBadReceipts}
+use Rattle.tw_reachcmd.specs.Atlas.{AreHops, AtlasComes, HasBadReceipts}
 use Rattle.tw_reachcmd.specs.ReadingReceipts.{AreHopsSoFar, AreReceiptsRead, HopsCome}
 use Rattle.tw_reachcmd.proofs.TellingAll.{ends_with}
 

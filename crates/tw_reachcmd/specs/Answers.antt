@@ -7,7 +7,7 @@ use Rattle.tw_evidence.specs.Texts.{fork_text}
 use Rattle.tw_tmap.specs.Texts.{map_text}
 use Rattle.tw_reachcmd.specs.AdoptTexts.{taken_status, taken_text}
 use Rattle.tw_reachcmd.specs.AuditTexts.{audited_status, audited_text}
-use Rattle.tw_reachcmd.specs.Maps.{map_command_status}
+use Rattle.tw_reachcmd.specs.CheckMap.{map_command_status}
 use Rattle.tw_reachcmd.specs.declared.accusing.Accused.TheVariants.{Whole, Unfit}
 use Rattle.tw_reachcmd.specs.declared.answer.Answer.{Answer}
 use Rattle.tw_reachcmd.specs.declared.answer.Answer.TheVariants.{Accused, Audited, Fork, Mapped, Planned, Taken}

@@ -1,11 +1,11 @@
 pub mod Anchors
 pub mod Held
 pub mod Parts
-pub mod Forks
+pub mod CheckFork
 pub mod Accusing
-pub mod Maps
+pub mod CheckMap
 pub mod ReadMaps
-pub mod Planning
+pub mod Atlas
 pub mod ReadingReceipts
 pub mod Histories
 pub mod Reading

@@ -6,9 +6,9 @@ use Rattle.tw_text.specs.declared.fault.CommandFault.{CommandFault}
 use Rattle.tw_tmap.specs.declared.map_file.LowFile.{LowFile}
 use Rattle.tw_tmap.specs.declared.map_verdict.MapVerdict.{MapVerdict}
 use Rattle.tw_tmap.specs.MapFiles.{high_layout, low_layout}
-use Rattle.tw_reachcmd.specs.declared.maps.MapFiles.{MapFiles}
+use Rattle.tw_reachcmd.specs.declared.check_map.MapFiles.{MapFiles}
 use Rattle.tw_reachcmd.specs.Anchors.{AreAnchorsOf, IsNoAnchors}
-use Rattle.tw_reachcmd.specs.Maps.{AreMapsJudged}
+use Rattle.tw_reachcmd.specs.CheckMap.{AreMapsJudged}
 use Rattle.tw_reachcmd.specs.Parts.{IsPartRead}
 
 -- a low and a high map file; or the first of both files that holds none of its kind

@@ -10,9 +10,9 @@ use Rattle.tw_text.specs.declared.fault.CommandFault.TheVariants.{Unreadable, In
 use Rattle.tw_text.specs.declared.refusal.BadInput.{BadInput}
 use Rattle.tw_text.specs.declared.refusal.BadInput.TheVariants.{BadByte}
 use Rattle.tw_atlas.specs.declared.limits.TheConstants.{MOST_RECEIPTS}
-use Rattle.tw_reachcmd.specs.declared.planning.Receipts.{Receipts}
+use Rattle.tw_reachcmd.specs.declared.atlas.Receipts.{Receipts}
 use Rattle.tw_reachcmd.specs.Held.{TellAll}
-use Rattle.tw_reachcmd.specs.Planning.{AreHops, HasBadReceipts, HoldHops, HoldNoHops}
+use Rattle.tw_reachcmd.specs.Atlas.{AreHops, HasBadReceipts, HoldHops, HoldNoHops}
 
 -- the hops of the files so far, or the first that isn't as it has to be
 abbrev pub AreHopsSoFar : (told : Option Files) (files : List (List ℕ)) → List Hop → Option BadInput → Type 0

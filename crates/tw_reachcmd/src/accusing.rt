@@ -1,4 +1,4 @@
-// The command that makes the evidence of a fork.
+// The command `accuse`, which makes the evidence of a fork of the proofs in files.
 
 ghost use Rattle.std.specs.Prelude.{◌≡◌, None, Some, IfOk};
 ghost use Rattle.tw_evidence.specs.Accusing.{AreSpelled};

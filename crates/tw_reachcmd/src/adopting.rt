@@ -1,4 +1,4 @@
-// The command that takes over a history.
+// The command `adopt`, which takes over the history of a file by the proofs of others.
 
 ghost use Rattle.std.specs.Prelude.{◌≡◌, ◌≤◌, ◌<◌, ◌∷◌, ◌++◌, [], ℕ, List, Err, IfOk, OnOk, length};
 ghost use Rattle.tw_base.specs.declared.kinds.limits.TheConstants.{MOST_HISTORY_BYTES as MOST};

@@ -1,4 +1,4 @@
-// The anchors of lines that were read.
+// The anchors of an anchors file, or the fault with its first bad line.
 
 ghost use Rattle.std.specs.Prelude.{◌≤◌, ℕ, List, length, IfErr, IfOk};
 ghost use Rattle.tw_base.specs.declared.kinds.limits.TheConstants.{MOST_ANCHORS};

@@ -1,4 +1,4 @@
-// What the commands come to, as it is told.
+// What these commands come to, each with its status and its text, for which tw_app asks.
 
 ghost use Rattle.std.specs.Prelude.{◌≡◌, IfOk};
 ghost use Rattle.tw_reachcmd.specs.Answers.{answer_status as answer_status_of, answer_text};
@@ -6,9 +6,9 @@ ghost use Rattle.tw_reachcmd.specs.Answers.{answer_status as answer_status_of, a
 use crate::accusing::Accused;
 use crate::adopt_text::print_taken;
 use crate::adopting::Taken;
+use crate::atlas::Planned;
 use crate::audit_text::print_audited;
 use crate::auditing::Audited;
-use crate::planning::Planned;
 use std::alloc::Global;
 use tw_atlas::print_atlas;
 use tw_audit::Finding;

@@ -1,4 +1,4 @@
-// The command that holds a proof against histories.
+// The command `audit`, which holds a proof against histories.
 
 ghost use Rattle.std.specs.Prelude.{◌≡◌, ◌≤◌, false, Err, IfOk, OnOk};
 ghost use Rattle.sha2.specs.Sha256.{sha256};

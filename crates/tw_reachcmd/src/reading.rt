@@ -1,4 +1,4 @@
-// Reading two files.
+// Reading the two files of a command that needs both before it judges one.
 
 ghost use Rattle.std.specs.Prelude.{◌≡◌, ◌≤◌, ◌↔◌, ℕ, List, Err, IfOk, OnOk};
 ghost use Rattle.tw_base.specs.kinds.Faults.{Rose};

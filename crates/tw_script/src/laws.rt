@@ -1,4 +1,4 @@
-// The laws of scripts.
+// The law of scripts: what reading one line after another says of them.
 
 ghost use Rattle.std.specs.Prelude.{◌≡◌, ◌≢◌, ◌↔◌, ℕ, List, Ok, Err, false};
 ghost use Rattle.tw_base.specs.format.Formats.{Spells};

@@ -1,4 +1,4 @@
-// The lines of scripts.
+// The lines of scripts as values, one variant for each form.
 
 use tw_base::{Bytes, EventList, Name, Question, Sequence};
 

@@ -1,4 +1,4 @@
-// The forms of lines.
+// The forms of a script's lines: each reads its words and makes the line of them.
 
 ghost use Rattle.tw_script.specs.LineForms.{choose_form};
 ghost use Rattle.tw_script.specs.LineTable as table;

@@ -1,4 +1,4 @@
-// Reading scripts.
+// Reading a script whole, each line by its form and by what the lines before it made; `tw_world` plays it.
 
 ghost use Rattle.std.specs.Prelude.{◌≡◌, ◌<◌, ◌≤◌, ◌^◌, length};
 ghost use Rattle.tw_script.specs.LineTakings.{TakesText};

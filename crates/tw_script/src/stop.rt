@@ -1,8 +1,8 @@
-// Why a text isn't taken as a line.
+// Why a text isn't taken as a line of a script.
 
 use tw_base::NoMemory;
 
-/// Why a text isn't taken.
+/// Why a text isn't taken as a line of a script.
 #[derive(Clone, Copy, Debug, Drop)]
 pub enum Stop {
     /// It has no form, or its line may not follow those before it.

@@ -1,4 +1,4 @@
-// Which messages are still there.
+// Which messages of a script no line before has dropped.
 
 ghost use Rattle.std.specs.Prelude.{◌≡◌, ◌≤◌, ◌-◌, ◌&&◌, ◌++◌, ◌∷◌, [], length, nat_le, slice_index_or, slice_set, true, false, OnOk};
 

@@ -1,4 +1,4 @@
-// Playing scripts.
+// The call that plays a script: all lines are read, each is played (`player.rt`), and what they are told is printed.
 
 ghost use Rattle.std.specs.Prelude.{◌≡◌, ◌++◌, codes, length, IfOk, OnOk};
 ghost use Rattle.serde_json.specs.Written.{compact_text};

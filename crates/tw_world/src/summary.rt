@@ -1,4 +1,4 @@
-// The last line of what was played.
+// The last line of a script that was played: how many answers began with which word.
 
 ghost use Rattle.std.specs.Prelude.{◌≡◌, codes, string_bytes, IfOk, OnOk};
 ghost use Rattle.serde_json.specs.Data.{member, no_members, number, object, put as with_member, unsigned};

@@ -21,6 +21,9 @@ from timeweave_reference.timelines import Timeline
 # The stack that is allowed, in bytes.
 STACK = 256 << 10
 
+# The stack in which `export` works.
+EXPORT_STACK = 96 << 10
+
 # How many threads the service has, each of a service of its own.
 THREADS = 1500
 
@@ -49,9 +52,9 @@ def put_notary(room):
     return notary().copied()
 
 
-def works(room, words, status, output):
+def works(room, words, status, output, stack=STACK):
     """The command answers so with a small stack."""
-    expect(room.run(*words.split(), limit=with_stack(STACK)), (status, output, b""), f"timeweave {words}, in {STACK >> 10} KiB of stack")
+    expect(room.run(*words.split(), limit=with_stack(stack)), (status, output, b""), f"timeweave {words}, in {stack >> 10} KiB of stack")
 
 
 def as_ever(room, words, status, first):
@@ -78,6 +81,11 @@ def grown_service(room):
         ("thread d 0", service.message(0)), ("export d", service.history()),
     ):
         works(room, words, 0, output)
+
+
+def export_in_less(room):
+    """the history of a service of 1,500 threads is exported in 96 KiB"""
+    works(room, "export d", 0, put_notary(room).history(), EXPORT_STACK)
 
 
 def large_history(room):
@@ -147,4 +155,4 @@ def long_script(room):
 
 
 def cases():
-    return [case(work, "stacks") for work in (grown_service, large_history, long_chain, maps_and_forks, new_service, long_script)]
+    return [case(work, "stacks") for work in (grown_service, export_in_less, large_history, long_chain, maps_and_forks, new_service, long_script)]

@@ -1,7 +1,0 @@
-use Rattle.std.proofs.Common.{◌≡◌}
-use Rattle.std.specs.Prelude.{take}
-use Rattle.tw_diskcmd.specs.Listing.{head_lines}
-use Rattle.tw_diskcmd.proofs.listing.print_heads.Given as goal
-
-abbrev pub invariant-loop-head : goal.invariant-loop-head
-invariant-loop-head l = l.lines ≡ head_lines (take l.head-index l.heads)
