@@ -15,7 +15,8 @@ use tw_base::NoMemory;
 use tw_hostio::{FileDisk, HostInputs, HostSink};
 use words::read_arguments;
 
-/// The status where the number of a closed standard stream can't be kept from the files that are opened.
+/// The status where the number of a closed standard stream can't be kept from the files that are opened: that of an
+/// output that failed.
 const NO_OUTPUT: u8 = 4;
 
 /// What stands for the store where the words ask for none: no command makes a call of its disk then.

@@ -1,4 +1,4 @@
-// The numbers of the standard streams.
+// Keeping the numbers of standard streams that are closed from files that are opened later.
 
 use std::fs::{self, File};
 use std::os::fd::AsFd;

@@ -1,4 +1,4 @@
-// Where the store of a service lies.
+// Where the store of a service or of a follower lies in its folder.
 
 use std::alloc::Global;
 use tw_base::NoMemory;

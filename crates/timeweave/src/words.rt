@@ -1,4 +1,4 @@
-// Reading the arguments of the program, each a word of the command line.
+// Reading the arguments of the program, each a word of the command line; tw_words/src/words.rt makes a command of them.
 
 use std::alloc::Global;
 use std::env::{Env, FillError};
@@ -21,7 +21,7 @@ pub fn read_arguments<R: Env + AllocGlobal>(rt: &R) -> Result<Vec<String>, NoMem
     Ok(words)
 }
 
-/// The argument of this number, if there is one: read into a buffer that is doubled until it fits.
+/// The argument of this number, if there is one: read into a buffer of 256 bytes, which is doubled until it fits.
 fn read_argument<R: Env + AllocGlobal>(rt: &R, i: usize) -> Result<Option<String>, NoMemory> {
     let mut size = 256usize;
     for _ in 0..usize::BITS {

@@ -1,4 +1,5 @@
-// Putting a text into the buffer of the caller, as much as it has room for.
+// Putting a text into the buffer of the caller, as much as it has room for; a run of the program writes its text to a sink
+// (tw_app/src/ending.rt).
 
 ghost use Rattle.std.specs.Prelude.{◌≡◌, length};
 ghost use Rattle.timeweave_c.specs.Buffers.{put_in};

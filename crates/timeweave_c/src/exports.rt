@@ -1,4 +1,4 @@
-// The functions that C calls.
+// The functions that C calls: each puts what a call of tw_judge tells into a buffer, but for that of the version.
 
 ghost use Rattle.std.specs.Prelude.{◌≡◌, length, true, false};
 ghost use Rattle.tw_text.specs.Faults.{fault_status as fault_status_of, fault_text};

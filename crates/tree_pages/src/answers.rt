@@ -1,4 +1,4 @@
-// What comes of a command.
+// Doing what a line says, and the line that is printed of it.
 
 use crate::command::Command;
 use crate::digests::{bytes_of_page, digest_of_entries, digest_of_pages, digest_of_proof};

@@ -1,4 +1,4 @@
-// What a line says.
+// What a line of this program's input says that is to be done; the commands of `timeweave` are in tw_words.
 
 use crate::stop::Stop;
 

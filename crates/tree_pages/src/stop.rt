@@ -1,11 +1,11 @@
-// Why the program ends before its input does.
+// Why this program ends before its input does.
 
 use std::alloc::AllocError;
 use std::io;
 use tw_base::NoMemory;
 use tw_rbtree::{TreeFault, WalkFault};
 
-/// Why the program ends before its input does.
+/// Why the program `tree_pages` ends before its input does.
 #[derive(Debug, Drop)]
 pub enum Stop {
     /// A line says nothing that can be done.

@@ -1,4 +1,4 @@
-// The versions of a tree.
+// The versions of the tree that this program makes, all in one list of pages.
 
 use crate::entries::entry;
 use crate::stop::Stop;
@@ -7,7 +7,7 @@ use tw_base::{NoMemory, Root, Sequence, Sha, empty_tree};
 use tw_disk::{MemPages, Pages};
 use tw_rbtree::{TreeFault, insert};
 
-/// An insert is tried only below so many pages.
+/// An insert is tried only below so many pages, as `insert` of tw_rbtree demands.
 const MOST_PAGES: u64 = 1 << 47;
 
 /// A version of the tree: how many entries it has, and its root.

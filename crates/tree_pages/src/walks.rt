@@ -1,4 +1,4 @@
-// The entries of a version as they are found.
+// The entries of a version as the calls of tw_rbtree find them: upwards, downwards, and by their keys.
 
 use crate::entries::{SERVICES, key};
 use crate::stop::Stop;
@@ -8,7 +8,7 @@ use tw_base::{Entries, Entry, Sha, entry_key};
 use tw_disk::MemPages;
 use tw_rbtree::{after, before, get};
 
-/// The entries from the least one up.
+/// The entries from the least one up, each found behind the one before; no entry has a step of 0, so the first is found, too.
 pub fn from_least(alloc: Global, versions: &mut Versions) -> Result<Entries, Stop> {
     let mut entries = Entries::new(alloc);
     let mut last = key(0, 0).ok_or(Stop::BadLine)?;
@@ -24,7 +24,7 @@ pub fn from_least(alloc: Global, versions: &mut Versions) -> Result<Entries, Sto
     Ok(entries)
 }
 
-/// The entries from the greatest one down.
+/// The entries from the greatest one down, each found before the one behind.
 pub fn from_greatest(alloc: Global, versions: &mut Versions) -> Result<Entries, Stop> {
     let mut entries = Entries::new(alloc);
     let mut last = key(SERVICES - 1, u64::MAX).ok_or(Stop::BadLine)?;

@@ -1,4 +1,4 @@
-// Taking over a history.
+// Taking over a history by proofs: what they show is heard (`hearing.rt`), and weighed against it (`weighing.rt`).
 
 ghost use Rattle.std.specs.Prelude.{◌≡◌, ◌<◌, ◌≤◌, ℕ, List, None, length};
 ghost use Rattle.tw_base.specs.declared.history.thread.Thread.{Thread as ThreadMeant};
@@ -50,7 +50,7 @@ fn adopt_heard<H: Hasher>(
     }
 }
 
-/// How far the history is taken over by the proofs, or the first fault.
+/// How far the history is taken over by the proofs, or the first fault: `adopt`, but for its second clause.
 fn answer<H: Hasher>(
     alloc: Global,
     history: &History,

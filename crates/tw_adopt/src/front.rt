@@ -1,4 +1,4 @@
-// The first steps of a history, copied.
+// The first steps of a history in memory, copied; tw_export copies steps from pages, and tw_join/src/copying.rt parts of proofs.
 
 ghost use Rattle.std.specs.Prelude.{◌≡◌, ◌≤◌, length, sum_by, IfOk};
 ghost use Rattle.tw_base.specs.declared.kinds.limits.TheConstants.{LAST_STEP};

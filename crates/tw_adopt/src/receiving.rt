@@ -1,4 +1,4 @@
-// What a proof shows of a service.
+// What an accepted proof shows of the service that is taken over: who received which thread of it.
 
 use tw_base::{Entry, Name};
 

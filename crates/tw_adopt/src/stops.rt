@@ -1,4 +1,4 @@
-// Passing a history, with its authenticators at the steps that were shown.
+// Passing a history, with its authenticators at the steps that were shown; tw_audit/src/passing.rt passes many, for threads.
 
 ghost use Rattle.std.specs.Prelude.{◌≡◌, ◌<◌, ◌≤◌, length, IfOk, OnOk};
 ghost use Rattle.tw_base.specs.kinds.Lists.{Each};
@@ -10,7 +10,7 @@ use std::alloc::Global;
 use tw_base::{Digest, Hasher, NoMemory, Transcript, Unwritten};
 use tw_history::{Digests, History, auth_passed, begin_pass, count_of_steps, pass_steps};
 
-/// A step of a history, and its authenticator there.
+/// A stop of the pass over a history that is to be taken over: the step, and the history's authenticator there.
 #[derive(Clone, Copy, Drop)]
 pub(crate) struct Stop {
     pub(crate) step: u64,

@@ -1,4 +1,4 @@
-// Weighing what was heard against the history.
+// Weighing what was heard against the history; tw_audit/src/passing.rt compares histories so with the threads held of a proof.
 
 ghost use Rattle.std.specs.Prelude.{◌≡◌, ◌<◌, ◌≤◌, ℕ, List, ◌∷◌, None, Some, Ok, Err, length, IfOk};
 ghost use Rattle.tw_base.specs.declared.history.thread.Thread.{Thread};
@@ -92,7 +92,8 @@ fn agreed(heard: &Heard) -> Result<Receiving, AdoptFault>
     }
 }
 
-/// What is found of the proofs, by what was kept of the history at each step shown.
+/// What is found of the proofs, by what was kept of the history at each step shown. The proof with the fault is behind
+/// those that show something, so one of these that differs comes first.
 fn decide(heard: &Heard, stops: &[Stop]) -> Result<Receiving, AdoptFault>
     requires { heard.now.fault ≡ None → 0 < length heard.now.shown.items }
     ensures weighed { (dig : List ℕ → List ℕ) (anchors : List Thread) (h : HistoryMeant) (proofs : List (List ℕ)) →

@@ -1,4 +1,4 @@
-// The laws of root records.
+// The law of a service's root records: one with a time has one spelling, and so has one without.
 
 ghost use Rattle.std.specs.Prelude.{◌≡◌, length, if◌then◌else◌, Bool};
 ghost use Rattle.tw_base.specs.format.Codecs.{IsUnambiguous};

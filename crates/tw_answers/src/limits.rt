@@ -1,4 +1,5 @@
-// The limits of stores, and the lines of the tables of refusals that need no page.
+// The limits of stores, and the lines of the tables of refusals that need no page. The tables are defined in `specs/Limits`; the
+// calls of `Service` tell theirs in their comments (tw_service/src/service.rt and asking.rt).
 
 ghost use Rattle.std.specs.Prelude.{◌≡◌, ◌≢◌, ◌+◌, ◌-◌, ◌≤◌, ◌<◌, ◌^◌, length, false, IsNone, None};
 ghost use Rattle.std.specs.Option.{option_map};
@@ -18,7 +19,8 @@ pub const ROOT_BYTES: u64 = 112;
 /// The bytes of a root record with a time.
 pub const TIMED_ROOT_BYTES: u64 = 120;
 
-/// The most pages that a step adds to a store; one of events adds at most 19, one of a thread at most 42.
+/// The most pages that a step adds to a store, with some to spare: one of events adds at most 19, one of a thread at most 24, its own
+/// and 23 of the archive's tree.
 pub const MOST_PAGES_OF_A_STEP: u64 = 64;
 
 /// The limits of a history and of its root record, by number.
@@ -42,7 +44,7 @@ pub fn limit_laws()
 {}
 
 /// The length of an event.
-fn event_size(event: &[u8]) -> u64
+fn event_length(event: &[u8]) -> u64
     ensures value { result ≡ length event.now }
     ensures bytes { AreBytes event.now }
 {
@@ -55,7 +57,7 @@ fn first_long_length(events: &[Bytes]) -> Option<u64>
     ensures bytes { IsNone result → Each AreBytes events.now }
 {
     for event in events {
-        let size = event_size(event.as_slice());
+        let size = event_length(event.as_slice());
         if size > MOST_EVENT_BYTES {
             return Some(size);
         }
@@ -168,7 +170,7 @@ pub fn archive_refusal(steps: u64, clock: Option<u64>, time: Option<u64>) -> Opt
     clock_refusal(clock, time)
 }
 
-/// The refusal of the message of the last step with a path down to an earlier one, by the table of
+/// The refusal of the message of the last step with a path down to an earlier one, which may be 0, by the table of
 /// `thread_out`.
 #[tactic(auto, unfolding(crate::specs::Limits::thread_refusal))]
 pub fn thread_refusal(is_broken: bool, last: u64, since: u64) -> Option<Refusal>
@@ -185,7 +187,8 @@ pub fn thread_refusal(is_broken: bool, last: u64, since: u64) -> Option<Refusal>
     Some(Refusal::NoStep { last })
 }
 
-/// The refusal of a proof of a step's authenticator under a top, by the table of `prove_link`.
+/// The refusal of a proof of a step's authenticator under a top, by the table of `prove_link` of `Service`. The step may be 0, as
+/// every history has an authenticator there; so only the top has to be 1 or above.
 #[tactic(auto, unfolding(crate::specs::Limits::link_refusal))]
 pub fn link_refusal(is_broken: bool, last: u64, step: u64, top: u64) -> Option<Refusal>
     ensures answer { result ≡ link_refusal_of is_broken last step top }

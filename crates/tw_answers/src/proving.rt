@@ -1,4 +1,5 @@
-// The proofs of a history that pages keep.
+// The proofs of events and of links that a service makes of its pages; `showing.rt` makes those of threads, and
+// tw_history/src/showing.rt that of `show`.
 
 ghost use Rattle.std.specs.Prelude.{◌≡◌, ◌⊎◌, ℕ, ◌*◌, ◌<◌, ◌≤◌, ◌^◌, length, IfOk, IfErr};
 ghost use Rattle.tw_base.specs.history.Limits.{MayRecord};
@@ -114,6 +115,7 @@ fn write_link(
 {
     let proof = Proof::Linked(link_proof(name, step, top, link));
     let bytes = write_proof(alloc, &proof);
+    // Dropped by its name, so that the prover meets the drop in one place.
     drop(proof);
     bytes
 }

@@ -1,4 +1,4 @@
-// The root record of a service, as a store keeps it.
+// The root record of a service as the `Record` of its store, by the bytes of `root.rt`; a follower's is in tw_follow/src/record.rt.
 
 ghost use Rattle.tw_answers.specs.Roots.{root_kind};
 

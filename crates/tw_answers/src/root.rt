@@ -1,4 +1,4 @@
-// Root records.
+// The root record of a service: what it says, its bytes, and which bytes are one; a follower's is in `tw_follow`.
 
 ghost use Rattle.std.specs.Prelude.{◌≡◌, ◌≢◌, ℕ, ◌+◌, ◌-◌, ◌*◌, ◌≤◌, ◌<◌, ◌^◌, ◌++◌, List, length, IfErr, IfOk, IfSome, IsTrue, ◌↔◌, MatchOption, is_some};
 ghost use Rattle.arrayvec.specs.ArrayVec.{array_vec_len};
@@ -101,7 +101,8 @@ fn is_last_page(used: u64, count: u64, page: u64) -> bool
     }
 }
 
-/// Whether the record may be the root record of a store of so many used pages and of this generation.
+/// Whether the record may be the root record of a store of so many used pages and of this generation: each step has one commit, at
+/// most `MOST_PAGES_OF_A_STEP` pages and at most one thread.
 fn fits_store(root: &RootRecord, used: u64, generation: u64) -> bool
     requires { root.now.head.step ≤ LAST_STEP }
     ensures { IsTrue result ↔ FitsStore used generation root.now }

@@ -1,4 +1,4 @@
-// The proof that a step's archive holds a thread, and that it holds none of a key.
+// The proofs that a service makes of its pages that a step's archive holds a thread, or none of a key; `proving.rt` makes the others.
 
 ghost use Rattle.std.specs.Prelude.{◌≡◌, ◌⊎◌, ◌≤◌, IfErr, IfOk, Some};
 ghost use Rattle.tw_disk.specs.Answers.{ReadsOr, ReadsWhere};
@@ -23,7 +23,7 @@ pub struct EntryShown {
 }
 
 /// The tree's own proof of what is asked. A call before told that it is so; where it isn't, pages that are
-/// read don't fit one another.
+/// read don't fit one another. (Map files have such a proof, too, in tw_service.)
 pub fn show<P: Pages, H: Hasher>(
     alloc: Global,
     pages: &mut P,
@@ -147,6 +147,7 @@ fn write_thread(
         shown: tree,
     });
     let bytes = write_proof(alloc, &proof);
+    // Dropped by its name, so that the prover meets the drop in one place.
     drop(proof);
     bytes
 }
@@ -169,6 +170,7 @@ fn write_absence(
         shown: tree,
     });
     let bytes = write_proof(alloc, &proof);
+    // Dropped by its name, so that the prover meets the drop in one place.
     drop(proof);
     bytes
 }

@@ -1,4 +1,4 @@
-// Runs by the same words over the same files end alike.
+// The law that runs by the same words over the same files end alike.
 
 ghost use Rattle.std.specs.Prelude.{◌≡◌, ℕ, List};
 ghost use Rattle.tw_app.specs.Alike.{AreRunsAlike};

@@ -1,4 +1,4 @@
-// A run that has all that its command needs ends with an answer.
+// The law that a run which has all that its command needs ends with an answer.
 
 ghost use Rattle.std.specs.Prelude.{ℕ};
 ghost use Rattle.tw_app.specs.Around.{Around};

@@ -68,7 +68,7 @@ pub fn end_without_memory<S: Sink>(out: &mut S) -> u8
     tell(out, fault_status(&CommandFault::NoMemory), no_memory())
 }
 
-/// The status of an outcome whose text could be written.
+/// The status of an outcome whose text could be written. (For the library, tw_judge tells that of a verdict.)
 fn status_of(outcome: &Outcome) -> u8
     ensures { result ≡ status_of_outcome outcome.now }
 {
@@ -119,7 +119,7 @@ pub struct Ran<D> {
     pub disk: D,
 }
 
-/// Does what the words ask, and ends.
+/// Does what the words ask, and ends: `run`, by its first clause alone.
 fn run_to_the_end<D: Disk, I: Inputs, S: Sink>(
     alloc: Global,
     words: &[String],
@@ -162,7 +162,7 @@ fn run_to_the_end<D: Disk, I: Inputs, S: Sink>(
 ///
 /// The words are judged first; then all files are read, anchors before a proof, and a proof that is judged
 /// no further than needed (a tested promise: no piece of 4,096 bytes behind its first bad byte); then what
-/// the files hold is judged, that of a proof last; then comes the disk. A command that works on no directory
+/// the files hold is judged, that of a proof last; then comes the disk. A command that works on no folder
 /// hands the disk back as it is.
 pub fn run<D: Disk, I: Inputs, S: Sink>(
     alloc: Global,

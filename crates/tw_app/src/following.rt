@@ -1,4 +1,4 @@
-// From words to what they come to.
+// From words to what they come to: an arm for each command, which calls one function of a crate of commands.
 
 ghost use Rattle.std.specs.Prelude.{◌≡◌, map, string_bytes, IfSome};
 ghost use Rattle.tw_base.specs.kinds.Lists.{Each};
@@ -62,7 +62,7 @@ pub(crate) fn follow_words<D: Disk, I: Inputs>(
     }
 }
 
-/// What the command comes to. Commands without a directory leave the disk as it is. It is long, since
+/// What the command comes to. Commands without a folder leave the disk as it is. It is long, since
 /// it has an arm for each command.
 fn follow<D: Disk, I: Inputs>(
     alloc: Global,

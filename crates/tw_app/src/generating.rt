@@ -1,4 +1,4 @@
-// The command `generate`, which plays three services by a number, by `tw_generate`.
+// The command `generate`, which plays three services by a number; tw_generate/src/generating.rt has the call.
 
 ghost use Rattle.std.specs.Prelude.{◌≤◌};
 ghost use Rattle.tw_app.specs.Generating.{GenerateComes};
@@ -8,7 +8,8 @@ use tw_base::Bytes;
 use tw_generate::{GenerateFault, Generated, generate};
 use tw_text::CommandFault;
 
-/// Plays so many rounds, at most 10,000, of three services on disks in memory, by this number, and answers the summary of what came of them.
+/// Plays so many rounds, at most 10,000, of three services on disks in memory, by this number, and answers the summary of what came of
+/// them.
 // It stays a call, so that other commands don't have its frame on the stack.
 #[inline(never)]
 pub(crate) fn generate_world(alloc: Global, number: u64, rounds: u64) -> Result<Bytes, CommandFault>

@@ -1,4 +1,4 @@
-// A run that judges a proof, map files or evidence tells what is told of the bytes of its files.
+// The laws that a run which judges a proof, map files or evidence tells what tw_judge tells of the bytes of its files.
 
 ghost use Rattle.std.specs.Prelude.{ℕ, List, Bool};
 ghost use Rattle.tw_judge.specs.Forks.{IsForkTold};

@@ -1,4 +1,4 @@
-// What the status of a run says by itself, whatever ends so.
+// The laws of statuses: what each says by itself of a run that ends so.
 
 ghost use Rattle.std.specs.Prelude.{◌⊎◌, ℕ, List};
 ghost use Rattle.tw_base.specs.kinds.Faults.{Rose};

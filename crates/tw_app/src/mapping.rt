@@ -1,4 +1,5 @@
-// What a run of `checkmap` tells, where the inputs tell the bytes of its files.
+// The law of what a run of `checkmap` tells, where the inputs tell the bytes of its files; tw_service/src/mapping.rt makes
+// map files.
 
 ghost use Rattle.std.specs.Prelude.{ℕ, List};
 ghost use Rattle.sha2.specs.Sha256.{sha256};

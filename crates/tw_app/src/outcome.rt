@@ -1,4 +1,4 @@
-// What a run of the program comes to.
+// What a run of the program comes to; `ending.rt` and `printing.rt` have its status and its text.
 
 ghost use Rattle.std.specs.Prelude.{◌≡◌};
 ghost use Rattle.tw_app.specs.Outcomes.{of_accused, of_audited, of_fork, of_mapped, of_planned, of_taken, outcome_by};
@@ -18,12 +18,14 @@ use tw_tmap::MapVerdict;
 pub enum Outcome {
     /// A proof was judged.
     Judged(Verdict),
-    /// An event was shown, something was proved, a map or history file made, the last step told or a script
-    /// or a number played: the bytes of the proof, of the file or of the message, or the text of what was played.
+    /// An event was shown, something was proved, a map or history file made, the last step or the heads of a
+    /// follower told, or a script or a number played: the bytes of the proof, of the file or of the message, the
+    /// lines of the heads, or the text of what was played.
     Written(Bytes),
     /// The proofs of files were joined, or don't fit.
     Joined(Joined),
-    /// A service or a step was made: the thread of its last step.
+    /// A service, a step or a follower was made, or a follower took a message: the thread of the last step, or the
+    /// head.
     Made(Thread),
     /// A message was received: the receipt of the step that archived its thread.
     Received(Receipt),
@@ -45,7 +47,7 @@ pub(crate) fn judged(came: Result<Verdict, CommandFault>) -> Outcome
     }
 }
 
-/// The outcome of a proof, a file or a message that was made.
+/// The outcome of a proof, a file or a message that was made, of heads that were told, or of what was played.
 pub(crate) fn written(came: Result<Bytes, CommandFault>) -> Outcome
     ensures { result ≡ outcome_by OfBytes came }
 {
@@ -65,7 +67,7 @@ pub(crate) fn joined(came: Result<Joined, CommandFault>) -> Outcome
     }
 }
 
-/// The outcome of a service or a step that was made.
+/// The outcome of a service, a step or a follower that was made, or of a message that a follower was offered.
 pub(crate) fn made(came: Result<Thread, CommandFault>) -> Outcome
     ensures { result ≡ outcome_by OfThread came }
 {

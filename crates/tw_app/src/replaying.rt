@@ -1,4 +1,4 @@
-// The command `replay`, which reads a script's file and plays it by `tw_world`.
+// The command `replay`, which reads a script's file and plays it; tw_world/src/replaying.rt has the call.
 
 ghost use Rattle.std.specs.Prelude.{◌≡◌, IfOk};
 ghost use Rattle.tw_outside.specs.Asked.{asked};

@@ -1,4 +1,4 @@
-// Which store the words ask for.
+// Which store the words ask for, and what their command does with it; what a store is, tw_pages/src/store.rt has.
 
 ghost use Rattle.std.specs.Prelude.{◌≡◌, [], map, slice_index_or, string_bytes, IfOk};
 ghost use Rattle.tw_words.specs.declared.command.Command.{Command as AnyCommand};
@@ -78,7 +78,7 @@ fn folder_of(words: &[String]) -> &str
 }
 
 /// The store that the words ask for, which don't hold the program's own name. None where they have no form, or one whose command
-/// works on no folder.
+/// works on no folder. The words are read for that alone, and `run`, which is handed the store's disk, reads them once more.
 pub fn store_of(alloc: Global, words: &[String]) -> Result<Option<Store<'_>>, NoMemory>
     // The store is that of the words' command, with what it does with it, in the folder that the second word names; and none is
     // answered where the words have no form, or their command works on no folder.

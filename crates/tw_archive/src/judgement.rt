@@ -1,8 +1,9 @@
-// What becomes of a message.
+// What becomes of a message by a service's archive; a follower, which has none, judges in `tw_follow`.
 
 use tw_base::Digest;
 
-/// What becomes of a message of another service, by what an archive has of that service.
+/// What becomes of a message of another service, by what an archive has of that service. `Forked`, `Stale` and `BadLink`
+/// are answered as the service's `Refusal` of the same name; a follower answers its own `FollowRefusal`.
 #[derive(Clone, Copy, PartialEq, Eq, Debug, Drop)]
 pub enum Judgement {
     /// The archive has the thread: this step received it.

@@ -1,4 +1,4 @@
-// Judging messages.
+// Judging a message by the entries that a service's archive has, and finding these in the archive's pages; services call `near.rt`.
 
 ghost use Rattle.std.specs.Prelude.{◌≡◌, IfOk, IfSome};
 ghost use Rattle.tw_base.specs.history.Entries.{key_of};
@@ -47,7 +47,7 @@ fn kept<H: Hasher>(peer: &Name, last: &Option<Entry>) -> Digest
 }
 
 /// Whether the message's link climbs from the last entry to the message's thread.
-fn leads<H: Hasher>(last: &Option<Entry>, message: &Message) -> bool
+fn climbs_from_last<H: Hasher>(last: &Option<Entry>, message: &Message) -> bool
     requires { IsLinked message.now }
     ensures { result ≡ leads_from_last H.dig last.now message.now }
 {
@@ -87,7 +87,7 @@ fn judge_new<H: Hasher>(last: &Option<Entry>, message: &Message) -> Judgement
     if message.thread.step < step {
         return Judgement::Stale { last: step };
     }
-    if leads::<H>(last, message) {
+    if climbs_from_last::<H>(last, message) {
         return Judgement::Accept;
     }
     Judgement::BadLink {

@@ -77,6 +77,9 @@ pub fn judgement_laws<H: Hasher>()
 
 /// Pages that keep the archive's tree of each step of a history, and the numbers of its nodes; its clauses are the theorem. The
 /// function itself does nothing.
+///
+/// `step_page` gives the page of each step, `archive` the archive's root after each step. `named_at` says of which tree each page up
+/// to that of a step is to be the root, by the number that the page has after the step.
 pub fn kept_tree_laws<H: Hasher>()
     // After each step as many nodes are numbered as the history has.
     ensures count { (ps : Image) (h : History) (step_page : ℕ → ℕ) (archive : ℕ → Root) → KeepsTrees H.dig ps h step_page archive → (k : ℕ) → k ≤ length h.steps →

@@ -1,4 +1,4 @@
-// The arrivals of an atlas.
+// The arrivals of an atlas: the least step of each service at which its hops arrive.
 
 ghost use Rattle.std.specs.Prelude.{◌≡◌, ◌<◌, ◌^◌, ◌++◌, ◌∷◌, ◌≢◌, [], List, ℕ, length, IfOk, OnOk, Some};
 ghost use Rattle.std.specs.BTreeMap.{IsOrdered, values};

@@ -1,4 +1,5 @@
-// An atlas: which hops are taken, one after another, and where they arrive.
+// An atlas as a value: which hops are taken, one after another, and where they arrive; the command is in
+// tw_reachcmd/src/atlas.rt.
 
 use tw_base::{Hop, Name, Sequence};
 

@@ -1,4 +1,4 @@
-// Checking an atlas, line by line.
+// Checking an atlas, line by line, for whoever is handed one; no command does.
 
 ghost use Rattle.std.specs.Prelude.{◌≡◌, ◌↔◌, IsTrue, map, slice_get};
 ghost use Rattle.std.specs.List.{list_all, list_any};

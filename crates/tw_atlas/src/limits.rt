@@ -1,4 +1,4 @@
-// The limit of an atlas.
+// The limit of an atlas: how many receipts its files may have.
 
 ghost use Rattle.std.specs.Prelude.{◌≡◌};
 

@@ -1,4 +1,4 @@
-// The different hops of a list, in order.
+// The two steps that a hop joins, and the different hops of a list, in order.
 
 ghost use Rattle.std.specs.Prelude.{◌≡◌, List, IfOk};
 ghost use Rattle.tw_base.specs.declared.history.report.Hop.{Hop};

@@ -1,4 +1,4 @@
-// Planning an atlas.
+// The call that plans an atlas: different hops (`ordering.rt`), their legs (`rounds.rt`), the arrivals (`arriving.rt`).
 
 ghost use Rattle.std.specs.Prelude.{◌≤◌, length, IfOk};
 ghost use Rattle.tw_atlas.specs.Earliest.{IsAtlasPlanned};

@@ -1,4 +1,4 @@
-// The lines of an atlas.
+// The text of an atlas: the line of its start, and one for each leg and each arrival.
 
 ghost use Rattle.std.specs.Prelude.{◌≡◌, ◌∷◌, ◌++◌, [], codes, ℕ, IfOk, OnOk};
 ghost use Rattle.std.specs.List.{enumerate_from, flat_map};
@@ -92,7 +92,7 @@ fn put_step(fields: &mut FieldList, service: &Name, step: u64) -> Result<(), NoM
     fields.push(Field::Number(step))
 }
 
-/// Puts a word and a number.
+/// Puts a word and a number at the end of the fields.
 fn put_numbered(
     alloc: Global,
     fields: &mut FieldList,

@@ -1,4 +1,4 @@
-// Reading files of receipts.
+// Reading files of receipts as the hops of an atlas; a single receipt is read in `tw_msg`.
 
 ghost use Rattle.std.specs.Prelude.{◌≡◌, ◌≢◌, ◌+◌, ◌<◌, ◌≤◌, ◌^◌, ℕ, length, take, IfErr, OnErr, OnOk};
 ghost use Rattle.tw_base.specs.format.Formats.{ReadsFrontAs};

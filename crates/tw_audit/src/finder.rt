@@ -1,4 +1,5 @@
-// A transcript that finds the first text whose digest an earlier different one has.
+// A transcript that finds the first text whose digest an earlier different one has, for the second pass over the texts; that
+// of the first is in `key_transcript.rt`.
 
 ghost use Rattle.std.specs.Prelude.{◌≡◌, ℕ, List, [], ◌∷◌, ◌++◌, IfOk};
 ghost use Rattle.std.specs.Option.{option_map};

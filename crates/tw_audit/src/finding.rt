@@ -1,4 +1,4 @@
-// What an audit answers.
+// What an audit answers. (In tw_chain and tw_tmap a file of this name finds the lowest reason.)
 
 use tw_base::{Bytes, Digest, Reason, Report, Thread};
 

@@ -1,4 +1,4 @@
-// The threads held of a proof.
+// The threads held of a proof: its anchors that are held, and the threads that it carries.
 
 ghost use Rattle.std.specs.Prelude.{◌≡◌, ◌++◌, IfOk, OnOk};
 ghost use Rattle.std.specs.List.{flat_map};

@@ -1,4 +1,5 @@
-// Holding a proof against histories.
+// Holding a proof against histories: the calls of an audit, over the passes of `passing.rt` and `proofs.rt`. Values are given
+// up by `drop`: those that go out of scope on many ways are proved slowly (docs/proving.md).
 
 ghost use Rattle.std.specs.Prelude.{◌≡◌, ◌++◌, [], List, false, IfOk, OnOk};
 ghost use Rattle.std.specs.Option.{option_map};
@@ -65,8 +66,9 @@ fn found<H: Hasher>(report: Report, pair: Option<TextPair>) -> Finding
     }
 }
 
-/// The pair of the texts of the histories and of the proof, if two of them clash: only such of them are kept
-/// as have one of the finder's keys, among which are these, of all that clash.
+/// The pair of the texts of the histories and of the proof, if two of them clash. Each text is hashed once more, and the finder
+/// keeps those that have one of its keys. `repeated` are the finder's keys a second time: what a finder took doesn't tell that
+/// it has still the keys that it was made with, so `into_pair` compares them.
 fn pair_among<H: Hasher>(
     alloc: Global,
     proof: &Proof,
@@ -139,8 +141,8 @@ fn judge<H: Hasher>(
     }
 }
 
-/// How many texts there are but for those of events, by a reckoning: of each step two links and its
-/// authenticator, of each node one, and some of the proof.
+/// How many texts there are but for those of events, by a guess, for which room is made: of each step two links and its
+/// authenticator, of each node one, and 8,192 of the proof and the rest.
 fn expected_texts(histories: &[History]) -> usize {
     let mut count: usize = 8192;
     for history in histories {

@@ -1,4 +1,4 @@
-// A transcript that keeps the keys of texts.
+// A transcript that keeps the keys of texts, for the first pass over them; that of the second pass is in `finder.rt`.
 
 ghost use Rattle.std.specs.Prelude.{ℕ, List, []};
 ghost use Rattle.tw_audit.specs.KeyLists.{TookKeys};

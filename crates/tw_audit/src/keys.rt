@@ -12,11 +12,12 @@ use std::alloc::Global;
 use std::collections::{BTreeMap, BTreeSet};
 use tw_base::{Bytes, Digest, NoMemory};
 
-/// The first seven bytes of a digest, by which nobody finds many texts that agree. With eight the keys of the
-/// largest histories would take more room than there is to be.
+/// The first seven bytes of a digest: of most texts an audit keeps no more, as it is to take little memory. Nobody finds
+/// many texts that agree in them. (An archive's `Key` is another thing.)
 pub(crate) type Key = [u8; 7];
 
-/// How many texts are known at most.
+/// How many texts are known at most. The first ones are the proof's, which stand in the histories once more (`hold` of
+/// holding.rt).
 const MOST_KNOWN: usize = 1024;
 
 /// The key of a digest.
@@ -92,7 +93,7 @@ impl Keys {
         self.learn(number, text)
     }
 
-    /// Takes a text of this digest.
+    /// Takes a text of this digest: keeps its key, unless the text is known.
     pub(crate) fn take(&mut self, digest: &Digest, text: &[u8])
         ensures { (dig : List ℕ → List ℕ) (texts : List (List ℕ)) → digest.now ≡ dig text.now → TookKeys dig self.old texts →
             TookKeys dig self.new (texts ++ text.now ∷ []) }
@@ -106,8 +107,8 @@ impl Keys {
         }
     }
 
-    /// The keys that stand twice, and these once more: any two texts that were taken, differ and have one digest
-    /// have one of the first; `NoMemory` where there was none for one of the texts, or for the keys.
+    /// The keys that stand twice, and the same once more (`pair_among` of holding.rt says why). Any two texts that were
+    /// taken, differ and have one digest have one of them; `NoMemory` where there was none for one of the texts, or for the keys.
     pub(crate) fn into_repeated(self, alloc: Global) -> Result<(Repeated, Repeated), NoMemory>
         ensures { IfOk result (λ both. (dig : List ℕ → List ℕ) (texts : List (List ℕ)) → TookKeys dig self texts →
             CoversClashes dig texts both.0) }
@@ -143,7 +144,7 @@ fn repeated_of(alloc: Global, keys: &[Key]) -> Result<Repeated, NoMemory>
 }
 
 impl Repeated {
-    /// Notes a key that is the one before it.
+    /// Notes the key, where it is that before it.
     fn note(&mut self, before: &Key, key: &Key) -> Result<(), NoMemory>
         ensures same { OnOk result (before.now ≡ key.now → has_key (slice_cmp nat_cmp) self.new.keys key.now ≡ true) }
         ensures kept { OnOk result ((k : List ℕ) → has_key (slice_cmp nat_cmp) self.old.keys k ≡ true → has_key (slice_cmp nat_cmp) self.new.keys k ≡ true) }

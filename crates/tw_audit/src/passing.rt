@@ -1,4 +1,5 @@
-// Passing histories, with the authenticators at the steps of the threads held.
+// Passing histories, with the authenticators at the steps of the threads held; tw_adopt/src/stops.rt passes one, for the steps
+// that proofs show.
 
 ghost use Rattle.std.specs.Prelude.{◌≡◌, ◌<◌, ◌≤◌, ℕ, List, length, IfOk, OnOk};
 ghost use Rattle.tw_base.specs.history.Family.{family_texts};
@@ -14,7 +15,7 @@ use std::alloc::Global;
 use tw_base::{Digest, Name, NoMemory, Thread, Transcript};
 use tw_history::{Digests, History, auth_passed, begin_pass, count_of_steps, pass_steps};
 
-/// A step of a history, and its authenticator there.
+/// A stop of an audit's pass over a history: the step, and the history's authenticator there.
 #[derive(Clone, Copy, Drop)]
 pub(crate) struct Stop {
     pub(crate) step: u64,

@@ -1,4 +1,5 @@
-// What checking a proof hashes, in the order of its bytes.
+// What checking a proof hashes, in the order of its bytes, once more and without a judgement; tw_chain/src/passing.rt has the
+// checks.
 
 ghost use Rattle.std.specs.Prelude.{◌≡◌, ℕ, ◌<◌, ◌≤◌, List, length, IfSome};
 ghost use Rattle.std.specs.List.{flat_map};

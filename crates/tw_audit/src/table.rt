@@ -1,4 +1,4 @@
-// The texts that were taken, each once, by their digests.
+// The texts that a `Finder` took, each once, by their digests, and the pair of two that clash.
 
 ghost use Rattle.std.specs.Prelude.{◌≡◌, ◌≢◌, ◌↔◌, ◌+◌, ◌≤◌, ℕ, List, [], ◌∷◌, ◌++◌, length, slice_range, IfOk, IsTrue, OnOk};
 ghost use Rattle.std.specs.Int.{from_be_bytes, w64};
@@ -158,7 +158,7 @@ impl Table {
         }
     }
 
-    /// Takes a text of this digest.
+    /// Takes a text of this digest: keeps it, where it is the first of that digest. Once two clash none is taken.
     pub(crate) fn take(&mut self, digest: &Digest, text: &[u8])
         ensures { (dig : List ℕ → List ℕ) (texts : List (List ℕ)) → GivesDigests dig → digest.now ≡ dig text.now → Took dig self.old texts →
             Took dig self.new (texts ++ text.now ∷ []) }

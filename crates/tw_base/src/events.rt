@@ -1,4 +1,4 @@
-// The events of a step: their tree by RFC 6962, and the paths that show one of them.
+// The events of a step: the halves of their tree by RFC 6962, and the sides of its paths; tw_events computes roots and paths.
 
 pub(crate) mod event_part;
 pub(crate) mod event_tree;

@@ -1,4 +1,4 @@
-// Histories: threads, steps, archives, the labels of all that is hashed, and what is claimed of them.
+// Histories: threads, steps, archives, the labels of all that is hashed, and what is claimed of them; whole ones are in tw_history.
 
 pub(crate) mod anchor;
 pub(crate) mod archive_entry;

@@ -1,4 +1,4 @@
-// Reading proofs from event to event.
+// Reading what a proof from event to event has behind its kind, for `reading.rt`.
 #![tactic(auto, unfolding(crate::specs::Seen::hops))]
 
 ghost use Rattle.std.specs.Prelude.{◌≡◌, ◌-◌, ◌≤◌, length, nat_lt};

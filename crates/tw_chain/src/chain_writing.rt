@@ -1,4 +1,4 @@
-// Writing proofs from event to event.
+// Writing what a proof from event to event has behind its kind, for `writing.rt`.
 #![tactic(auto, unfolding(crate::specs::Proofs::hop_bytes, tw_base::specs::format::Seen::codecs))]
 
 ghost use Rattle.std.specs.Prelude.{◌≡◌, [], ◌++◌, flat_map, OnOk};
@@ -22,7 +22,7 @@ fn put_optional(into: &mut Bytes, opening: &Option<Opening>) -> Result<(), NoMem
     }
 }
 
-/// Appends the opening where there is to be one.
+/// Appends the opening of the step before the second event's, where there is to be one.
 #[tactic(auto, unfolding(tw_skipproof::specs::Codecs::opening_bytes, tw_base::specs::format::Seen::codecs))]
 fn put_before(into: &mut Bytes, there: bool, before: &Option<Opening>) -> Result<(), NoMemory>
     ensures { OnOk result (into.new ≡ into.old ++ (optional there (opening_codec 0 0)).write before.now) }

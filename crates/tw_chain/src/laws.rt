@@ -84,7 +84,8 @@ pub fn completeness_laws<H: Hasher>()
     ensures own { (h : History) (step top : ℕ) (p : Proof) (anchors : List Thread) (anchor : Thread) →
         IsSound h → step ≤ top → top ≤ length h.steps → IsOwnProof H.dig h step top p → anchor_of anchors h.name top ≡ Some anchor → anchor.auth ≡ auth H.dig h top →
         IsAccepted H.dig anchors p }
-    // It claims that thread, that there is none of that key, or that authenticator, at the history's step.
+    // It claims that thread, that there is none of that key, or that authenticator, at the history's step; what a proof of an
+    // event claims, `claim` says.
     ensures own_claims { (h : History) (step top : ℕ) (p : Proof) → IsOwnProof H.dig h step top p → ClaimsOf H.dig h step top p }
     // Where the history has the top, which is from 1 on, and no more nodes stand above the place of a tree proof in such a
     // proof than its format has room for, 127 above an entry and 128 above an empty place, the bytes that are written of the

@@ -5,7 +5,6 @@ mod chain_reading;
 mod chain_writing;
 mod finding;
 mod laws;
-mod least;
 mod passing;
 mod proof;
 mod reading;
@@ -17,7 +16,6 @@ pub use finding::{
     without_answer,
 };
 pub use laws::{chain_laws, completeness_laws, proof_laws};
-pub use least::{LEAST_PRECEDENCE, LEAST_PRECEDENCE_AUTHENTICATOR};
 pub use passing::{answers, climbs, opens, reaches, shows};
 pub use proof::{
     AbsenceProof, HopPart, HopParts, LinkProof, PrecedenceProof, Proof, Tail, ThreadProof,

@@ -1,4 +1,4 @@
-// Whether a check of a proof passes.
+// Whether a single check of a proof passes; `finding.rt` keeps the lowest reason of those that don't.
 
 ghost use Rattle.std.specs.Prelude.{◌≡◌, ◌≤◌, length, IsTrue, ◌↔◌};
 ghost use Rattle.tw_base.specs.declared.kinds.limits.TheConstants.{LAST_STEP, MOST_EVENTS, MOST_EVENT_BYTES};

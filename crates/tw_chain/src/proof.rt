@@ -1,4 +1,4 @@
-// Proofs by their kinds.
+// Proofs as values, by their kinds; one of kind 1 is in tw_skipproof/src/existence.rt, and map files (6 and 7) are in tw_tmap.
 
 use tw_base::{Digest, Entry, EventPart, Key, Name, Sequence, TreeProof};
 use tw_skipproof::{ExistenceProof, Opening, Part, Path};

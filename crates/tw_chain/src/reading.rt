@@ -1,4 +1,4 @@
-// Reading proofs.
+// Reading whole proofs, for joins, audits and evidence; a verifier reads them piece by piece, in `tw_verifier`.
 #![tactic(auto, unfolding(crate::specs::Seen::bodies))]
 
 ghost use Rattle.std.specs.Prelude.{◌≡◌, ◌≤◌, length, IfOk};
@@ -32,7 +32,7 @@ fn take_thread_body(alloc: Global, bytes: &[u8], at: &mut u64) -> Result<ThreadP
 }
 
 /// Takes a key, a service's name and a step from 1 on, at the place, and sets the place behind it. Malformed at the first
-/// byte at which no key goes on.
+/// byte at which no key goes on. (A verifier takes keys and kinds alone.)
 pub fn take_key(bytes: &[u8], at: &mut u64) -> Result<Key, ReadFault>
     requires { at.old ≤ length bytes.now }
     // A key is taken exactly where its codec's word stands at the place.
@@ -58,7 +58,7 @@ fn take_absence_body(alloc: Global, bytes: &[u8], at: &mut u64) -> Result<Absenc
     })
 }
 
-/// Takes a proof of a step's authenticator, behind its kind.
+/// Takes a proof of the authenticator of a step, which may be 0, behind its kind.
 fn take_link_body(alloc: Global, bytes: &[u8], at: &mut u64) -> Result<LinkProof, ReadFault>
     requires { at.old ≤ length bytes.now }
     ensures { Takes link_body (λ p. p) bytes.now at.old at.new result }
@@ -145,7 +145,7 @@ pub fn read_proof(alloc: Global, bytes: &[u8]) -> Result<Proof, ReadFault>
 
 /// The proof that a front of the bytes spells, and the number of its bytes; no proof is the front of a
 /// longer one. Malformed exactly where no front of them spells one, with the place of the first byte at
-/// which no proof goes on.
+/// which no proof goes on. (Tests alone read a front so.)
 #[tactic(auto)]
 pub fn read_first(alloc: Global, bytes: &[u8]) -> Result<(Proof, u64), ReadFault>
     // A proof is read from the front of bytes exactly where a front of them spells one, with that proof and its number

@@ -1,4 +1,4 @@
-// The verdict on the bytes of a proof.
+// The verdict on the bytes of a proof, as a verifier answers it; those on map files and on evidence are in tw_tmap and tw_evidence.
 
 use tw_base::{Reason, Report};
 

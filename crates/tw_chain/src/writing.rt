@@ -1,4 +1,4 @@
-// Writing proofs.
+// Writing proofs of all kinds, for services and joins; what one from event to event has is in `chain_writing.rt`.
 #![tactic(auto, unfolding(crate::specs::Seen::bodies_written))]
 
 ghost use Rattle.std.specs.Prelude.{◌≡◌, [], ◌∷◌, ◌++◌, IfOk, OnOk};

@@ -1,4 +1,4 @@
-// The calls that a disk in memory keeps.
+// The calls that a disk in memory keeps, by which a crash takes writes back.
 
 use crate::kept_page::KeptPage;
 

@@ -36,7 +36,7 @@ fn spoil(pages: &mut Vec<KeptPage>, calls: &mut Vec<Call>, alloc: Global, byte: 
     }
 }
 
-// Leaves the outcome of this choice.
+// Leaves the outcome of this choice, 0 to 3, as `crash` of `MemDisk` numbers them.
 pub(crate) fn leave(pages: &mut Vec<KeptPage>, calls: &mut Vec<Call>, alloc: Global, choice: u8)
     requires fits { AllFit calls.old.items pages.old.items }
     requires choice { choice ≤ 3 }

@@ -1,4 +1,4 @@
-// How a page is kept.
+// How a shelf keeps a page: the one that was used longest ago goes where it is full.
 ghost use Rattle.std.specs.Prelude.{◌≡◌};
 ghost use Rattle.tw_disk.specs.Keeping.{AddsAtMost};
 

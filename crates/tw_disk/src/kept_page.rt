@@ -1,4 +1,4 @@
-// A page as it is kept in memory.
+// A page as a disk in memory keeps it, without the zeros at its end; a shelf keeps whole pages.
 
 ghost use Rattle.std.specs.Prelude.{◌≡◌, ◌↔◌, ◌-◌, ◌<◌, ◌≤◌, drop, length, replicate, IfOk, IsTrue};
 ghost use Rattle.tw_base.specs.declared.kinds.limits.TheConstants.{PAGE_SIZE};
@@ -62,7 +62,7 @@ impl KeptPage {
     }
 }
 
-/// Whether the bytes are zeros.
+/// Whether the bytes, at most a long piece, are zeros; tw_base/src/format/page_bytes.rt has that of up to a page.
 fn are_zeros(bytes: &[u8]) -> bool
     requires { length bytes.now ≤ LONG_PIECE }
     ensures { IsTrue result ↔ (bytes.now ≡ replicate (length bytes.now) 0) }

@@ -1,4 +1,5 @@
-// A disk in memory.
+// A disk in memory, which fails, stops and crashes where that is planned, for tests and scripts; a real one is in
+// `tw_hostio`.
 ghost use Rattle.std.specs.Prelude.{◌≡◌, ◌⊎◌, ◌↔◌, ◌<◌, ◌≤◌, ◌+◌, ◌-◌, ◌^◌, ◌++◌, ◌∷◌, [], ℕ, min, length, Some, None, false, vec_len, OnOk, OnErr, IsOk, IsErr, IsTrue};
 ghost use Rattle.tw_disk.specs.Image.{put, page_at};
 ghost use Rattle.tw_base.specs.kinds.Faults.{HasCause, Rose};

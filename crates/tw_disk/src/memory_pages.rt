@@ -1,4 +1,4 @@
-// A list of pages in memory.
+// A list of pages in memory with no disk and no store below, for tests and for the program `tree_pages`.
 ghost use Rattle.std.specs.Prelude.{◌≡◌, ◌↔◌, ◌<◌, ◌≤◌, ◌+◌, ◌-◌, ◌^◌, ◌++◌, ◌∷◌, [], ℕ, min, length, drop, replicate, Some, IfOk, OnOk, OnErr, IsOk, IsErr, IsTrue};
 ghost use Rattle.tw_base.specs.kinds.PlannedFailures.{fails_next, after_call};
 ghost use Rattle.tw_base.specs.declared.kinds.limits.TheConstants.{PAGE_SIZE};

@@ -1,4 +1,4 @@
-// A list of pages that grows: what upper crates see of a store.
+// A list of pages that grows: what upper crates see of a store (tw_pages), of pages in memory, or of either behind a shelf.
 ghost use Rattle.std.specs.Prelude.{◌≡◌, ◌<◌, ◌≤◌, ◌+◌, ◌-◌, ◌^◌, ◌++◌, ◌∷◌, [], ℕ, length, Option, Some, IfOk, IsOk, OnOk, OnErr};
 ghost use Rattle.std.specs.Option.{option_map};
 ghost use Rattle.tw_disk.specs.Image.{Image, page_at};

@@ -1,4 +1,4 @@
-// Reading one page of a list.
+// Reading one page of a list, whatever stands in it, or telling that none has this number.
 
 ghost use Rattle.std.specs.Prelude.{◌≡◌, ◌<◌, ◌+◌, ◌^◌, OnOk};
 ghost use Rattle.tw_disk.specs.Answers.{ReadsPages};

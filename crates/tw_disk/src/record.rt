@@ -1,4 +1,4 @@
-// Root records, as a store keeps them.
+// What a store needs of the root record that it keeps; services and followers have one each.
 
 ghost use Rattle.std.specs.Prelude.{◌≡◌, ◌≤◌, ℕ, List, length, MatchOption};
 ghost use Rattle.tw_disk.specs.Kinds.{RecordKind};

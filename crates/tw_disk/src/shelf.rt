@@ -1,4 +1,4 @@
-// Pages that are kept by their numbers.
+// A shelf: pages that are kept in memory by their numbers; `shelved.rt` reads pages over one.
 ghost use Rattle.std.specs.Prelude.{◌≡◌, ◌-◌, [], ℕ, IsTrue, Option, Some};
 ghost use Rattle.tw_disk.specs.Keeping.{AddsAtMost, ArePagesOf};
 ghost use Rattle.tw_disk.specs.Image.{Image, page_at};
@@ -10,7 +10,7 @@ use std::alloc::Global;
 use std::num::NonZeroUsize;
 use tw_base::Page;
 
-// How many pages are kept at most.
+// How many pages are kept at most: 256 KiB of them.
 const MOST_KEPT: usize = 64;
 
 /// A shelf of pages, which are kept in memory by their numbers: those read last, at most 64, or all of them. Where there was no memory for the

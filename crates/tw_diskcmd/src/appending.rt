@@ -1,4 +1,5 @@
-// The command `append`, which adds a step of the events of a file.
+// The command `append`, which adds a step of the events of a file; `receiving.rt` and `offering.rt` go the same way with a
+// message.
 
 ghost use Rattle.std.specs.Prelude.{◌≡◌, ◌≤◌, ℕ, Option, Some, IfErr, IfOk, false};
 ghost use Rattle.sha2.specs.Sha256.{sha256};

@@ -1,4 +1,5 @@
-// The commands that ask a service a question, all by one function, which gives the disk back.
+// The commands `thread`, `prove`, `map` and `export`, which ask a service a question, all by one function;
+// tw_service/src/asking.rt answers.
 
 ghost use Rattle.std.specs.Prelude.{◌≡◌, ◌≤◌, ℕ, Option, false};
 ghost use Rattle.sha2.specs.Sha256.{sha256};

@@ -2,7 +2,8 @@
 
 ghost use Rattle.std.specs.Prelude.{◌≡◌};
 
-/// The most bytes that an events file may have: 1 MiB.
+/// The most bytes that an events file may have: 1 MiB, which is more than a step can take. What a step can't take is refused
+/// by the service, with its number.
 pub const EVENTS_LIMIT: usize = 1_048_576;
 
 /// Of an events file so many bytes are read: one more than it may have.

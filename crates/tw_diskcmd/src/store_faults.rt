@@ -1,4 +1,5 @@
-// Faults of stores and bad files, as the command's.
+// Faults of stores, and files that aren't what is read, as the command's; refusals are in `faults.rt` and
+// `follower_faults.rt`.
 
 ghost use Rattle.std.specs.Prelude.{◌≡◌, IfOk};
 ghost use Rattle.tw_diskcmd.specs.StoreFaults.{fault_of_store as fault_of_store_fault};
@@ -24,7 +25,8 @@ pub fn fault_of_store(fault: StoreFault) -> CommandFault
     }
 }
 
-/// The fault of a file that goes on at this byte as no word of its format does.
+/// The fault of a file that goes on at this byte as no word of its format does. (tw_filecmd and tw_reachcmd tell the
+/// same of the files of their commands.)
 pub fn bad_byte(alloc: Global, file: &str, place: u64) -> Result<CommandFault, NoMemory>
     // It names the file and the place.
     ensures { IfOk result (λ fault. fault ≡ Unreadable (BadByte file.now place)) }

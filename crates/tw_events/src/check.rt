@@ -1,4 +1,4 @@
-// Checking one event against a root.
+// Checking one event against the root of its step's events, by an audit path, which `path.rt` makes.
 
 ghost use Rattle.std.specs.Prelude.{◌≡◌, ℕ, ◌≤◌, ◌↔◌, List, [], ◌∷◌, ◌++◌, length, reverse, IsTrue, Some, slice_get};
 ghost use Rattle.tw_base.specs.events.AuditPath.{ChecksEvent, audit_texts, node_text_beside, node_texts_above, root_above};

@@ -1,4 +1,4 @@
-// The audit path of an event.
+// Making the audit path of an event; `check.rt` goes up one.
 
 ghost use Rattle.std.specs.Prelude.{◌≡◌, ℕ, ◌<◌, ◌≤◌, List, ◌++◌, length, OnOk, IfOk, Some, slice_get};
 ghost use Rattle.tw_base.specs.events.AuditPath.{ChecksEvent};

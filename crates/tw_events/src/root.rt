@@ -1,4 +1,4 @@
-// The root of a list of events.
+// The root of a list of events; that of `told_root.rt` hands its texts on, and tells why there are two.
 
 ghost use Rattle.std.specs.Prelude.{◌≡◌, ◌≤◌, length};
 ghost use Rattle.tw_base.specs.events.EventTree.{event_root as event_root_of};

@@ -1,4 +1,4 @@
-// The part of a proof that shows one event among the events of its step.
+// The part of a proof that shows one event among the events of its step; tw_answers and tw_history make whole proofs of it.
 
 ghost use Rattle.std.specs.Prelude.{◌≡◌, ℕ, ◌<◌, ◌≤◌, List, length, IfOk};
 ghost use Rattle.tw_base.specs.events.AuditPath.{ChecksEvent, audit_texts, path_length};

@@ -1,4 +1,5 @@
-// Making evidence of a fork of two proofs, and of a link where their steps differ; `checking.rt` judges evidence.
+// Making evidence of a fork of two proofs, and of a link where their steps differ; `checking.rt` judges evidence, and the
+// command is in tw_reachcmd/src/accusing.rt.
 
 ghost use Rattle.std.specs.Prelude.{◌≡◌, ℕ, Ok, Err, IfErr, IfOk};
 ghost use Rattle.tw_join.specs.declared.joining.JoinFault.TheVariants.{Gap};

@@ -1,4 +1,4 @@
-// What files show of an archive.
+// What one file shows of an archive, as a value, before it is judged; `facts.rt` has what an accepted one says.
 
 use tw_base::{Ask, TreeProof};
 use tw_skipproof::Part;

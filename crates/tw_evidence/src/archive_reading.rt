@@ -1,4 +1,4 @@
-// Reading what files show of an archive, be they proofs or map files, for `contradicting.rt`.
+// Reading what files show of an archive, be they proofs or map files, for `judging.rt`.
 
 ghost use Rattle.std.specs.Prelude.{◌≡◌, ◌<◌, [], IfOk, IfSome};
 ghost use Rattle.tw_evidence.specs.ArchiveFiles.{IsArchiveRead, of_high as shown_by_high, of_low as shown_by_low, of_proof as shown_by_proof};

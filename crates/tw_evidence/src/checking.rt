@@ -19,7 +19,8 @@ use tw_base::{Ask, Hasher, NoMemory, ReadFault, Reason, Thread, is_same_digest};
 use tw_chain::{ThreadProof, under_anchor, with_answer, with_order};
 use tw_skipproof::climb;
 
-/// What is found of a proof that a thread was received.
+/// What is found of a proof that a thread was received, as a verifier finds it (tw_verifier/src/judgement.rt);
+/// `found_of` of judging.rt is of any file that shows an archive.
 fn found_of<H: Hasher>(proof: &ThreadProof, anchors: &[Thread]) -> Option<Reason>
     requires step { proof.now.at.step ≤ LAST_STEP }
     requires top { proof.now.at.top ≤ LAST_STEP }

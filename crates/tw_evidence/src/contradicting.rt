@@ -1,4 +1,5 @@
-// Whether two files contradict each other.
+// Whether two files contradict each other, by what each says (`judging.rt`) and whether their lines are of one history
+// (`linking.rt`); `checking.rt` judges evidence of a fork.
 
 ghost use Rattle.std.specs.Prelude.{◌≡◌, IfOk};
 ghost use Rattle.tw_evidence.specs.Facts.{conflict_between as conflict_between_of, conflict_of as conflict_in, lacks_entry as lacks};

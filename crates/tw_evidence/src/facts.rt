@@ -1,4 +1,4 @@
-// What accepted files say of an archive.
+// What accepted files say of an archive, and in what two of them contradict each other.
 
 use tw_base::{Entry, Name, Thread};
 

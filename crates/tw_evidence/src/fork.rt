@@ -1,4 +1,4 @@
-// The verdict on evidence of a fork.
+// The verdict on evidence of a fork; that on two files that may contradict each other is in `verdict.rt`.
 
 use tw_base::{Entry, Name, Reason};
 

@@ -1,4 +1,4 @@
-// What one file says under its lines.
+// Judging one of two files that may contradict each other: whether it is accepted under its lines, and what it says then.
 
 ghost use Rattle.std.specs.Prelude.{◌≡◌, ℕ, List, IfOk};
 ghost use Rattle.tw_base.specs.declared.history.thread.Thread.{Thread as Anchor};
@@ -40,7 +40,7 @@ fn with_own_order(found: Option<Reason>, ask: &Ask, step: u64) -> Option<Reason>
     }
 }
 
-/// The lowest reason against what a file shows.
+/// The lowest reason against what a file shows; `found_of` of checking.rt is of a proof in evidence of a fork.
 fn found_of<H: Hasher>(proof: &ArchiveProof, anchors: &[Thread]) -> Option<Reason>
     requires { IsSmall proof.now }
     ensures { result ≡ found_in H.dig anchors.now (archive_checks proof.now) }
@@ -76,7 +76,7 @@ fn entry_if_of(service: &Name, entry: &Option<Entry>) -> Option<Entry>
     }
 }
 
-/// The step of an entry of the service, and 0 of another one's or of none.
+/// The step of an entry of the service, and 0 of another one's or of none. (tw_tmap/src/showing.rt asks so of map files.)
 fn step_if_of(service: &Name, entry: &Option<Entry>) -> u64
     ensures { result ≡ step_if service.now entry.now }
 {

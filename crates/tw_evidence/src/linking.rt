@@ -1,4 +1,4 @@
-// Whether two lines of a service are of one history.
+// Whether two lines of a service are of one history, by the bytes of a link or without one, for `contradicting.rt`.
 
 ghost use Rattle.std.specs.Prelude.{◌≡◌, ◌≤◌, Some, IfOk, IfSome};
 ghost use Rattle.tw_base.specs.declared.kinds.limits.TheConstants.{LAST_STEP};

@@ -1,4 +1,4 @@
-// The law of keepers who break the rules.
+// The laws of services that break a rule: what accepted files that contradict each other say of their lines.
 
 ghost use Rattle.std.specs.Prelude.{◌≡◌, ◌≤◌, ◌++◌, [], ◌∷◌, ℕ, List, Option, Some, true};
 ghost use Rattle.tw_base.specs.declared.history.thread.Thread.{Thread};

@@ -1,4 +1,4 @@
-// Writing evidence of a fork, for whoever accuses.
+// Writing evidence of a fork, for whoever accuses; proofs by themselves are written in tw_chain.
 #![tactic(auto, unfolding(crate::specs::Seen::evidence_writing))]
 
 ghost use Rattle.std.specs.Prelude.{◌≡◌, ◌++◌, IfOk, OnOk};

@@ -1,4 +1,4 @@
-// What is numbered of an archive, step by step.
+// What is numbered of a service's archive, step by step: its nodes in the file so far, and which of them is the root.
 
 ghost use Rattle.std.specs.Prelude.{◌≡◌, ℕ, ◌+◌, ◌<◌, ◌^◌, MatchOption, OnOk, false, length, true};
 ghost use Rattle.tw_export.specs.NodeNumbers.{are_known, no_archive, node_number_at, with_nodes, with_pages};

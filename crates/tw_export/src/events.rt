@@ -28,7 +28,7 @@ pub(crate) fn lacks_events(recorded: &StepRecord) -> bool
     true
 }
 
-/// The kind of a step of events: 1, or 3 where it has a time.
+/// The kind of a step of events: 1, or 3 where it has a time. (Those of steps that received a thread are 2 and 4.)
 fn kind_of(time: Option<u64>) -> u64
     ensures { result ≡ events_kind time }
 {
@@ -39,7 +39,7 @@ fn kind_of(time: Option<u64>) -> u64
 }
 
 /// Appends what stands before the events of a step: its kind, and its time, if any.
-fn put_front(into: &mut Bytes, time: Option<u64>) -> Result<(), NoMemory>
+fn put_events_front(into: &mut Bytes, time: Option<u64>) -> Result<(), NoMemory>
     ensures { OnOk result (into.new ≡ into.old ++ events_front time) }
 {
     put_last_bytes(into, kind_of(time), 1)?;
@@ -48,7 +48,7 @@ fn put_front(into: &mut Bytes, time: Option<u64>) -> Result<(), NoMemory>
 }
 
 /// Appends what stands behind them: that there are no new nodes, and the number of the archive's root.
-fn put_end(into: &mut Bytes, root: u64) -> Result<(), NoMemory>
+fn put_events_end(into: &mut Bytes, root: u64) -> Result<(), NoMemory>
     ensures { OnOk result (into.new ≡ into.old ++ events_end root) }
 {
     put_last_bytes(into, 0, 2)?;
@@ -67,9 +67,9 @@ fn copy_step<P: Pages>(
     requires { recorded.now.fields.received ≡ None }
     ensures reads { ReadsPages list_faults P.view P.same pages.old pages.new (λ _. into.new) result (λ ps. copied_step ps recorded.now root into.old) }
 {
-    put_front(into, recorded.fields.time)?;
+    put_events_front(into, recorded.fields.time)?;
     copy_events(pages, recorded, into)?;
-    put_end(into, root)?;
+    put_events_end(into, root)?;
     Ok(())
 }
 
@@ -84,6 +84,7 @@ pub(crate) fn add_events<P: Pages, H: Hasher>(
     ensures reads { ReadsPages list_faults P.view P.same pages.old pages.new (λ _. so_far_of so_far.new) result
         (λ ps. step_on H.dig ps (so_far_of so_far.old) recorded.now) }
 {
+    // The page behind it would have no number.
     if recorded.page == u64::MAX {
         return Err(ListFault::NoMemory);
     }

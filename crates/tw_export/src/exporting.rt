@@ -1,4 +1,4 @@
-// The file of the history that pages tell.
+// The call that makes the file of the history that pages tell: all steps' records are read, then each step is added.
 
 ghost use Rattle.std.specs.Prelude.{◌≡◌, ◌≤◌, IfOk};
 ghost use Rattle.tw_disk.specs.Answers.{ReadsPages};

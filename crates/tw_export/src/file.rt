@@ -1,4 +1,4 @@
-// The bytes of a history's file, step by step.
+// The bytes of a history's file, to which one step after another is added within the file's limits.
 #![tactic(auto, unfolding(tw_base::specs::format::Seen::fields))]
 
 ghost use Rattle.std.specs.Prelude.{◌≡◌, ◌++◌, ℕ, IfOk, List, OnOk, drop, length, take, true};

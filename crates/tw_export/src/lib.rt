@@ -1,4 +1,4 @@
-//! The file of the history that pages tell.
+//! The file of the history that pages tell. (That of a history in memory is written in tw_history/src/writing.rt.)
 #![tactic(auto)]
 
 mod archive;

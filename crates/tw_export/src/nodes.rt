@@ -1,4 +1,5 @@
-// Listed nodes, as a history has them.
+// The new nodes that a tree in pages lists, as the file of a history has them; tw_history/src/writing.rt writes those of a
+// history in memory.
 #![tactic(auto, unfolding(tw_base::specs::history::HistoryCodec::node_codec, tw_base::specs::format::Seen::codecs))]
 
 ghost use Rattle.std.specs.Prelude.{◌≡◌, ◌++◌, flat_map, map, IfOk, OnOk};

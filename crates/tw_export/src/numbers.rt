@@ -1,4 +1,4 @@
-// The numbers of tree pages.
+// Which node of a history's file is the root of each tree page, so that later steps name it by its number.
 
 ghost use Rattle.std.specs.Prelude.{◌≡◌, ℕ, is_some, nat_eq, None, OnOk, Some};
 ghost use Rattle.std.specs.Map.{update};

@@ -28,7 +28,7 @@ use tw_history::put_recorded;
 use tw_rbtree::{NewNode, NewNodes, TreeFault, fresh};
 use tw_skiplist::{ListFault, StepRecord};
 
-/// The most new nodes of a step that a history file counts.
+/// The most new nodes of a step that a history file counts, in two bytes.
 const MOST_NEW_NODES: usize = 65535;
 
 /// What a refused listing is to a list of steps.
@@ -147,7 +147,7 @@ fn take_in(
     Ok(true)
 }
 
-/// Reads the page, and tells that it is bad.
+/// Reads the page once more, and tells that it is bad, or that the disk failed.
 pub(crate) fn tell_bad<P: Pages>(pages: &mut P, page: u64) -> Result<(), ListFault>
     ensures reads { ReadsPages list_faults P.view P.same pages.old pages.new (λ done. done) result (λ ps. Bad page) }
 {

@@ -1,4 +1,4 @@
-// The steps so far.
+// The steps that were added so far: their file, and what is numbered of their archives.
 
 use crate::archive::ArchiveSoFar;
 use crate::file::HistoryFile;

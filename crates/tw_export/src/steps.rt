@@ -1,4 +1,4 @@
-// One step more of a history that pages tell.
+// One step more of a history that pages tell: one of events (`events.rt`), or one that received a thread (`received.rt`).
 
 ghost use Rattle.std.specs.Prelude.{◌≡◌, IfErr};
 ghost use Rattle.tw_base.specs.kinds.Lists.{Each};

@@ -1,4 +1,4 @@
-// Feeding a verifier the file of a proof, piece by piece, none of which is kept.
+// Feeding a verifier the file of a proof, piece by piece, none of which is kept; tw_reachcmd/src/fronts.rt keeps them.
 
 ghost use Rattle.std.specs.Prelude.{◌≡◌, ◌≤◌, ◌+◌, ◌↔◌, ℕ, List, Bool, length, Ok, Err, IfOk, OnOk};
 ghost use Rattle.tw_base.specs.kinds.Faults.{Rose};

@@ -1,4 +1,4 @@
-// How much of each file is read.
+// How much of each file is read, of events files and scripts excepted: their limits are in tw_diskcmd and tw_script.
 
 ghost use Rattle.std.specs.Prelude.{◌≡◌};
 ghost use Rattle.tw_base.specs.declared.kinds.limits.TheConstants.{MOST_ANCHORS, MOST_HISTORY_BYTES};
@@ -6,7 +6,7 @@ ghost use Rattle.tw_base.specs.declared.kinds.limits.TheConstants.{MOST_ANCHORS,
 /// Of a history file so many bytes are read: one more than it may have.
 pub(crate) const HISTORY_READ: usize = 67_108_865;
 
-/// Of an anchors file, and of a part that is to be joined, so many bytes are read: more than any has.
+/// Of each other file that is read as a whole, but events files and scripts, so many bytes are read: more than any has.
 pub const FILE_READ: usize = 5_242_880;
 
 /// The limits of files, by number.
@@ -15,6 +15,6 @@ pub fn limit_laws()
     ensures history { MOST_HISTORY_BYTES ≡ 67108864 }
     // `MOST_ANCHORS`, the most anchors that a verifier holds, is 64.
     ensures anchors { MOST_ANCHORS ≡ 64 }
-    // `FILE_READ`, how many bytes are read of an anchors file or of a part that is to be joined, is 5,242,880.
+    // `FILE_READ`, how many bytes are read of a file that is read as a whole and is no history, events file or script, is 5,242,880.
     ensures read { FILE_READ ≡ 5242880 }
 {}

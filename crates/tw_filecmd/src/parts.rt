@@ -1,4 +1,4 @@
-// Reading the files of proofs that are to be joined.
+// Reading the files of proofs that are to be joined; tw_reachcmd reads receipts (`atlas.rt`) and histories (`histories.rt`) so.
 
 ghost use Rattle.std.specs.Prelude.{◌≡◌, ◌<◌, ◌≤◌, ℕ, List, [], ◌∷◌, ◌++◌, length, OnOk, Option};
 ghost use Rattle.tw_base.specs.kinds.Lists.{Each};

@@ -1,4 +1,4 @@
-// The command `show`, which proves an event of a history file.
+// The command `show`, which proves an event of a history file; tw_history/src/showing.rt makes the proof.
 
 ghost use Rattle.std.specs.Prelude.{IfErr, IfOk};
 ghost use Rattle.tw_base.specs.history.Sound.{IsSound};

@@ -1,4 +1,4 @@
-// The commands `verify` and `strict`, which judge a proof.
+// The commands `verify` and `strict`, which judge a proof; how it is judged is in tw_verifier.
 
 ghost use Rattle.tw_outside.specs.Asked.{asked};
 ghost use Rattle.tw_filecmd.specs.Verifying.{JudgingComes, VerifyFileComes, VerifyOneComes};

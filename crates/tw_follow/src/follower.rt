@@ -1,4 +1,4 @@
-// Followers.
+// The follower itself: how it is made, opened and closed, tells its heads, and moves to a head that it is offered.
 ghost use Rattle.std.specs.Prelude.{◌≡◌, ◌⊎◌, ◌≤◌, ◌<◌, ◌+◌, [], true, false};
 ghost use Rattle.tw_base.specs.declared.kinds.limits.TheConstants.{LAST_STEP};
 ghost use Rattle.tw_disk.specs.declared.limits.TheConstants.{FIRST_PAGE};
@@ -60,6 +60,8 @@ impl<D: Disk, H: Hasher> Follower<D, H> {
     /// pages and an open gate reads as before, and a crash leaves nothing else than before, whatever the
     /// answer. Where a crash stops it, the disk is blank or stands for the empty list of the name, or is
     /// what a crash might have left before; and so reads a disk that told its content and is given back.
+    ///
+    /// The clauses from `taken` on are those of `Recorded::init` in `tw_pages`, of the disk of this follower and its new images.
     pub fn init(alloc: Global, disk: D, name: Name) -> Result<Follower<D, H>, (D, StoreFault)>
         // A new follower keeps the empty list of its name, at rest.
         ensures follows { IfOk result (λ f. (c : Image) → (D.view disk).content ≡ Some c

@@ -1,4 +1,4 @@
-// The bytes of head pages.
+// The bytes of the pages of a follower's heads; those of a service's pages are in tw_steppage and tw_rbnode.
 
 ghost use Rattle.std.specs.Prelude.{◌≡◌, ◌≢◌, ◌<◌, ◌≤◌, length, IfErr, IfSome, MatchOption};
 ghost use Rattle.tw_base.specs.format.Taking.{Takes};
@@ -9,7 +9,7 @@ ghost use Rattle.tw_follow.specs.HeadPages.{head_codec, head_in, head_page_bytes
 use tw_base::limits::LAST_STEP;
 use tw_base::{Digest, Page, PageFront, ReadFault, page_to, take_digest, take_number, take_text};
 
-/// How a head page begins.
+/// How a head page begins; the pages of a service begin with 1, 2 or 3.
 const KIND: [u8; 1] = [4];
 
 /// What the page of a head tells: the head's step (1 to 2^40 - 1), its authenticator there, and the page of the head

@@ -1,4 +1,4 @@
-// Judging what is offered.
+// Judging a message that a follower is offered, by its head alone; a service judges by its archive, in `tw_archive`.
 
 ghost use Rattle.std.specs.Prelude.{◌≡◌};
 ghost use Rattle.tw_msg.specs.Messages.{IsLinked};
@@ -20,7 +20,7 @@ pub enum Offered {
 
 /// Whether the message's link leads down to the head's step, and climbs from the head's authenticator to the
 /// message's.
-fn leads<H: Hasher>(head: &Thread, message: &Message) -> bool
+fn climbs_from_head<H: Hasher>(head: &Thread, message: &Message) -> bool
     requires { IsLinked message.now }
     ensures { result ≡ leads_from_head H.dig head.now message.now }
 {
@@ -68,7 +68,7 @@ pub(crate) fn judge<H: Hasher>(head: &Thread, message: &Message) -> Result<Offer
             offered: thread.auth,
         });
     }
-    if leads::<H>(head, message) {
+    if climbs_from_head::<H>(head, message) {
         return Ok(Offered::Moves { head: *thread });
     }
     Err(FollowRefusal::BadLink {

@@ -1,8 +1,8 @@
-// The size of a follower's root record.
+// The size of a follower's root record; that of a service's is in tw_answers.
 
 ghost use Rattle.std.specs.Prelude.{◌≡◌};
 
-/// The bytes of the root record of a follower.
+/// The bytes of the root record of a follower: the 56 of a thread, and the 8 of the number of its page.
 pub const ROOT_BYTES: usize = 64;
 
 /// The size of the root record of a follower, by number.

@@ -1,4 +1,4 @@
-// Reading heads from their pages.
+// Reading a follower's list of heads from its pages, from the last one down; one page is read in `head_page.rt`.
 
 ghost use Rattle.std.specs.Prelude.{◌≡◌, ◌<◌, IfOk};
 ghost use Rattle.tw_disk.specs.Answers.{ReadsPages};

@@ -1,4 +1,4 @@
-// The root record of a follower, as a store keeps it.
+// The root record of a follower as the `Record` of its store, by the bytes of `root.rt`; a service's is in tw_answers/src/record.rt.
 
 ghost use Rattle.tw_follow.specs.Stands.{root_kind};
 

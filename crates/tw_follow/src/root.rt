@@ -1,4 +1,4 @@
-// Root records.
+// The root record of a follower: what it says, its bytes, and which bytes are one; a service's is in `tw_answers`.
 
 ghost use Rattle.std.specs.Prelude.{◌≡◌, ◌≢◌, ℕ, ◌+◌, ◌≤◌, ◌++◌, length, IfErr, IfOk, IfSome, IsTrue, ◌↔◌, MatchOption};
 ghost use Rattle.tw_base.specs.declared.kinds.limits.TheConstants.{LAST_STEP};
@@ -67,7 +67,8 @@ fn is_begun<H: Hasher>(root: &RootRecord) -> bool
     root.head.step != 0 || root.head.auth == genesis::<H>(&root.head.from)
 }
 
-/// Whether the record may be the root record of a store of so many used pages and of this generation.
+/// Whether the record may be the root record of a store of so many used pages and of this generation: each head has one page and one
+/// commit, and a step above the one before.
 fn fits_store<H: Hasher>(root: &RootRecord, used: u64, generation: u64) -> bool
     requires { root.now.head.step ≤ LAST_STEP }
     ensures { IsTrue result ↔ FitsStore H.dig used generation root.now }

@@ -1,4 +1,4 @@
-// The proof that is made of the services' histories.
+// The proof that is claimed of the services' histories: that an event precedes another one, or, after few rounds, of one event.
 
 ghost use Rattle.std.specs.Prelude.{◌≡◌, ◌≤◌, ◌-◌, ◌++◌, [], ◌∷◌, ℕ, Ok, Some, IfErr, IfOk, OnOk};
 ghost use Rattle.tw_base.specs.declared.history.question.Question.TheVariants as ask;

@@ -7,10 +7,11 @@ ghost use Rattle.tw_generate.specs.Draws.{after_draws, drawn_events};
 use std::alloc::Global;
 use tw_base::{Bytes, EventList, NoMemory};
 
-/// The number of bytes of an event.
+/// The number of bytes of an event, as in the histories that bench/RESULTS.md measures.
 const EVENT_BYTES: usize = 200;
 
-/// What numbers are drawn from: each draw sets the state by a linear congruence modulo 2^64.
+/// What numbers are drawn from: each draw sets the state by a linear congruence modulo 2^64, whose numbers are those of Knuth's
+/// MMIX. (A `FickleDisk` of tw_runtests draws so, too.)
 #[derive(Drop)]
 pub(crate) struct Draws {
     pub state: u64,
@@ -24,7 +25,7 @@ impl Draws {
         Draws { state: number }
     }
 
-    /// The next number, below 2^31.
+    /// The next number, below 2^31: the upper bits of the state, since its lower ones repeat soon.
     fn draw(&mut self) -> u64
         ensures state { self.new.state ≡ next_state self.old.state }
         ensures number { result ≡ drawn self.new.state }

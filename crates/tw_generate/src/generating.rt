@@ -30,7 +30,7 @@ use tw_base::{Bytes, Hasher, NoMemory, Sequence, Sha, Threads};
 use tw_disk::{Disk, MemDisk};
 use tw_history::History;
 
-/// The most rounds of a schedule.
+/// The most rounds of a schedule; the command line allows no more, either (`MOST_GENERATED` of tw_words).
 const MOST_ROUNDS: u64 = 10_000;
 
 /// Why nothing was generated.
@@ -178,8 +178,8 @@ fn summarize<D: Disk, H: Hasher>(
     })
 }
 
-/// Runs the services alpha, beta and gamma on disks in memory by the schedule that the number makes, and sums up what they hold, in one line
-/// of compact JSON with a line feed.
+/// Runs the services alpha, beta and gamma on disks in memory by the schedule that the number makes, and sums up what they hold, in one
+/// line of compact JSON with a line feed.
 ///
 /// There are so many rounds. In each every service appends one to four events of 200 bytes, as they are drawn from the number on; in each
 /// fiftieth every service tells each other one its last step. Then each appends the event `end`. Told are whether an audit of the proof
@@ -187,13 +187,13 @@ fn summarize<D: Disk, H: Hasher>(
 /// carries no thread, the steps of the services, and how many threads they received. From 50 rounds on the proof is that alpha's first
 /// event precedes the last one of gamma; below it is that of gamma's last event.
 ///
-/// `NoMemory` where there was no memory for the services, their disks or what is told of them; of the histories' files no clause says that
-/// they are within their limit, and one that isn't is told so, too. That no service refuses a call, that proof and map are accepted and that
-/// the audit answers is proved.
+/// `NoMemory` where there was no memory for the services, their disks or what is told of them; of the histories' files no clause says
+/// that they are within their limit, and one that isn't is told so, too. That no service refuses a call, that proof and map are accepted
+/// and that the audit answers is proved.
 pub fn generate(alloc: Global, number: u64, rounds: u64) -> Result<Generated, GenerateFault>
-    // What is generated are histories to which the schedule of the number leads. The text is the line of what is told of them: by the strict
-    // verdict, under their heads, on the proof that is claimed, by the map of alpha's last step against gamma, and by the audit of the proof
-    // against them. Each disk stands for the history of its service, at rest.
+    // What is generated are histories to which the schedule of the number leads. The text is the line of what is told of them: by the
+    // strict verdict, under their heads, on the proof that is claimed, by the map of alpha's last step against gamma, and by the audit of
+    // the proof against them. Each disk stands for the history of its service, at rest.
     ensures made { IfOk result (λ made. IsGenerated sha256 number rounds made.text (mem_disk_view made.alpha) (mem_disk_view made.beta) (mem_disk_view made.gamma)) }
     // `TooMany` is answered exactly where there are more than 10,000 rounds.
     ensures many { (IfErr result (λ fault. fault ≡ TooMany → 10000 < rounds)) × (10000 < rounds → result ≡ Err TooMany) }

@@ -1,4 +1,5 @@
-// What is told of the services' histories by a proof, a map and an audit.
+// What is told of the services' histories by a proof, a map and an audit, and the histories that are read of their files for
+// that.
 
 ghost use Rattle.std.specs.Prelude.{◌≡◌, ℕ, [], ◌∷◌, length, Option, Result, true, Ok, IfErr, IfOk};
 ghost use Rattle.tw_audit.specs.Auditing.{IsAudit};
@@ -51,7 +52,7 @@ pub(crate) fn heads<D: Disk, H: Hasher>(
     list_of(alloc, alpha, beta, gamma)
 }
 
-/// The list of these.
+/// The list of what there is of alpha, of beta and of gamma.
 pub(crate) fn list_of<T: Drop>(
     alloc: Global,
     alpha: T,
@@ -180,8 +181,8 @@ fn history_of(alloc: Global, bytes: &Bytes) -> Result<History, NoMemory>
     history_read(read(alloc, bytes))
 }
 
-/// The answer of a call that is refused at most for the length of a file. No clause says that the file of a history is within its limit, and
-/// one that isn't is told as want of memory.
+/// The answer of a call that is refused at most for the length of a file. No clause says that the file of a history is within its limit,
+/// and one that isn't is told as want of memory.
 fn file_given(answer: Result<Bytes, Refusal>) -> Result<Bytes, NoMemory>
     requires { IfErr answer IsFileFailure }
     ensures { IfOk result (λ bytes. answer ≡ Ok bytes) }

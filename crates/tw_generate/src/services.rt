@@ -1,4 +1,4 @@
-// The three services of a schedule.
+// The three services of a schedule, and its rounds; what one of them does is in `telling.rt`.
 
 ghost use Rattle.std.specs.Prelude.{◌≡◌, ◌%◌, ◌==◌, [], ◌∷◌, Some, IfOk, IsTrue, OnOk, if◌then◌else◌};
 ghost use Rattle.tw_base.specs.kinds.Names.{is_name_text, padded_name};

@@ -1,4 +1,4 @@
-// The summary of a schedule, in one line of JSON.
+// The summary of a schedule, in one line of JSON; tw_world/src/summary.rt has that of a script.
 
 ghost use Rattle.std.specs.Prelude.{◌≡◌, ◌++◌, codes, false, IfOk};
 ghost use Rattle.std.specs.Option.{option_map_or};

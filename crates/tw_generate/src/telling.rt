@@ -1,4 +1,5 @@
-// What services on disks do in a schedule.
+// What one service on a disk does in a schedule: it is made, appends, answers, or tells another one its last step; for a
+// script, tw_world/src/serving.rt has that.
 
 ghost use Rattle.std.specs.Prelude.{◌≡◌, Some, None, Ok, IfErr, IfOk, OnOk, nat_lt, if◌then◌else◌};
 ghost use Rattle.tw_base.specs.declared.kinds.failure.ReadFault.TheVariants.{NoMemory as WantedMemory};
@@ -106,8 +107,7 @@ fn heard(before: u64, after: u64, last: u64, step: u64) -> u64
     if before < after { step } else { last }
 }
 
-/// Tells a service's last step to another one, whose last archived step of it is `last`, and is so
-/// afterwards.
+/// Tells a service's last step to another one. The last step of it that the other one archived is `last`, before and after.
 pub(crate) fn tell<D: Disk, H: Hasher>(
     from: &mut Service<D, H>,
     to: &mut Service<D, H>,

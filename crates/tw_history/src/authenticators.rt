@@ -1,4 +1,4 @@
-// The authenticators of a history.
+// The authenticator of one step of a history in memory, by a pass over the steps up to it; tests alone ask for it.
 
 ghost use Rattle.std.specs.Prelude.{◌≡◌, ◌<◌, ◌≤◌, length, IfOk, MatchOption};
 ghost use Rattle.tw_base.specs.history.Auth.{auth};

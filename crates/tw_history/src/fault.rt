@@ -1,4 +1,4 @@
-// Why there is no answer.
+// Why a history isn't read, isn't sound or has no file, and why none of its events is shown.
 
 use tw_base::NoMemory;
 

@@ -1,4 +1,4 @@
-// Histories as tables of steps and nodes.
+// A history in memory: a name, a table of steps, and one of the nodes that each step takes in turn.
 
 ghost use Rattle.std.specs.Prelude.{◌≡◌};
 ghost use Rattle.tw_history.specs.Tables.{IsTable, steps_of_table};

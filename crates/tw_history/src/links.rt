@@ -1,4 +1,4 @@
-// The links of a step, over the authenticators that they lead to.
+// The labels of a step's links, over the authenticators that a pass keeps; tw_skiplist/src/records.rt has those of a step's page.
 
 ghost use Rattle.std.specs.Prelude.{◌≡◌, ℕ, suc, ◌<◌, ◌≤◌, List, [], ◌++◌, drop, map, replicate, slice_index_or};
 ghost use Rattle.tw_base.specs.declared.kinds.limits.TheConstants.{LAST_STEP};

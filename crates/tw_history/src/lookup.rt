@@ -1,4 +1,4 @@
-// What a history has at a step.
+// What a history in memory has at a step; of pages tw_skiplist/src/reading.rt tells it.
 
 ghost use Rattle.std.specs.Prelude.{◌≡◌, ◌+◌, ◌^◌, ◌<◌, ◌≤◌, length, take, sum_by, Some, slice_get, IfNone, IfSome, OnSome};
 ghost use Rattle.tw_base.specs.history.History.{entry_to, events_at, step_at, thread_of, time_at};

@@ -1,4 +1,4 @@
-// The links of a history's path.
+// The links of a path down a history in memory; tw_skiplist/src/collecting.rt has those of one down pages.
 
 ghost use Rattle.std.specs.Prelude.{◌≡◌, ◌^◌, ◌<◌, ◌≤◌, List, length, reverse, IfOk, OnOk};
 ghost use Rattle.tw_skipproof.specs.HistoryProofs.{IsPathOf};

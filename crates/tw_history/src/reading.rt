@@ -1,4 +1,4 @@
-// Reading history files.
+// Reading a history's file into memory, where it is sound; its steps are taken in `reading_steps.rt`.
 
 ghost use Rattle.std.specs.Prelude.{◌≡◌, ◌≤◌, length, MatchResult};
 ghost use Rattle.tw_base.specs.format.Formats.{ReadsAs};
@@ -54,14 +54,14 @@ pub fn read_history(alloc: Global, bytes: &[u8]) -> Result<History, HistoryFault
         });
     }
     match read_table(alloc, bytes) {
-        Ok(history) => judged(alloc, history),
+        Ok(history) => judged_sound(alloc, history),
         Err(ReadFault::Malformed { place }) => Err(HistoryFault::Malformed { place }),
         Err(ReadFault::NoMemory) => Err(HistoryFault::NoMemory),
     }
 }
 
 /// The history, if it is sound.
-fn judged(alloc: Global, history: History) -> Result<History, HistoryFault>
+fn judged_sound(alloc: Global, history: History) -> Result<History, HistoryFault>
     ensures { MatchResult result (λ h. (h ≡ history) × IsSound history) (TellsRule history) }
 {
     is_sound(alloc, &history)?;

@@ -1,4 +1,4 @@
-// Reading the steps of a history file into a table.
+// Taking the steps of a history's file one after another into a table, for `reading.rt`.
 
 ghost use Rattle.std.specs.Prelude.{◌≡◌, ℕ, ◌+◌, ◌^◌, ◌<◌, ◌≤◌, ◌++◌, length, map, IfOk};
 ghost use Rattle.tw_base.specs.declared.kinds.limits.TheConstants.{LAST_STEP};

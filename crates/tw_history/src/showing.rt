@@ -1,4 +1,4 @@
-// Proofs that a history itself makes.
+// The proof of an event that a history in memory makes, for `show`; a service's are made of pages, in `tw_answers`.
 
 ghost use Rattle.std.specs.Prelude.{◌≡◌, ◌^◌, ◌<◌, ◌≤◌, List, length, Some, IfOk, IfErr, OnOk};
 ghost use Rattle.tw_skipproof.specs.declared.existence.ExistenceProof.{ExistenceProof};
@@ -143,8 +143,8 @@ fn existence_of<H: Hasher>(
     Ok(ExistenceProof { at, event })
 }
 
-/// The bytes of that proof.
-fn written<H: Hasher>(
+/// The bytes of the proof that the event of this index stands in the step, whose events these are.
+fn written_existence<H: Hasher>(
     alloc: Global,
     history: &History,
     step: u64,
@@ -186,6 +186,6 @@ pub fn show_event<H: Hasher>(
     ensures refused { IfErr result (RefusesEvent history.now step index) }
 {
     let events = events_to_show(history, step, index)?;
-    let bytes = written::<H>(alloc, history, step, events, index)?;
+    let bytes = written_existence::<H>(alloc, history, step, events, index)?;
     Ok(bytes)
 }

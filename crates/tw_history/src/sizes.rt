@@ -1,4 +1,4 @@
-// How many bytes the file of a history has.
+// How many bytes the file of a history in memory has, told before one is written; tw_export counts as it appends.
 
 ghost use Rattle.std.specs.Prelude.{◌≡◌, ◌+◌, ◌*◌, ◌<◌, ◌≤◌, ◌^◌, length, sum_by};
 ghost use Rattle.std.specs.Option.{option_map_or};
@@ -12,7 +12,7 @@ use crate::history::History;
 use crate::step::Step;
 use tw_base::{Bytes, Content};
 
-/// The number of bytes of the history's file.
+/// The number of bytes of the history's file: 12 of `TWH1` and of the number of steps, those of the name, and those of the steps.
 pub(crate) fn file_size(history: &History) -> u64
     ensures { result ≡ length (history_bytes history.now) }
 {
@@ -34,7 +34,7 @@ fn steps_size(steps: &[Step]) -> u64
     size
 }
 
-/// The number of bytes of the step with its new nodes.
+/// The number of bytes of the step with its new nodes: 16 for each of these, and 6 of their number and of the root.
 fn step_size(step: &Step) -> u64
     requires { IsInRange step.now.content }
     ensures size { result ≡ step_size_of step.now }

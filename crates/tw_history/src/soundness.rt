@@ -1,4 +1,4 @@
-// Whether a history is sound.
+// Whether a history is sound, step by step; what each rule looks at is in the files of `soundness/`.
 
 ghost use Rattle.std.specs.Prelude.{◌≡◌, ℕ, suc, ◌<◌, ◌≤◌, length, Some, Err, IfOk, MatchResult};
 ghost use Rattle.tw_base.specs.history.History.{History as HistoryMeant, Step as StepMeant, step_at};
@@ -27,7 +27,7 @@ use threads::{count, events_fit, is_later, is_of_another, limits_law, received_t
 use times::{doesnt_fall, greatest_with};
 use tw_base::{NoMemory, see_name};
 
-/// What is kept of the steps that were judged.
+/// What is kept of the steps of a history that were judged, by which the next one is.
 #[derive(Drop)]
 pub(crate) struct Judged {
     /// Of each tree by its number: 0 is the empty tree.

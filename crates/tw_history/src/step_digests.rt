@@ -1,4 +1,4 @@
-// The digests that the authenticator of a step is made of.
+// The digests of a step's authenticator, and its link and its opening; tw_skiplist/src/records.rt makes these of a step's page.
 
 ghost use Rattle.std.specs.Prelude.{◌≡◌, ℕ, suc, ◌<◌, ◌≤◌, List, ◌∷◌, drop, length, map, remove, IfOk};
 ghost use Rattle.tw_base.specs.history.Auth.{link_texts};

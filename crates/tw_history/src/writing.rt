@@ -1,4 +1,4 @@
-// Writing history files.
+// Writing the file of a history in memory; that of a service is made of its pages, in `tw_export`.
 
 ghost use Rattle.std.specs.Prelude.{◌≡◌, ◌<◌, ◌≤◌, ◌^◌, length, map, sum_by, IfOk, IfErr};
 ghost use Rattle.tw_base.specs.declared.kinds.limits.TheConstants.{MOST_EVENT_BYTES};
@@ -23,7 +23,7 @@ use tw_base::{
     Bytes, Content, NoMemory, put_name, put_number, put_sized, put_text, put_thread, put_time,
 };
 
-/// The four bytes at the head of a history file.
+/// The four bytes at the head of a history file, which tw_export writes, too.
 pub const MAGIC: [u8; 4] = *b"TWH1";
 
 /// The bytes of the history's file: `TWH1`, the name, the number of steps, and then for each step
@@ -44,16 +44,16 @@ pub fn write_history(alloc: Global, history: &History) -> Result<Bytes, HistoryF
     if size > MOST_HISTORY_BYTES {
         return Err(HistoryFault::TooLong { bytes: size });
     }
-    let bytes = written(alloc, history, size as usize)?;
+    let bytes = written_history(alloc, history, size as usize)?;
     Ok(bytes)
 }
 
 /// The bytes of the history's file, in room for so many.
-fn written(alloc: Global, history: &History, size: usize) -> Result<Bytes, NoMemory>
+fn written_history(alloc: Global, history: &History, size: usize) -> Result<Bytes, NoMemory>
     ensures bytes { IfOk result (λ bytes. bytes ≡ history_bytes history.now) }
     ensures spelled { IfOk result (λ bytes. Spells history_layout bytes history.now) }
 {
-    let mut bytes = Bytes::from_vec(Vec::with_capacity(alloc, size)?);
+    let mut bytes = Bytes::with_capacity(alloc, size)?;
     put_history(&mut bytes, history)?;
     Ok(bytes)
 }
@@ -102,7 +102,7 @@ fn put_step(into: &mut Bytes, step: &Step, fresh: &[Node]) -> Result<(), NoMemor
     Ok(())
 }
 
-/// The kind of a step: 1 for events, 2 for a thread, 3 and 4 for these with a time.
+/// The kind of a step: 1 for events, 2 for a thread, 3 and 4 for these with a time. (tw_steppage has it of a page's fields.)
 fn kind_of(time: Option<u64>, content: &Content) -> u64
     ensures { result ≡ kind_of_recorded time content.now }
 {

@@ -1,4 +1,4 @@
-// What a program may do with the file of a disk.
+// What a program may do with the file of a disk; what a command does with its store is `StoreAccess` of tw_app.
 
 /// What a program may do with the file of a disk, and which lock it holds on it.
 #[derive(Clone, Copy, PartialEq, Eq, Debug, Drop)]

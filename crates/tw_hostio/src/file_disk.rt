@@ -1,4 +1,4 @@
-// A disk over one file.
+// A disk over one file of this computer; tests and scripts have disks in memory, in `tw_disk`.
 
 ghost use Rattle.std.specs.Prelude.{◌≡◌, ◌<◌, ◌≤◌, ◌+◌, ◌-◌, ◌*◌, ◌^◌, ℕ, None, Some, IfOk, OnOk};
 ghost use Rattle.tw_base.specs.kinds.Faults.{Rose};
@@ -14,7 +14,7 @@ use std::rt::Files;
 use tw_base::Failed;
 use tw_disk::Disk;
 
-/// The bytes of a page.
+/// The bytes of a page, to count places in the file.
 const PAGE: u64 = 4096;
 
 /// A disk over the file of a path, which is opened at the first call that needs it; its folder has to be there.

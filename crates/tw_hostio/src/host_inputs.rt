@@ -1,4 +1,4 @@
-// Files as inputs.
+// The files of this computer as the inputs of a run; tests have inputs in memory, in `tw_outside`.
 
 ghost use Rattle.std.specs.Prelude.{◌≡◌, ◌≤◌, ◌+◌, ◌-◌, ◌^◌, length, min, IfOk};
 ghost use Rattle.std.specs.Option.{IsSomeAnd};
@@ -100,7 +100,7 @@ impl<R: Files<File = File>> Inputs for HostInputs<'_, R> {
     }
 }
 
-/// Reads what comes next of the file.
+/// Reads what comes next of the file, once more as often as a signal interrupts it, as `again` does.
 fn read_some(file: &mut File, into: &mut [u8]) -> io::Result<usize>
     ensures { IfOk result (λ came. came ≤ length into.old) }
 {

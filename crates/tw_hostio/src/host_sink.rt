@@ -1,4 +1,4 @@
-// Standard output as a sink.
+// Standard output as the sink of a run; tests have one in memory, in `tw_outside`.
 
 use std::io::{self, ErrorKind, Print, Write as _};
 use tw_base::Failed;

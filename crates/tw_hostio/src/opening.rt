@@ -1,4 +1,4 @@
-// Opening the file of a disk.
+// Opening the file of a disk and taking its lock; what its pages hold is judged in tw_pages/src/open.rt.
 
 use crate::again::again;
 use std::fs::{self, File, OpenOptions};

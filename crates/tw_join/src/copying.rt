@@ -1,4 +1,5 @@
-// Copies of the pieces of proofs.
+// Copies of the pieces of proofs, of which a joined proof is made, since the parts stay the caller's; tw_adopt/src/front.rt
+// copies steps.
 
 ghost use Rattle.std.specs.Prelude.{◌≡◌, IfOk};
 

@@ -1,4 +1,4 @@
-// Joining proofs to one from event to event.
+// Joining proofs to one from event to event; the command is in tw_filecmd/src/joining.rt.
 
 ghost use Rattle.std.specs.Prelude.{◌≡◌, [], ◌∷◌, None, Some, IfOk};
 ghost use Rattle.std.specs.Option.{option_map};

@@ -1,4 +1,4 @@
-// How many parts join.
+// How many parts join, and the limits of proofs that bear on it.
 
 ghost use Rattle.std.specs.Prelude.{◌≡◌};
 ghost use Rattle.tw_base.specs.declared.kinds.limits.TheConstants.{MOST_HOPS};

@@ -138,7 +138,7 @@ fn print_broken(alloc: Global, conflict: &Conflict, is_joined: bool) -> Result<B
     Ok(text)
 }
 
-/// The line of the received thread.
+/// The line of the received thread, as the report of a proof has it (tw_text/src/report.rt).
 fn print_thread(alloc: Global, conflict: &Conflict) -> Result<Bytes, NoMemory>
     ensures { IfOk result (λ text. text ≡ thread_line_of conflict.now.service conflict.now.step conflict.now.entry) }
 {
@@ -153,7 +153,7 @@ fn print_thread(alloc: Global, conflict: &Conflict) -> Result<Bytes, NoMemory>
     print_line(alloc, b"thread", &fields)
 }
 
-/// The line of what wasn't received.
+/// The line of what wasn't received, as the report of a proof has it.
 fn print_absent(alloc: Global, conflict: &Conflict) -> Result<Bytes, NoMemory>
     ensures { IfOk result (λ text. text ≡ absent_line_of conflict.now.service conflict.now.upto (key_of conflict.now.entry)) }
 {

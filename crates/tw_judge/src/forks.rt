@@ -1,4 +1,5 @@
-// What the library tells of the evidence of a fork: the status and the text of `checkfork`.
+// What the library tells of the evidence of a fork: the status and the text of the command `checkfork`, which is in
+// tw_reachcmd/src/check_fork.rt.
 
 ghost use Rattle.std.specs.Prelude.{◌≡◌, IfOk};
 // (The check has to know the type of a reason within a verdict.)
@@ -54,7 +55,7 @@ fn tell_verdict(alloc: Global, verdict: &ForkVerdict) -> Result<Told, NoMemory>
     })
 }
 
-/// The status of a verdict.
+/// The status of a verdict, as `answer_status` of tw_reachcmd has it.
 fn status_of(verdict: &ForkVerdict) -> u8
     ensures { result ≡ fork_status verdict.now }
 {

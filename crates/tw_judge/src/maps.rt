@@ -1,4 +1,5 @@
-// What the library tells of two map files: the status and the text of `checkmap`.
+// What the library tells of two map files: the status and the text of the command `checkmap`, which is in
+// tw_reachcmd/src/check_map.rt.
 
 ghost use Rattle.std.specs.Prelude.{◌≡◌, ℕ, List, IfOk};
 ghost use Rattle.tw_base.specs.format.Formats.{Spells};
@@ -103,7 +104,7 @@ fn tell_verdict(alloc: Global, verdict: &MapVerdict) -> Result<Told, NoMemory>
     })
 }
 
-/// The status of a verdict.
+/// The status of a verdict, as `answer_status` of tw_reachcmd has it.
 fn status_of(verdict: &MapVerdict) -> u8
     ensures { result ≡ map_status verdict.now }
 {

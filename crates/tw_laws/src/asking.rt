@@ -1,4 +1,5 @@
-// The call that asks a service a question, as what comes in a run.
+// The call that asks a service a question, as what comes in a run, for the laws of runs alone (see `calls.rt`); the call
+// itself is in tw_service/src/asking.rt.
 
 ghost use Rattle.tw_service.specs.Machine.Call.{Ask};
 ghost use Rattle.tw_service.specs.Machine.Reply.{OfBytes};

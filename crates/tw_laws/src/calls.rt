@@ -1,5 +1,5 @@
-// The calls of a service that init, open and close it, or add a step, as what comes in a run. They stand for the law alone: each is the
-// service's own call, whose contract makes its answer an event.
+// What may come in a run of a service, a function each: it is made, opened or closed, or a step is added. Only the laws of runs use them:
+// each is the service's own call, and its contract says what comes in the run by its answer.
 
 ghost use Rattle.std.specs.Prelude.{◌≡◌, ◌⊎◌, ◌≤◌, ℕ, List, None, Some, Err, IfOk, IsErr, IsErrAnd, MatchResult};
 ghost use Rattle.tw_base.specs.declared.kinds.limits.TheConstants.{LAST_TIME};

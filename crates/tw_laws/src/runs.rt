@@ -1,4 +1,5 @@
-// The law of runs of a service's calls on one disk; `published.rt` has that of whole runs of the program.
+// The law of runs of a service's calls on one disk; `published.rt` has that of whole runs of the program, and
+// tw_pages/src/running.rt that of values over any record.
 
 ghost use Rattle.std.specs.Prelude.{ℕ, List};
 ghost use Rattle.tw_base.specs.history.History.{History};

@@ -1,4 +1,5 @@
-// The calls of a service that tell its name, its steps and its head, as what comes in a run.
+// The calls of a service that tell its name, its steps and its head, as what comes in a run, for the laws of runs alone (see
+// `calls.rt`).
 
 ghost use Rattle.std.specs.Prelude.{Ok};
 ghost use Rattle.tw_msg.specs.Messages.{message_bytes};

@@ -1,4 +1,4 @@
-// Reading anchors files.
+// Reading the anchors file of whoever judges a proof; its lines are written in `tw_text`.
 
 ghost use Rattle.std.specs.Prelude.{◌≡◌, ◌≢◌, ◌≤◌, ◌↔◌, length, map, IsTrue, IsSome, IfSome, IfOk, IfErr, ℕ};
 ghost use Rattle.std.specs.List.{AllPairs, list_any};

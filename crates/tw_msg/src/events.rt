@@ -1,4 +1,4 @@
-// Reading events files.
+// Reading the events file of which `append` makes a step.
 
 ghost use Rattle.std.specs.Prelude.{◌≤◌, length};
 ghost use Rattle.tw_base.specs.format.Codecs.{IsUnambiguous};
@@ -12,7 +12,8 @@ use tw_base::{EventList, ReadFault, take_events_within, take_text, whole_to};
 /// How an events file begins: the four bytes `TWE1`.
 const MAGIC: [u8; 4] = [0x54, 0x57, 0x45, 0x31];
 
-/// Takes an events file; the number of events and their lengths are any that four bytes hold.
+/// Takes an events file; the number of events and their lengths are any that four bytes hold, since too many or too long ones are
+/// refused by `append`, with their number or length.
 #[tactic(auto, unfolding(crate::specs::EventsFile::events_codec, tw_base::specs::format::Codecs::behind))]
 fn take_file(alloc: Global, bytes: &[u8], at: &mut u64) -> Result<EventList, ReadFault>
     requires { at.old ≤ length bytes.now }

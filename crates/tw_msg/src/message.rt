@@ -1,4 +1,4 @@
-// Messages, by which a service tells another one its last step.
+// Messages, by which a service tells another one its last step; tw_archive and tw_follow judge them.
 
 ghost use Rattle.std.specs.Prelude.{◌≡◌, ℕ, ◌*◌, ◌^◌, ◌<◌, ◌≤◌, List, ◌++◌, length, IfOk, OnOk};
 ghost use Rattle.tw_base.specs.format.Codecs.{IsUnambiguous};

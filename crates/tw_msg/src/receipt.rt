@@ -19,7 +19,7 @@ use tw_base::{Hasher, ReadFault, Thread, put, take_text, take_thread, whole_to};
 /// How a receipt begins: the four bytes `TWR1`.
 const MAGIC: [u8; 4] = [0x54, 0x57, 0x52, 0x31];
 
-/// The number of a receipt's bytes.
+/// The number of a receipt's bytes: the four at its front, and 56 for each of two threads.
 pub const RECEIPT_SIZE: usize = 116;
 
 /// A service's word that a step of it archived a thread of another one.
@@ -32,14 +32,14 @@ pub struct Receipt {
 }
 
 /// The bytes are no receipt. The place, counted from 0, is that of the first byte at which no receipt
-/// goes on; where the bytes end too early, it is their length.
+/// goes on; where the bytes end too early, it is their length. (Reading a receipt takes no memory, so it is no `ReadFault`.)
 #[derive(Clone, Copy, PartialEq, Eq, Debug, Drop)]
 pub struct Malformed {
     pub place: u64,
 }
 
 /// Takes a receipt, 116 bytes. Malformed at the first byte at which no receipt goes on; then the place is
-/// left anywhere. Takes no memory.
+/// left anywhere. Takes no memory. (tw_atlas takes those of a file so.)
 #[tactic(auto, unfolding(crate::specs::Receipts::receipt_codec, tw_base::specs::format::Seen::records))]
 pub fn take_receipt(bytes: &[u8], at: &mut u64) -> Result<Receipt, ReadFault>
     requires { at.old ≤ length bytes.now }
@@ -74,7 +74,7 @@ pub fn read_receipt(bytes: &[u8]) -> Result<Receipt, Malformed>
 
 /// The bytes of the receipt.
 #[tactic(auto, unfolding(crate::specs::Receipts::receipt_codec, tw_base::specs::format::Seen::records))]
-fn written(receipt: &Receipt) -> [u8; RECEIPT_SIZE]
+fn written_receipt(receipt: &Receipt) -> [u8; RECEIPT_SIZE]
     ensures bytes { result ≡ receipt_bytes receipt.now }
     ensures fits { IsStep receipt.now.by.step → IsStep receipt.now.thread.step → receipt_codec.Fits receipt.now }
 {
@@ -95,7 +95,7 @@ pub fn write_receipt(receipt: &Receipt) -> [u8; RECEIPT_SIZE]
     // The bytes that are written spell the receipt, where its steps are within their limits.
     ensures spelled { IsStep receipt.now.by.step → IsStep receipt.now.thread.step → Spells receipt_layout result receipt.now }
 {
-    written(receipt)
+    written_receipt(receipt)
 }
 
 /// The words of receipts: each has one receipt, a receipt has one spelling, and no word is the front of

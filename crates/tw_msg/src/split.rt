@@ -1,4 +1,4 @@
-// Parts of a text round a separator.
+// What stands before and behind the first separator of a text; tw_script/src/parts.rt goes over all parts of one.
 
 ghost use Rattle.std.specs.Prelude.{◌≡◌, ◌==◌, position};
 ghost use Rattle.std.specs.List.{after_first, before_first};

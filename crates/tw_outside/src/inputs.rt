@@ -1,4 +1,4 @@
-// Inputs that are read by their names.
+// What inputs are that are read by their names; `mem_inputs.rt` has some in memory, tw_hostio the files of the computer.
 ghost use Rattle.std.specs.Prelude.{◌≡◌, ◌≤◌, ◌↔◌, ℕ, List, Option, length, IfOk, OnOk};
 ghost use Rattle.tw_base.specs.kinds.Faults.{HasCause};
 ghost use Rattle.tw_outside.specs.Files.{Files, TellsBytes, IsThere, Came};

@@ -1,4 +1,4 @@
-// Inputs in memory.
+// Inputs in memory, which tell what they hold, for tests; those of the program are files, in `tw_hostio`.
 ghost use Rattle.std.specs.Prelude.{◌≡◌, ◌≤◌, ◌++◌, ◌∷◌, [], ◌⊎◌, ◌↔◌, ℕ, List, length, OnOk, OnErr, IfOk, IsErr, IsNone, IsTrue};
 ghost use Rattle.std.specs.FinMap as map_of;
 ghost use Rattle.tw_base.specs.kinds.PlannedFailures.{fails_next, after_call};
@@ -10,6 +10,7 @@ use std::alloc::Global;
 use std::collections::VecDeque;
 use tw_base::{Failed, FailingCalls, NoMemory};
 
+/// A file by its name, with its bytes.
 #[derive(Drop)]
 struct StoredFile {
     name: String,
@@ -43,7 +44,7 @@ impl MemInputs {
         }
     }
 
-    /// Gives a name its bytes, in place of those that it had.
+    /// Gives a name its bytes, in place of those that it had: of two files of one name the one in front is found.
     pub fn put(&mut self, name: &str, bytes: &[u8]) -> Result<(), NoMemory>
         ensures ok { OnOk result (mem_files self.new ≡ map_of.insert (mem_files self.old) name.now bytes.now) }
         ensures err { OnErr result (mem_files self.new ≡ mem_files self.old) }

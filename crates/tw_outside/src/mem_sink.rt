@@ -1,4 +1,4 @@
-// A sink in memory.
+// A sink in memory, which tells what it has taken, for tests; that of the program is standard output, in `tw_hostio`.
 ghost use Rattle.std.specs.Prelude.{◌≡◌, ◌++◌, ◌∷◌, [], length, OnOk, OnErr, IfOk, IsErr, IsTrue};
 ghost use Rattle.tw_base.specs.kinds.PlannedFailures.{fails_next, after_call};
 ghost use Rattle.tw_base.specs.kinds.Faults.{HasCause};

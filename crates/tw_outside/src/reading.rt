@@ -1,4 +1,4 @@
-// Reading an input piece by piece.
+// Reading an input piece by piece, or whole.
 ghost use Rattle.std.specs.Prelude.{◌≡◌, ◌<◌, ◌≤◌, ◌↔◌, ◌+◌, ◌*◌, ◌/◌, ℕ, List, vec_len, Ok, Err, true, false, IfOk, OnOk, OnErr};
 ghost use Rattle.tw_base.specs.kinds.Faults.{Rose};
 ghost use Rattle.tw_outside.specs.Files.{IsThere, IsFrontOfFile, IsReadTo};

@@ -1,4 +1,4 @@
-// A sink that takes what is written.
+// What a sink is that takes what is written; `mem_sink.rt` has one in memory, tw_hostio standard output.
 ghost use Rattle.std.specs.Prelude.{◌≤◌, ◌<◌, ℕ, List, Option, length, take, IfOk, OnErr};
 ghost use Rattle.tw_base.specs.kinds.Faults.{HasCause};
 ghost use Rattle.tw_outside.specs.TakenBytes.{Appends, IsUnchanged};

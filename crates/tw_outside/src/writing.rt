@@ -1,4 +1,4 @@
-// Writing a text whole.
+// Writing a text whole to a sink, which may take a part at a time.
 ghost use Rattle.std.specs.Prelude.{OnOk, OnErr};
 ghost use Rattle.tw_base.specs.kinds.Faults.{HasCause};
 ghost use Rattle.tw_outside.specs.TakenBytes.{Appends, AppendsPart};

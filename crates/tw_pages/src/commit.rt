@@ -13,7 +13,7 @@ use crate::staged::write_staged;
 use tw_base::{Failed, Page};
 use tw_disk::Disk;
 
-// Closes the spare gate where it reads open.
+// Closes the spare gate where it reads open, so that no crash while its body is written leaves it open over a broken one.
 pub(crate) fn ensure_spare_gate_closed<D: Disk>(
     disk: &mut D,
     spare: u64,
@@ -35,7 +35,7 @@ pub(crate) fn ensure_spare_gate_closed<D: Disk>(
     Ok(())
 }
 
-// All but the opening of the gate.
+// All but the opening of the gate: until that each image that a crash may leave opens as the old store.
 pub(crate) fn prepare<D: Disk>(
     disk: &mut D,
     spare: u64,

@@ -1,4 +1,4 @@
-// Reads the gate of a slot.
+// Reading the gate of a slot, the bytes that `layout.rt` makes.
 ghost use Rattle.std.specs.Prelude.{◌≡◌, ◌<◌, ◌≤◌, ◌↔◌, Some, IfOk, IsTrue};
 ghost use Rattle.std.specs.Option.{IsSomeAnd};
 ghost use Rattle.tw_disk.specs.Image.{Image};

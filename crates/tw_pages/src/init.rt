@@ -34,7 +34,8 @@ pub(crate) fn write_closed_gates<D: Disk>(disk: &mut D) -> Result<(), Failed>
     Ok(())
 }
 
-// Writes both bodies, for good.
+// Writes both bodies with this root record, for good: that of slot 0 with generation 1, which counts, that of slot 1 with
+// generation 0, the older one. Both, since a crash may leave either gate open while both are opened.
 pub(crate) fn write_bodies<D: Disk>(disk: &mut D, root: &[u8]) -> Result<(), Failed>
     requires room { IsSomeAnd (D.view disk.old).count (λ n. 2 ≤ n) }
     requires root { length root.now ≤ MOST_ROOT_BYTES }
@@ -96,7 +97,7 @@ pub(crate) fn look<D: Disk>(disk: &mut D) -> Result<bool, StoreFault>
     Ok(false)
 }
 
-// Sees that both gates are closed.
+// Sees that both gates are closed: `look` has seen it, unless there are too few pages; then they are written.
 pub(crate) fn ensure_gates_closed<D: Disk>(disk: &mut D, short: bool) -> Result<(), Failed>
     requires { IsSomeAnd (D.view disk.old).count (λ n. (if short then 0 else 2) ≤ n) }
     ensures closed { OnOk result (IsAtRest (D.view disk.old) (IsUnmade short)

@@ -1,4 +1,4 @@
-// A store with its root record.
+// A store with its root record, be it a service's, a follower's or a test's.
 
 ghost use Rattle.std.specs.Prelude.{◌≡◌, ◌≢◌, ◌⊎◌, ◌+◌, ◌<◌, ◌≤◌, ℕ, List, [], length, Some, IfErr, IfOk, IsErrAnd, MatchResult, OnErr, OnOk, true, false};
 ghost use Rattle.tw_base.specs.kinds.Faults.{Rose};

@@ -1,4 +1,4 @@
-// The laws of records, of states, of disks and of runs.
+// The law of images that open with a root record of some kind; `laws.rt` has that of images that open as a store.
 
 ghost use Rattle.std.specs.Prelude.{◌≡◌, ℕ, List, ◌+◌, ◌^◌, ◌≤◌, length};
 ghost use Rattle.tw_disk.specs.Image.{Image};

@@ -1,4 +1,4 @@
-// The law of runs on one disk.
+// The law of runs on one disk, of whatever values; tw_laws and tw_follow have those of services, of the program and of followers.
 
 ghost use Rattle.std.specs.Prelude.{ℕ, List};
 ghost use Rattle.tw_disk.specs.Image.{Image};
@@ -7,7 +7,9 @@ ghost use Rattle.tw_pages.specs.Runs.State.{Closed};
 
 use tw_disk::Disk;
 
-/// Values over disks, whose calls lead from one state to the next.
+/// Values over disks, whose calls lead from one state to the next. An `Act` is a call with its answer, a `State` what an image may stand
+/// for (`is_of`), and a `Thing` what is told and may hold of a state. A value that `serves` a state `shows` things at any time, an answer
+/// `tells` some, and a state `goes_on` to those that may come of it. The trait stands for the law alone.
 pub trait Running {
     type Over: Disk;
 

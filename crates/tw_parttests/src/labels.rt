@@ -1,4 +1,4 @@
-// The worked values of two small timelines, under the digest whose first byte is the sum of the text.
+// The worked values of two small histories, under the digest whose first byte is the sum of the text.
 
 use crate::weak::short;
 use std::process::Abort;

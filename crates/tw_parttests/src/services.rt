@@ -91,7 +91,7 @@ fn each_file_is_made(rt: HostRuntime) -> Result<(), Fail> {
     Ok(())
 }
 
-/// What two calls answer of a service, of which this device call failed, after that of its opening.
+/// What two calls answer of a service, of which this device call failed, after that of its opening. (A step takes eight.)
 fn answers(alloc: Global, call: u64) -> Option<(Refusal, Refusal)> {
     let mut disk = init(alloc, b"alpha")?.close();
     disk.fail(call.saturating_add(1)).ok()?;

@@ -1,4 +1,5 @@
-// The plain tree, by the worked values of an archive of one thread. What trees answer is what their clauses say of the sorted list.
+// The tree in memory of tw_tree, by the worked values of an archive of one thread. What trees answer is what their clauses say
+// of the sorted list.
 
 use crate::weak::short;
 use std::alloc::Global;

@@ -1,4 +1,4 @@
-// Digests of the weak hasher.
+// Digests of the weak hasher, whose first byte is the sum of the text.
 
 use tw_base::Digest;
 

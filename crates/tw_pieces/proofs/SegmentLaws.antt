@@ -8,8 +8,8 @@ use Rattle.std.proofs.lemmas.Bool.{cases_lt}
 use Rattle.tw_base.specs.declared.kinds.failure.NoMemory.{NoMemory as WantOfMemory}
 use Rattle.tw_base.specs.declared.kinds.failure.ReadFault.{ReadFault}
 use Rattle.tw_base.specs.declared.kinds.failure.ReadFault.TheVariants.{Malformed, NoMemory}
-use Rattle.tw_pieces.specs.declared.resuming.Attempt.{Attempt}
-use Rattle.tw_pieces.specs.declared.resuming.Attempt.TheVariants.{Ended}
+use Rattle.tw_pieces.specs.declared.segments.Attempt.{Attempt}
+use Rattle.tw_pieces.specs.declared.segments.Attempt.TheVariants.{Ended}
 use Rattle.tw_base.specs.kinds.Bytes.{AreBytes}
 use Rattle.tw_base.specs.kinds.Lists.{Each}
 use Rattle.tw_base.specs.kinds.Texts.{joined}

@@ -3,8 +3,8 @@ use Rattle.std.specs.Prelude.{◌≡◌, ℕ, ◌<◌, ◌≤◌, List, [], ◌+
 use Rattle.tw_base.specs.declared.kinds.failure.NoMemory.{NoMemory as WantOfMemory}
 use Rattle.tw_base.specs.declared.kinds.failure.ReadFault.{ReadFault}
 use Rattle.tw_base.specs.declared.kinds.failure.ReadFault.TheVariants.{Malformed, NoMemory}
-use Rattle.tw_pieces.specs.declared.resuming.Attempt.{Attempt}
-use Rattle.tw_pieces.specs.declared.resuming.Attempt.TheVariants.{Ended, Front, Broken}
+use Rattle.tw_pieces.specs.declared.segments.Attempt.{Attempt}
+use Rattle.tw_pieces.specs.declared.segments.Attempt.TheVariants.{Ended, Front, Broken}
 use Rattle.tw_pieces.specs.declared.resumed.Resumed.{Resumed}
 use Rattle.tw_base.specs.kinds.Bytes.{AreBytes}
 use Rattle.tw_base.specs.format.Formats.{Format, IsFront, IsPlace, Spells, SpellsNothing}

@@ -1,7 +1,7 @@
-// A reader that is fed a word in pieces.
+// A reader that is fed a word in pieces: it keeps where they broke, or that memory was spent. A file is fed in tw_filecmd.
 
 use crate::resumed::Resumed;
-use crate::resuming::Segments;
+use crate::segments::Segments;
 use std::alloc::Global;
 use std::mem;
 use tw_base::{NoMemory, ReadFault};

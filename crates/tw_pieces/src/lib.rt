@@ -3,10 +3,10 @@
 
 mod feeding;
 mod resumed;
-mod resuming;
+mod segments;
 mod waiting;
 
 pub use feeding::Fed;
 pub use resumed::Resumed;
-pub use resuming::{Attempt, Segments, missed};
+pub use segments::{Attempt, Segments, missed};
 pub use waiting::{event_until, link_until, opening_until};

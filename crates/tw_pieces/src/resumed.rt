@@ -1,8 +1,8 @@
-// A word that came in pieces so far.
+// What a reader holds of a word that came in pieces so far, as long as they are the front of one.
 
 ghost use Rattle.std.specs.Prelude.{◌≡◌, ℕ, ◌+◌, ◌<◌, ◌^◌, List, [], ◌++◌, length};
 
-use crate::resuming::{Segments, settle};
+use crate::segments::{Segments, settle};
 use std::alloc::Global;
 use tw_base::{Bytes, ReadFault};
 

@@ -41,7 +41,7 @@ fn take_sizes(bytes: &[u8], at: &mut u64, count: u32) -> Result<(u64, u64), Read
     Ok((index, size))
 }
 
-/// How many bytes the record of the link that leaves the step has.
+/// How many bytes the record of the link that leaves the step has. (`held` is for the clause alone.)
 #[tactic(auto)]
 pub fn link_until(held: &[u8], step: u64) -> usize
     requires { step ≤ LAST_STEP }

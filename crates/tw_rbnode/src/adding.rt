@@ -1,4 +1,4 @@
-// Pages with one entry more, of one key, and with another child.
+// Pages with one entry more, of one key, and with another child; `tw_rbtree` adds an entry to a tree of pages by them.
 
 ghost use Rattle.std.specs.Prelude.{◌≡◌, ◌+◌, ◌<◌, ◌≤◌, ◌++◌, ◌∷◌, [], ◌≢◌, ℕ, List, length, slice_get, take, drop};
 ghost use Rattle.arrayvec.specs.ArrayVec.{array_vec_len};
@@ -64,7 +64,7 @@ fn other_child(children: &[Child], place: usize, child: Child) -> ArrayVec<Child
     out
 }
 
-/// The links of a page of 12 entries: the root is slot 7, and the nodes of depth 3 are red.
+/// The links of a page of 12 entries, of which a split makes two: the root is slot 7, and the nodes of depth 3 are red.
 const BALANCED: [Link; 26] = [
     BLANK,
     Link {

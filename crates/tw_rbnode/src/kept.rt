@@ -1,4 +1,4 @@
-// Entries in fixed lists.
+// Entries in fixed arrays, whose unused places have one, too.
 
 ghost use Rattle.std.specs.Prelude.{◌≡◌, ◌<◌, length, slice_get, Some};
 
@@ -22,7 +22,7 @@ impl Model for Kept {
 }
 
 impl Default for Kept {
-    /// The entry of a place that isn't used.
+    /// The entry of a place that isn't used: one within the limits, of the name of 16 times `a`.
     fn default() -> Self {
         let thread = Thread {
             from: Name::from_bytes([97; 16]),

@@ -1,4 +1,4 @@
-// The labels of a page's tree and of its parts.
+// The labels of a page's tree and of its parts, over those of its children; tw_base has that of one node.
 
 ghost use Rattle.std.specs.Prelude.{◌≡◌, ◌+◌, ◌<◌, ◌≤◌, ℕ, length, slice_get};
 ghost use Rattle.tw_rbnode.specs.Shape.{Shape, size};

@@ -1,4 +1,4 @@
-// What holds of pages, whatever the calls do.
+// The laws of one page of the archive's tree, whatever the calls do.
 
 ghost use Rattle.std.specs.Prelude.{◌≡◌, ℕ, List, length, map};
 ghost use Rattle.tw_base.specs.history.Auth.{tree_label};

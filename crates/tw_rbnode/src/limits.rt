@@ -1,4 +1,4 @@
-// The limits of a page.
+// The limits of one page of the archive's tree; those of trees of pages are in `tw_rbtree`.
 
 /// The most keys of a page.
 pub const MOST_KEYS: u64 = 24;

@@ -1,11 +1,11 @@
-// The tree of a page, in slots: slots stand in the order of their keys.
+// The red-black tree of a page, in slots, which stand in the order of their keys. (A step's links are in tw_skipproof.)
 
 ghost use Rattle.std.specs.Prelude.{◌≡◌, ◌≢◌, ℕ, ◌+◌, ◌-◌, ◌<◌, ◌≤◌, slice_get, Bool, true, false, Option, Some, IfSome, IfNone};
 ghost use Rattle.tw_rbnode.specs.Shape.{Shape, Node, Empty, size, is_red, recoloured, join_left, join_right, grown_shape, insert, IsEven};
 ghost use Rattle.tw_rbnode.specs.declared.links.Link.{Link};
 ghost use Rattle.tw_rbnode.specs.Slots.{IsTree, IsGap, SameOutside, link, bump, bumped};
 
-/// A node of a page's tree. Slots are counted from 1, and 0 is an empty place.
+/// A node of a page's tree. Slots are counted from 1, and 0 is an empty place; 26 are enough for it, for 24 slots and for a shift by one.
 #[derive(Clone, Copy, PartialEq, Eq, Default, Debug, Drop)]
 pub struct Link {
     pub red: bool,
@@ -258,7 +258,7 @@ pub(crate) const BLANK: Link = Link {
     right: 0,
 };
 
-/// The slots with a new one behind the place, to which no node leads.
+/// The slots with a new one behind the place, to which no node leads. (No tree has a slot of 255: the check keeps `+ 1` in range.)
 fn opened(links: &[Link; 26], place: u8) -> [Link; 26]
     ensures { (k : ℕ) (x : Link) → k < 25 → slice_get links.now k ≡ Some x → x.left < 255 → x.right < 255 → slice_get result (bump place k) ≡ Some (bumped place x) }
 {
@@ -294,7 +294,7 @@ pub(crate) fn with_node(links: &[Link; 26], top: u8, count: u8, place: u8) -> ([
     (out, grown)
 }
 
-/// How many black nodes stand on each way down, where the slots above `low` up to `high` are a tree that keeps the law.
+/// How many black nodes stand on each way down, where the slots above `low` up to `high` are a red-black tree, whose root may be red.
 pub(crate) fn height_in(links: &[Link; 26], low: u8, high: u8, at: u8) -> Option<u8>
     requires blank { slice_get links.now 0 ≡ Some (link false 0 0) }
     requires order { low ≤ high }

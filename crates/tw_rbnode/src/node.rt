@@ -50,7 +50,7 @@ pub enum Found {
     Between(u8),
 }
 
-/// What comes of one entry more.
+/// What comes of one entry more; once it is staged it is `Grown` of `tw_rbtree`.
 #[derive(Drop)]
 pub enum Added {
     /// The page, with the entry.
@@ -114,7 +114,7 @@ pub fn below(node: &RbNode, slot: u8) -> (u8, u8)
     (link.left, link.right)
 }
 
-/// The slot that has the key, or the place where it would stand.
+/// The slot that has the key, or the place where it would stand; `seek` of `tw_rbtree` looks so for what is asked of a tree.
 pub fn find(node: &RbNode, key: &Key) -> Found
     // What is found is the slot that has the key, or the place between the keys below it and those above it.
     ensures { IsFound node.now.entries key.now result }

@@ -1,4 +1,4 @@
-// Reading a page.
+// Reading the bytes of one page of the archive's tree, and the rules that they keep; `tw_rbtree` reads trees of pages.
 #![tactic(auto, unfolding(crate::specs::Seen::nodes))]
 
 ghost use Rattle.std.specs.Prelude.{◌≡◌, ◌≢◌, ◌↔◌, ◌+◌, ◌≤◌, ◌<◌, ℕ, suc, length, map, false, IfErr, IsTrue, MatchOption, slice_get, Some};
@@ -130,7 +130,7 @@ fn take_held(bytes: &[u8], at: &mut u64, count: u8) -> Result<Held, ReadFault>
 
 /// Takes the number of the keys, and what stands behind it.
 #[tactic(auto, unfolding(tw_base::specs::format::Codecs::by_kind))]
-fn take_counted(bytes: &[u8], at: &mut u64) -> Result<Held, ReadFault>
+fn take_counted_slots(bytes: &[u8], at: &mut u64) -> Result<Held, ReadFault>
     requires { at.old ≤ length bytes.now }
     ensures takes { Takes counted_codec (λ h. (h.top, (h.slots.items, h.children.items))) bytes.now at.old at.new result }
     ensures memory { IfErr result (λ fault. fault ≢ ReadFault.NoMemory) }
@@ -139,7 +139,7 @@ fn take_counted(bytes: &[u8], at: &mut u64) -> Result<Held, ReadFault>
     take_held(bytes, at, count)
 }
 
-/// Takes what the bytes of a page have.
+/// Takes what the bytes of a page have, behind the 3 of tree pages; those of steps, of events and of heads begin with 1, 2 and 4.
 #[tactic(auto, unfolding(crate::specs::NodeBytes::page_node_codec, tw_base::specs::format::Seen::records))]
 fn take_fields(bytes: &[u8], at: &mut u64) -> Result<PageFields, ReadFault>
     requires { at.old ≤ length bytes.now }
@@ -148,7 +148,7 @@ fn take_fields(bytes: &[u8], at: &mut u64) -> Result<PageFields, ReadFault>
 {
     take_text(bytes, at, &[3])?;
     let level = take_number(bytes, at, 1, 0, TOP_LEVEL as u64)? as u8;
-    let held = take_counted(bytes, at)?;
+    let held = take_counted_slots(bytes, at)?;
     Ok(PageFields { level, held })
 }
 

@@ -1,4 +1,4 @@
-// What a slot of a page has in its bytes.
+// What a slot of a tree page has in its bytes. (A store's slots are in `tw_pages`.)
 
 use crate::kept::Kept;
 use crate::links::Link;

@@ -1,4 +1,4 @@
-// The nodes of a page above a slot or a place.
+// The nodes of a page above a slot or a place, of which `tw_rbtree` makes tree proofs.
 
 ghost use Rattle.std.specs.Prelude.{◌≡◌, ◌+◌, ◌*◌, ◌<◌, ◌≤◌, ◌++◌, ◌∷◌, [], ℕ, length, slice_get, take};
 ghost use Rattle.tw_rbnode.specs.Answers.{IsThereAsFound};
@@ -16,7 +16,7 @@ use tw_base::{Ancestor, Hasher};
 /// The nodes of a page above a slot or a place.
 #[derive(Clone, Copy, Debug, Drop)]
 pub struct WayDown {
-    /// How many nodes there are, at most 9.
+    /// How many nodes there are, at most 9: no way down such a tree has more.
     pub count: u8,
     /// The nodes, nearest first, in the first `count` places; the others mean nothing.
     pub nodes: [Ancestor; 9],

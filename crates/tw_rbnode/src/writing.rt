@@ -1,4 +1,4 @@
-// Writing a page.
+// Writing the bytes of one page of the archive's tree, which `reading.rt` reads.
 #![tactic(auto, unfolding(crate::specs::Seen::nodes_written))]
 
 ghost use Rattle.std.specs.Prelude.{◌≡◌, ◌+◌, ◌*◌, ◌≤◌, ◌<◌, ◌++◌, ◌∷◌, [], length, drop, flat_map, take};
@@ -16,7 +16,7 @@ use crate::slot::Slot;
 use arrayvec::ArrayVec;
 use tw_base::{Entry, Page, PageFront};
 
-/// Puts an entry, 64 bytes.
+/// Puts an entry into the page, 64 bytes; `put_entry` of tw_base appends one to `Bytes`.
 fn put_entry(page: &mut PageFront, entry: &Entry)
     requires room { length page.old + 64 ≤ 4096 }
     requires range { IsEntryInRange entry.now }

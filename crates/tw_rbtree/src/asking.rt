@@ -1,4 +1,5 @@
-// What a tree in pages has of a key, and next to it.
+// What a tree in pages has of a key, and next to it: where a way down ends. `proving.rt` goes down so for a proof, and
+// `inserting.rt` to add an entry, each by a recursion of its own over `descending.rt`.
 
 ghost use Rattle.std.specs.Prelude.{◌≡◌, IfOk, IfSome};
 ghost use Rattle.tw_base.specs.history.Entries.{KeyBelow, key_of};

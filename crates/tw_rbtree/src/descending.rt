@@ -1,4 +1,4 @@
-// One page further on a way down.
+// One page further on a way down, for `asking.rt`, `proving.rt` and `inserting.rt`.
 
 ghost use Rattle.std.specs.Prelude.{◌≡◌, ◌≤◌, IfOk, length};
 ghost use Rattle.tw_disk.specs.Answers.{ReadsPages};
@@ -12,7 +12,7 @@ use tw_base::{Ask, Entry, Hasher};
 use tw_disk::{Pages, WalkFault};
 use tw_rbnode::{Found, RbNode, child_at, level};
 
-/// Where a question leads in a page.
+/// Where the way goes from a page: it ends there, or goes on into a child page.
 #[derive(Drop)]
 pub(crate) enum Down {
     /// The asked key is there.

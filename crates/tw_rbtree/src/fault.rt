@@ -1,4 +1,4 @@
-// Why a call on a tree in pages has no answer.
+// Why a call on a tree in pages that takes memory has no answer; the others answer a `WalkFault` of tw_disk.
 
 use tw_base::NoMemory;
 use tw_disk::WalkFault;
@@ -11,7 +11,8 @@ pub enum TreeFault {
     /// `path`: what is asked isn't so of the tree.
     Untrue,
     /// The page of this number doesn't fit the walk: it is none of the pages, or no tree page of the wanted level, or has too few
-    /// keys, or one that doesn't lie between those on either side of the way down to it; or it is the root's page, of the greatest level, which an insert would split.
+    /// keys, or one that doesn't lie between those on either side of the way down to it; or it is the root's page, of the greatest level,
+    /// which an insert would split.
     BadPage { page: u64 },
     /// A read failed; the count of faults of the pages rose in this call.
     DiskFault,

@@ -1,4 +1,4 @@
-// One entry more.
+// One entry more in a tree over pages: those on the way down are staged anew, and each earlier root keeps its tree.
 
 ghost use Rattle.std.specs.Prelude.{◌≡◌, ◌+◌, ◌*◌, ◌-◌, ◌<◌, ◌≤◌, ◌^◌, ◌++◌, ◌∷◌, ◌&&◌, [], ℕ, List, true, IfOk, Option, Some, length, map, slice_index_or};
 ghost use Rattle.std.specs.Option.{option_map};
@@ -37,7 +37,8 @@ use tw_disk::Pages;
 use tw_rbnode::limits::TOP_LEVEL;
 use tw_rbnode::{Added, Child, RbNode, add, label, level, put_child, single, write_node};
 
-/// What a part of the tree has become: one child in its place, or two with an entry between them.
+/// What a part of the tree has become: one child in its place, or two with an entry between them. (`Added` of tw_rbnode is the same
+/// before its pages are staged.)
 #[derive(Clone, Copy, Drop)]
 pub(crate) enum Grown {
     One(Child),
@@ -48,7 +49,7 @@ pub(crate) enum Grown {
     },
 }
 
-/// Tells that pages are pages.
+/// Tells a proof that one page, or both of two, keep the rules of a tree page.
 fn see_added(added: &Added)
     ensures { AddedAreNodes added.now }
 {

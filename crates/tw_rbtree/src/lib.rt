@@ -1,5 +1,6 @@
 //! The archive's tree over pages: red-black trees in pages that are trees of pages. One more entry copies the pages on one way
-//! down, so that every earlier root keeps its tree. The calls work over any pages, honest or not.
+//! down, so that every earlier root keeps its tree. The calls work over any pages, honest or not. Trees in memory, for tests, are in
+//! `tw_tree`.
 #![tactic(auto)]
 
 mod asking;

@@ -1,4 +1,4 @@
-// The limits of a tree's pages.
+// The limits of a tree's pages; those of one page are in tw_rbnode, and stand in `limit_laws` here, too.
 
 ghost use Rattle.std.specs.Prelude.{◌≡◌};
 ghost use Rattle.tw_rbnode.specs.declared.limits.TheConstants.{MOST_KEYS, TOP_LEVEL};

@@ -1,4 +1,4 @@
-// The nodes of a tree that are new since a page.
+// The nodes of a tree that are new since a page, for the file of a history (tw_export).
 
 ghost use Rattle.std.specs.Prelude.{◌≡◌, ◌≢◌, ◌==◌, ◌||◌, None, IfOk};
 ghost use Rattle.tw_disk.specs.Answers.{ReadsPages};

@@ -1,8 +1,8 @@
-// The nodes of a tree that are listed for a history.
+// The nodes of a tree that `listing.rt` lists for a history's file.
 
 use tw_base::{Entry, Sequence};
 
-/// What stands on a side of a listed node.
+/// What stands on a side of a listed node. (`Side` of tw_base is of an audit path.)
 #[derive(Clone, Copy, PartialEq, Eq, Debug, Drop)]
 pub enum Side {
     /// The empty tree.

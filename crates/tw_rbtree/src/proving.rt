@@ -1,4 +1,5 @@
-// The proof of what a tree in pages has.
+// The proof of what a tree in pages has, made on the way down that `asking.rt` goes for the entry alone; tw_tree makes
+// proofs of trees in memory, for tests.
 
 ghost use Rattle.std.specs.Prelude.{◌≡◌, ◌+◌, ◌*◌, ◌≤◌, ◌++◌, ◌↔◌, IfOk, IsTrue, OnOk, [], length, take};
 ghost use Rattle.tw_disk.specs.Answers.{ReadsBy, ReadsPages};
@@ -20,7 +21,7 @@ use tw_base::{AncestorList, Ask, Entry, Hasher, NoMemory, Root, TreeProof};
 use tw_disk::Pages;
 use tw_rbnode::{Found, RbNode, WayDown, sides, way};
 
-/// The entry at the end of a way, none at an empty place, and the proof of what is there.
+/// The entry at the end of a way, none at an empty place, and the proof of what is there. (`Shown` of tw_treeproof is what a proof shows.)
 #[derive(Drop)]
 pub(crate) struct Shown {
     pub met: Option<Entry>,

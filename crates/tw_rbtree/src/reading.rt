@@ -1,4 +1,4 @@
-// Reading the pages of a tree.
+// Reading the pages of a tree, each of which has to fit the way to it; the bytes of one are read in `tw_rbnode`.
 
 ghost use Rattle.std.specs.Prelude.{◌≡◌, true, ◌&&◌, IfErr, IfOk};
 ghost use Rattle.tw_disk.specs.Answers.{AnswersAs, ReadsPages};
@@ -14,7 +14,7 @@ use tw_base::{Entry, Hasher, Page, entry_key, is_below};
 use tw_disk::{Pages, WalkFault, read_page};
 use tw_rbnode::{RbNode, entry_at, keys, level, read_node};
 
-/// Tells that a page is a page.
+/// Tells a proof that a page keeps the rules of a tree page, by a call of which nothing else is wanted.
 pub(crate) fn see_node(node: &RbNode)
     ensures { IsNode node.now }
 {

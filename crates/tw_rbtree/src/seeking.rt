@@ -1,4 +1,4 @@
-// Where a question leads in a page.
+// Where a question leads in one page, which is at hand; `descending.rt` reads the next one.
 
 ghost use Rattle.std.specs.Prelude.{◌≡◌, drop};
 ghost use Rattle.tw_rbtree.specs.Ways.{seek as seek_in, stop_in};

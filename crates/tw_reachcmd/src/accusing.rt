@@ -1,4 +1,4 @@
-// The command `accuse`, which makes the evidence of a fork of the proofs in files.
+// The command `accuse`, which makes the evidence of a fork of the proofs in files; tw_evidence/src/accusing.rt has the call.
 
 ghost use Rattle.std.specs.Prelude.{◌≡◌, None, Some, IfOk};
 ghost use Rattle.tw_evidence.specs.Accusing.{AreSpelled};
@@ -152,7 +152,7 @@ fn made(
     }
 }
 
-/// The evidence, written.
+/// The evidence, written, and given up before its bytes are looked at: what `?` gives up is proved slowly.
 fn written(alloc: Global, evidence: Evidence) -> Result<Accused, NoMemory>
     ensures { IfOk result (λ accused. accused ≡ Accused.Whole (evidence_bytes evidence)) }
 {

@@ -1,4 +1,4 @@
-// What is told of a history that is to be taken over.
+// The text of what `adopt` comes to.
 
 ghost use Rattle.std.specs.Prelude.{◌≡◌, IfOk};
 ghost use Rattle.tw_reachcmd.specs.AdoptTexts.{taken_text, unadopted_text};
@@ -23,7 +23,7 @@ pub(crate) fn print_taken(alloc: Global, taken: &Taken) -> Result<Bytes, NoMemor
 }
 
 /// The line of a history that isn't taken over: `rejected`, the fault's number and name, the proof's number, and
-/// what the fault tells besides.
+/// what the fault tells besides. `Part` is told as that of evidence of a fork, and 13 and 14 go on behind its numbers.
 fn print_unadopted(alloc: Global, fault: &AdoptFault) -> Result<Bytes, NoMemory>
     ensures { IfOk result (λ text. text ≡ unadopted_text fault.now) }
 {

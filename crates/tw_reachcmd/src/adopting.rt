@@ -1,4 +1,4 @@
-// The command `adopt`, which takes over the history of a file by the proofs of others.
+// The command `adopt`, which takes over the history of a file by the proofs of others; tw_adopt/src/adopting.rt has the call.
 
 ghost use Rattle.std.specs.Prelude.{◌≡◌, ◌≤◌, ◌<◌, ◌∷◌, ◌++◌, [], ℕ, List, Err, IfOk, OnOk, length};
 ghost use Rattle.tw_base.specs.declared.kinds.limits.TheConstants.{MOST_HISTORY_BYTES as MOST};
@@ -118,7 +118,8 @@ fn put_files<I: Inputs>(
     Ok(())
 }
 
-/// The sound history that the bytes of the named file spell.
+/// The sound history that the bytes of the named file spell, judged as the first one of an audit is: beside no other,
+/// and with the whole limit left.
 fn history_in(alloc: Global, file: &str, bytes: Vec<u8>) -> Result<History, CommandFault>
     ensures { IsHistoryIn file.now bytes.items result }
 {

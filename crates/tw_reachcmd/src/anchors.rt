@@ -1,4 +1,5 @@
-// The anchors of an anchors file, or the fault with its first bad line.
+// The anchors of an anchors file, or the fault with its first bad line; `verify_file` of tw_filecmd reads them by itself,
+// since it reads the proof before it tells a bad line.
 
 ghost use Rattle.std.specs.Prelude.{◌≤◌, ℕ, List, length, IfErr, IfOk};
 ghost use Rattle.tw_base.specs.declared.kinds.limits.TheConstants.{MOST_ANCHORS};

@@ -17,7 +17,7 @@ use tw_evidence::{ForkVerdict, print_fork};
 use tw_text::print_gap;
 use tw_tmap::{MapVerdict, print_map};
 
-/// What a command came to that was done.
+/// What a command came to that was done. (A line of a script is told an `Answer` of tw_world.)
 #[derive(Drop, Debug)]
 pub enum Answer {
     /// A service was accused of a fork.
@@ -34,7 +34,7 @@ pub enum Answer {
     Taken(Taken),
 }
 
-/// The status of a run that came to this answer.
+/// The status of a run that came to this answer; what each number says, `run` of tw_app tells.
 pub fn answer_status(answer: &Answer) -> u8
     // The status of each answer is the one of the definitions.
     ensures { result ≡ answer_status_of answer.now }

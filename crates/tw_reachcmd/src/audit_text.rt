@@ -1,4 +1,4 @@
-// What is told of an audit.
+// The text of what `audit` comes to.
 
 ghost use Rattle.std.specs.Prelude.{◌≡◌, ◌∷◌, [], ◌++◌, IfOk, OnOk};
 ghost use Rattle.tw_text.specs.Lines.{line};

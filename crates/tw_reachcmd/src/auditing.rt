@@ -1,4 +1,4 @@
-// The command `audit`, which holds a proof against histories.
+// The command `audit`, which holds a proof against histories; tw_audit/src/holding.rt has the call.
 
 ghost use Rattle.std.specs.Prelude.{◌≡◌, ◌≤◌, false, Err, IfOk, OnOk};
 ghost use Rattle.sha2.specs.Sha256.{sha256};

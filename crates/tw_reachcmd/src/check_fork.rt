@@ -1,4 +1,4 @@
-// The command `checkfork`, which judges the evidence of a fork.
+// The command `checkfork`, which judges the evidence of a fork in a file; tw_judge/src/forks.rt judges bytes for the library.
 
 ghost use Rattle.tw_outside.specs.Asked.{asked};
 ghost use Rattle.tw_reachcmd.specs.CheckFork.{CheckForkComes};

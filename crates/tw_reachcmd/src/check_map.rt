@@ -1,4 +1,4 @@
-// The command `checkmap`, which judges two map files.
+// The command `checkmap`, which judges two map files; tw_judge/src/maps.rt judges their bytes for the library.
 
 ghost use Rattle.std.specs.Prelude.{IfOk};
 ghost use Rattle.tw_outside.specs.Asked.{asked};

@@ -1,4 +1,5 @@
-// Reading the file of a proof that is judged and kept.
+// Reading the file of an audit's proof, which is judged piece by piece and kept; tw_filecmd/src/feeding.rt reads one of which
+// nothing is kept.
 
 ghost use Rattle.std.specs.Prelude.{◌≡◌, ◌≤◌, ◌↔◌, ◌+◌, ℕ, List, [], false, length, vec_len, Ok, Err, IfOk, OnOk};
 ghost use Rattle.sha2.specs.Sha256.{sha256};

@@ -1,4 +1,4 @@
-// Reading the two files of a command that needs both before it judges one.
+// Reading two files of `accuse`, `checkfork` or `checkmap`, which need both before they judge one.
 
 ghost use Rattle.std.specs.Prelude.{◌≡◌, ◌≤◌, ◌↔◌, ℕ, List, Err, IfOk, OnOk};
 ghost use Rattle.tw_base.specs.kinds.Faults.{Rose};

@@ -41,7 +41,7 @@ impl FickleDisk {
         }
     }
 
-    /// The next number of the sequence, below 2^31.
+    /// The next number of the sequence, below 2^31, as `Draws` of tw_generate makes them.
     fn draw(&mut self) -> u64
         ensures { self.new.inner ≡ self.old.inner }
     {

@@ -32,8 +32,8 @@ fn has_pages(disk: &mut FileDisk<HostRuntime>, pages: u64) -> bool {
 // The first disk's count stands where the file was cut; a read of a page that is gone is a fault.
 #[test]
 fn a_file_that_was_cut(rt: HostRuntime) {
-    let path = "tw_disktests_cut/disk";
-    assert!(rt; make_folder(&rt, "tw_disktests_cut"));
+    let path = "tw_runtests_cut/disk";
+    assert!(rt; make_folder(&rt, "tw_runtests_cut"));
     let mut disk = FileDisk::new(&rt, path, Access::Write);
     assert!(rt; put(&mut disk, 0, 5));
     assert!(rt; put(&mut disk, 1, 6));
@@ -41,14 +41,14 @@ fn a_file_that_was_cut(rt: HostRuntime) {
     assert!(rt; has_pages(&mut disk, 2));
     assert!(rt; is_page(&mut disk, 0, 9));
     assert!(rt; !is_page(&mut disk, 1, 6));
-    assert!(rt; remove_folder(&rt, "tw_disktests_cut"));
+    assert!(rt; remove_folder(&rt, "tw_runtests_cut"));
 }
 
 // The bytes of half a page at its end are no page, and are written over.
 #[test]
 fn a_file_that_ends_within_a_page(rt: HostRuntime) {
-    let path = "tw_disktests_half/disk";
-    assert!(rt; make_folder(&rt, "tw_disktests_half"));
+    let path = "tw_runtests_half/disk";
+    assert!(rt; make_folder(&rt, "tw_runtests_half"));
     assert!(rt; write_file(&rt, path, &[9; 4096 + 100]));
     let mut disk = FileDisk::new(&rt, path, Access::Write);
     assert!(rt; has_pages(&mut disk, 1));
@@ -56,14 +56,14 @@ fn a_file_that_ends_within_a_page(rt: HostRuntime) {
     assert!(rt; put(&mut disk, 1, 4));
     assert!(rt; is_page(&mut disk, 1, 4));
     assert!(rt; size_of(&rt, path) == Some(2 * 4096));
-    assert!(rt; remove_folder(&rt, "tw_disktests_half"));
+    assert!(rt; remove_folder(&rt, "tw_runtests_half"));
 }
 
 // Two read at once, and neither writes.
 #[test]
 fn a_disk_that_is_read(rt: HostRuntime) {
-    let path = "tw_disktests_read/disk";
-    assert!(rt; make_folder(&rt, "tw_disktests_read"));
+    let path = "tw_runtests_read/disk";
+    assert!(rt; make_folder(&rt, "tw_runtests_read"));
     assert!(rt; write_file(&rt, path, &[9; 4096]));
     let mut one = FileDisk::new(&rt, path, Access::Read);
     let mut other = FileDisk::new(&rt, path, Access::Read);
@@ -72,5 +72,5 @@ fn a_disk_that_is_read(rt: HostRuntime) {
     assert!(rt; !put(&mut one, 1, 5));
     assert!(rt; other.barrier().is_ok());
     assert!(rt; size_of(&rt, path) == Some(4096));
-    assert!(rt; remove_folder(&rt, "tw_disktests_read"));
+    assert!(rt; remove_folder(&rt, "tw_runtests_read"));
 }

@@ -1,4 +1,5 @@
-// Runs of the commands with a folder over a disk whose reads contradict each other: each ends with a status that such a disk may bring about.
+// Runs of the commands with a folder over a disk whose reads contradict each other: each ends with a status that such a disk may bring
+// about.
 
 use crate::fickle_disk::FickleDisk;
 use crate::playing::{after_all, files, words};
@@ -44,7 +45,7 @@ const WATCHED: [(&str, &str); 2] = [("watch d b", "line"), ("offer d m", "line")
 /// The words of each command that works on it.
 const FOLLOWED: [&str; 3] = ["watch d b", "offer d n", "heads d"];
 
-/// The status of the words over this disk.
+/// The status of the words over this disk; playing.rt has that over a disk in memory.
 fn status_of(
     rt: &impl Abort,
     alloc: Global,

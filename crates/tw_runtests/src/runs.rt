@@ -1,6 +1,6 @@
-// Each command once, done: four services and a follower, what they write, and what is judged of it under lines that the reference tells.
-// So each public call that takes memory, of those that the program makes, is seen to succeed. All statuses and texts are shown by the
-// acceptance run.
+// Each command once, done: four services and a follower, what they write, and what is judged of it under lines that the
+// reference tells. So each public call that takes memory, of those that the program makes, is seen to succeed; tw_parttests has the
+// others. All statuses and texts are shown by the acceptance run.
 
 use crate::playing::after_all;
 use std::alloc::Global;

@@ -1,4 +1,4 @@
-// The forms of the proofs that a `prove` line asks for.
+// The forms of the proofs that a `prove` line asks for; those of the command `prove` are in tw_words/src/store_forms.rt.
 
 ghost use Rattle.tw_script.specs.LineTable as table;
 ghost use Rattle.tw_script.specs.Takings.{ReadsWords, words_left};

@@ -1,4 +1,4 @@
-// The forms of a script's lines: each reads its words and makes the line of them.
+// The forms of a script's lines: each reads its words and makes the line of them. Those of the command line are in tw_words.
 
 ghost use Rattle.tw_script.specs.LineForms.{choose_form};
 ghost use Rattle.tw_script.specs.LineTable as table;

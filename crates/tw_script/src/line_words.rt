@@ -1,4 +1,5 @@
-// Going over the words of a line: each is read once, as the value that a form has at its place.
+// Going over the words of a line: each is read once, as the value that a form has at its place; tw_words/src/cursor.rt goes so
+// over those of a command line.
 
 ghost use Rattle.std.specs.Prelude.{◌≡◌, ◌≤◌, ◌∷◌, [], IfOk, MatchOption};
 ghost use Rattle.tw_script.specs.LineForms.{all_values, any_number_value, maybe_number, no_words};

@@ -1,4 +1,5 @@
-// Going over the parts of a text, between separators.
+// Going over the parts of a text, between separators: the lines of a script, and the words of a line. tw_msg/src/split.rt only
+// splits at the first separator.
 
 ghost use Rattle.std.specs.Prelude.{◌≡◌, ◌==◌, ◌∷◌, [], true, position, MatchOption};
 ghost use Rattle.tw_script.specs.Takings.{parts_left};

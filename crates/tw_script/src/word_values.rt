@@ -1,4 +1,4 @@
-// What one word of a line can say.
+// What one word of a script's line can say beyond a name: a number, bytes, and what a crash leaves.
 
 ghost use Rattle.std.specs.Prelude.{◌≡◌, ◌≤◌, IfSome};
 ghost use Rattle.std.specs.Str.{bytes_eq};
@@ -13,7 +13,7 @@ use std::alloc::Global;
 use tw_base::Bytes;
 use tw_text::read_number;
 
-/// The number that the word is, if it is one within the range.
+/// The number that the word is, if it is one within the range; tw_words/src/cursor.rt reads those of a command line so.
 pub(crate) fn number_of(word: &[u8], least: u64, most: u64) -> Option<u64>
     ensures value { result ≡ number_value least most word.now }
     ensures range { IfSome result (λ n. (least ≤ n) × (n ≤ most)) }

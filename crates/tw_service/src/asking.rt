@@ -65,7 +65,7 @@ fn question_refusal(is_broken: bool, last: u64, question: &Question) -> Option<R
     }
 }
 
-/// The names in a question have letters, and zeros behind them.
+/// Tells a proof that the names in a question have letters, and zeros behind them.
 fn see_names(question: &Question)
     ensures { HasNames question.now }
 {
@@ -122,6 +122,7 @@ fn make_message<P: Pages, H: Hasher>(
 {
     let message = tell_message::<P, H>(alloc, pages, name, head, since)?;
     let bytes = write_message(alloc, &message);
+    // Dropped by its name, so that the prover meets the drop in one place.
     drop(message);
     Ok(bytes?)
 }

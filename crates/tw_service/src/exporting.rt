@@ -1,4 +1,4 @@
-// The file of a service's history.
+// The file of a service's history, as a question that is asked of it; `tw_export` makes the file.
 
 ghost use Rattle.std.specs.Prelude.{◌≡◌, ◌⊎◌, ◌≤◌, IfErr};
 ghost use Rattle.tw_disk.specs.Answers.{ReadsOr};

@@ -1,4 +1,4 @@
-// The map files of a service.
+// Making the map files of a service of its pages; tw_tmap writes their bytes, reads them and checks them.
 
 ghost use Rattle.std.specs.Prelude.{◌≡◌, ◌<◌, ◌≤◌, IfErr, IfOk};
 ghost use Rattle.tw_disk.specs.Answers.{ReadsOr, ReadsWhere};
@@ -75,6 +75,7 @@ pub(crate) fn make_low<P: Pages, H: Hasher>(
         shown,
     };
     let bytes = write_low(alloc, &file);
+    // Dropped by its name, so that the prover meets the drop in one place.
     drop(file);
     Ok(bytes?)
 }
@@ -108,6 +109,7 @@ pub(crate) fn make_high<P: Pages, H: Hasher>(
         shown: tree,
     };
     let bytes = write_high(alloc, &file);
+    // Dropped by its name, so that the prover meets the drop in one place.
     drop(file);
     Ok(bytes?)
 }

@@ -104,7 +104,8 @@ pub(crate) fn receipt_by(root: &RootRecord, step: u64, auth: &Digest, thread: &T
     }
 }
 
-/// Reads the last step's page and tells it, where pages don't fit one another.
+/// What is told where the archive names a step above the last one, so that pages don't fit one another: the page of the last step, which
+/// is read first.
 fn last_page<P: Pages, H: Hasher>(
     alloc: Global,
     pages: &mut P,

@@ -1,4 +1,4 @@
-// A store with the root record of its service, and one more step of the history that it keeps.
+// A store with the root record of its service, and one more step of the history that it keeps; `Recorded` of tw_pages is of any record.
 
 ghost use Rattle.std.specs.Prelude.{◌≡◌, ◌⊎◌, ℕ, ◌+◌, ◌*◌, ◌<◌, ◌≤◌, [], IfOk, IfErr, OnErr, false, Some, None, Err};
 ghost use Rattle.tw_base.specs.format.Codecs.{HasBytes};

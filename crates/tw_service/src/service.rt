@@ -1,4 +1,4 @@
-// Services.
+// The service itself: how it is made, opened and closed, and how it adds steps; `asking.rt` has what it is asked.
 ghost use Rattle.std.specs.Prelude.{◌≡◌, ◌⊎◌, ◌≤◌, ◌*◌, ◌<◌, ◌^◌, ◌+◌, true, false};
 ghost use Rattle.tw_pages.specs.StoreValue.{is_broken as store_is_broken};
 
@@ -53,6 +53,8 @@ impl<D: Disk, H: Hasher> Service<D, H> {
     /// nothing; else only `DiskFault`, never `NoMemory`. A disk with four pages and an open gate reads as before, and a crash leaves
     /// nothing else than before, whatever the answer. Where a crash stops it, the disk is blank or stands for the empty history of the
     /// name, or is what a crash might have left before; and so reads a disk that told its content and is given back.
+    ///
+    /// The clauses from `taken` on are those of `Recorded::init` in `tw_pages`, of the disk of this service and its new images.
     pub fn init(alloc: Global, disk: D, name: Name) -> Result<Service<D, H>, (D, StoreFault)>
         // A new service serves the empty history of its name, at rest.
         ensures served { IfOk result (λ s. (c : Image) → (D.view disk).content ≡ Some c
@@ -335,6 +337,7 @@ impl<D: Disk, H: Hasher> Service<D, H> {
         match read_message(self.alloc, bytes) {
             Ok(message) => {
                 let received = self.take(&message, time);
+                // Dropped by its name, so that the prover meets the drop in one place.
                 drop(message);
                 received
             }

@@ -1,4 +1,4 @@
-// One more step.
+// One more step behind the pages of a history, of events or of a thread: it is hashed, and its pages are staged.
 
 ghost use Rattle.std.specs.Prelude.{◌≡◌, suc, ◌+◌, ◌-◌, ◌<◌, ◌≤◌, ◌^◌, length, IfOk};
 ghost use Rattle.tw_base.specs.declared.history.content.Content.TheVariants.{Events, Received};
@@ -29,7 +29,7 @@ use tw_events::event_root;
 use tw_steppage::limits::{MOST_LINKS, MOST_STREAM_BYTES};
 use tw_steppage::{StepFields, StepRef, StreamRef, step_page};
 
-// The step to which a lower link of this one leads: it has a link of that level itself.
+// The step to which the link of a level below the step's top one leads; that step has a link of this level itself.
 fn step_of_link(step: u64, level: u8) -> u64
     requires some { 0 < step }
     requires small { step < 2 ^ 40 }
@@ -40,8 +40,8 @@ fn step_of_link(step: u64, level: u8) -> u64
     step - power_of_two(level)
 }
 
-// The links of the step after `from`, to which the first link leads. It reads the page of a step for each
-// link but the last.
+// The links of the step after `from`, the first of which leads to `from`. The page to which a link leads has the next one, so it reads
+// a page for each but the last.
 #[tactic(auto, using(crate::proofs::WalkLaws::links_go_on))]
 fn gather<P: Pages>(
     pages: &mut P,
@@ -129,7 +129,7 @@ fn first_page(used: u64, size: usize) -> u64
 }
 
 // Stages the event pages and the page of a step.
-fn put_step<P: Pages, H: Hasher>(
+fn stage_step<P: Pages, H: Hasher>(
     pages: &mut P,
     step: u64,
     new: &NewStep,
@@ -189,7 +189,7 @@ fn add<P: Pages, H: Hasher>(pages: &mut P, head: &Head, new: &NewStep) -> Result
     let step = head.step + 1;
     let labelled = labels_of::<H>(step, &datum, links);
     let labels = labelled.as_slice();
-    let added = put_step::<P, H>(pages, step, new, links, labels)?;
+    let added = stage_step::<P, H>(pages, step, new, links, labels)?;
     Ok(added)
 }
 

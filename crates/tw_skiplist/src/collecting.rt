@@ -1,4 +1,4 @@
-// Collecting what a proof needs, on the way down.
+// What a proof needs, collected on the way down pages. `walking.rt` only walks; a path in memory is in tw_history/src/path_links.rt.
 
 ghost use Rattle.std.specs.Prelude.{◌≡◌, ◌<◌, ◌≤◌, ◌^◌, length, IfOk};
 ghost use Rattle.tw_base.specs.kinds.Levels.{top_level};
@@ -18,7 +18,7 @@ use tw_disk::Pages;
 use tw_skipproof::{Link, LinkList, next_hop};
 use tw_steppage::StepRef;
 
-/// A link of a path, and where it leads.
+/// A link of a path, and where it leads. (The hops of a proof are received threads.)
 #[derive(Drop)]
 pub(crate) struct Hop {
     pub link: Link,

@@ -1,4 +1,4 @@
-// Reading the stream of a step's events.
+// Reading the events of a step from its event pages; `pieces.rt` writes these pages.
 
 ghost use Rattle.std.specs.Prelude.{◌≡◌, ℕ, ◌+◌, ◌*◌, ◌<◌, ◌≤◌, ◌^◌, length, take, drop, IfErr, IfOk, IfSome, OnOk, MatchBool, MatchOption};
 ghost use Rattle.std.specs.Int.{from_be_bytes, w32};
@@ -74,7 +74,7 @@ fn add_piece<P: Pages>(
     Ok(())
 }
 
-// The number of a page that is told is one that a `u64` has.
+// Tells a proof that the number of a page is one that a `u64` has.
 fn page_range(page: u64)
     ensures { page < 2 ^ 64 }
 {}
@@ -139,7 +139,7 @@ fn u32_at(bytes: &[u8], at: usize) -> u32
 }
 
 // The size of the event that stands at a place behind its length, where one of at most 1,024 bytes does.
-fn event_size(bytes: &[u8], at: usize) -> Option<usize>
+fn event_size_at(bytes: &[u8], at: usize) -> Option<usize>
     requires { at ≤ length bytes.now }
     ensures { MatchOption result (IsNoEventAt bytes.now at) (λ n. HasEventAt bytes.now at n) }
 {
@@ -153,8 +153,7 @@ fn event_size(bytes: &[u8], at: usize) -> Option<usize>
     Some(size)
 }
 
-/// The events that the bytes spell, as many as the count, if they spell any within the limits of
-/// a step.
+/// The events that the bytes spell, as many as the count, if they spell any within the limits of a step. (tw_base takes those of files.)
 fn read_events(alloc: Global, bytes: &[u8], count: u32) -> Result<Option<EventList>, NoMemory>
     ensures answer { IfOk result (λ found. (page : ℕ)
         → MatchOption found (events_on page count bytes.now ≡ Bad page)
@@ -167,7 +166,7 @@ fn read_events(alloc: Global, bytes: &[u8], count: u32) -> Result<Option<EventLi
     let mut events = EventList::new(alloc);
     let mut at = 0;
     for index in 0..count {
-        let Some(size) = event_size(bytes, at) else {
+        let Some(size) = event_size_at(bytes, at) else {
             return Ok(None);
         };
         let event = Bytes::from_slice(alloc, &bytes[at + 4..at + 4 + size])?;
@@ -180,7 +179,7 @@ fn read_events(alloc: Global, bytes: &[u8], count: u32) -> Result<Option<EventLi
     Ok(Some(events))
 }
 
-/// Whether the bytes spell events within the limits of a step, as many as the count.
+/// Whether the bytes spell events within the limits of a step, as many as the count; `read_events` makes these of them.
 fn are_events(bytes: &[u8], count: u32) -> bool
     ensures { (page : ℕ) → MatchBool result (tested page count bytes.now ≡ Is tt) (tested page count bytes.now ≡ Bad page) }
 {
@@ -189,7 +188,7 @@ fn are_events(bytes: &[u8], count: u32) -> bool
     }
     let mut at = 0;
     for index in 0..count {
-        let Some(size) = event_size(bytes, at) else {
+        let Some(size) = event_size_at(bytes, at) else {
             return false;
         };
         at += 4 + size;

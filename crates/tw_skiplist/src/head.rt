@@ -1,4 +1,4 @@
-// Heads of lists of steps.
+// The head of a history in pages: its last step, that step's authenticator and its page.
 
 use tw_base::Digest;
 

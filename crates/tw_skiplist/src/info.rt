@@ -1,4 +1,4 @@
-// What is told of a step.
+// What is told of a step whose page was read, and what a proof of it needs.
 
 use tw_base::{Digest, Root, Thread};
 use tw_skipproof::{Opening, Path};

@@ -1,4 +1,4 @@
-// The stream of a step's events, and its pieces.
+// Staging the event pages of a step, each with a piece of the stream of its events; `event_pages.rt` reads them.
 
 ghost use Rattle.std.specs.Prelude.{◌≡◌, ℕ, ◌+◌, ◌*◌, ◌<◌, ◌≤◌, ◌^◌, ◌++◌, List, length, IfOk, OnOk};
 ghost use Rattle.std.specs.Int.{to_be_bytes, w32};
@@ -17,7 +17,7 @@ use tw_disk::Pages;
 use tw_steppage::event_page;
 use tw_steppage::limits::{MOST_PIECE_BYTES, MOST_STREAM_BYTES};
 
-// Puts an event behind its length.
+// Puts an event behind its length, as a history's file has it, into which the stream is copied.
 fn put_event(into: &mut Bytes, event: &Bytes) -> Result<(), NoMemory>
     requires { length event.now < 2 ^ 32 }
     ensures { OnOk result (into.new ≡ into.old ++ (to_be_bytes w32 (length event.now) ++ event.now)) }

@@ -1,4 +1,4 @@
-// Reading steps.
+// What the pages of a history tell of a step, for services: the step, a path to it, what its proof needs, its events.
 
 ghost use Rattle.std.specs.Prelude.{◌≡◌, ℕ, ◌*◌, ◌<◌, ◌≤◌, ◌^◌, length, IfOk};
 ghost use Rattle.tw_base.specs.history.Limits.{MayRecord};

@@ -1,4 +1,4 @@
-// What a step's page makes of paths and openings.
+// What a proof has of a step's page: a path's link, the opening, what is told of the step. `step_records.rt` is for a history's file.
 
 ghost use Rattle.std.specs.Prelude.{◌≡◌, ℕ, suc, ◌+◌, ◌<◌, ◌≤◌, ◌^◌, ◌++◌, ◌∷◌, [], ◌==◌, List, length, remove, Some, IfOk, OnOk, if◌then◌else◌};
 ghost use Rattle.tw_base.specs.kinds.Texts.{link_text};

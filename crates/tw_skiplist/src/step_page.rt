@@ -1,4 +1,4 @@
-// The page of a step, as it is read.
+// Whether bytes are the page of a step that may stand there, by the readers of tw_steppage; `walking.rt` reads the page.
 
 ghost use Rattle.std.specs.Prelude.{◌≡◌, ◌<◌, ◌^◌, suc, length, IfSome, MatchOption};
 ghost use Rattle.tw_base.specs.kinds.Levels.{top_level};

@@ -1,4 +1,4 @@
-// The records of all steps.
+// The records of all steps of a history, and their events as they stand, for the history's file; `records.rt` is for proofs.
 
 ghost use Rattle.std.specs.Prelude.{◌≡◌, ◌≤◌, length, None, IfOk};
 ghost use Rattle.tw_base.specs.kinds.Lists.{Each};

@@ -1,4 +1,4 @@
-// Walking down the links.
+// Walking down the links that step pages have, from a head to a step; `collecting.rt` makes a path of such a way.
 
 ghost use Rattle.std.specs.Prelude.{◌≡◌, suc, ◌<◌, ◌≤◌, ◌^◌, length, IfOk};
 ghost use Rattle.tw_base.specs.kinds.Levels.{top_level};

@@ -1,4 +1,4 @@
-// Proofs that one event exists.
+// Proofs that one event exists (kind 1), and the step under a top that other kinds of proofs have, too.
 
 use crate::opening::Opening;
 use crate::path::Path;

@@ -1,4 +1,4 @@
-// Reading existence proofs.
+// Reading proofs that one event exists, and the parts of them that other kinds have, too; proofs of any kind are read in tw_chain.
 #![tactic(auto, unfolding(crate::specs::Seen::existence_read))]
 
 ghost use Rattle.std.specs.Prelude.{◌≡◌, ◌≤◌, length, IfOk};
@@ -99,7 +99,7 @@ fn take_existence(alloc: Global, bytes: &[u8], at: &mut u64) -> Result<Existence
 
 /// The existence proof that the bytes spell, from first to last. Malformed exactly where they spell
 /// none, with the place of the first byte at which no existence proof goes on. Takes no more memory
-/// than the proof's labels and event.
+/// than the proof's labels and event. (Tests read a proof so; the program reads one of any kind, in tw_chain or tw_verifier.)
 #[tactic(auto)]
 pub fn read_existence(alloc: Global, bytes: &[u8]) -> Result<ExistenceProof, ReadFault>
     // A whole file is read as an existence proof exactly where its bytes spell one, with that proof; else `Malformed`

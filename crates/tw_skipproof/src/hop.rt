@@ -1,4 +1,4 @@
-// The greedy rule.
+// The greedy rule, which tells the link by which a path goes on downwards. (The hops of a proof are in tw_chain.)
 
 ghost use Rattle.std.specs.Prelude.{◌≡◌, ℕ, ◌-◌, ◌*◌, ◌^◌, ◌<◌, ◌≤◌, List, length};
 ghost use Rattle.tw_base.specs.declared.kinds.limits.TheConstants.{LAST_STEP};
@@ -8,7 +8,7 @@ ghost use Rattle.tw_skipproof.specs.Paths.{HasShape, IsGreedy, hop_level};
 
 use tw_base::{power_of_two, top_level};
 
-/// The level of the greedy path's next link.
+/// The level of the greedy path's next link, for this crate; `next_hop` is for others.
 #[tactic(auto, using(crate::proofs::Hops::levels), unfolding(crate::specs::Paths::hop_level))]
 pub(crate) fn level_of_hop(from: u64, to: u64) -> u8
     requires below { to < from }

@@ -1,4 +1,4 @@
-// The least proof, as a worked value for comparison.
+// The least proof that one event exists, as a worked value with which tests compare.
 
 /// The least existence proof, all of its 145 bytes: step 1 of the service `a` has one event, of no
 /// bytes, under step 1 as its top. It is accepted under `LEAST_AUTHENTICATOR`. Another

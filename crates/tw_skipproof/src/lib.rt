@@ -1,4 +1,4 @@
-// Paths down a timeline's skip list, and openings of a step.
+// Paths down a history's skip list, and openings of a step. The pages that keep the list are read in tw_skiplist.
 #![tactic(auto)]
 
 mod climbing;

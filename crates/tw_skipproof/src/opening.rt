@@ -58,7 +58,7 @@ pub fn opening_auth_told<T: Transcript>(opening: &Opening, step: u64, texts: &mu
     authenticator_told(step, labels.as_slice(), texts)
 }
 
-/// The authenticator that the opening computes, and the sizes of what it was computed from.
+/// The authenticator that the opening computes; for the proof of `check_opening` a clause tells the sizes of what was hashed, too.
 fn computed<H: Hasher>(opening: &Opening, step: u64) -> Option<Digest>
     requires { step ≤ LAST_STEP }
     ensures answer { MatchOption result (IsOpeningAt step opening.now → ⊥)

@@ -1,4 +1,4 @@
-// Paths.
+// Paths as values: the links that lead from a step down to an earlier one. (The audit paths of events are in tw_events.)
 
 use tw_base::{Digest, Labels, Sequence};
 
@@ -13,7 +13,7 @@ pub struct Link {
 /// The links of a path.
 pub type LinkList = Sequence<Link>;
 
-/// A path from a step down to an earlier one of the same timeline: the links of the greedy path,
+/// A path from a step down to an earlier one of the same history: the links of the greedy path,
 /// from the upper step downwards. From a step to itself, or to a later one, it has no links.
 #[derive(Drop, Debug)]
 pub struct Path {

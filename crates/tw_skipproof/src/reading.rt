@@ -1,4 +1,4 @@
-// Reading openings and paths.
+// Reading openings and paths within proofs, map files and messages, and alone, as tests do.
 #![tactic(auto, unfolding(crate::specs::Codecs::link_codec, crate::specs::Codecs::opening_codec, tw_base::specs::format::Seen::records))]
 
 ghost use Rattle.std.specs.Prelude.{◌≡◌, ℕ, ◌<◌, ◌≤◌, length, IfOk};
@@ -37,7 +37,7 @@ pub(crate) fn take_counted(
     Ok((count, time))
 }
 
-/// Takes the count word with a count of events of at least `least`, and the time where one follows.
+/// Takes the count word with a count of events of at least `least`, and the time where one follows. (`tw_pieces` takes these alone.)
 #[tactic(auto)]
 pub fn take_count(bytes: &[u8], at: &mut u64, least: u64) -> Result<(u32, Option<u64>), ReadFault>
     requires within { at.old ≤ length bytes.now }

@@ -1,7 +1,7 @@
-// Writing openings, paths and existence proofs.
+// Writing openings and paths, which tests alone write by themselves, and existence proofs; the other kinds are written in tw_chain.
 #![tactic(auto, unfolding(crate::specs::Seen::openings))]
 
-ghost use Rattle.std.specs.Prelude.{◌≡◌, ℕ, ◌+◌, ◌^◌, ◌<◌, ◌≤◌, [], ◌++◌, length, IfOk, OnOk, if◌then◌else◌};
+ghost use Rattle.std.specs.Prelude.{◌≡◌, ℕ, ◌+◌, ◌^◌, ◌<◌, ◌≤◌, ◌++◌, length, IfOk, OnOk, if◌then◌else◌};
 ghost use Rattle.tw_base.specs.declared.kinds.limits.TheConstants.{MOST_EVENTS};
 ghost use Rattle.tw_base.specs.format.Fields.{number_bytes};
 ghost use Rattle.tw_base.specs.format.Formats.{Spells};
@@ -22,13 +22,6 @@ use tw_base::{
     Bytes, EventPart, NoMemory, put_digest, put_labels, put_name, put_number, put_sized, put_text,
     put_time,
 };
-
-/// No bytes, with room for so many.
-fn with_room(alloc: Global, size: usize) -> Result<Bytes, NoMemory>
-    ensures { IfOk result (λ bytes. bytes ≡ []) }
-{
-    Ok(Bytes::from_vec(Vec::with_capacity(alloc, size)?))
-}
 
 /// The count word, as a number of four bytes: the count of events, and 2^31 more with a time.
 #[tactic(auto)]
@@ -166,8 +159,9 @@ pub fn write_opening(alloc: Global, opening: &Opening) -> Result<Bytes, NoMemory
     ensures spelled { IfOk result (λ bytes. (step : ℕ) → length opening.now.others ≡ top_level step → opening.now.count ≤ MOST_EVENTS →
         IsTimeWithinLimits opening.now.time → Spells (opening_codec 0 step).format bytes opening.now) }
 {
+    // Three digests, the count word and the time have at most 108 bytes.
     let size = opening.others.len().saturating_mul(32).saturating_add(108);
-    let mut bytes = with_room(alloc, size)?;
+    let mut bytes = Bytes::with_capacity(alloc, size)?;
     put_opening(&mut bytes, opening)?;
     Ok(bytes)
 }

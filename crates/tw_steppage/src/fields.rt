@@ -1,4 +1,4 @@
-// The fields of a step page.
+// The fields of a step page as a value; their bytes are in `page.rt`.
 
 use tw_base::{Digest, Root, Thread};
 

@@ -1,4 +1,4 @@
-// Links.
+// What the page of a step has of each link: the page and the authenticator of the step to which it leads.
 
 use tw_base::Digest;
 

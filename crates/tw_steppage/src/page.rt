@@ -1,4 +1,4 @@
-// The bytes of step pages and event pages.
+// The bytes of step pages and event pages, written and read; tree pages are in tw_rbnode, and those of a follower's heads in tw_follow.
 
 ghost use Rattle.std.specs.Prelude.{◌≡◌, ◌≢◌, ◌<◌, ◌≤◌, ◌^◌, ◌+◌, ◌*◌, ◌++◌, ◌↔◌, ◌&&◌, ℕ, suc, length, take, drop, flat_map, IfErr, IfOk, IfSome, IsTrue, MatchOption};
 ghost use Rattle.tw_base.specs.history.HistoryCodec.{time_codec};
@@ -46,7 +46,7 @@ fn put_links(page: &mut PageFront, links: &[StepRef])
 
 // ---- the kind
 
-// The kind of a step with these fields.
+// The kind of a step with these fields, 1 to 4; `is_of_events` and `is_timed` of tw_base tell what it means.
 fn kind_of(fields: &StepFields) -> u64
     ensures kind { result ≡ fields_kind fields.now }
     ensures range { (1 ≤ result) × (result ≤ 4) }
@@ -81,7 +81,7 @@ fn put_counts(page: &mut PageFront, is_events: bool, count: u32, stream: &Stream
     }
 }
 
-// Puts a received thread.
+// Puts a received thread into the page, 56 bytes; tw_base has what appends one to `Bytes`.
 #[tactic(auto, unfolding(crate::specs::StepBytes::page_thread_codec, tw_base::specs::format::Seen::codecs))]
 fn put_thread(page: &mut PageFront, thread: &Thread)
     requires { length page.old + 56 ≤ 4096 }
@@ -137,7 +137,7 @@ fn put_body(page: &mut PageFront, step: u64, kind: u64, fields: &StepFields, lin
     put_time(page, is_timed(kind), fields.time);
 }
 
-/// The page of a step with these links, of which a step below 2^40 has one a level.
+/// The page of a step with these links, of which a step below 2^40 has one a level. It begins with the byte 1.
 #[tactic(auto, unfolding(crate::specs::StepBytes::field_codec, crate::specs::StepBytes::paged_codec, tw_base::specs::format::Seen::codecs))]
 pub fn step_page(step: u64, fields: &StepFields, links: &[StepRef]) -> Page
     requires few { length links.now ≤ MOST_LINKS }
@@ -153,7 +153,7 @@ pub fn step_page(step: u64, fields: &StepFields, links: &[StepRef]) -> Page
     page.into_page()
 }
 
-/// The event page of this number within a step.
+/// The event page of this number within a step: the byte 2, the step, the number, and the piece of the stream.
 #[tactic(auto, unfolding(crate::specs::Seen::pieces))]
 pub fn event_page(step: u64, number: u16, piece: &[u8]) -> Page
     requires { length piece.now ≤ MOST_PIECE_BYTES }
@@ -233,7 +233,7 @@ fn take_counts(bytes: &[u8], at: &mut u64, is_events: bool) -> Result<(u32, Stre
     Ok((count, StreamRef { page, size }))
 }
 
-// Takes a received thread.
+// Takes a received thread, of any step that its field has room for; in a file, by `take_thread` of tw_base, it is one from 1 on.
 #[tactic(auto, unfolding(crate::specs::StepBytes::page_thread_codec, tw_base::specs::format::Seen::records))]
 fn take_thread(bytes: &[u8], at: &mut u64) -> Result<Thread, ReadFault>
     requires { at.old ≤ length bytes.now }
@@ -348,7 +348,7 @@ pub fn keeps_rules(page: u64, step: u64, found: &StepPage) -> bool
     keeps_field_rules(page, &found.fields) && keeps_link_rules(page, step, found.links.as_slice())
 }
 
-/// The bytes of a stream that stand in an event page that has so many.
+/// The bytes of a stream that stand in an event page that has so many, behind 11 others: the byte 2, the step and the number.
 pub fn event_piece(bytes: &Page, count: usize) -> &[u8]
     requires { count ≤ MOST_PIECE_BYTES }
     ensures { result.now ≡ take count (drop 11 bytes.now) }

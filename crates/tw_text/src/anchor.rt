@@ -1,4 +1,4 @@
-// Lines of an anchors file.
+// Writing a thread as a line of an anchors file; such files are read in `tw_msg`.
 
 ghost use Rattle.std.specs.Prelude.{◌≡◌, ◌≤◌, ◌+◌, ◌++◌, length, take};
 ghost use Rattle.tw_text.specs.Lines.{anchor_text, hex_text};
@@ -6,7 +6,7 @@ ghost use Rattle.tw_text.specs.Lines.{anchor_text, hex_text};
 use itoa::Buffer;
 use tw_base::{Digest, Thread};
 
-/// A line of an anchors file: the first `count` of the bytes.
+/// A line of an anchors file: the first `count` of the bytes, of which a name of 16 bytes and a number of 20 digits take 103.
 #[derive(Clone, Copy, Debug, Drop)]
 pub struct AnchorLine {
     pub count: u8,

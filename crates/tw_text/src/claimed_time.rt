@@ -1,4 +1,4 @@
-// Times that steps claim.
+// The time that a step claims, as a word gives it.
 
 ghost use Rattle.std.specs.Prelude.{◌≡◌, ◌≤◌};
 ghost use Rattle.tw_base.specs.declared.kinds.limits.TheConstants.{LAST_TIME};

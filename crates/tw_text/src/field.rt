@@ -1,4 +1,4 @@
-// The fields of a line.
+// The fields of a line that is written.
 
 use tw_base::{Bytes, Name, Sequence};
 

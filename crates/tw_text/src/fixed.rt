@@ -1,4 +1,4 @@
-// Lines that are always the same. They take no memory.
+// Lines that are always the same. They take no memory, as want of it is told by one.
 
 ghost use Rattle.std.specs.Prelude.{◌≡◌};
 ghost use Rattle.tw_text.specs.Lines.{fault_disk_text, fault_input_text, no_memory_text};

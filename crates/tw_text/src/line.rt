@@ -1,4 +1,4 @@
-// Lines: a head, and fields with one blank before each.
+// Writing lines: a head, and fields with one blank before each; the lines of scripts are read in tw_script.
 
 ghost use Rattle.std.specs.Prelude.{◌≡◌, ◌∷◌, [], ◌++◌, OnOk, IfOk};
 ghost use Rattle.tw_text.specs.Lines.{fields_text, line, usage_text};
@@ -47,7 +47,7 @@ fn put_field(alloc: Global, text: &mut Bytes, field: &Field) -> Result<(), NoMem
     }
 }
 
-/// Puts a blank and the bytes at the text's end.
+/// Puts a blank and the bytes at the text's end. (`refusal.rt` has helpers of the same names that put fields into a list.)
 pub(crate) fn put_word(text: &mut Bytes, bytes: &[u8]) -> Result<(), NoMemory>
     ensures { OnOk result (text.new ≡ text.old ++ fields_text (Word bytes.now ∷ [])) }
 {

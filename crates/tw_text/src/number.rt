@@ -1,4 +1,4 @@
-// Numbers and digests as words.
+// Reading numbers and digests that are words.
 
 ghost use Rattle.std.specs.Prelude.{◌≡◌, ◌↔◌, ◌<◌, ◌^◌, IsTrue, IsSome, IfSome};
 ghost use Rattle.std.specs.Char.{is_ascii_digit};

@@ -1,4 +1,4 @@
-// Paths of files.
+// The path of a file, as a word gives it; the paths down a history are in `tw_skipproof`.
 
 ghost use Rattle.std.specs.Prelude.{◌≡◌, IfOk};
 

@@ -1,4 +1,5 @@
-// Reports of accepted proofs, and the line of one that isn't accepted.
+// The texts of reports of accepted proofs, whose values are in tw_base, and of proofs that stand in an audit, are rejected or don't
+// join. tw_tmap and tw_evidence have those of map files and of evidence.
 
 ghost use Rattle.std.specs.Prelude.{◌≡◌, [], ◌∷◌, ◌++◌, OnOk, IfOk};
 ghost use Rattle.tw_text.specs.Lines.{fields_text};
@@ -171,7 +172,7 @@ fn put_time(text: &mut Bytes, seen: &Seen) -> Result<(), NoMemory>
     text.extend_from_slice(b"\n")
 }
 
-/// Puts the line of a thread that a step of the service holds at the text's end.
+/// Puts at the text's end the line of a thread that a step of the service holds.
 fn put_thread(
     alloc: Global,
     text: &mut Bytes,
@@ -219,7 +220,7 @@ fn put_thread_fields(alloc: Global, text: &mut Bytes, thread: &Thread) -> Result
     put_hex(alloc, text, &thread.auth.0)
 }
 
-/// Puts the line of a thread that a step of the service doesn't hold at the text's end.
+/// Puts at the text's end the line of a thread that a step of the service doesn't hold.
 fn put_absent(text: &mut Bytes, service: &Name, step: u64, key: &Key) -> Result<(), NoMemory>
     ensures { OnOk result (text.new ≡ text.old ++ absent_line service.now step key.now) }
 {
@@ -231,7 +232,7 @@ fn put_absent(text: &mut Bytes, service: &Name, step: u64, key: &Key) -> Result<
     text.extend_from_slice(b"\n")
 }
 
-/// Puts the line of a step that the service's top is linked down to at the text's end.
+/// Puts at the text's end the line of a step to which the service's top is linked down.
 fn put_link(
     alloc: Global,
     text: &mut Bytes,

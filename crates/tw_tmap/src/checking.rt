@@ -1,4 +1,4 @@
-// Checking two map files.
+// Checking two map files together: whether they speak of one step of one service and of one peer, and what both tell.
 
 ghost use Rattle.std.specs.Prelude.{◌≡◌};
 ghost use Rattle.tw_tmap.specs.Binding.{BindsMap};

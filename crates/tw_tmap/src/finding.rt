@@ -1,4 +1,4 @@
-// The lowest reason against map files, as their checks follow one another.
+// The lowest reason against map files, as their checks follow one another; tw_chain/src/finding.rt has that against proofs.
 
 ghost use Rattle.std.specs.Prelude.{◌≡◌, ◌↔◌, ℕ, ◌-◌, ◌<◌, ◌≤◌, List, [], ◌∷◌, Some, None, IsTrue, if◌then◌else◌};
 ghost use Rattle.tw_base.specs.declared.kinds.limits.TheConstants.{LAST_STEP};
@@ -128,6 +128,7 @@ pub(crate) fn high_under<H: Hasher>(high: &HighFile, anchors: &[Thread]) -> Opti
     requires { high.now.top ≤ LAST_STEP }
     ensures { result ≡ found_in H.dig anchors.now (under_anchor_of 1 (high_part high.now)) }
 {
+    // (the check of order comes first, as for any part; step and top are one here, so it passes)
     let found = with_order(None, high.top, high.top);
     match find_anchor(anchors, &high.service, high.top) {
         None => lower(

@@ -1,4 +1,4 @@
-// Map files.
+// Map files as values: the low one, which a service gives of its own step, and the high one, which its peer gives.
 
 use tw_base::{Name, TreeProof};
 use tw_skipproof::{Opening, Path};

@@ -1,4 +1,4 @@
-// What is told of two map files.
+// The verdict on two map files, which `check_map` answers; `report.rt` makes its text, and other crates its status.
 
 use tw_base::Reason;
 

@@ -1,4 +1,4 @@
-// Reading map files.
+// Reading low and high map files, for those who check them; they begin as proofs do, but with the kinds 6 and 7.
 #![tactic(auto, unfolding(crate::specs::Seen::map_reading))]
 
 ghost use Rattle.std.specs.Prelude.{◌≡◌, ◌-◌, ◌<◌, ◌≤◌, length, IfOk, nat_lt};
@@ -33,7 +33,7 @@ pub(crate) const HIGH_MAGIC: [u8; 5] = [
     7,
 ];
 
-/// Takes a step under a top.
+/// Takes what a low file shows of the step before its own: the path down to it, its opening, and the tree proof.
 fn take_low_part(
     alloc: Global,
     bytes: &[u8],

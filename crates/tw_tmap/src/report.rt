@@ -1,4 +1,4 @@
-// What is told of two map files, as text.
+// The text of the verdict on two map files, for the program and the library.
 
 ghost use Rattle.std.specs.Prelude.{◌≡◌, [], ◌∷◌, IfOk, codes};
 ghost use Rattle.tw_text.specs.Lines.{line};

@@ -1,4 +1,4 @@
-// What the tree proofs of map files show.
+// What each of two map files shows by its tree proof, and the bound that it tells.
 
 ghost use Rattle.std.specs.Prelude.{◌≡◌, ◌<◌, ◌≤◌, None, MatchOption};
 ghost use Rattle.tw_base.specs.declared.kinds.limits.TheConstants.{LAST_STEP};
@@ -13,14 +13,14 @@ use tw_base::{Ask, Entry, Hasher, Key, Name, Reason, Thread};
 use tw_chain::with_order;
 use tw_treeproof::{Shown, check};
 
-/// What is found of a file, and, where nothing is, the bound that it tells.
+/// What is found of a low or a high map file, and, where nothing is, the bound that it tells.
 #[derive(Drop)]
 pub(crate) struct Judged<T> {
     pub(crate) found: Option<Reason>,
     pub(crate) bound: T,
 }
 
-/// The step of an entry of the peer, and 0 of another one's or of none.
+/// The step of an entry of the peer, and 0 of another one's or of none. (tw_evidence/src/judging.rt has the same.)
 fn step_if_of(peer: &Name, entry: Option<Entry>) -> u64
     ensures { result ≡ step_of peer.now entry }
 {

@@ -1,4 +1,4 @@
-// Writing map files.
+// Writing low and high map files, for the services that give them (`tw_service`).
 #![tactic(auto, unfolding(crate::specs::Seen::map_writing))]
 
 ghost use Rattle.std.specs.Prelude.{◌≡◌, ℕ, ◌-◌, ◌++◌, IfOk, OnOk, nat_lt};
@@ -13,7 +13,7 @@ use tw_base::{Bytes, NoMemory, put_name, put_number, put_text};
 use tw_skipproof::{put_opening, put_path};
 use tw_treeproof::put_gap;
 
-/// Appends a step under a top.
+/// Appends what a low file shows of the step before its own: the path, the opening, and the tree proof of the peer's last thread.
 fn put_low_part(into: &mut Bytes, part: &LowPart) -> Result<(), NoMemory>
     ensures { (top step : ℕ) → OnOk result (into.new ≡ into.old ++ (low_part_codec top step).write part.now) }
 {

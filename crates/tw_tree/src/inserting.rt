@@ -1,4 +1,5 @@
-// One entry more.
+// One entry more in a tree in memory, for tests: the tree is copied, and isn't balanced. Services have theirs in pages,
+// in `tw_rbtree`.
 
 ghost use Rattle.std.specs.Prelude.{◌≡◌, IfOk};
 ghost use Rattle.std.specs.Ordering.{is_lt};

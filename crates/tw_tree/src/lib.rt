@@ -1,5 +1,5 @@
-// The archive's tree in memory: its label, its entries in order, what it has of a key, one more
-// entry, and its own proofs.
+// The archive's tree in memory: its label, its entries in order, what it has of a key, one more entry, and its own
+// proofs. It is for tests; services have theirs in pages, in `tw_rbtree`.
 #![tactic(auto)]
 
 mod inserting;

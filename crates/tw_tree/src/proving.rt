@@ -1,4 +1,4 @@
-// Making a proof over a tree in memory.
+// Making a proof over a tree in memory, for tests; tw_rbtree/src/proving.rt makes one over a tree in pages.
 
 ghost use Rattle.std.specs.Prelude.{◌≡◌, ◌↔◌, IfOk, IsTrue};
 ghost use Rattle.tw_base.specs.history.Tree.{IsRising, entries};

@@ -1,4 +1,4 @@
-// What a tree has of a key, and next to it.
+// What a tree in memory has of a key, and next to it; tw_rbtree/src/asking.rt answers it of a tree in pages.
 
 ghost use Rattle.std.specs.Prelude.{◌≡◌};
 ghost use Rattle.tw_base.specs.history.Asking.{entry_with, first_above, last_below};

@@ -1,4 +1,4 @@
-// The archive's tree: a binary tree of entries.
+// The archive's tree in memory: a binary tree of entries, of any shape.
 
 ghost use Rattle.std.specs.Prelude.{◌≡◌, ◌++◌, OnOk, IfOk};
 ghost use Rattle.tw_base.specs.history.Auth.{tree_label};

@@ -1,4 +1,4 @@
-// Checking a proof against a tree's label.
+// Checking a tree proof against the label of the tree, which isn't there itself.
 
 ghost use Rattle.std.specs.Prelude.{◌≡◌, ◌≢◌, [], ◌∷◌, ◌++◌, IsTrue, ◌↔◌};
 ghost use Rattle.tw_base.specs.history.Auth.{tree_label};
@@ -167,7 +167,7 @@ fn answer(ask: &Ask, ancestors: &[Ancestor]) -> Shown
     }
 }
 
-/// What the proof shows, and the sizes of what it was computed from.
+/// What the proof shows; for the proof of `check` a clause tells the sizes of what was hashed, too.
 fn checked<H: Hasher>(root: &Digest, ask: &Ask, proof: &TreeProof) -> Shown
     ensures shows { Shows H.dig root.now ask.now proof.now result }
     ensures sizes { result ≢ Wrong → HasProofSizes ask.now proof.now }

@@ -1,4 +1,4 @@
-// Reading tree proofs.
+// Reading a tree proof within a proof or a map file: of an entry (`take_present`), or of an empty place (`take_gap`).
 #![tactic(auto, unfolding(crate::specs::Codecs::ancestor_codec, tw_base::specs::format::Seen::records))]
 
 ghost use Rattle.std.specs.Prelude.{◌≤◌, length};
@@ -13,7 +13,7 @@ use tw_base::{
     Ancestor, AncestorList, Digest, ReadFault, TreeProof, take_digest, take_entry, take_number,
 };
 
-/// Takes a node above the asked place, 96 bytes.
+/// Takes a node above the asked place, 96 bytes. (A verifier takes them one by one.)
 pub fn take_ancestor(bytes: &[u8], at: &mut u64) -> Result<Ancestor, ReadFault>
     requires { at.old ≤ length bytes.now }
     // A node is taken at a place exactly as its codec reads it; else the place of the first bad byte is told.
@@ -44,7 +44,11 @@ fn take_ancestors(
 
 /// Takes the number of the nodes, at most 128, and each of them.
 #[tactic(auto)]
-fn take_counted(alloc: Global, bytes: &[u8], at: &mut u64) -> Result<AncestorList, ReadFault>
+fn take_counted_ancestors(
+    alloc: Global,
+    bytes: &[u8],
+    at: &mut u64,
+) -> Result<AncestorList, ReadFault>
     requires { at.old ≤ length bytes.now }
     ensures { Takes (counted 1 0 MOST_ABOVE_PLACE ancestor_codec) (λ up. up) bytes.now at.old at.new result }
 {
@@ -106,6 +110,6 @@ pub fn take_gap(alloc: Global, bytes: &[u8], at: &mut u64) -> Result<TreeProof, 
     // is told.
     ensures { Takes gap_codec (λ p. p) bytes.now at.old at.new result }
 {
-    let ancestors = take_counted(alloc, bytes, at)?;
+    let ancestors = take_counted_ancestors(alloc, bytes, at)?;
     Ok(TreeProof::Gap { ancestors })
 }

@@ -1,4 +1,4 @@
-// The way down to an asked place.
+// The way down to an asked place: whether it goes left at an entry, or ends there. Checks and trees go by it (tw_rbtree, tw_tree).
 
 ghost use Rattle.std.specs.Prelude.{◌≡◌};
 ghost use Rattle.std.specs.Ordering.{is_eq};

@@ -1,4 +1,4 @@
-// Writing tree proofs.
+// Writing a tree proof into a proof or a map file: of an entry (`put_present`), or of an empty place (`put_gap`).
 #![tactic(auto, unfolding(crate::specs::Codecs::ancestor_codec, tw_base::specs::format::Seen::codecs))]
 
 ghost use Rattle.std.specs.Prelude.{◌≡◌, ◌++◌, flat_map, length, OnOk};

@@ -1,4 +1,4 @@
-// What is found in the bytes that are held of each segment of a proof: where it ends, the stage behind it.
+// What is found in the bytes held of a kind, a head, a link, an opening or an event; `tree_attempts.rt` has the other segments.
 #![tactic(auto)]
 
 ghost use Rattle.std.specs.Prelude.{◌≡◌, ℕ, ◌≤◌, List, [], ◌∷◌, ◌++◌, length, take, IfOk};
@@ -166,7 +166,7 @@ fn take_links(
     Ok(LinksSoFar { links, at, size })
 }
 
-/// Behind a link more and the next ones that are held whole, which have so many bytes.
+/// Behind a link more and the next ones that are held whole, which have so many bytes. (`following.rt` has that behind a hop's path.)
 fn behind_link<H: Hasher>(
     alloc: Global,
     anchors: &[Thread],

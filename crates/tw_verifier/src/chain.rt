@@ -1,4 +1,4 @@
-// A proof from event to event of which the front was judged.
+// A proof from event to event of which the front was judged. A hop's checks stand here, over those of `tw_chain`.
 
 ghost use Rattle.std.specs.Prelude.{◌≡◌, ℕ, ◌+◌, ◌-◌, ◌<◌, ◌≤◌, List, [], ◌∷◌, ◌++◌, length, IfOk, OnOk};
 ghost use Rattle.std.specs.List.{flat_map};

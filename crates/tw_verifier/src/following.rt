@@ -158,7 +158,7 @@ fn behind_link<H: Hasher>(
     behind_hop::<H>(alloc, anchors, bound, links, None)
 }
 
-/// The judgement of a proof of a step's authenticator.
+/// The judgement of a proof of a step's authenticator, of which all was taken.
 fn linked<H: Hasher>(
     alloc: Global,
     anchors: &[Thread],

@@ -1,4 +1,4 @@
-// Reading the segments of a proof that comes in pieces, but those that other crates read.
+// Reading how a proof, a part, a link's proof and a tree proof begin; tw_skipproof, tw_chain and tw_treeproof read each as a whole.
 #![tactic(auto, unfolding(crate::specs::Seen::heads_seen))]
 
 ghost use Rattle.std.specs.Prelude.{◌≤◌, length, IfOk};
@@ -35,7 +35,7 @@ pub(crate) fn take_part_head(bytes: &[u8], at: &mut u64) -> Result<Under, ReadFa
     Ok(Under { service, step, top })
 }
 
-/// Takes a service, its step, a top and the step's authenticator.
+/// Takes a service, its step, which may be 0, a top and the step's authenticator.
 pub(crate) fn take_link_head(bytes: &[u8], at: &mut u64) -> Result<Linking, ReadFault>
     requires { at.old ≤ length bytes.now }
     ensures { Takes link_head (λ (l : AnyLinking). (l.service, (l.step, (l.top, l.auth)))) bytes.now at.old at.new result }

@@ -1,4 +1,4 @@
-// What a verifier in pieces has found.
+// What a verifier has found of a proof; how it is found of one without hops is told here, and of one with hops in `chain.rt`.
 
 ghost use Rattle.std.specs.Prelude.{◌≡◌, ◌<◌, ◌≤◌, ◌^◌, [], length};
 ghost use Rattle.tw_base.specs.declared.kinds.limits.TheConstants.{LAST_STEP, MOST_EVENTS, MOST_EVENT_BYTES};

@@ -1,4 +1,4 @@
-// What a verifier in pieces takes, segment by segment.
+// Looking at the segment at hand, which the stage names; by this `Judging` of `verifier.rt` is a reader of segments (tw_pieces).
 
 ghost use Rattle.std.specs.Prelude.{ℕ, List, Ok};
 ghost use Rattle.tw_pieces.specs.Resuming.{Attempts, EndsAsFormat};
@@ -50,7 +50,7 @@ fn attempt_stage<H: Hasher>(
     }
 }
 
-/// The judgement of a whole proof.
+/// The judgement of a whole proof. (Other stages are dropped by a name, so that the prover meets the drop in one place.)
 #[tactic(auto)]
 fn ended(stage: Stage) -> Option<Judgement>
     ensures { (dig : List ℕ → List ℕ) (anchors : List Anchor) → EndsAsFormat (rest dig anchors stage) result }

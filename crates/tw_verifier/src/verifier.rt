@@ -1,4 +1,4 @@
-// Verifying a proof that comes in pieces.
+// The verifier, which is fed a proof in pieces, or whole by `verify`; each segment is looked at in `judging.rt`.
 
 ghost use Rattle.std.specs.Prelude.{◌≡◌, ◌↔◌, IsTrue, ℕ, List, [], ◌++◌, Bool, IfOk, OnOk, OnErr};
 ghost use Rattle.tw_base.specs.declared.history.thread.Thread.{Thread as Anchor};

@@ -4,7 +4,7 @@ use tw_base::{Name, Sequence, Thread};
 use tw_text::{ClaimedTime, FilePath};
 
 /// A command: one variant for each form of the command line, with the values of the form's words in
-/// their order. Its fixed words are left out, and the directory, whose store is opened by itself. A
+/// their order. Its fixed words are left out, and the folder, whose store is opened by itself. A
 /// file is the path as it was given, of at least one byte. Where `top` is None the last step is meant.
 #[derive(Drop)]
 pub enum Command {

@@ -11,7 +11,7 @@ pub const MOST_RECEIPT_FILES: usize = 64;
 /// The most proofs by which one history is taken over.
 pub const MOST_ADOPTING: usize = 64;
 
-/// The most steps that one generated schedule has.
+/// The most steps that one generated schedule has; tw_generate plays no more rounds, either.
 pub const MOST_GENERATED: u64 = 10_000;
 
 /// The limits of commands, by number.

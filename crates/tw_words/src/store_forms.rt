@@ -1,4 +1,6 @@
-// The forms of commands over a store, behind their first word.
+// The forms of `init`, `append`, `thread`, `receive`, `prove`, `map`, `export`, `watch`, `offer` and `heads`, behind their first
+// word; those over files are in file_forms.rt and reach_forms.rt, those of a script's `prove` line in tw_script. A step of a peer is
+// one from 1 to 2^40 - 1 by its form; which steps of its own there are, the service tells.
 
 ghost use Rattle.std.specs.Prelude.{map};
 ghost use Rattle.std.specs.String.{string_bytes};

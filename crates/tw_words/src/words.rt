@@ -1,4 +1,5 @@
-// Reading the words of the command line as a command, by the form that the first one names.
+// Reading the words of the command line as a command, by the form that the first one names; timeweave/src/words.rt reads the
+// words themselves.
 
 ghost use Rattle.std.specs.Prelude.{◌≡◌, map, IfNone, IfOk, IfSome, IsErrAnd, MatchResult};
 ghost use Rattle.std.specs.String.{string_bytes};

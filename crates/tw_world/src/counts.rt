@@ -1,4 +1,4 @@
-// How many answers begin with each of four words.
+// How many answers begin with each of four words, for the last line of a script that was played (`summary.rt`).
 
 ghost use Rattle.std.specs.Prelude.{◌≡◌, codes};
 ghost use Rattle.tw_world.specs.Playing.{counts_of};

@@ -1,4 +1,5 @@
-// The call that plays a script: all lines are read, each is played (`player.rt`), and what they are told is printed.
+// The call that plays a script: all lines are read, each is played (`player.rt`), and what they are told is printed. The
+// command is in tw_app/src/replaying.rt.
 
 ghost use Rattle.std.specs.Prelude.{◌≡◌, ◌++◌, codes, length, IfOk, OnOk};
 ghost use Rattle.serde_json.specs.Written.{compact_text};

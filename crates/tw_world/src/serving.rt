@@ -77,7 +77,8 @@ struct Rested {
     steps: u64,
 }
 
-/// The disk, at rest, without what its calls wrote over: a crash that leaves the new bytes changes nothing that such a disk holds.
+/// The disk, at rest, without what its calls wrote over, which it would keep from line to line: a crash that leaves the new
+/// bytes lets go of that, and changes nothing that such a disk holds.
 fn settled(disk: MemDisk) -> MemDisk
     ensures { (h : History) → StandsForGood disk h → StandsForGood result h }
 {

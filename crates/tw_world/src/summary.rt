@@ -1,4 +1,5 @@
-// The last line of a script that was played: how many answers began with which word.
+// The last line of a script that was played: how many answers began with which word, and the steps of each service;
+// tw_generate/src/summary.rt has that of a schedule.
 
 ghost use Rattle.std.specs.Prelude.{◌≡◌, codes, string_bytes, IfOk, OnOk};
 ghost use Rattle.serde_json.specs.Data.{member, no_members, number, object, put as with_member, unsigned};

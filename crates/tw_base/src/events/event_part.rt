@@ -1,4 +1,4 @@
-// An event among the events of its step.
+// An event among the events of its step, as a value of proofs; tw_events makes and checks it.
 
 use crate::kinds::label_list::Labels;
 use crate::kinds::sequence::Bytes;

@@ -1,4 +1,4 @@
-// Readers of whole files.
+// How a reader ends that read bytes from the front: whether nothing follows, or where what it read ends.
 
 ghost use Rattle.tw_base.specs.format.Formats.{IsFrontTo, IsWholeTo};
 

@@ -1,4 +1,4 @@
-// Reading lists of events.
+// Reading lists of events of files, each behind its length, within the limits of a step or of a format; tw_skiplist reads those of pages.
 #![tactic(auto, unfolding(crate::specs::format::Codecs::number_codec))]
 
 ghost use Rattle.std.specs.Prelude.{◌≡◌, ℕ, ◌^◌, ◌<◌, ◌≤◌, length, IfOk};

@@ -1,6 +1,5 @@
-// The fields at a place, for the readers that take them. Where no such field stands there, the answer
-// is the place of the first byte that cannot stand there, or the length of bytes that end too early.
-// Numbers are big-endian.
+// The fields at a place, for the readers that take them. Where no such field stands there, the answer is the place of
+// the first byte that cannot stand there, or the length of bytes that end too early. Numbers are big-endian.
 
 ghost use Rattle.std.specs.Prelude.{◌≡◌, ℕ, ◌+◌, ◌*◌, ◌^◌, ◌<◌, ◌≤◌, length, take, drop, ◌&&◌, ◌||◌, ◌==◌, IfOk, IfSome};
 ghost use Rattle.std.specs.Int.{to_be_bytes, w64};

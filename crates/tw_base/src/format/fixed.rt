@@ -1,5 +1,5 @@
-// The writers of a file's fields into fixed arrays: each puts the bytes that the field's reader reads as the value at the
-// end of an array that has room for them. Numbers are big-endian.
+// The writers of a file's fields into fixed arrays that have room for them, for root records and receipts: they take no
+// memory. `writers.rt` appends the same fields to `Bytes`, `page_bytes.rt` fills a page. Numbers are big-endian.
 
 ghost use Rattle.std.specs.Prelude.{◌≡◌, ◌+◌, ◌≤◌, ◌++◌};
 ghost use Rattle.arrayvec.specs.ArrayVec.{array_vec_len};

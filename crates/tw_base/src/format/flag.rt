@@ -1,4 +1,4 @@
-// The byte whose highest bit alone may be set.
+// The byte whose highest bit alone may be set: by it an opening tells that its step has a time.
 
 ghost use Rattle.std.specs.Prelude.{◌≡◌, ◌≤◌, ◌==◌, ◌||◌, length};
 ghost use Rattle.tw_base.specs.format.Codecs.{flag_codec};

@@ -1,4 +1,4 @@
-// The bytes of pages, written and read from the front.
+// The bytes of pages, written and read from the front; `writers.rt` and `fixed.rt` write the fields of files.
 
 ghost use Rattle.std.specs.Prelude.{◌≡◌, ◌↔◌, ◌+◌, ◌-◌, ◌^◌, ◌<◌, ◌++◌, ◌≤◌, [], length, replicate, IfOk, IsTrue};
 ghost use Rattle.tw_base.specs.format.Fields.{number_bytes};
@@ -88,7 +88,7 @@ impl PageFront {
     }
 }
 
-/// Whether the bytes are zeros.
+/// Whether the bytes, at most a page of them, are zeros; tw_disk/src/kept_page.rt has that of fewer.
 fn are_zeros(bytes: &[u8]) -> bool
     requires { length bytes.now ≤ PAGE_SIZE }
     ensures { IsTrue result ↔ (bytes.now ≡ replicate (length bytes.now) 0) }

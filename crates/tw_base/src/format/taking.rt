@@ -1,6 +1,6 @@
-// The readers of fields at a place that moves: each takes the field that begins there, and leaves
-// the place behind it. Where the bytes aren't that field they tell the first bad byte, and leave any
-// place. Only those that are given an allocator take memory.
+// The readers of fields at a place that moves: each takes the field that begins there, and leaves the place behind it.
+// Where the bytes aren't that field they tell the first bad byte, and leave any place. Only those that are given an
+// allocator take memory.
 #![tactic(auto, unfolding(crate::specs::format::Seen::fields))]
 
 ghost use Rattle.std.specs.Prelude.{◌≡◌, ◌≢◌, ◌^◌, ◌<◌, ◌≤◌, length, IfErr, IfOk};

@@ -1,4 +1,4 @@
-// Reading and writing the times that steps have or not.
+// Reading times that steps have or not, and writing them into files; tw_answers and tw_steppage have a `put_time` of their own.
 
 ghost use Rattle.std.specs.Prelude.{◌≡◌, ◌≢◌, ◌-◌, ◌^◌, ◌≤◌, length, is_some, IfErr};
 ghost use Rattle.tw_base.specs.format.Codecs.{number_codec, optional};

@@ -1,5 +1,6 @@
-// The writers of a file's fields: each appends the bytes that the field's reader reads as the value.
-// Numbers are big-endian. After want of memory nothing was appended, but by `put_labels`.
+// The writers of a file's fields that append to `Bytes` what the field's reader reads as the value; `fixed.rt` fills
+// arrays, `page_bytes.rt` pages. Numbers are big-endian. After want of memory nothing was appended, but by
+// `put_labels`.
 #![tactic(auto, unfolding(crate::specs::format::Seen::fields))]
 
 ghost use Rattle.std.specs.Prelude.{◌≡◌, ℕ, ◌-◌, ◌^◌, ◌<◌, ◌≤◌, ◌++◌, length, take, OnErr, OnOk};

@@ -1,4 +1,4 @@
-// Anchors.
+// Finding the anchor of a service and a step among those that are held; an anchors file is read in tw_msg.
 
 ghost use Rattle.std.specs.Prelude.{◌≡◌};
 ghost use Rattle.tw_base.specs.history.Anchors.{anchor_of, is_at as is_at_of};

@@ -1,4 +1,4 @@
-// The entries of an archive, read and written.
+// The entries of an archive, read, and appended to `Bytes`; tw_rbnode/src/writing.rt puts them into tree pages.
 #![tactic(auto, unfolding(crate::specs::history::Seen::entries_seen))]
 
 ghost use Rattle.std.specs.Prelude.{◌≡◌, ◌≢◌, ◌≤◌, ◌++◌, length, IfErr, OnOk};

@@ -1,4 +1,4 @@
-// Reading what a step records.
+// Reading a thread, and what a step of a history's file records; `thread_writing.rt` and tw_history/src/writing.rt write them.
 #![tactic(auto, unfolding(crate::specs::history::Seen::contents))]
 
 ghost use Rattle.std.specs.Prelude.{◌≡◌, ◌≢◌, ◌≤◌, length, IfErr};

@@ -1,4 +1,4 @@
-// What a service is asked that only reads.
+// What a service is asked that only reads; what is asked of an archive's tree is in `tree_proof.rt`.
 
 use super::thread::Key;
 use crate::kinds::name::Name;

@@ -1,4 +1,4 @@
-// What a verifier answers: the claim of an accepted proof, or the reason against it.
+// What a verifier answers, as a value: the claim of an accepted proof, or the reason against it; tw_text/src/report.rt writes it.
 
 ghost use Rattle.std.specs.Prelude.{◌≡◌};
 ghost use Rattle.tw_base.specs.history.Reasons.{reason_number, reason_place};

@@ -1,4 +1,4 @@
-// Roots of archives in pages.
+// The root of an archive's tree in pages: its page and its label. (A store's root record is another thing.)
 
 use crate::kinds::digest::Digest;
 

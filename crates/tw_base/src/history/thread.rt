@@ -9,8 +9,7 @@ use crate::kinds::name::Name;
 use crate::kinds::sequence::Sequence;
 use std::cmp::Ordering;
 
-/// A thread of a timeline: a service, one of its steps (0 to 2^40 - 1) and the authenticator of
-/// that step. An anchor is a thread that a verifier holds.
+/// A thread: a service, one of its steps (0 to 2^40 - 1) and the authenticator of that step. An anchor is a thread that a verifier holds.
 #[derive(Clone, Copy, PartialEq, Eq, Debug, Drop)]
 pub struct Thread {
     pub from: Name,

@@ -1,4 +1,4 @@
-// Writing threads.
+// Appending a thread to `Bytes`; `format/fixed.rt` puts one into a fixed array.
 
 ghost use Rattle.std.specs.Prelude.{◌≡◌, ◌++◌, OnOk};
 ghost use Rattle.tw_base.specs.history.HistoryCodec.{thread_codec};

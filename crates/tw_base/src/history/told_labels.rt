@@ -17,7 +17,7 @@ use crate::kinds::name::Name;
 use crate::kinds::transcript::Transcript;
 use arrayvec::ArrayVec;
 
-/// Puts a digest at the text's end.
+/// Puts a digest at the text's end, as that of `format/fixed.rt` does, and tells a proof its length, too.
 fn put_digest<const N: usize>(text: &mut ArrayVec<u8, N>, digest: &Digest)
     requires { array_vec_len text.old + 32 ≤ N }
     ensures size { length digest.now ≡ 32 }

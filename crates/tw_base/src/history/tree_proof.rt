@@ -1,4 +1,4 @@
-// What is asked of an archive, and the way through its tree that shows the answer.
+// What is asked of an archive's tree, and the way through it that shows the answer; what a service is asked is in `question.rt`.
 
 use crate::history::thread::{Entry, Key};
 use crate::kinds::digest::Digest;

@@ -1,4 +1,4 @@
-// Digests.
+// Digests, and what tells a proof that one is 32 bytes.
 
 ghost use Rattle.std.specs.Prelude.{◌≡◌, ◌↔◌, IsTrue};
 ghost use Rattle.tw_base.specs.kinds.Bytes.{AreBytes, HasBytes};
@@ -22,7 +22,7 @@ impl Model for Digest {
     ghost inverse = { λ bytes. record { 0 = bytes } };
 }
 
-/// Tells a proof that bytes are below 256.
+/// Tells a proof that bytes are below 256, by a call of which nothing else is wanted.
 pub fn see_bytes(bytes: &[u8])
     ensures { AreBytes bytes.now }
 {

@@ -1,4 +1,4 @@
-// The calls of an object in memory that are to fail.
+// The calls of an object in memory (disk, pages, inputs or sink) that are to fail.
 ghost use Rattle.std.specs.Prelude.{◌≡◌, ◌++◌, ◌∷◌, [], OnOk, OnErr};
 ghost use Rattle.tw_base.specs.kinds.PlannedFailures.{fails_next, after_call};
 

@@ -1,4 +1,4 @@
-// Answers without a value.
+// Answers without a value: what failed, and why.
 
 use std::alloc::{AllocError, AllocFailed};
 

@@ -1,4 +1,4 @@
-// Lists in fixed arrays.
+// Putting items at the end of a list in a fixed array, which takes no memory.
 
 ghost use Rattle.std.specs.Prelude.{◌≡◌, ◌+◌, ◌≤◌, ◌++◌, length};
 ghost use Rattle.arrayvec.specs.ArrayVec.{array_vec_len};

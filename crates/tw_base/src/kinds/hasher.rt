@@ -1,4 +1,4 @@
-// What a hasher is, and two of them.
+// What a hasher is, and two of them: SHA-256, and a weak one for tests.
 
 ghost use Rattle.std.specs.Prelude.{◌≡◌, ℕ, List, [], ◌∷◌, ◌++◌, ◌%◌, length, sum, replicate};
 ghost use Rattle.sha2.specs.Sha256.{sha256};
@@ -7,8 +7,7 @@ ghost use Rattle.tw_base.specs.kinds.Bytes.{AreBytes};
 use crate::kinds::digest::Digest;
 use sha2::{Digest as _, Sha256};
 
-/// A function from lists of bytes to digests. What is proved of the timelines holds for every
-/// hasher; the program uses [`Sha`].
+/// A function from lists of bytes to digests. What is proved of histories holds for every hasher; the program uses [`Sha`].
 pub trait Hasher {
     ghost dig: { List ℕ → List ℕ };
 

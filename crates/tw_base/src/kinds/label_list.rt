@@ -1,4 +1,4 @@
-// Lists of labels.
+// Lists of labels on the heap, of which a proof knows that each label has 32 bytes; other lists on the heap are in `sequence.rt`.
 
 ghost use Rattle.std.specs.Prelude.{◌≡◌, [], ◌∷◌, ◌++◌, length, IfOk, OnOk, OnErr};
 ghost use Rattle.tw_base.specs.kinds.Digests.{AllDigests};

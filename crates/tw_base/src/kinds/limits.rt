@@ -1,4 +1,4 @@
-// The limits of names, steps and histories, and the size of a page, and what they mean.
+// The limits of steps, times, events, histories, anchors and hops, and the size of a page; one crate's own are in its `limits.rt`.
 
 /// The greatest number of a step: 2^40 - 1. Steps are numbered from 1; where a step field may be 0, it speaks of the
 /// time before the first step.

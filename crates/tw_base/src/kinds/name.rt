@@ -1,4 +1,4 @@
-// Names of services.
+// Names of services, and which texts and which 16 bytes are one; `format/fields.rt` reads one within other bytes.
 
 ghost use Rattle.std.specs.Prelude.{◌≡◌, ◌↔◌, ◌==◌, length, position, IsTrue, IsSome, IfSome};
 ghost use Rattle.std.specs.List.{list_all};

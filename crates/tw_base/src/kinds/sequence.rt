@@ -1,4 +1,4 @@
-// Lists on the heap.
+// Lists on the heap, seen as the lists of what their items are seen as; lists of labels are in `label_list.rt`.
 
 ghost use Rattle.std.specs.Prelude.{◌≡◌, [], ◌∷◌, ◌++◌, length, reverse, IfOk, OnOk, OnErr};
 

@@ -1,4 +1,4 @@
-// What takes the texts that are hashed.
+// What takes the texts that are hashed, and a transcript that keeps none; those of an audit are in tw_audit.
 
 ghost use Rattle.std.specs.Prelude.{◌≡◌, ℕ, List, [], ◌∷◌, length};
 ghost use Rattle.tw_base.specs.kinds.Bytes.{AreBytes};

@@ -1,4 +1,4 @@
-// The greatest steps of services.
+// The greatest step of each service that a history received so far, while it is judged.
 
 ghost use Rattle.std.specs.Prelude.{◌≡◌, ◌≢◌, ◌++◌, List, ℕ, Some, option_map, IfSome, OnOk, OnErr};
 ghost use Rattle.std.specs.Option.{option_to_list};

@@ -1,4 +1,4 @@
-// The keys of the threads that steps received.
+// Whether the keys of each tree rise, while a history is judged.
 
 ghost use Rattle.std.specs.Prelude.{◌≡◌, ◌↔◌, [], Some, IsTrue, option_map};
 ghost use Rattle.tw_base.specs.declared.history.thread.Entry.{Entry};

@@ -1,4 +1,4 @@
-// The new nodes of a step.
+// Whether the new nodes of a step name known ones, and what is kept of their trees, while a history is judged.
 
 ghost use Rattle.std.specs.Prelude.{◌≡◌, ◌↔◌, ℕ, suc, ◌+◌, ◌<◌, ◌^◌, length, map, IsSome, IsTrue, IfOk, false};
 ghost use Rattle.tw_base.specs.kinds.Lists.{Each};

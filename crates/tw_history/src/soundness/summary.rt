@@ -1,4 +1,4 @@
-// What is kept of a tree.
+// What is kept of a tree while a history is judged: how many entries, and which steps received the first and last.
 
 ghost use Rattle.std.specs.Prelude.{◌≡◌};
 ghost use Rattle.tw_base.specs.declared.history.thread.Entry.{Entry};

@@ -1,4 +1,4 @@
-// The threads and the events of steps.
+// What is looked at of a step's thread and of its events, while a history is judged.
 
 ghost use Rattle.std.specs.Prelude.{◌≡◌, ◌≢◌, ◌↔◌, ◌≤◌, List, [], length, sum_by, Some, IsTrue, IfSome};
 ghost use Rattle.std.specs.Option.{option_to_list};
@@ -16,7 +16,7 @@ use crate::step::Step;
 use tw_base::limits::MOST_STEP_BYTES;
 use tw_base::{Bytes, Content, Name, Thread, see_bytes, see_digest, see_name};
 
-/// The thread that the step received; None where it has events.
+/// The thread that the step received; None where it has events. (`thread_of_content` of `lookup.rt` does this of a content.)
 pub(super) fn received_thread(step: &Step) -> Option<Thread>
     ensures { result ≡ thread_of (Some (step_of step.now [])) }
 {
@@ -84,8 +84,7 @@ fn total_size(events: &[Bytes]) -> usize
     total
 }
 
-/// What a step of a table records is within the limits: names, digests and bytes are so by their
-/// types.
+/// Tells a proof that what a step of a table records is within the limits: names, digests and bytes are so by their types.
 pub(super) fn limits_law(content: &Content)
     requires { IsInRange content.now }
     ensures { IsWithinLimits content.now }
@@ -100,7 +99,7 @@ pub(super) fn limits_law(content: &Content)
     }
 }
 
-/// Each event is a list of bytes.
+/// Tells a proof that each event is a list of bytes.
 fn events_law(events: &[Bytes])
     ensures { Each AreBytes events.now }
 {

@@ -1,4 +1,4 @@
-// The times of steps.
+// Whether the times of a history's steps rise, while it is judged.
 
 ghost use Rattle.std.specs.Prelude.{◌↔◌, ◌≤◌, ◌++◌, List, ℕ, IsTrue, IfSome};
 ghost use Rattle.std.specs.Option.{option_to_list};

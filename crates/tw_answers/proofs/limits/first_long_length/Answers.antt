@@ -14,7 +14,7 @@ loop-event-preserved c =
       first = grind (arith, common_steps);
       bytes = subst (Each AreBytes) (sym (take_more c.args.events.now i event c.loop-event-test.true))
           (Each-append AreBytes _ _ c.loop-event.invariant.bytes
-          (subst AreBytes (c.as_slice.ensures ∙ c.event-item.is) c.event_size-size.ensures.bytes, tt));
+          (subst AreBytes (c.as_slice.ensures ∙ c.event-item.is) c.event_length-size.ensures.bytes, tt));
     }
 
 pub returns-clause-bytes : goal.returns-clause-bytes

@@ -1,6 +1,6 @@
 use Rattle.std.proofs.Common.{◌≡◌, ◌-◌, ◌≤◌, length, take}
 use Rattle.tw_pieces.specs.Resuming.{StandsBehind}
-use Rattle.tw_pieces.proofs.resuming.settle.Given as goal
+use Rattle.tw_pieces.proofs.segments.settle.Given as goal
 
 abbrev pub invariant-loop-held : goal.invariant-loop-held
 invariant-loop-held g l = record {

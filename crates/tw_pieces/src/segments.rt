@@ -1,5 +1,4 @@
-// Reading in pieces. A word comes in pieces, cut anywhere; its reader goes on segment by segment, and
-// holds the bytes of the segment at hand alone.
+// What a reader answers of one segment of a word (`Attempt`, `Segments`), and the loop that takes one after another.
 
 ghost use Rattle.std.specs.Prelude.{◌≡◌, ℕ, ◌+◌, ◌<◌, ◌≤◌, ◌^◌, List, [], ◌++◌, length, drop, IfOk};
 ghost use Rattle.tw_base.specs.format.Formats.{Format};

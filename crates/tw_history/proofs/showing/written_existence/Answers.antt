@@ -8,7 +8,7 @@ use Rattle.tw_skipproof.specs.Existence.{IsExistenceInRange, existence_layout}
 use Rattle.tw_skipproof.specs.HistoryProofs.{MakesExistence}
 use Rattle.tw_skipproof.specs.Existence.{IsShaped}
 use Rattle.tw_skipproof.proofs.ExistenceOf.{IsShaped-made, in_range-few}
-use Rattle.tw_history.proofs.showing.written.Goals as goal
+use Rattle.tw_history.proofs.showing.written_existence.Goals as goal
 
 pub returns : goal.returns
 returns g c =

@@ -4,7 +4,7 @@ use Rattle.tw_base.specs.declared.kinds.failure.ReadFault.TheVariants.{Malformed
 use Rattle.std.proofs.lemmas.List.{length-drop, take_rest}
 use Rattle.tw_pieces.specs.Resuming.{GoesInPieces}
 use Rattle.tw_pieces.proofs.PieceLaws.{behind-nothing, settles-broken, settles-front, settles-on}
-use Rattle.tw_pieces.proofs.resuming.settle.Goals as goal
+use Rattle.tw_pieces.proofs.segments.settle.Goals as goal
 
 slice_is : (bytes held : List ℕ) (at : ℕ) → bytes ≡ held → take (length bytes - at) (drop at bytes) ≡ drop at held
 slice_is bytes held at e = take_rest bytes at ∙ ap (drop at) e

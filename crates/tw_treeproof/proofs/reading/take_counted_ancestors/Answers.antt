@@ -4,7 +4,7 @@ use Rattle.tw_base.specs.declared.history.tree_proof.Ancestor.{Ancestor}
 use Rattle.tw_base.proofs.lemmas.format.TakeLaws.{takes-counted, takes-no_count}
 use Rattle.tw_treeproof.specs.declared.limits.TheConstants.{MOST_ABOVE_PLACE}
 use Rattle.tw_treeproof.specs.Codecs.{ancestor_codec}
-use Rattle.tw_treeproof.proofs.reading.take_counted.Goals as goal
+use Rattle.tw_treeproof.proofs.reading.take_counted_ancestors.Goals as goal
 
 pub returns-in_err-count : goal.returns-in_err-count
 returns-in_err-count c =

@@ -3,9 +3,9 @@ use Rattle.std.proofs.Common.{length, take, drop, length-drop, length-append}
 use Rattle.std.specs.Int.{from_be_bytes, w32}
 use Rattle.std.proofs.lemmas.List.{get_or-drop, length-take-le}
 use Rattle.std.proofs.lemmas.Nat.{be_bytes_4, from_be_bytes-to_be_bytes_4}
-use Rattle.tw_skiplist.proofs.event_pages.event_size.Goals as goal
-use Rattle.tw_skiplist.proofs.event_pages.event_size.Goals.{then-size-gt-MOST_EVENT_BYTES-via-then-size-gt-MOST_EVENT_BYTES}
-use Rattle.tw_skiplist.proofs.event_pages.event_size.Goals.{then-size-gt-MOST_EVENT_BYTES-via-else-size-gt-MOST_EVENT_BYTES+then-bytes-at}
+use Rattle.tw_skiplist.proofs.event_pages.event_size_at.Goals as goal
+use Rattle.tw_skiplist.proofs.event_pages.event_size_at.Goals.{then-size-gt-MOST_EVENT_BYTES-via-then-size-gt-MOST_EVENT_BYTES}
+use Rattle.tw_skiplist.proofs.event_pages.event_size_at.Goals.{then-size-gt-MOST_EVENT_BYTES-via-else-size-gt-MOST_EVENT_BYTES+then-bytes-at}
 
 -- the first of some bytes are bytes
 first_fit : (n : ℕ) (bs : List ℕ) → ((i : ℕ) → get_or bs i 0 < 256) → (i : ℕ) → get_or (take n bs) i 0 < 256

@@ -4,7 +4,7 @@ use Rattle.tw_base.proofs.lemmas.format.TakeLaws.{takes-kind}
 use Rattle.tw_rbnode.specs.declared.reading.Held.{Held as TakenHeld}
 use Rattle.tw_rbnode.specs.NodeBytes.{Held, held_codec}
 use Rattle.tw_rbnode.proofs.NodeCodecs.{held-count}
-use Rattle.tw_rbnode.proofs.reading.take_counted.Goals as goal
+use Rattle.tw_rbnode.proofs.reading.take_counted_slots.Goals as goal
 
 pub returns-clause-takes : goal.returns-clause-takes
 returns-clause-takes c =
