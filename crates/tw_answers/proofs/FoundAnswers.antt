@@ -4,13 +4,13 @@ use Rattle.std.specs.Prelude.{Result, Ok, Err, IfErr, IsErrAnd}
 use Rattle.tw_skiplist.specs.declared.fault.ListFault.{ListFault}
 use Rattle.tw_skiplist.specs.declared.fault.ListFault.TheVariants as list
 use Rattle.tw_disk.specs.Answers.{IsShared, SaysOf, is_of_disk}
-use Rattle.tw_skiplist.specs.ListFaults.{list_faults}
+use Rattle.tw_skiplist.specs.ListFaults.{list_faults, list_refusal}
 use Rattle.tw_disk.specs.Found.{Found, ◌>>=◌}
 use Rattle.tw_disk.specs.Found.Found.{Is, Bad}
 use Rattle.tw_answers.specs.Finds.{IsRefusalFound}
-use Rattle.tw_answers.specs.Refusals.{IsBadPageRefusal, IsFault, IsNoEvent, OfBadPage, list_refusal, service_refusals}
-use Rattle.tw_answers.specs.declared.refusal.Refusal.{Refusal}
-use Rattle.tw_answers.specs.declared.refusal.Refusal.TheVariants.{NoEvent, BadPage, DiskFault, NoMemory}
+use Rattle.tw_answers.specs.Refusals.{IsBadPageRefusal, IsFault, IsNoEvent, OfBadPage, service_refusals}
+use Rattle.tw_base.specs.declared.history.refusal.Refusal.{Refusal}
+use Rattle.tw_base.specs.declared.history.refusal.Refusal.TheVariants.{NoEvent, BadPage, DiskFault, NoMemory}
 
 -- ---- faults of the list
 

@@ -4,7 +4,7 @@ use Rattle.std.specs.Prelude.{Result, Ok, Err, IfErr, IsErrAnd}
 use Rattle.tw_disk.specs.Answers.{AnswersOr, FaultSort, RefusesAs, is_failed, is_of_disk}
 use Rattle.tw_disk.specs.Answers.FaultSort.{OfPage, OfCall}
 use Rattle.tw_disk.specs.Found.{Found, ◌>>=◌}
-use Rattle.tw_answers.specs.declared.refusal.Refusal.{Refusal}
+use Rattle.tw_base.specs.declared.history.refusal.Refusal.{Refusal}
 use Rattle.tw_answers.specs.Finds.{written_found}
 use Rattle.tw_answers.specs.Refusals.{service_refusals}
 

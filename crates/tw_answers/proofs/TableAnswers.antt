@@ -7,9 +7,9 @@ use Rattle.tw_answers.specs.Refusals.{IsBadPageRefusal, IsFault, IsNoEvent}
 use Rattle.tw_answers.specs.Limits.{append_refusal, clock_refusal, event_refusal, events_size, first_long, full_refusal}
 use Rattle.tw_answers.specs.Limits.{is_in_order, length_refusal, limits_refusal, link_refusal, or_else, order_refusal}
 use Rattle.tw_answers.specs.Limits.{thread_refusal, top_refusal}
-use Rattle.tw_answers.specs.declared.refusal.Refusal.{Refusal}
-use Rattle.tw_answers.specs.declared.refusal.Refusal.TheVariants.{NoStep, NoEvent, TooMany, TooLong, Full, ClockBack}
-use Rattle.tw_answers.specs.declared.refusal.Refusal.TheVariants.{BadPage, Reopen}
+use Rattle.tw_base.specs.declared.history.refusal.Refusal.{Refusal}
+use Rattle.tw_base.specs.declared.history.refusal.Refusal.TheVariants.{NoStep, NoEvent, TooMany, TooLong, Full}
+use Rattle.tw_base.specs.declared.history.refusal.Refusal.TheVariants.{ClockBack, BadPage, Reopen}
 
 -- ---- refusals of the tables are no faults
 

@@ -24,8 +24,8 @@ use Rattle.tw_skiplist.specs.declared.info.StepLink.{StepLink}
 use Rattle.tw_skiplist.specs.declared.info.StepProof.{StepProof}
 use Rattle.tw_skiplist.specs.Events.{events_of_info}
 use Rattle.tw_skiplist.specs.Readings.{found_link, found_proof, found_skip_path}
-use Rattle.tw_answers.specs.declared.refusal.Refusal.{Refusal}
-use Rattle.tw_answers.specs.declared.refusal.Refusal.TheVariants.{NoThread, HasThread}
+use Rattle.tw_base.specs.declared.history.refusal.Refusal.{Refusal}
+use Rattle.tw_base.specs.declared.history.refusal.Refusal.TheVariants.{NoThread, HasThread}
 use Rattle.tw_answers.specs.declared.showing.EntryShown.{EntryShown}
 use Rattle.tw_answers.specs.Limits.{event_refusal}
 use Rattle.tw_answers.specs.Refusals.{service_refusals}

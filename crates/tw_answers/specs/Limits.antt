@@ -3,8 +3,8 @@ use Rattle.std.specs.Prelude.{ℕ, List, length, Bool, true, false, ◌&&◌, na
 use Rattle.std.specs.Str.{bytes_eq}
 use Rattle.tw_base.specs.declared.history.thread.Entry.{Entry}
 use Rattle.tw_base.specs.declared.kinds.limits.TheConstants.{LAST_STEP, MOST_EVENTS, MOST_EVENT_BYTES, MOST_STEP_BYTES}
-use Rattle.tw_answers.specs.declared.refusal.Refusal.{Refusal}
-use Rattle.tw_answers.specs.declared.refusal.Refusal.TheVariants.{Own, NoStep, NoEvent, NoThread, HasThread, TooMany, TooLong, Full, ClockBack, Reopen}
+use Rattle.tw_base.specs.declared.history.refusal.Refusal.{Refusal}
+use Rattle.tw_base.specs.declared.history.refusal.Refusal.TheVariants.{Own, NoStep, NoEvent, NoThread, HasThread, TooMany, TooLong, Full, ClockBack, Reopen}
 
 abbrev pub or_else : Option Refusal → Option Refusal → Option Refusal
 or_else (Some refusal) other = Some refusal

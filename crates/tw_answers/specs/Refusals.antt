@@ -1,17 +1,13 @@
--- What kinds of refusals there are, and which one a fault of the list of steps becomes.
+-- What kinds of refusals there are, and which one a fault of a tree becomes.
 use Rattle.std.specs.Prelude.{ℕ}
 use Rattle.tw_base.specs.history.Limits.{IsStep}
 use Rattle.tw_disk.specs.Answers.{FaultSort}
 use Rattle.tw_disk.specs.Answers.FaultSort.{OfPage, OfDisk, OfMemory, OfCall}
-use Rattle.tw_skiplist.specs.declared.fault.ListFault.{ListFault}
-use Rattle.tw_skiplist.specs.declared.fault.ListFault.TheVariants as list
-use Rattle.tw_answers.specs.declared.refusal.Refusal.{Refusal}
+use Rattle.tw_base.specs.declared.history.refusal.Refusal.{Refusal}
 use Rattle.tw_base.specs.declared.history.root.Root.{Root}
-use Rattle.tw_disk.specs.declared.walk_fault.WalkFault.{WalkFault}
-use Rattle.tw_disk.specs.declared.walk_fault.WalkFault.TheVariants as walk
 use Rattle.tw_rbtree.specs.declared.fault.TreeFault.{TreeFault}
 use Rattle.tw_rbtree.specs.declared.fault.TreeFault.TheVariants as tree
-use Rattle.tw_answers.specs.declared.refusal.Refusal.TheVariants.{NoStep, NoEvent, NoThread, HasThread, BadPage, DiskFault, NoMemory, TooLong}
+use Rattle.tw_base.specs.declared.history.refusal.Refusal.TheVariants.{NoEvent, NoThread, HasThread, BadPage, DiskFault, NoMemory, TooLong}
 
 -- what each refusal says: of a page, of the disk, of memory, and all others of a table
 abbrev pub service_refusals : Refusal → FaultSort
@@ -20,24 +16,12 @@ service_refusals DiskFault = OfDisk
 service_refusals NoMemory = OfMemory
 service_refusals _ = OfCall
 
--- what a list's fault is to the service
-abbrev pub list_refusal : ListFault → Refusal
-list_refusal (list.NoStep last) = NoStep last
-list_refusal (list.BadPage page) = BadPage page
-list_refusal list.DiskFault = DiskFault
-list_refusal list.NoMemory = NoMemory
-
 -- of a page, the disk or memory, and of no table
 abbrev pub IsFault : Refusal → Type 0
 IsFault (BadPage _) = Unit {0}
 IsFault DiskFault = Unit {0}
 IsFault NoMemory = Unit {0}
 IsFault _ = ⊥
-
--- what a walk's fault is to the service
-abbrev pub refusal_of_walk : WalkFault → Refusal
-refusal_of_walk (walk.BadPage page) = BadPage page
-refusal_of_walk walk.DiskFault = DiskFault
 
 -- what the fault of a call on a tree is, under this root. That a key is there, or that what is asked isn't so, was told otherwise by a
 -- call before: then pages that are read don't fit one another, and the root's page is told

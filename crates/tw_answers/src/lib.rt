@@ -1,5 +1,4 @@
-//! What is told of a history that pages keep: its root record, why a service refuses, the tables of refusals, and the
-//! proofs made of its pages.
+//! What is told of a history that pages keep: its root record, the tables of refusals, and the proofs made of its pages.
 #![tactic(auto)]
 
 mod laws;
@@ -17,6 +16,7 @@ pub use limits::{
     thread_refusal, top_refusal,
 };
 pub use proving::{make_link, make_proof, part_under, path_down};
-pub use refusal::{Refusal, is_disk_fault, refusal_of_tree};
+pub use refusal::refusal_of_tree;
 pub use root::{RootRecord, read_root, root_record};
 pub use showing::{make_absence, make_thread, show};
+pub use tw_base::Refusal;

@@ -9,9 +9,8 @@ ghost use Rattle.tw_base.specs.kinds.Lists.{Each};
 ghost use Rattle.tw_answers.specs.Limits.{events_size, clock_refusal as clock_refusal_of, first_long, append_refusal as append_refusal_of, archive_refusal as archive_refusal_of, event_refusal as event_refusal_of, limits_refusal as limits_refusal_of, link_refusal as link_refusal_of, order_refusal as order_refusal_of, own_refusal as own_refusal_of, thread_refusal as thread_refusal_of, top_refusal as top_refusal_of};
 ghost use Rattle.tw_base.specs.history.Limits.{MayRecord};
 
-use crate::refusal::Refusal;
 use tw_base::limits::{LAST_STEP, MOST_EVENT_BYTES, MOST_EVENTS, MOST_STEP_BYTES};
-use tw_base::{Bytes, EventList, Name};
+use tw_base::{Bytes, EventList, Name, Refusal};
 
 /// The bytes of a root record of a history whose steps have no time; one with a time has 8 more.
 pub const ROOT_BYTES: u64 = 112;

@@ -10,10 +10,9 @@ ghost use Rattle.tw_answers.specs.Refusals.{IsFault, IsNoEvent, service_refusals
 ghost use Rattle.tw_answers.specs.Finds.{event_proof, event_proof_bytes, link_proof as link_proof_of, link_to_step, part_to_step, path_down as path_down_of};
 
 use crate::limits::event_refusal;
-use crate::refusal::Refusal;
 use std::alloc::Global;
 use tw_base::limits::LAST_STEP;
-use tw_base::{Bytes, EventList, Hasher, Name, NoMemory};
+use tw_base::{Bytes, EventList, Hasher, Name, NoMemory, Refusal};
 use tw_chain::{LinkProof, Proof, write_proof};
 use tw_disk::Pages;
 use tw_events::event_part;

@@ -6,10 +6,10 @@ ghost use Rattle.tw_answers.specs.Finds.{absence_bytes, absence_proof, entry_thr
 ghost use Rattle.tw_answers.specs.Refusals.{IsFault, IsHasThread, IsNoThread, service_refusals};
 
 use crate::proving::part_under;
-use crate::refusal::{Refusal, refusal_of_tree};
+use crate::refusal::refusal_of_tree;
 use std::alloc::Global;
 use tw_base::limits::LAST_STEP;
-use tw_base::{Ask, Bytes, Entry, Hasher, Key, Name, NoMemory, Root, TreeProof};
+use tw_base::{Ask, Bytes, Entry, Hasher, Key, Name, NoMemory, Refusal, Root, TreeProof};
 use tw_chain::{AbsenceProof, Proof, ThreadProof, write_proof};
 use tw_disk::{Pages, Shelf, Shelved};
 use tw_rbtree::{get, path};

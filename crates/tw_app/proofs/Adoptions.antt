@@ -154,7 +154,9 @@ module _ {D : Type 0} (view : D → DiskView) (a : Around D) (status : ℕ) (h :
   by_result (Err command.InputFault) comes outcome came (inl ends) = inl (inl (ends.0 ∙ ap status_of came, comes))
   by_result (Err command.NoMemory) comes outcome came (inl ends) = inl (inr (inr (ends.0 ∙ ap status_of came)))
   by_result (Err command.DiskFault) comes outcome came (inl ends) = absurd comes
+  by_result (Err command.Taken) comes outcome came (inl ends) = absurd comes
   by_result (Err (command.Refused refusal)) comes outcome came (inl ends) = absurd comes
+  by_result (Err (command.NotFollowed refusal)) comes outcome came (inl ends) = absurd comes
   by_result (Err (command.Unserved cause)) comes outcome came (inl ends) = absurd comes
   by_result (Err (command.Unreadable (BadLine named number))) comes outcome came (inl ends) =
       absurd (good_not_bad told is.anchors_file is.anchor_bytes is.anchors_told anchors is.history_file number

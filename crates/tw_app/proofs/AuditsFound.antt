@@ -16,7 +16,7 @@ use Rattle.tw_words.specs.declared.command.Command.{Command}
 use Rattle.tw_text.specs.Reports.{rejected_text, stands_text}
 use Rattle.tw_text.specs.declared.fault.CommandFault.{CommandFault}
 use Rattle.tw_text.specs.declared.fault.CommandFault.TheVariants.{DiskFault, InputFault, NoMemory, Refused, Unreadable}
-use Rattle.tw_text.specs.declared.fault.CommandFault.TheVariants.{Unserved}
+use Rattle.tw_text.specs.declared.fault.CommandFault.TheVariants.{Unserved, Taken, NotFollowed}
 use Rattle.tw_text.specs.declared.refusal.BadInput.TheVariants.{BadByte, BadLine, Unsound}
 use Rattle.tw_chain.specs.declared.proof.Proof.{Proof}
 use Rattle.tw_chain.specs.Accepting.{Accepts, IsAccepted, held, report_of}
@@ -127,7 +127,9 @@ module _ {D : Type 0} (view : D → DiskView) (a : Around D) (status : ℕ) (byt
   by_result (Err InputFault) comes outcome came (inl ends) = inl (inl (ends.0 ∙ ap status_of came, comes))
   by_result (Err NoMemory) comes outcome came (inl ends) = inl (inr (inr (ends.0 ∙ ap status_of came)))
   by_result (Err DiskFault) comes outcome came (inl ends) = absurd comes.2
+  by_result (Err Taken) comes outcome came (inl ends) = absurd comes.2
   by_result (Err (Refused refusal)) comes outcome came (inl ends) = absurd comes.2
+  by_result (Err (NotFollowed refusal)) comes outcome came (inl ends) = absurd comes.2
   by_result (Err (Unserved cause)) comes outcome came (inl ends) = absurd comes.2
   by_result (Err (Unreadable (BadLine named number))) comes outcome came (inl ends) =
       absurd (good_not_bad a.outside.inputs.told is.anchors_file is.anchor_bytes is.anchors_told anchors is.proof_file

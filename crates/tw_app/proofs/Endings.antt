@@ -14,13 +14,12 @@ use Rattle.tw_disk.specs.Disk.{DiskView}
 use Rattle.tw_disk.specs.Image.{Image}
 use Rattle.tw_outside.specs.TakenBytes.{Appends}
 use Rattle.tw_words.specs.CommandLine.{IsFirstBadWord, command_of}
-use Rattle.tw_text.specs.Faults.{fault_status, fault_text}
+use Rattle.tw_text.specs.Faults.{IsRefused, fault_status, fault_text}
 use Rattle.tw_text.specs.Lines.{no_memory_text}
 use Rattle.tw_text.specs.declared.fault.CommandFault.{CommandFault}
-use Rattle.tw_text.specs.declared.fault.CommandFault.TheVariants.{InputFault, DiskFault, NoMemory, Refused, Unserved}
-use Rattle.tw_text.specs.declared.fault.CommandFault.TheVariants.{Unreadable}
+use Rattle.tw_text.specs.declared.fault.CommandFault.TheVariants.{InputFault, DiskFault, NoMemory, Taken, Refused}
+use Rattle.tw_text.specs.declared.fault.CommandFault.TheVariants.{NotFollowed, Unreadable, Unserved}
 use Rattle.tw_text.specs.declared.refusal.BadInput.{BadInput}
-use Rattle.tw_text.specs.declared.refusal.Refusal.{Refusal}
 use Rattle.tw_text.specs.declared.refusal.StoreCause.{StoreCause}
 use Rattle.tw_text.specs.Reports.{report_text}
 use Rattle.tw_words.specs.declared.command.Command.{Command}
@@ -430,12 +429,16 @@ module _ {D : Type 0} (view : D → DiskView)
         by NoMemory same has written = written
         by _ same has written = absurd (omega (arith, same))
 
-    pub refused : status ≡ 7 → (refusal : Refusal) × IsUndoneRun view a (Refused refusal)
+    pub refused : status ≡ 7 → (fault : CommandFault) × IsRefused fault × IsUndoneRun view a fault
     refused is = says 7 is (λ k. omega arith) (omega arith, omega arith) by
       where
-        by : (f : CommandFault) → 7 ≡ fault_status f → Has (Undone f) → Writes a (fault_text f) → (refusal : Refusal)
-            × IsUndoneRun view a (Refused refusal)
-        by (Refused refusal) same has written = (refusal, said (Refused refusal) (λ none. none) has written)
+        by : (f : CommandFault) → 7 ≡ fault_status f → Has (Undone f) → Writes a (fault_text f) → (fault : CommandFault)
+            × IsRefused fault × IsUndoneRun view a fault
+        by Taken same has written = (Taken, tt, said Taken (λ none. none) has written)
+        by (Refused refusal) same has written =
+            (Refused refusal, tt, said (Refused refusal) (λ none. none) has written)
+        by (NotFollowed refusal) same has written =
+            (NotFollowed refusal, tt, said (NotFollowed refusal) (λ none. none) has written)
         by _ same has written = absurd (omega (arith, same))
 
     -- a run of status 8 tells why its command isn't served
@@ -477,7 +480,9 @@ module _ {D : Type 0} (view : D → DiskView)
     fault_is_status InputFault = inr (inr (inr (inl refl)))
     fault_is_status DiskFault = inr (inr (inr (inr (inr (inl refl)))))
     fault_is_status NoMemory = inr (inr (inr (inr (inr (inr (inl refl))))))
+    fault_is_status Taken = inr (inr (inr (inr (inr (inr (inr (inl refl)))))))
     fault_is_status (Refused refusal) = inr (inr (inr (inr (inr (inr (inr (inl refl)))))))
+    fault_is_status (NotFollowed refusal) = inr (inr (inr (inr (inr (inr (inr (inl refl)))))))
     fault_is_status (Unserved cause) = inr (inr (inr (inr (inr (inr (inr (inr (inl refl))))))))
     fault_is_status (Unreadable bad) = inr (inr (inr (inr (inr (inr (inr (inr (inr (inl refl)))))))))
 

@@ -13,7 +13,7 @@ use Rattle.tw_words.specs.declared.command.Command.TheVariants.{CheckMap, CheckF
 use Rattle.tw_words.specs.CommandLine.{command_of}
 use Rattle.tw_text.specs.declared.fault.CommandFault.{CommandFault}
 use Rattle.tw_text.specs.declared.fault.CommandFault.TheVariants.{InputFault, DiskFault, NoMemory, Refused, Unserved}
-use Rattle.tw_text.specs.declared.fault.CommandFault.TheVariants.{Unreadable}
+use Rattle.tw_text.specs.declared.fault.CommandFault.TheVariants.{Unreadable, Taken, NotFollowed}
 use Rattle.tw_text.specs.declared.refusal.BadInput.TheVariants.{BadByte, BadLine, Unsound}
 use Rattle.tw_evidence.specs.declared.fork.ForkVerdict.{ForkVerdict}
 use Rattle.tw_evidence.specs.declared.fork.ForkVerdict.TheVariants as fork
@@ -120,9 +120,7 @@ module _ (a : Asked) (bytes names : ThreeFiles) (low_told : TellsBytes a.told na
   map-unjudged none (Unreadable (Unsound named step rule)) is = absurd is
   map-unjudged none InputFault is = absurd (none is)
   map-unjudged none NoMemory is = inl tt
-  map-unjudged none DiskFault is = absurd is
-  map-unjudged none (Refused refusal) is = absurd is
-  map-unjudged none (Unserved cause) is = absurd is
+  map-unjudged none _ is = absurd is
 
   map-told : (Rose a.before a.after → ⊥) → (r : Result MapVerdict CommandFault) → MapComes r
       → AreMapsTold bytes names (status_of (outcome_by of_mapped r)) (text_of (outcome_by of_mapped r))
@@ -185,9 +183,15 @@ module _ (a : Asked) (bytes names : ThreeFiles) (low_told : TellsBytes a.told na
   map-fault DiskFault (inl is) = absurd is
   map-fault DiskFault (inr (inl is)) = absurd is.1
   map-fault DiskFault (inr (inr is)) = absurd is.1
+  map-fault Taken (inl is) = absurd is
   map-fault (Refused refusal) (inl is) = absurd is
+  map-fault (NotFollowed refusal) (inl is) = absurd is
+  map-fault Taken (inr (inl is)) = absurd is.1
   map-fault (Refused refusal) (inr (inl is)) = absurd is.1
+  map-fault (NotFollowed refusal) (inr (inl is)) = absurd is.1
+  map-fault Taken (inr (inr is)) = absurd is.1
   map-fault (Refused refusal) (inr (inr is)) = absurd is.1
+  map-fault (NotFollowed refusal) (inr (inr is)) = absurd is.1
   map-fault (Unserved cause) (inl is) = absurd is
   map-fault (Unserved cause) (inr (inl is)) = absurd is.1
   map-fault (Unserved cause) (inr (inr is)) = absurd is.1
@@ -234,11 +238,7 @@ module _ (a : Asked) (evidence_file file evidence anchors : List ℕ) (evidence_
   fork-unjudged none (Unreadable (BadLine named number)) comes = (comes.0, comes.1.bad anchors anchors_told)
   fork-unjudged none InputFault comes = absurd (none comes)
   fork-unjudged none NoMemory comes = tt
-  fork-unjudged none DiskFault comes = absurd comes
-  fork-unjudged none (Refused refusal) comes = absurd comes
-  fork-unjudged none (Unserved cause) comes = absurd comes
-  fork-unjudged none (Unreadable (BadByte named place)) comes = absurd comes
-  fork-unjudged none (Unreadable (Unsound named step rule)) comes = absurd comes
+  fork-unjudged none _ comes = absurd comes
 
   fork-told : (Rose a.before a.after → ⊥) → (r : Result ForkVerdict CommandFault) → ForkComes r
       → IsForkTold file evidence anchors (status_of (outcome_by of_fork r)) (text_of (outcome_by of_fork r))
@@ -272,12 +272,7 @@ module _ (a : Asked) (evidence_file file evidence anchors : List ℕ) (evidence_
     },
   )
   fork-fault NoMemory is = tt
-  fork-fault InputFault is = absurd is
-  fork-fault DiskFault is = absurd is
-  fork-fault (Refused refusal) is = absurd is
-  fork-fault (Unserved cause) is = absurd is
-  fork-fault (Unreadable (BadByte named place)) is = absurd is
-  fork-fault (Unreadable (Unsound named step rule)) is = absurd is
+  fork-fault _ is = absurd is
 
   fork-comes : (status : ℕ) (text : List ℕ) → IsForkTold file evidence anchors status text → ComesTo of_fork ForkComes
       status text

@@ -9,9 +9,8 @@ use Rattle.tw_outside.specs.Files.{TellsBytes}
 use Rattle.tw_outside.specs.Asked.{Asked}
 use Rattle.tw_words.specs.declared.command.Command.{Command}
 use Rattle.tw_text.specs.declared.fault.CommandFault.{CommandFault}
-use Rattle.tw_text.specs.declared.fault.CommandFault.TheVariants.{InputFault, DiskFault, NoMemory, Refused, Unserved}
-use Rattle.tw_text.specs.declared.fault.CommandFault.TheVariants.{Unreadable}
-use Rattle.tw_text.specs.declared.refusal.BadInput.TheVariants.{BadByte, BadLine, Unsound}
+use Rattle.tw_text.specs.declared.fault.CommandFault.TheVariants.{InputFault, NoMemory, Unreadable}
+use Rattle.tw_text.specs.declared.refusal.BadInput.TheVariants.{BadLine}
 use Rattle.tw_chain.specs.declared.verdict.Verdict.{Verdict}
 use Rattle.tw_chain.specs.declared.verdict.Verdict.TheVariants.{Yes, No}
 use Rattle.tw_chain.specs.Binding.{BindsHistories}
@@ -82,11 +81,7 @@ module _ (a : Asked) (proof_file file proof anchors : List ℕ) (proof_told : Te
   unjudged_bytes none (Unreadable (BadLine named number)) comes = (comes.0, comes.1.bad anchors anchors_told)
   unjudged_bytes none InputFault comes = absurd (none comes)
   unjudged_bytes none NoMemory comes = tt
-  unjudged_bytes none DiskFault comes = absurd comes
-  unjudged_bytes none (Refused refusal) comes = absurd comes
-  unjudged_bytes none (Unserved cause) comes = absurd comes
-  unjudged_bytes none (Unreadable (BadByte named place)) comes = absurd comes
-  unjudged_bytes none (Unreadable (Unsound named step rule)) comes = absurd comes
+  unjudged_bytes none _ comes = absurd comes
 
   unjudged_files : (f : CommandFault) → IsUnjudged file anchors f → VerifyFileComes a proof_file file strict (Err f)
   unjudged_files (Unreadable (BadLine named number)) is = (
@@ -99,12 +94,7 @@ module _ (a : Asked) (proof_file file proof anchors : List ℕ) (proof_told : Te
     },
   )
   unjudged_files NoMemory is = tt
-  unjudged_files InputFault is = absurd is
-  unjudged_files DiskFault is = absurd is
-  unjudged_files (Refused refusal) is = absurd is
-  unjudged_files (Unserved cause) is = absurd is
-  unjudged_files (Unreadable (BadByte named place)) is = absurd is
-  unjudged_files (Unreadable (Unsound named step rule)) is = absurd is
+  unjudged_files _ is = absurd is
 
   -- the status and the text of what judging the files comes to are told of their bytes
   told_bytes : (Rose a.before a.after → ⊥) → (r : Result Verdict CommandFault) → VerifyFileComes a proof_file file

@@ -17,11 +17,13 @@ use Rattle.tw_words.specs.CommandLine.{command_of}
 use Rattle.tw_words.specs.declared.command.Command.{Command}
 use Rattle.tw_words.specs.declared.command.Command.TheVariants.{Accuse, Adopt, Atlas, Audit, CheckFork, CheckMap}
 use Rattle.tw_text.specs.declared.fault.CommandFault.{CommandFault}
-use Rattle.tw_text.specs.declared.fault.CommandFault.TheVariants.{DiskFault, InputFault, NoMemory, Refused, Unreadable}
-use Rattle.tw_text.specs.declared.fault.CommandFault.TheVariants.{Unserved}
+use Rattle.tw_text.specs.declared.fault.CommandFault.TheVariants as command
+use Rattle.tw_text.specs.declared.fault.CommandFault.TheVariants.{DiskFault, InputFault, NoMemory, Refused, NotFollowed}
+use Rattle.tw_text.specs.declared.fault.CommandFault.TheVariants.{Unreadable, Unserved}
 use Rattle.tw_text.specs.declared.refusal.BadInput.{BadInput}
 use Rattle.tw_text.specs.declared.refusal.BadInput.TheVariants.{BadByte, BadLine, Unsound}
-use Rattle.tw_text.specs.declared.refusal.Refusal.{Refusal}
+use Rattle.tw_base.specs.declared.history.refusal.FollowRefusal.{FollowRefusal}
+use Rattle.tw_base.specs.declared.history.refusal.Refusal.{Refusal}
 use Rattle.tw_text.specs.declared.refusal.StoreCause.{StoreCause}
 use Rattle.tw_audit.specs.Auditing.{IsAudit}
 use Rattle.tw_atlas.specs.Earliest.{IsAtlasPlanned}
@@ -72,7 +74,9 @@ module _ {X : Type 0} where
   record IsOfFiles (before after : ℕ) (May : Result X CommandFault → Type 0) : Type 0 where
     input : May (Err InputFault) → Rose before after
     disk : May (Err DiskFault) → ⊥
+    taken : May (Err command.Taken) → ⊥
     refused : (refusal : Refusal) → May (Err (Refused refusal)) → ⊥
+    not_followed : (refusal : FollowRefusal) → May (Err (NotFollowed refusal)) → ⊥
     unserved : (cause : StoreCause) → May (Err (Unserved cause)) → ⊥
 
   abbrev Seen : (May : Result X CommandFault → Type 0) → Result X CommandFault → Type 0
@@ -86,7 +90,9 @@ module _ {X : Type 0} where
   seen before after May files (Err InputFault) settled may = absurd settled
   seen before after May files (Err NoMemory) settled may = absurd settled
   seen before after May files (Err DiskFault) settled may = absurd (files.disk may)
+  seen before after May files (Err command.Taken) settled may = absurd (files.taken may)
   seen before after May files (Err (Refused refusal)) settled may = absurd (files.refused refusal may)
+  seen before after May files (Err (NotFollowed refusal)) settled may = absurd (files.not_followed refusal may)
   seen before after May files (Err (Unserved cause)) settled may = absurd (files.unserved cause may)
 
   -- what may come of two runs is one thing
@@ -377,7 +383,9 @@ module _ (a : Asked) where
       record {
         input = λ rose. rose;
         disk = λ came. came;
+        taken = λ came. came;
         refused = λ refusal came. came;
+        not_followed = λ refusal came. came;
         unserved = λ cause came. came;
       }
 
@@ -386,7 +394,9 @@ module _ (a : Asked) where
       record {
         input = λ rose. rose;
         disk = λ came. came;
+        taken = λ came. came;
         refused = λ refusal came. came;
+        not_followed = λ refusal came. came;
         unserved = λ cause came. came;
       }
 
@@ -395,7 +405,9 @@ module _ (a : Asked) where
       record {
         input = λ rose. rose;
         disk = λ came. came;
+        taken = λ came. came;
         refused = λ refusal came. came;
+        not_followed = λ refusal came. came;
         unserved = λ cause came. came;
       }
 
@@ -404,7 +416,9 @@ module _ (a : Asked) where
       record {
         input = λ failed. failed.1;
         disk = λ came. came;
+        taken = λ came. came;
         refused = λ refusal came. came;
+        not_followed = λ refusal came. came;
         unserved = λ cause came. came;
       }
 
@@ -414,7 +428,9 @@ module _ (a : Asked) where
       record {
         input = λ rose. rose;
         disk = λ came. came;
+        taken = λ came. came;
         refused = λ refusal came. came;
+        not_followed = λ refusal came. came;
         unserved = λ cause came. came;
       }
 
@@ -424,7 +440,9 @@ module _ (a : Asked) where
       record {
         input = λ rose. rose;
         disk = λ came. came.2;
+        taken = λ came. came.2;
         refused = λ refusal came. came.2;
+        not_followed = λ refusal came. came.2;
         unserved = λ cause came. came.2;
       }
 
@@ -444,7 +462,9 @@ module _ {D : Type 0} (a : Around D) (status : ℕ) (free : IsHindered a status 
     settled (Err InputFault) may is = free (inl (is, files.input may))
     settled (Err NoMemory) may is = free (inr (inr is))
     settled (Err DiskFault) may is = tt
+    settled (Err command.Taken) may is = tt
     settled (Err (Refused refusal)) may is = tt
+    settled (Err (NotFollowed refusal)) may is = tt
     settled (Err (Unserved cause)) may is = tt
     settled (Err (Unreadable bad)) may is = tt
 

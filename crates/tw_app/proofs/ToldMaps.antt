@@ -10,7 +10,7 @@ use Rattle.tw_words.specs.declared.command.Command.{Command}
 use Rattle.tw_words.specs.declared.command.Command.TheVariants.{CheckMap}
 use Rattle.tw_text.specs.declared.fault.CommandFault.{CommandFault}
 use Rattle.tw_text.specs.declared.fault.CommandFault.TheVariants.{DiskFault, InputFault, NoMemory, Refused, Unreadable}
-use Rattle.tw_text.specs.declared.fault.CommandFault.TheVariants.{Unserved}
+use Rattle.tw_text.specs.declared.fault.CommandFault.TheVariants.{Unserved, Taken, NotFollowed}
 use Rattle.tw_text.specs.declared.refusal.BadInput.{BadInput}
 use Rattle.tw_text.specs.Faults.{fault_text}
 use Rattle.tw_msg.specs.AnchorsFile.{AllGood, anchor_on, lines}
@@ -106,7 +106,9 @@ module _ {D : Type 0} (view : D → DiskView) (a : Around D) (low : LowFile) (hi
   by_result (Err InputFault) comes outcome came (inl ends) = inl (inl (ends.0 ∙ ap status_of came, comes))
   by_result (Err NoMemory) comes outcome came (inl ends) = inl (inr (inr (ends.0 ∙ ap status_of came)))
   by_result (Err DiskFault) comes outcome came (inl ends) = absurd comes
+  by_result (Err Taken) comes outcome came (inl ends) = absurd comes
   by_result (Err (Refused refusal)) comes outcome came (inl ends) = absurd comes
+  by_result (Err (NotFollowed refusal)) comes outcome came (inl ends) = absurd comes
   by_result (Err (Unserved cause)) comes outcome came (inl ends) = absurd comes
   by_result (Err (Unreadable bad)) comes outcome came (inl ends) =
       absurd (maps_not_bad told is.low_file is.high_file is.anchors_file tells low high anchors
@@ -163,9 +165,7 @@ module _ {D : Type 0} (view : D → DiskView) (a : Around D) (bad : BadInput) (s
       )
   refused_by (Err InputFault) comes outcome came (inl ends) = inl (inl (ends.0 ∙ ap status_of came, comes))
   refused_by (Err NoMemory) comes outcome came (inl ends) = inl (inr (inr (ends.0 ∙ ap status_of came)))
-  refused_by (Err DiskFault) comes outcome came (inl ends) = absurd comes
-  refused_by (Err (Refused refusal)) comes outcome came (inl ends) = absurd comes
-  refused_by (Err (Unserved cause)) comes outcome came (inl ends) = absurd comes
+  refused_by _ comes outcome came (inl ends) = absurd comes
 
   abbrev Has : Outcome → Option Command → Type 0
   Has outcome option = MatchOption option (HaveNoForm a.words outcome × IsDiskUntouched view a.outside)

@@ -12,8 +12,8 @@ use Rattle.tw_outside.specs.Files.{Files, TellsBytes}
 use Rattle.tw_words.specs.declared.command.Command.{Command}
 use Rattle.tw_words.specs.declared.command.Command.TheVariants.{Append, Receive, Show, Join, VerifyFile, Strict, CheckMap, Audit, Adopt, Atlas, Accuse, CheckFork, Offer, Heads, Replay}
 use Rattle.tw_text.specs.Lines.{no_memory_text}
-use Rattle.tw_text.specs.declared.fault.CommandFault.TheVariants.{Refused}
-use Rattle.tw_text.specs.declared.refusal.Refusal.{Refusal}
+use Rattle.tw_text.specs.Faults.{IsRefused}
+use Rattle.tw_text.specs.declared.fault.CommandFault.{CommandFault}
 use Rattle.tw_chain.specs.Proofs.{proof_layout}
 use Rattle.tw_evidence.specs.Evidence.{link_proof_layout, thread_proof_layout}
 use Rattle.tw_follow.specs.HeadLists.{Kept}
@@ -136,5 +136,5 @@ module _ {D : Type 0} (view : D → DiskView) (a : Around D) where
       ((status ≡ 0) × IsDoneRun view a)
       ⊎ ((status ≡ 1) × (IsRejectedRun a ⊎ IsGapRun a ⊎ IsAnsweredRun view a 1))
       ⊎ ((status ≡ 6) × Writes a no_memory_text)
-      ⊎ ((status ≡ 7) × ((refusal : Refusal) × IsUndoneRun view a (Refused refusal)))
+      ⊎ ((status ≡ 7) × ((fault : CommandFault) × IsRefused fault × IsUndoneRun view a fault))
       ⊎ ((status ≡ 10) × IsAnsweredRun view a 10)

@@ -4,10 +4,11 @@ ghost use Rattle.std.specs.Prelude.{◌⊎◌, ℕ, List};
 ghost use Rattle.tw_base.specs.kinds.Faults.{Rose};
 ghost use Rattle.tw_base.specs.history.History.{History};
 ghost use Rattle.tw_diskcmd.specs.Disks.{IsLeft, ReadsAsHistory};
+ghost use Rattle.tw_text.specs.Faults.{IsRefused};
 ghost use Rattle.tw_text.specs.Lines.{no_memory_text};
-ghost use Rattle.tw_text.specs.declared.fault.CommandFault.TheVariants.{Refused, Unreadable, Unserved};
+ghost use Rattle.tw_text.specs.declared.fault.CommandFault.{CommandFault};
+ghost use Rattle.tw_text.specs.declared.fault.CommandFault.TheVariants.{Unreadable, Unserved};
 ghost use Rattle.tw_text.specs.declared.refusal.BadInput.{BadInput};
-ghost use Rattle.tw_text.specs.declared.refusal.Refusal.{Refusal};
 ghost use Rattle.tw_text.specs.declared.refusal.StoreCause.{StoreCause};
 ghost use Rattle.tw_follow.specs.HeadLists.{Kept};
 ghost use Rattle.tw_diskcmd.specs.FollowerDisks.{ReadsAsHeads};
@@ -51,9 +52,9 @@ pub fn status_laws<D: Disk>()
     ensures disk_fault { (a : Around D) → EndsAllowed D.view a 5 → IsDiskFaultRun D.view a }
     // Status 6: `no memory` was written whole.
     ensures no_memory { (a : Around D) → EndsAllowed D.view a 6 → Writes a no_memory_text }
-    // Status 7: the words are of a command that isn't done for this refusal, its line was written whole, and the
+    // Status 7: the words are of a command that is refused for this reason, its line was written whole, and the
     // disk is left as is right for that.
-    ensures refused { (a : Around D) → EndsAllowed D.view a 7 → (refusal : Refusal) × IsUndoneRun D.view a (Refused refusal) }
+    ensures refused { (a : Around D) → EndsAllowed D.view a 7 → (fault : CommandFault) × IsRefused fault × IsUndoneRun D.view a fault }
     // Status 8: the words are of a command that isn't done for this cause, which lies in the store, its line was
     // written whole, and the disk is left as is right for that.
     ensures store { (a : Around D) → EndsAllowed D.view a 8 → (cause : StoreCause) × IsUndoneRun D.view a (Unserved cause) }

@@ -9,7 +9,7 @@ ghost use Rattle.tw_text.specs.declared.field.Field.TheVariants.{Named, Number, 
 use crate::atlas::{Arrival, Atlas, Leg};
 use std::alloc::Global;
 use tw_base::{Bytes, Hop, Name, NoMemory};
-use tw_text::{Field, FieldList, print_line};
+use tw_text::{Field, FieldList, print_line, push_numbered, push_word};
 
 /// The lines of an atlas: `atlas NAME STEP`, a line `leg N after M hop FROM STEP BY ARCHIVED` for each
 /// leg, and a line `arrive NAME STEP leg N` for each arrival.
@@ -49,7 +49,7 @@ fn leg_line(alloc: Global, number: u64, leg: &Leg) -> Result<Bytes, NoMemory>
 {
     let mut fields = FieldList::new(alloc);
     fields.push(Field::Number(number))?;
-    put_numbered(alloc, &mut fields, b"after", leg.after)?;
+    push_numbered(alloc, &mut fields, b"after", leg.after as u64)?;
     put_hop(alloc, &mut fields, &leg.hop)?;
     print_line(alloc, b"leg", &fields)
 }
@@ -71,7 +71,7 @@ fn arrival_line(alloc: Global, arrival: &Arrival) -> Result<Bytes, NoMemory>
 {
     let mut fields = FieldList::new(alloc);
     put_step(&mut fields, &arrival.service, arrival.step)?;
-    put_numbered(alloc, &mut fields, b"leg", arrival.leg)?;
+    push_numbered(alloc, &mut fields, b"leg", arrival.leg as u64)?;
     print_line(alloc, b"arrive", &fields)
 }
 
@@ -79,7 +79,7 @@ fn arrival_line(alloc: Global, arrival: &Arrival) -> Result<Bytes, NoMemory>
 fn put_hop(alloc: Global, fields: &mut FieldList, hop: &Hop) -> Result<(), NoMemory>
     ensures { OnOk result (fields.new ≡ fields.old ++ Word (codes "hop") ∷ Named hop.now.from ∷ Number hop.now.step ∷ Named hop.now.by ∷ Number hop.now.archived ∷ []) }
 {
-    put_word(alloc, fields, b"hop")?;
+    push_word(alloc, fields, b"hop")?;
     put_step(fields, &hop.from, hop.step)?;
     put_step(fields, &hop.by, hop.archived)
 }
@@ -90,24 +90,4 @@ fn put_step(fields: &mut FieldList, service: &Name, step: u64) -> Result<(), NoM
 {
     fields.push(Field::Named(*service))?;
     fields.push(Field::Number(step))
-}
-
-/// Puts a word and a number at the end of the fields.
-fn put_numbered(
-    alloc: Global,
-    fields: &mut FieldList,
-    word: &[u8],
-    number: u32,
-) -> Result<(), NoMemory>
-    ensures { OnOk result (fields.new ≡ fields.old ++ Word word.now ∷ Number number ∷ []) }
-{
-    put_word(alloc, fields, word)?;
-    fields.push(Field::Number(number as u64))
-}
-
-/// Puts a word.
-fn put_word(alloc: Global, fields: &mut FieldList, word: &[u8]) -> Result<(), NoMemory>
-    ensures { OnOk result (fields.new ≡ fields.old ++ Word word.now ∷ []) }
-{
-    fields.push(Field::Word(Bytes::from_slice(alloc, word)?))
 }

@@ -8,6 +8,7 @@ pub(crate) mod history_laws;
 pub(crate) mod labels;
 pub(crate) mod question;
 pub(crate) mod received_thread;
+pub(crate) mod refusal;
 pub(crate) mod report;
 pub(crate) mod root;
 pub(crate) mod step_events;

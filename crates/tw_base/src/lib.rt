@@ -68,6 +68,8 @@ pub use history::labels::timed_datum;
 pub use history::labels::tree_node;
 pub use history::question::Question;
 pub use history::received_thread::ReceivedThread;
+pub use history::refusal::FollowRefusal;
+pub use history::refusal::Refusal;
 pub use history::report::Claim;
 pub use history::report::Hop;
 pub use history::report::HopList;

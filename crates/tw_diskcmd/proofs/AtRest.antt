@@ -9,8 +9,8 @@ use Rattle.tw_disk.proofs.Moments.{leaves_weaker}
 use Rattle.tw_pages.specs.Disks.{OneOf}
 use Rattle.tw_pages.proofs.AtRest.{own_rest as own_rest_as}
 use Rattle.tw_answers.specs.Roots.{root_kind}
-use Rattle.tw_answers.specs.declared.refusal.Refusal.{Refusal}
-use Rattle.tw_answers.specs.declared.refusal.Refusal.TheVariants as service
+use Rattle.tw_base.specs.declared.history.refusal.Refusal.{Refusal}
+use Rattle.tw_base.specs.declared.history.refusal.Refusal.TheVariants as service
 use Rattle.tw_pages.specs.Slots.{IsTaken}
 use Rattle.tw_service.specs.Adding.{CallSteps}
 use Rattle.tw_service.specs.Machine.{Call, Reply}

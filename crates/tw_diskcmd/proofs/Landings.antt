@@ -13,8 +13,8 @@ use Rattle.tw_pages.specs.Slots.{IsTaken}
 use Rattle.tw_pages.specs.declared.open.StoreFault.{StoreFault}
 use Rattle.tw_pages.specs.declared.open.StoreFault.TheVariants as store
 use Rattle.tw_text.specs.declared.fault.CommandFault.{CommandFault}
-use Rattle.tw_text.specs.declared.fault.CommandFault.TheVariants.{Refused, Unserved, Unreadable, InputFault, DiskFault}
-use Rattle.tw_text.specs.declared.fault.CommandFault.TheVariants.{NoMemory}
+use Rattle.tw_text.specs.declared.fault.CommandFault.TheVariants.{Taken, Refused, NotFollowed, Unserved, Unreadable}
+use Rattle.tw_text.specs.declared.fault.CommandFault.TheVariants.{InputFault, DiskFault, NoMemory}
 use Rattle.tw_diskcmd.specs.Comes.{DiskComes, FoundDisk, MakeComes, TellsContent, found_disk}
 use Rattle.tw_diskcmd.specs.StoreFaults.{fault_of_store}
 use Rattle.tw_diskcmd.specs.Files.{FileComes, StopsAt}
@@ -28,7 +28,9 @@ use Rattle.tw_diskcmd.specs.Steps.{AddsTo}
 pub told_result : {X : Type 0} (Is : Option Image → Result X CommandFault → Type 0) (t : FoundDisk)
     (r : Result X CommandFault) → TellsContent r → DiskComes Is t r → Is t.found r
 told_result Is t (Ok x) tells is = is
+told_result Is t (Err Taken) tells is = is
 told_result Is t (Err (Refused refusal)) tells is = is
+told_result Is t (Err (NotFollowed refusal)) tells is = is
 told_result Is t (Err (Unserved cause)) tells is = is
 told_result Is t (Err DiskFault) tells is = absurd tells
 told_result Is t (Err NoMemory) tells is = absurd tells
@@ -40,7 +42,9 @@ module _ {T X : Type 0} (a : Asked) (file : List ℕ) (IsBadByte : (bytes : List
   pub comes_of_file : (x : T) (came : Result X CommandFault) → Has x → DiskComes (Is x) t came
       → FileComes a file IsBadByte Has Is t came
   comes_of_file x (Ok value) has comes = (x, has, comes)
+  comes_of_file x (Err Taken) has comes = (x, has, comes)
   comes_of_file x (Err (Refused refusal)) has comes = (x, has, comes)
+  comes_of_file x (Err (NotFollowed refusal)) has comes = (x, has, comes)
   comes_of_file x (Err (Unserved cause)) has comes = (x, has, comes)
   comes_of_file x (Err DiskFault) has comes = (x, has, comes)
   comes_of_file x (Err NoMemory) has comes = tt
@@ -72,7 +76,9 @@ module _ {R S D : Type 0} (kind : RecordKind R) (IsOf : S → Image → Type 0) 
     pub leaves_of_reading : {X : Type 0} → (came : Result X CommandFault) → IsLeft view old new → SettlesStore kind IsOf
         view old new → ReadLeaves kind IsOf view old new came
     leaves_of_reading (Ok value) left settles = (left, settles)
+    leaves_of_reading (Err Taken) left settles = (left, settles)
     leaves_of_reading (Err (Refused refusal)) left settles = (left, settles)
+    leaves_of_reading (Err (NotFollowed refusal)) left settles = (left, settles)
     leaves_of_reading _ left settles = left
 
     pub unopened_reading_leaves : (X : Type 0) (f : StoreFault) (came : CommandFault) → came ≡ fault_of_store f
@@ -116,7 +122,11 @@ module _ {R S D : Type 0} (kind : RecordKind R) (IsOf : S → Image → Type 0) 
         ((x, has, (comes, adds, writes)), spares)
     leaves_of_file old new before after x (Err DiskFault) has comes adds writes nothing spares =
         ((x, has, (adds, writes)), spares)
+    leaves_of_file old new before after x (Err Taken) has comes adds writes nothing spares =
+        (nothing tt, (adds, writes))
     leaves_of_file old new before after x (Err (Refused refusal)) has comes adds writes nothing spares =
+        (nothing tt, (adds, writes))
+    leaves_of_file old new before after x (Err (NotFollowed refusal)) has comes adds writes nothing spares =
         (nothing tt, (adds, writes))
     leaves_of_file old new before after x (Err (Unserved cause)) has comes adds writes nothing spares = nothing tt
     leaves_of_file old new before after x (Err NoMemory) has comes adds writes nothing spares = nothing tt

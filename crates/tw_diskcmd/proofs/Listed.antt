@@ -9,8 +9,8 @@ use Rattle.tw_disk.specs.Found.Found.{Is}
 use Rattle.tw_disk.specs.Image.{Image}
 use Rattle.tw_pages.specs.declared.open.StoreFault.{StoreFault}
 use Rattle.tw_pages.specs.declared.open.StoreFault.TheVariants as store
-use Rattle.tw_follow.specs.declared.refusal.FollowRefusal.{FollowRefusal}
-use Rattle.tw_follow.specs.declared.refusal.FollowRefusal.TheVariants as follower
+use Rattle.tw_base.specs.declared.history.refusal.FollowRefusal.{FollowRefusal}
+use Rattle.tw_base.specs.declared.history.refusal.FollowRefusal.TheVariants as follower
 use Rattle.tw_follow.specs.declared.root.RootRecord.{RootRecord}
 use Rattle.tw_follow.specs.HeadLists.{Kept, RiseTo}
 use Rattle.tw_follow.specs.HeadPages.{found_heads}

@@ -12,8 +12,8 @@ use Rattle.tw_pages.specs.declared.open.StoreFault.{StoreFault}
 use Rattle.tw_pages.specs.declared.open.StoreFault.TheVariants as store
 use Rattle.tw_follow.specs.declared.judging.Offered.{Offered}
 use Rattle.tw_follow.specs.declared.judging.Offered.TheVariants.{Known, Moves}
-use Rattle.tw_follow.specs.declared.refusal.FollowRefusal.{FollowRefusal}
-use Rattle.tw_follow.specs.declared.refusal.FollowRefusal.TheVariants as follower
+use Rattle.tw_base.specs.declared.history.refusal.FollowRefusal.{FollowRefusal}
+use Rattle.tw_base.specs.declared.history.refusal.FollowRefusal.TheVariants as follower
 use Rattle.tw_follow.specs.declared.root.RootRecord.{RootRecord}
 use Rattle.tw_follow.specs.HeadLists.{Kept, last_head}
 use Rattle.tw_follow.specs.Offers.{AnswersOffer, JudgesOffer, judged_offer}
@@ -93,20 +93,13 @@ module _ (bytes : List ℕ) (m : Message) (spells : Spells message_layout bytes 
     pub refused : (r : FollowRefusal) → AnswersOffer sha256 false root.head bytes (Err r)
         → (r ≡ follower.DiskFault → Rose before after) → OfferedMessageComes (found_disk found before after) m
         (Err (fault_of_follower r))
-    refused (follower.Other name) t rose = is_offered _ (told (follower.Other name) tt t)
-        (root.head, told (follower.Other name) tt t)
-    refused (follower.Stale last) t rose = is_offered _ (told (follower.Stale last) tt t)
-        (root.head, told (follower.Stale last) tt t)
-    refused (follower.Forked step kept offered) t rose = is_offered _ (told (follower.Forked step kept offered) tt t)
-        (root.head, told (follower.Forked step kept offered) tt t)
-    refused (follower.BadLink last kept) t rose = is_offered _ (told (follower.BadLink last kept) tt t)
-        (root.head, told (follower.BadLink last kept) tt t)
     refused (follower.BadPage page) t rose =
         absurd (no_page root.head page (judged-err root.head (follower.BadPage page) tt t))
     refused follower.Reopen t rose = absurd (no_reopen root.head (judged-err root.head follower.Reopen tt t))
     refused (follower.Malformed place) t rose = absurd (t.0 m spells)
     refused follower.DiskFault t rose = rose refl
     refused follower.NoMemory t rose = tt
+    refused r t rose = is_offered _ (told r tt t) (root.head, told r tt t)
 
   -- ---- what it leaves
 
@@ -139,15 +132,12 @@ never_unserved m head why is = by (judged_offer sha256 head m) (of-table sha256 
     by : (r : Result Offered FollowRefusal) → IsOfTable r → ◌≡◌ {A = Result Thread CommandFault}
         (Err (fault.Unserved why)) (offer_as_told head r) → ⊥
     by (Ok offered) of e = cc
-    by (Err (follower.Other name)) of e = cc
-    by (Err (follower.Stale last)) of e = cc
-    by (Err (follower.Forked step kept offered)) of e = cc
-    by (Err (follower.BadLink last kept)) of e = cc
     by (Err (follower.BadPage page)) of e = of
     by (Err follower.DiskFault) of e = of
     by (Err follower.Reopen) of e = of
     by (Err (follower.Malformed place)) of e = of
     by (Err follower.NoMemory) of e = of
+    by _ of e = cc
 
 -- a store that isn't opened for a reason of its content
 pub not_opened : (image : Image) (f : StoreFault) → f ≢ store.DiskFault → (f ≡ store.DiskFault) ⊎ IsNotOpenedFor sha256

@@ -9,8 +9,8 @@ use Rattle.tw_disk.specs.Image.{Image}
 use Rattle.tw_msg.specs.declared.message.Message.{Message}
 use Rattle.tw_msg.specs.declared.receipt.Receipt.{Receipt}
 use Rattle.tw_skiplist.specs.declared.head.Head.{Head}
-use Rattle.tw_answers.specs.declared.refusal.Refusal.{Refusal}
-use Rattle.tw_answers.specs.declared.refusal.Refusal.TheVariants as service
+use Rattle.tw_base.specs.declared.history.refusal.Refusal.{Refusal}
+use Rattle.tw_base.specs.declared.history.refusal.Refusal.TheVariants as service
 use Rattle.tw_answers.specs.declared.root.RootRecord.{RootRecord}
 use Rattle.tw_answers.specs.Limits.{own_refusal}
 use Rattle.tw_answers.specs.Refusals.{IsBadPageRefusal, IsFault}

@@ -14,8 +14,8 @@ use Rattle.tw_service.specs.Machine.{AnswersByMachine, Call, Reply}
 use Rattle.tw_answers.specs.Refusals.{IsFault}
 use Rattle.tw_service.specs.Stands.{IsNotOpenedFor, Served}
 use Rattle.tw_service.specs.Stands.Served.{Opened, Unopened}
-use Rattle.tw_answers.specs.declared.refusal.Refusal.{Refusal}
-use Rattle.tw_answers.specs.declared.refusal.Refusal.TheVariants as service
+use Rattle.tw_base.specs.declared.history.refusal.Refusal.{Refusal}
+use Rattle.tw_base.specs.declared.history.refusal.Refusal.TheVariants as service
 use Rattle.tw_answers.specs.declared.root.RootRecord.{RootRecord}
 use Rattle.tw_answers.proofs.TableAnswers.{Of}
 use Rattle.tw_service.proofs.Standing.{served_once, stands_opened}

@@ -7,8 +7,8 @@ use Rattle.tw_base.specs.history.History.{History}
 use Rattle.tw_disk.specs.Image.{Image}
 use Rattle.tw_base.specs.kinds.Faults.{Rose}
 use Rattle.tw_disk.specs.Found.Found.{Is}
-use Rattle.tw_answers.specs.declared.refusal.Refusal.{Refusal}
-use Rattle.tw_answers.specs.declared.refusal.Refusal.TheVariants as service
+use Rattle.tw_base.specs.declared.history.refusal.Refusal.{Refusal}
+use Rattle.tw_base.specs.declared.history.refusal.Refusal.TheVariants as service
 use Rattle.tw_answers.specs.declared.root.RootRecord.{RootRecord}
 use Rattle.tw_service.specs.EventSteps.{with_events_at}
 use Rattle.tw_answers.specs.Refusals.{IsFault}

@@ -11,8 +11,8 @@ use Rattle.tw_pages.proofs.AtRest.{adds_safe, keeps_or_adds_safe, left_adds, lef
 use Rattle.tw_outside.specs.Asked.{Asked}
 use Rattle.tw_text.specs.declared.refusal.StoreCause.{StoreCause}
 use Rattle.tw_text.specs.declared.fault.CommandFault.{CommandFault}
-use Rattle.tw_text.specs.declared.fault.CommandFault.TheVariants.{Refused, Unserved, Unreadable, InputFault, DiskFault}
-use Rattle.tw_text.specs.declared.fault.CommandFault.TheVariants.{NoMemory}
+use Rattle.tw_text.specs.declared.fault.CommandFault.TheVariants.{Taken, Refused, NotFollowed, Unserved, Unreadable}
+use Rattle.tw_text.specs.declared.fault.CommandFault.TheVariants.{InputFault, DiskFault, NoMemory}
 use Rattle.tw_diskcmd.specs.Comes.{FoundDisk, MakeComes}
 use Rattle.tw_diskcmd.specs.Files.{FileComes}
 use Rattle.tw_diskcmd.specs.Leaves.{MakeLeaves, MakeSafe, ReadLeaves, ReadSafe, WriteLeaves, WriteSafe, WritesNothing}
@@ -61,7 +61,9 @@ module _ {R S D : Type 0} (kind : RecordKind R) (IsOf : S → Image → Type 0) 
   read_left : {X : Type 0} → (came : Result X CommandFault) → ReadLeaves kind IsOf view old new came
       → IsLeft view old new
   read_left (Ok value) left = left.0
+  read_left (Err Taken) left = left.0
   read_left (Err (Refused refusal)) left = left.0
+  read_left (Err (NotFollowed refusal)) left = left.0
   read_left _ left = left
 
   pub reading_is_safe : {X : Type 0} → IsSafe view old new {X = X} (ReadLeaves kind IsOf view old new)
@@ -130,7 +132,9 @@ module _ {R S D : Type 0} (kind : RecordKind R) (IsOf : S → Image → Type 0) 
         keeps_or_adds_safe IsOf view as_it_reads Has Next old new left.0.0 left.0.1 left.0.2.0,
         keeps_or_adds_safe (IsWritten kind) view as_it_reads Has NextRecord old new left.0.0 left.0.1 left.0.2.1,
       )
+      write_safe (Err Taken) left = left_writes left.0
       write_safe (Err (Refused refusal)) left = left_writes left.0
+      write_safe (Err (NotFollowed refusal)) left = left_writes left.0
       write_safe (Err (Unreadable bad)) left = left_writes (untouched_left view old new only_now left)
       write_safe (Err InputFault) left = left_writes (untouched_left view old new only_now left)
       write_safe _ left = left_writes left
@@ -141,7 +145,9 @@ module _ {R S D : Type 0} (kind : RecordKind R) (IsOf : S → Image → Type 0) 
           idle : (r : Result X CommandFault) → Leaves r → WritesNothing r → IsLeft view old new
           idle (Ok x) left nothing = absurd nothing
           idle (Err DiskFault) left nothing = absurd nothing
+          idle (Err Taken) left nothing = left.0
           idle (Err (Refused refusal)) left nothing = left.0
+          idle (Err (NotFollowed refusal)) left nothing = left.0
           idle (Err (Unreadable bad)) left nothing = untouched_left view old new only_now left
           idle (Err InputFault) left nothing = untouched_left view old new only_now left
           idle _ left nothing = left

@@ -14,7 +14,7 @@ use Rattle.tw_pages.specs.declared.open.StoreFault.{StoreFault}
 use Rattle.tw_pages.specs.declared.open.StoreFault.TheVariants as store
 use Rattle.tw_pages.specs.declared.store.Store.{Store}
 use Rattle.tw_text.specs.declared.fault.CommandFault.{CommandFault}
-use Rattle.tw_text.specs.declared.fault.CommandFault.TheVariants.{DiskFault, Refused}
+use Rattle.tw_text.specs.declared.fault.CommandFault.TheVariants.{DiskFault, Taken, Refused, NotFollowed}
 use Rattle.tw_diskcmd.specs.StoreFaults.{fault_of_store}
 use Rattle.tw_diskcmd.specs.Leaves.{StaysOr, WritesNothing}
 use Rattle.tw_diskcmd.specs.Steps.{AddsFrom, AddsTo}
@@ -39,12 +39,15 @@ module _ {D S : Type 0} (IsOf : S → Image → Type 0) (view : D → DiskView) 
         → AddsFrom IsOf view old new Next Answers s (Err came)
     refused_adds disk_fault fault_of told_so old new s next is_next any_moment told e came is which = by came is
       where
-        no_refusal : (refusal : _) → Refused refusal ≡ fault_of e → e ≡ disk_fault → ⊥
-        no_refusal refusal is same = (let no : Refused refusal ≡ DiskFault = is ∙ ap fault_of same ∙ told_so in cc)
+        rests_by : (f : CommandFault) → f ≡ fault_of e → f ≢ DiskFault → RestsAtState IsOf view new s
+        rests_by f is other =
+            ⊎_elim (λ same. absurd (other (is ∙ ap fault_of same ∙ told_so))) (λ rests. rests) which
 
         by : (f : CommandFault) → f ≡ fault_of e → AddsFrom IsOf view old new Next Answers s (Err f)
         by DiskFault is = (next, is_next, told, any_moment)
-        by (Refused refusal) is = ⊎_elim (λ same. absurd (no_refusal refusal is same)) (λ rests. rests) which
+        by Taken is = rests_by Taken is (λ e. cc)
+        by (Refused refusal) is = rests_by (Refused refusal) is (λ e. cc)
+        by (NotFollowed refusal) is = rests_by (NotFollowed refusal) is (λ e. cc)
         by _ is = tt
 
     -- from the disk that was opened to the one that was handed in
@@ -56,7 +59,9 @@ module _ {D S : Type 0} (IsOf : S → Image → Type 0) (view : D → DiskView) 
         (it.0, it.1, (it.2, since disk mid new s it.0 run it.3))
     adds_on disk mid new (Err DiskFault) run from = λ s reads. let it = from s reads in
         (it.0, it.1, (it.2, since disk mid new s it.0 run it.3))
+    adds_on disk mid new (Err Taken) run from = λ s reads. from s reads
     adds_on disk mid new (Err (Refused refusal)) run from = λ s reads. from s reads
+    adds_on disk mid new (Err (NotFollowed refusal)) run from = λ s reads. from s reads
     adds_on disk mid new _ run from = tt
 
     -- a disk that wasn't opened

@@ -3,9 +3,9 @@ use Rattle.std.proofs.Common.{ℕ, List, length, Bool, true, false}
 use Rattle.std.specs.Prelude.{Option, Some, None, if◌then◌else◌, nat_le, nat_lt, ◌&&◌}
 use Rattle.std.specs.Str.{bytes_eq}
 use Rattle.tw_base.specs.declared.kinds.limits.TheConstants.{LAST_STEP, MOST_EVENTS, MOST_STEP_BYTES}
-use Rattle.tw_answers.specs.declared.refusal.Refusal.{Refusal}
-use Rattle.tw_answers.specs.declared.refusal.Refusal.TheVariants.{NoStep, NoThread, HasThread, TooMany, TooLong, Full}
-use Rattle.tw_answers.specs.declared.refusal.Refusal.TheVariants.{ClockBack, Own}
+use Rattle.tw_base.specs.declared.history.refusal.Refusal.{Refusal}
+use Rattle.tw_base.specs.declared.history.refusal.Refusal.TheVariants.{NoStep, NoThread, HasThread, TooMany, TooLong}
+use Rattle.tw_base.specs.declared.history.refusal.Refusal.TheVariants.{Full, ClockBack, Own}
 use Rattle.tw_answers.specs.Limits.{append_refusal, clock_refusal, events_size, first_long, full_refusal, is_in_order}
 use Rattle.tw_answers.specs.Limits.{length_refusal, limits_refusal, link_refusal, or_else, order_refusal, own_refusal}
 use Rattle.tw_answers.specs.Limits.{thread_refusal, top_refusal}

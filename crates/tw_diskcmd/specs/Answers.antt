@@ -9,7 +9,7 @@ use Rattle.tw_service.specs.Machine.{Call, IsStepOf}
 use Rattle.tw_service.specs.Machine.Reply.{Refused}
 use Rattle.tw_service.specs.Stands.{IsServed, OpensWith, Served}
 use Rattle.tw_service.specs.Stands.Served.{Opened, Unopened}
-use Rattle.tw_answers.specs.declared.refusal.Refusal.{Refusal}
+use Rattle.tw_base.specs.declared.history.refusal.Refusal.{Refusal}
 use Rattle.tw_answers.specs.declared.root.RootRecord.{RootRecord}
 use Rattle.tw_text.specs.declared.refusal.StoreCause.TheVariants.{BadPage}
 use Rattle.tw_text.specs.declared.fault.CommandFault.{CommandFault}

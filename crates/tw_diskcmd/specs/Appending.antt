@@ -9,7 +9,7 @@ use Rattle.tw_disk.specs.Image.{Image}
 use Rattle.tw_msg.specs.EventsFile.{events_file}
 use Rattle.tw_outside.specs.Asked.{Asked}
 use Rattle.tw_outside.specs.Files.{Files, IsThere, TellsBytes}
-use Rattle.tw_answers.specs.declared.refusal.Refusal.{Refusal as ServiceRefusal}
+use Rattle.tw_base.specs.declared.history.refusal.Refusal.{Refusal as ServiceRefusal}
 use Rattle.tw_disk.specs.Found.{Found}
 use Rattle.tw_service.specs.EventSteps.{with_events_at}
 use Rattle.tw_service.specs.Finds.{found_thread}

@@ -8,7 +8,7 @@ use Rattle.tw_disk.specs.Found.{Found}
 use Rattle.tw_disk.specs.Image.{Image}
 use Rattle.tw_msg.specs.declared.message.Message.{Message}
 use Rattle.tw_msg.specs.Messages.{Leads, message_layout}
-use Rattle.tw_answers.specs.declared.refusal.Refusal.{Refusal as ServiceRefusal}
+use Rattle.tw_base.specs.declared.history.refusal.Refusal.{Refusal as ServiceRefusal}
 use Rattle.tw_answers.specs.declared.root.RootRecord.{RootRecord}
 use Rattle.tw_base.specs.declared.history.question.Question.{Question}
 use Rattle.tw_base.specs.declared.history.question.Question.TheVariants as ask

@@ -4,9 +4,8 @@ use Rattle.tw_base.specs.declared.history.thread.Thread.{Thread}
 use Rattle.tw_base.specs.kinds.Faults.{Rose}
 use Rattle.tw_disk.specs.Image.{Image}
 use Rattle.tw_pages.specs.Slots.{IsTaken}
-use Rattle.tw_text.specs.declared.refusal.Refusal.TheVariants.{Taken}
 use Rattle.tw_text.specs.declared.fault.CommandFault.{CommandFault}
-use Rattle.tw_text.specs.declared.fault.CommandFault.TheVariants.{Refused, Unserved, DiskFault, NoMemory}
+use Rattle.tw_text.specs.declared.fault.CommandFault.TheVariants.{Taken, Refused, NotFollowed, Unserved, DiskFault, NoMemory}
 
 -- what a command met of a disk: what it read as at first, where it tells that, and how often it had failed before and after
 pub record FoundDisk : Type 0 where
@@ -27,7 +26,9 @@ module _ {X : Type 0} where
   -- what a command comes to that opens the store of the disk, where its results are such of what the disk read as; want of memory is free
   abbrev pub DiskComes : (Is : Option Image → Result X CommandFault → Type 0) → FoundDisk → Result X CommandFault → Type 0
   DiskComes Is t (Ok value) = Is t.found (Ok value)
+  DiskComes Is t (Err Taken) = Is t.found (Err Taken)
   DiskComes Is t (Err (Refused refusal)) = Is t.found (Err (Refused refusal))
+  DiskComes Is t (Err (NotFollowed refusal)) = Is t.found (Err (NotFollowed refusal))
   DiskComes Is t (Err (Unserved cause)) = Is t.found (Err (Unserved cause))
   DiskComes Is t (Err DiskFault) = Rose t.before t.after
   DiskComes Is t (Err NoMemory) = Unit {0}
@@ -45,7 +46,7 @@ HasStore found = (image : Image) → found ≡ Some image → IsTaken image
 -- what the making of a store comes to whose thread is this; want of memory is free
 abbrev pub MakeComes : FoundDisk → (new : Thread) → Result Thread CommandFault → Type 0
 MakeComes t new (Ok thread) = MakesStore t.found new thread
-MakeComes t new (Err (Refused Taken)) = HasStore t.found
+MakeComes t new (Err Taken) = HasStore t.found
 MakeComes t new (Err DiskFault) = Rose t.before t.after
 MakeComes t new (Err NoMemory) = Unit {0}
 MakeComes t new _ = ⊥

@@ -6,7 +6,7 @@ use Rattle.tw_pages.specs.Disks.{Adds, AddsSafe, BeginsState, IsLeft, KeepsOrAdd
 use Rattle.tw_pages.specs.Disks.{KeepsState, Settles as SettlesEach, SparesOther as SparesOthers}
 use Rattle.tw_pages.specs.Records.{IsNotOpenedFor, IsWritten, RecordKind, Written}
 use Rattle.tw_text.specs.declared.fault.CommandFault.{CommandFault}
-use Rattle.tw_text.specs.declared.fault.CommandFault.TheVariants.{Refused, Unreadable, InputFault, DiskFault}
+use Rattle.tw_text.specs.declared.fault.CommandFault.TheVariants.{Taken, Refused, NotFollowed, Unreadable, InputFault, DiskFault}
 use Rattle.tw_diskcmd.specs.Files.{OfFile}
 
 -- the results of a command of which nothing was made and no disk failed
@@ -36,7 +36,9 @@ module _ {R S D : Type 0} (kind : RecordKind R) (IsOf : S → Image → Type 0) 
   -- what a command leaves that only reads: nothing was written, and where it was done or refused, the disk became stable
   abbrev pub ReadLeaves : {X : Type 0} → Result X CommandFault → Type 0
   ReadLeaves (Ok value) = IsLeft view old new × SettlesStore
+  ReadLeaves (Err Taken) = IsLeft view old new × SettlesStore
   ReadLeaves (Err (Refused refusal)) = IsLeft view old new × SettlesStore
+  ReadLeaves (Err (NotFollowed refusal)) = IsLeft view old new × SettlesStore
   ReadLeaves _ = IsLeft view old new
 
   abbrev pub ReadSafe : Type 0
@@ -68,7 +70,9 @@ module _ {R S D : Type 0} (kind : RecordKind R) (IsOf : S → Image → Type 0) 
         OfFile Has (λ t. Is t (view old).content (Ok x) × Adds IsOf view (Answers t x) old new × Adds (IsWritten kind) view (AnswersRecord t x) old new) × SparesOtherStore
     WriteLeaves Is Answers AnswersRecord (Err DiskFault) =
         OfFile Has (λ t. KeepsOrAdds IsOf view (Next t) old new × KeepsOrAdds (IsWritten kind) view (NextRecord t) old new) × SparesOtherStore
+    WriteLeaves Is Answers AnswersRecord (Err Taken) = IsLeft view old new × SettlesStore
     WriteLeaves Is Answers AnswersRecord (Err (Refused refusal)) = IsLeft view old new × SettlesStore
+    WriteLeaves Is Answers AnswersRecord (Err (NotFollowed refusal)) = IsLeft view old new × SettlesStore
     WriteLeaves Is Answers AnswersRecord (Err (Unreadable bad)) = new ≡ old
     WriteLeaves Is Answers AnswersRecord (Err InputFault) = new ≡ old
     WriteLeaves Is Answers AnswersRecord _ = IsLeft view old new

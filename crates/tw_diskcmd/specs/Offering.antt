@@ -10,7 +10,7 @@ use Rattle.tw_outside.specs.Files.{Files}
 use Rattle.tw_pages.specs.Records.{Written}
 use Rattle.tw_follow.specs.declared.judging.Offered.{Offered}
 use Rattle.tw_follow.specs.declared.judging.Offered.TheVariants.{Moves}
-use Rattle.tw_follow.specs.declared.refusal.FollowRefusal.{FollowRefusal}
+use Rattle.tw_base.specs.declared.history.refusal.FollowRefusal.{FollowRefusal}
 use Rattle.tw_follow.specs.declared.root.RootRecord.{RootRecord}
 use Rattle.tw_follow.specs.HeadLists.{Kept, last_head, with_head}
 use Rattle.tw_follow.specs.Offers.{answer_to, judged_offer}

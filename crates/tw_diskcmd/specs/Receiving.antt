@@ -11,7 +11,7 @@ use Rattle.tw_msg.specs.declared.receipt.Receipt.{Receipt}
 use Rattle.tw_outside.specs.Asked.{Asked}
 use Rattle.tw_outside.specs.Files.{Files}
 use Rattle.tw_skiplist.specs.declared.head.Head.{Head}
-use Rattle.tw_answers.specs.declared.refusal.Refusal.{Refusal as ServiceRefusal}
+use Rattle.tw_base.specs.declared.history.refusal.Refusal.{Refusal as ServiceRefusal}
 use Rattle.tw_answers.specs.declared.root.RootRecord.{RootRecord}
 use Rattle.tw_answers.specs.Limits.{own_refusal}
 use Rattle.tw_service.specs.Archiving.{ReceivesAs}

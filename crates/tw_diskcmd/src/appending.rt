@@ -24,11 +24,11 @@ use crate::limits::{EVENTS_LIMIT, EVENTS_READ};
 use crate::store_faults::{bad_byte, fault_of_store};
 use crate::worked::Worked;
 use std::alloc::Global;
-use tw_base::{EventList, ReadFault, Sha, Thread};
+use tw_base::{EventList, ReadFault, Refusal, Sha, Thread};
 use tw_disk::Disk;
 use tw_msg::read_events;
 use tw_outside::{Inputs, read_all};
-use tw_service::{Refusal as ServiceRefusal, Service};
+use tw_service::Service;
 use tw_text::{ClaimedTime, CommandFault};
 
 /// Adds a step of the events of the named file to the service on the disk, at this time or at none, and
@@ -110,7 +110,7 @@ fn add<D: Disk>(
     service: &mut Service<D, Sha>,
     events: &EventList,
     time: Option<ClaimedTime>,
-) -> Result<Thread, ServiceRefusal>
+) -> Result<Thread, Refusal>
     ensures { AppendsEvents sha256 D.view events.now time service.old service.new result }
 {
     match time {

@@ -17,9 +17,9 @@ use crate::faults::fault_of_service;
 use crate::store_faults::fault_of_store;
 use crate::worked::Worked;
 use std::alloc::Global;
-use tw_base::{Bytes, Question, Sha};
+use tw_base::{Bytes, Question, Refusal, Sha};
 use tw_disk::Disk;
-use tw_service::{Refusal as ServiceRefusal, Service};
+use tw_service::Service;
 use tw_text::CommandFault;
 
 /// Asks the service on the disk this question.
@@ -41,7 +41,7 @@ pub fn ask<D: Disk>(alloc: Global, disk: D, question: &Question) -> Worked<D, By
 }
 
 /// What a service answered, as the command's result.
-fn came(answer: Result<Bytes, ServiceRefusal>) -> Result<Bytes, CommandFault>
+fn came(answer: Result<Bytes, Refusal>) -> Result<Bytes, CommandFault>
     ensures { result ≡ came_of answer }
 {
     match answer {

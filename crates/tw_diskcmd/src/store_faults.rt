@@ -9,7 +9,7 @@ ghost use Rattle.tw_text.specs.declared.refusal.BadInput.TheVariants.{BadByte};
 use std::alloc::Global;
 use tw_base::{Bytes, NoMemory};
 use tw_pages::StoreFault;
-use tw_text::{BadInput, CommandFault, Refusal, StoreCause};
+use tw_text::{BadInput, CommandFault, StoreCause};
 
 /// The fault of a store that isn't made or opened.
 pub fn fault_of_store(fault: StoreFault) -> CommandFault
@@ -17,7 +17,7 @@ pub fn fault_of_store(fault: StoreFault) -> CommandFault
     ensures { result ≡ fault_of_store_fault fault }
 {
     match fault {
-        StoreFault::Taken => CommandFault::Refused(Refusal::Taken),
+        StoreFault::Taken => CommandFault::Taken,
         StoreFault::Blank => CommandFault::Unserved(StoreCause::Blank),
         StoreFault::NotAStore { slot } => CommandFault::Unserved(StoreCause::NotAStore { slot }),
         StoreFault::DiskFault => CommandFault::DiskFault,

@@ -21,7 +21,7 @@ use Rattle.tw_history.specs.declared.fault.HistoryFault.{HistoryFault}
 use Rattle.tw_history.specs.declared.fault.HistoryFault.TheVariants.{Malformed, NoMemory, TooLong, Unsound}
 use Rattle.tw_history.specs.declared.fault.ShowFault.{ShowFault}
 use Rattle.tw_history.specs.declared.fault.ShowFault.TheVariants as show
-use Rattle.tw_text.specs.declared.refusal.Refusal.TheVariants.{NoStep, NoEvent}
+use Rattle.tw_base.specs.declared.history.refusal.Refusal.TheVariants.{NoStep, NoEvent}
 use Rattle.tw_outside.specs.Asked.{Asked}
 use Rattle.tw_text.specs.declared.fault.CommandFault.{CommandFault}
 use Rattle.tw_filecmd.specs.Faults.{fault_of_history, fault_of_show}

@@ -16,8 +16,7 @@ use Rattle.tw_outside.specs.Asked.{Asked, asked}
 use Rattle.tw_outside.proofs.Counting.{Rose-earlier}
 use Rattle.tw_text.specs.declared.refusal.BadInput.TheVariants.{BadLine}
 use Rattle.tw_text.specs.declared.fault.CommandFault.{CommandFault}
-use Rattle.tw_text.specs.declared.fault.CommandFault.TheVariants.{DiskFault, InputFault, NoMemory, Refused, Unreadable}
-use Rattle.tw_text.specs.declared.fault.CommandFault.TheVariants.{Unserved}
+use Rattle.tw_text.specs.declared.fault.CommandFault.TheVariants.{InputFault, NoMemory, Unreadable}
 use Rattle.tw_filecmd.specs.Feeding.{IsFedFar}
 use Rattle.tw_filecmd.specs.Verifying.{HasAnchors, IsFileJudged, JudgingComes, VerifyFileComes}
 use Rattle.tw_filecmd.proofs.AnchorFronts.{file_limit, first_bad_of_front, good_is_whole}
@@ -74,10 +73,7 @@ judging_since told now before begun after proof anchors strict result same le co
     by (Ok verdict) comes = comes
     by (Err InputFault) comes = Rose-earlier before begun after le comes
     by (Err NoMemory) comes = tt
-    by (Err DiskFault) comes = absurd comes
-    by (Err (Refused refusal)) comes = absurd comes
-    by (Err (Unserved cause)) comes = absurd comes
-    by (Err (Unreadable bad)) comes = absurd comes
+    by _ comes = absurd comes
 
 -- what judging under these anchors comes to, judging under those of the file does
 pub judges_file : (a : Asked) (proof file : List ℕ) (anchors : List Thread) (strict : Bool)
@@ -87,10 +83,7 @@ pub judges_file : (a : Asked) (proof file : List ℕ) (anchors : List Thread) (s
 judges_file a proof file anchors strict (Ok verdict) has comes = (anchors, has, comes)
 judges_file a proof file anchors strict (Err InputFault) has comes = comes
 judges_file a proof file anchors strict (Err NoMemory) has comes = tt
-judges_file a proof file anchors strict (Err DiskFault) has comes = absurd comes
-judges_file a proof file anchors strict (Err (Refused refusal)) has comes = absurd comes
-judges_file a proof file anchors strict (Err (Unserved cause)) has comes = absurd comes
-judges_file a proof file anchors strict (Err (Unreadable bad)) has comes = absurd comes
+judges_file a proof file anchors strict _ has comes = absurd comes
 
 pub refuses_line : (a : Asked) (proof file : List ℕ) (strict : Bool) (number : ℕ) (all_lines : List ℕ)
     (came : CommandFault)

@@ -14,8 +14,7 @@ use Rattle.tw_base.specs.declared.kinds.failure.InputFault.{InputFault as Readin
 use Rattle.tw_base.specs.declared.kinds.failure.InputFault.TheVariants.{Failed, NoMemory}
 use Rattle.tw_text.specs.Faults.{fault_of_input}
 use Rattle.tw_text.specs.declared.fault.CommandFault.{CommandFault}
-use Rattle.tw_text.specs.declared.fault.CommandFault.TheVariants.{DiskFault, InputFault, NoMemory as WantedMemory}
-use Rattle.tw_text.specs.declared.fault.CommandFault.TheVariants.{Refused, Unreadable, Unserved}
+use Rattle.tw_text.specs.declared.fault.CommandFault.TheVariants.{NoMemory as WantedMemory, Unreadable}
 use Rattle.tw_text.specs.declared.refusal.BadInput.{BadInput}
 use Rattle.tw_text.specs.declared.refusal.BadInput.TheVariants.{BadByte, BadLine, Unsound}
 use Rattle.tw_chain.specs.declared.proof.Proof.{Proof}
@@ -210,8 +209,4 @@ module _ (a : Asked) where
   tells_joined files kept joined (Ok (Unfit place)) are joins told =
       leaves_gap files kept place are (subst (λ j. Joins kept j) told joins)
   tells_joined files kept joined (Err WantedMemory) are joins told = tt
-  tells_joined files kept joined (Err InputFault) are joins told = absurd told
-  tells_joined files kept joined (Err DiskFault) are joins told = absurd told
-  tells_joined files kept joined (Err (Refused refusal)) are joins told = absurd told
-  tells_joined files kept joined (Err (Unserved cause)) are joins told = absurd told
-  tells_joined files kept joined (Err (Unreadable bad)) are joins told = absurd told
+  tells_joined files kept joined _ are joins told = absurd told

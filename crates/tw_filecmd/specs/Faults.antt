@@ -6,7 +6,7 @@ use Rattle.tw_history.specs.declared.fault.HistoryFault.TheVariants as history
 use Rattle.tw_history.specs.declared.fault.ShowFault.{ShowFault}
 use Rattle.tw_history.specs.declared.fault.ShowFault.TheVariants as show
 use Rattle.tw_text.specs.declared.refusal.BadInput.TheVariants.{BadByte, Unsound}
-use Rattle.tw_text.specs.declared.refusal.Refusal.TheVariants.{NoStep, NoEvent}
+use Rattle.tw_base.specs.declared.history.refusal.Refusal.TheVariants.{NoStep, NoEvent}
 use Rattle.tw_text.specs.declared.fault.CommandFault.{CommandFault}
 use Rattle.tw_text.specs.declared.fault.CommandFault.TheVariants.{Refused, Unreadable, NoMemory}
 

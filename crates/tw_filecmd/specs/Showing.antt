@@ -18,8 +18,8 @@ use Rattle.tw_history.specs.Refusals.{RefusesEvent}
 use Rattle.tw_history.specs.Rules.{IsFirstBroken}
 use Rattle.tw_history.specs.declared.fault.ShowFault.TheVariants as fault
 use Rattle.tw_text.specs.declared.refusal.BadInput.TheVariants.{BadByte, Unsound}
-use Rattle.tw_text.specs.declared.refusal.Refusal.{Refusal}
-use Rattle.tw_text.specs.declared.refusal.Refusal.TheVariants.{NoStep, NoEvent}
+use Rattle.tw_base.specs.declared.history.refusal.Refusal.{Refusal}
+use Rattle.tw_base.specs.declared.history.refusal.Refusal.TheVariants.{NoStep, NoEvent}
 use Rattle.tw_text.specs.declared.fault.CommandFault.{CommandFault}
 use Rattle.tw_text.specs.declared.fault.CommandFault.TheVariants.{Refused, Unreadable, InputFault, NoMemory}
 

@@ -7,9 +7,9 @@ ghost use Rattle.tw_text.specs.declared.refusal.BadInput.TheVariants.{BadByte, B
 
 use std::alloc::Global;
 use tw_base::limits::MOST_HISTORY_BYTES;
-use tw_base::{Bytes, NoMemory};
+use tw_base::{Bytes, NoMemory, Refusal};
 use tw_history::{HistoryFault, ShowFault};
-use tw_text::{BadInput, CommandFault, Refusal};
+use tw_text::{BadInput, CommandFault};
 
 /// The fault of an anchors file with this first bad line.
 pub(crate) fn bad_line(alloc: Global, file: &str, line: u64) -> Result<CommandFault, NoMemory>

@@ -17,8 +17,9 @@ use Rattle.tw_pages.specs.SameSteps.{is_same_itself}
 use Rattle.tw_follow.specs.declared.follower.Follower.{Follower}
 use Rattle.tw_follow.specs.declared.judging.Offered.{Offered}
 use Rattle.tw_follow.specs.declared.judging.Offered.TheVariants.{Known, Moves}
-use Rattle.tw_follow.specs.declared.refusal.FollowRefusal.{FollowRefusal}
-use Rattle.tw_follow.specs.declared.refusal.FollowRefusal.TheVariants.{Malformed, BadPage, DiskFault, Reopen, NoMemory}
+use Rattle.tw_base.specs.declared.history.refusal.FollowRefusal.{FollowRefusal}
+use Rattle.tw_base.specs.declared.history.refusal.FollowRefusal.TheVariants.{Malformed, BadPage, DiskFault, Reopen}
+use Rattle.tw_base.specs.declared.history.refusal.FollowRefusal.TheVariants.{NoMemory}
 use Rattle.tw_follow.specs.declared.root.RootRecord.{RootRecord}
 use Rattle.tw_follow.specs.Calls.{Offers, TellsHeads}
 use Rattle.tw_follow.specs.Writing.{moved_to}

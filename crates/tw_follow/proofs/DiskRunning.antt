@@ -14,8 +14,8 @@ use Rattle.tw_pages.proofs.Wavering.{ends, holds, wavers_at}
 use Rattle.tw_pages.proofs.States.{serves_for_good}
 use Rattle.tw_msg.specs.declared.message.Message.{Message}
 use Rattle.tw_follow.specs.declared.follower.Follower.{Follower}
-use Rattle.tw_follow.specs.declared.refusal.FollowRefusal.{FollowRefusal}
-use Rattle.tw_follow.specs.declared.refusal.FollowRefusal.TheVariants.{DiskFault, Reopen}
+use Rattle.tw_base.specs.declared.history.refusal.FollowRefusal.{FollowRefusal}
+use Rattle.tw_base.specs.declared.history.refusal.FollowRefusal.TheVariants.{DiskFault, Reopen}
 use Rattle.tw_follow.specs.Calls.{Offers, TellsHeads}
 use Rattle.tw_follow.specs.DiskRuns.{Act, Does, GoesOnByMoves, HasHeadIn, IsFollowerOpened, IsImageOfList}
 use Rattle.tw_follow.specs.DiskRuns.{IsToldByFollowers, KeepsAll, ShowsNone, TellsHead, followers}

@@ -20,9 +20,9 @@ use Rattle.tw_msg.proofs.OwnMessages.{leads-own}
 use Rattle.tw_skipproof.specs.Paths.{climbed}
 use Rattle.tw_follow.specs.declared.judging.Offered.{Offered}
 use Rattle.tw_follow.specs.declared.judging.Offered.TheVariants.{Known, Moves}
-use Rattle.tw_follow.specs.declared.refusal.FollowRefusal.{FollowRefusal}
-use Rattle.tw_follow.specs.declared.refusal.FollowRefusal.TheVariants.{Malformed, Other, Stale, Forked, BadLink}
-use Rattle.tw_follow.specs.declared.refusal.FollowRefusal.TheVariants.{BadPage, DiskFault, Reopen, NoMemory}
+use Rattle.tw_base.specs.declared.history.refusal.FollowRefusal.{FollowRefusal}
+use Rattle.tw_base.specs.declared.history.refusal.FollowRefusal.TheVariants.{Malformed, Other, Stale, Forked, BadLink}
+use Rattle.tw_base.specs.declared.history.refusal.FollowRefusal.TheVariants.{BadPage, DiskFault, Reopen, NoMemory}
 use Rattle.tw_follow.specs.HeadLists.{HasHead}
 use Rattle.tw_follow.specs.Offers.{AnswersOffer, JudgesOffer, answer_to, judge_later, judge_same, judged_offer}
 use Rattle.tw_follow.specs.Offers.{leads_from_head}

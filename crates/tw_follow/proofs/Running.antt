@@ -17,7 +17,7 @@ use Rattle.tw_msg.specs.declared.message.Message.{Message}
 use Rattle.tw_msg.specs.Messages.{message_codec, message_layout, message_texts}
 use Rattle.tw_msg.proofs.MessageCodec.{message-lawful, message-within}
 use Rattle.tw_skipproof.proofs.PathBinding.{climb-binds}
-use Rattle.tw_follow.specs.declared.refusal.FollowRefusal.TheVariants.{DiskFault}
+use Rattle.tw_base.specs.declared.history.refusal.FollowRefusal.TheVariants.{DiskFault}
 use Rattle.tw_follow.specs.HeadLists.{AreHeadsRising, HasHead, Kept, last_head}
 use Rattle.tw_follow.specs.Runs.{MayMove, MayStay, Move, MovesBy, RunsByMoves, moved_texts}
 use Rattle.tw_follow.specs.Runs.Move.{Answered, Reopened, Stopped}

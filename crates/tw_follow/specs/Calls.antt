@@ -6,8 +6,8 @@ use Rattle.tw_disk.specs.Answers.{AnswersAs}
 use Rattle.tw_disk.specs.Disk.{DiskView, LeavesOnly, Reads}
 use Rattle.tw_disk.specs.Image.{Image}
 use Rattle.tw_follow.specs.declared.follower.Follower.{Follower}
-use Rattle.tw_follow.specs.declared.refusal.FollowRefusal.{FollowRefusal}
-use Rattle.tw_follow.specs.declared.refusal.FollowRefusal.TheVariants.{DiskFault, Reopen}
+use Rattle.tw_base.specs.declared.history.refusal.FollowRefusal.{FollowRefusal}
+use Rattle.tw_base.specs.declared.history.refusal.FollowRefusal.TheVariants.{DiskFault, Reopen}
 use Rattle.tw_pages.specs.Commits.{Commits}
 use Rattle.tw_follow.specs.Follows.{Follows, HasSameDisk, IsOver, disk_of, has_failed, head_of, pages_of, record_of}
 use Rattle.tw_follow.specs.HeadLists.{Kept, RiseTo}

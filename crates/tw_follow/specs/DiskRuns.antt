@@ -8,7 +8,7 @@ use Rattle.tw_pages.specs.Runs.{Happening, IsPublished, Values}
 use Rattle.tw_pages.specs.Runs.State.{Closed}
 use Rattle.tw_msg.specs.declared.message.Message.{Message}
 use Rattle.tw_follow.specs.declared.follower.Follower.{Follower}
-use Rattle.tw_follow.specs.declared.refusal.FollowRefusal.{FollowRefusal}
+use Rattle.tw_base.specs.declared.history.refusal.FollowRefusal.{FollowRefusal}
 use Rattle.tw_follow.specs.Calls.{Offers, TellsHeads}
 use Rattle.tw_follow.specs.Follows.{Follows, disk_of, has_failed}
 use Rattle.tw_follow.specs.HeadLists.{AreHeadsRising, Kept}

@@ -8,8 +8,8 @@ use Rattle.tw_msg.specs.Messages.{message_layout}
 use Rattle.tw_skipproof.specs.Paths.{climbed}
 use Rattle.tw_follow.specs.declared.judging.Offered.{Offered}
 use Rattle.tw_follow.specs.declared.judging.Offered.TheVariants.{Known, Moves}
-use Rattle.tw_follow.specs.declared.refusal.FollowRefusal.{FollowRefusal}
-use Rattle.tw_follow.specs.declared.refusal.FollowRefusal.TheVariants.{Malformed, Other, Stale, Forked, BadLink, DiskFault, Reopen, NoMemory}
+use Rattle.tw_base.specs.declared.history.refusal.FollowRefusal.{FollowRefusal}
+use Rattle.tw_base.specs.declared.history.refusal.FollowRefusal.TheVariants.{Malformed, Other, Stale, Forked, BadLink, DiskFault, Reopen, NoMemory}
 
 -- the thread that is answered
 abbrev pub answer_to : Thread → Offered → Thread

@@ -1,10 +1,8 @@
--- What kinds of refusals there are, and which one a fault of a walk over pages becomes.
-use Rattle.tw_disk.specs.declared.walk_fault.WalkFault.{WalkFault}
-use Rattle.tw_disk.specs.declared.walk_fault.WalkFault.TheVariants as walk
+-- What kinds of refusals of a follower there are.
 use Rattle.tw_disk.specs.Answers.{FaultSort}
 use Rattle.tw_disk.specs.Answers.FaultSort.{OfPage, OfDisk, OfMemory, OfCall}
-use Rattle.tw_follow.specs.declared.refusal.FollowRefusal.{FollowRefusal}
-use Rattle.tw_follow.specs.declared.refusal.FollowRefusal.TheVariants.{BadPage, DiskFault, NoMemory}
+use Rattle.tw_base.specs.declared.history.refusal.FollowRefusal.{FollowRefusal}
+use Rattle.tw_base.specs.declared.history.refusal.FollowRefusal.TheVariants.{BadPage, DiskFault, NoMemory}
 
 -- what each refusal says: of a page, of the disk, of memory, and all others of the message or of the value
 abbrev pub follower_refusals : FollowRefusal → FaultSort
@@ -12,11 +10,6 @@ follower_refusals (BadPage page) = OfPage page
 follower_refusals DiskFault = OfDisk
 follower_refusals NoMemory = OfMemory
 follower_refusals _ = OfCall
-
--- what a walk's fault is to the follower
-abbrev pub walk_refusal : WalkFault → FollowRefusal
-walk_refusal (walk.BadPage page) = BadPage page
-walk_refusal walk.DiskFault = DiskFault
 
 -- of a page, the disk or memory, and of no message
 abbrev pub IsFollowerFault : FollowRefusal → Type 0

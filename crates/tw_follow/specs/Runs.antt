@@ -5,8 +5,8 @@ use Rattle.tw_base.specs.format.Formats.{Spells}
 use Rattle.tw_msg.specs.declared.message.Message.{Message}
 use Rattle.tw_msg.specs.Messages.{message_layout, message_texts}
 use Rattle.tw_follow.specs.declared.judging.Offered.TheVariants.{Known, Moves}
-use Rattle.tw_follow.specs.declared.refusal.FollowRefusal.{FollowRefusal}
-use Rattle.tw_follow.specs.declared.refusal.FollowRefusal.TheVariants.{DiskFault}
+use Rattle.tw_base.specs.declared.history.refusal.FollowRefusal.{FollowRefusal}
+use Rattle.tw_base.specs.declared.history.refusal.FollowRefusal.TheVariants.{DiskFault}
 use Rattle.tw_follow.specs.HeadLists.{Kept, last_head, with_head}
 use Rattle.tw_follow.specs.Offers.{JudgesOffer, judged_offer}
 

@@ -5,7 +5,7 @@ use Rattle.tw_disk.specs.declared.limits.TheConstants.{FIRST_PAGE}
 use Rattle.tw_pages.specs.Records.{Written, written_record}
 use Rattle.tw_follow.specs.declared.judging.Offered.{Offered}
 use Rattle.tw_follow.specs.declared.judging.Offered.TheVariants.{Moves}
-use Rattle.tw_follow.specs.declared.refusal.FollowRefusal.{FollowRefusal}
+use Rattle.tw_base.specs.declared.history.refusal.FollowRefusal.{FollowRefusal}
 use Rattle.tw_follow.specs.declared.root.RootRecord.{RootRecord}
 use Rattle.tw_follow.specs.HeadPages.{head_page_bytes}
 use Rattle.tw_follow.specs.Offers.{JudgesOffer, answer_to}

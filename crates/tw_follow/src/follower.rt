@@ -8,11 +8,10 @@ ghost use Rattle.tw_pages.specs.StoreValue.{generation_of, staged_of, is_broken 
 use crate::head_page::{HeadPage, head_page};
 use crate::judging::{Offered, judge};
 use crate::reading::read_heads;
-use crate::refusal::{FollowRefusal, is_disk_fault};
 use crate::root::RootRecord;
 use std::alloc::Global;
 use std::marker::PhantomData;
-use tw_base::{Hasher, Name, ReadFault, Thread, Threads, genesis, see_name};
+use tw_base::{FollowRefusal, Hasher, Name, ReadFault, Thread, Threads, genesis, see_name};
 use tw_disk::{Disk, Pages};
 use tw_msg::{Message, message_laws, read_message};
 use tw_pages::{Recorded, Store, StoreFault};
@@ -219,7 +218,7 @@ impl<D: Disk, H: Hasher> Follower<D, H> {
         match read_heads::<Store<D>>(self.alloc, &mut self.recorded.store, &self.recorded.root) {
             Ok(heads) => Ok(heads),
             Err(refusal) => {
-                self.is_broken = is_disk_fault(&refusal);
+                self.is_broken = refusal.is_disk_fault();
                 Err(refusal)
             }
         }
@@ -227,11 +226,8 @@ impl<D: Disk, H: Hasher> Follower<D, H> {
 
     /// Offers the bytes of a message, and answers the head, which is the message's thread.
     ///
-    /// Refusals, the first that stands: `Reopen` where an earlier call on this value answered
-    /// `DiskFault`; `Malformed` where the bytes are no message; `Other` where the message is of another
-    /// service; `Stale` where its step is below the head's; `Forked` where it is of the head's step with
-    /// another authenticator; `BadLink` where its step is above the head's, and its link doesn't begin at
-    /// the head's step or doesn't climb from the head's authenticator. A message of the head itself is
+    /// Refusals, the first that stands, each where [`FollowRefusal`] says: `Reopen`, `Malformed`, and those of
+    /// the message, from `Other` to `BadLink` in their order there. A message of the head itself is
     /// answered, and nothing is written. All memory is taken before the first write, so after `NoMemory`
     /// the disk is as before. After `DiskFault` this value has to be given up; where a list was kept, the
     /// disk tells its content still, which stands for the list before the call or with the new head;

@@ -4,8 +4,7 @@ ghost use Rattle.std.specs.Prelude.{◌≡◌};
 ghost use Rattle.tw_msg.specs.Messages.{IsLinked};
 ghost use Rattle.tw_follow.specs.Offers.{judged_offer, leads_from_head};
 
-use crate::refusal::FollowRefusal;
-use tw_base::{Hasher, Thread};
+use tw_base::{FollowRefusal, Hasher, Thread};
 use tw_msg::Message;
 use tw_skipproof::climb;
 

@@ -13,7 +13,6 @@ mod laws;
 mod limits;
 mod reading;
 mod record;
-mod refusal;
 mod root;
 
 pub use disk_laws::disk_run_laws;
@@ -21,4 +20,4 @@ pub use follower::Follower;
 pub use judging::Offered;
 pub use laws::{image_laws, offer_laws, root_laws, run_laws};
 pub use limits::limit_laws;
-pub use refusal::FollowRefusal;
+pub use tw_base::FollowRefusal;

@@ -8,11 +8,10 @@ ghost use Rattle.tw_follow.specs.HeadPages.{earlier_page, found_heads, heads_bel
 ghost use Rattle.tw_follow.specs.Refusals.{follower_refusals};
 
 use crate::head_page::{HeadPage, read_head_page};
-use crate::refusal::FollowRefusal;
 use crate::root::RootRecord;
 use std::alloc::Global;
 use tw_base::limits::PAGE_SIZE;
-use tw_base::{Thread, Threads, see_name};
+use tw_base::{FollowRefusal, Thread, Threads, see_name};
 use tw_disk::{Pages, WalkFault, read_page};
 
 /// Reads the page of a head.

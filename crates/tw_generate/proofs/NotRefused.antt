@@ -8,8 +8,8 @@ use Rattle.std.proofs.lemmas.Slice.Eq.{bytes_eq-Decides}
 use Rattle.tw_answers.specs.Limits.{append_refusal, archive_refusal, clock_refusal, events_size, first_long}
 use Rattle.tw_answers.specs.Limits.{full_refusal, length_refusal, limits_refusal, link_refusal, or_else, order_refusal}
 use Rattle.tw_answers.specs.Limits.{thread_refusal, top_refusal}
-use Rattle.tw_answers.specs.declared.refusal.Refusal.{Refusal}
-use Rattle.tw_answers.specs.declared.refusal.Refusal.TheVariants.{Full, NoStep, TooLong, TooMany}
+use Rattle.tw_base.specs.declared.history.refusal.Refusal.{Refusal}
+use Rattle.tw_base.specs.declared.history.refusal.Refusal.TheVariants.{Full, NoStep, TooLong, TooMany}
 use Rattle.tw_archive.specs.Judging.{kept_auth, last_entry_step, last_of_peer}
 use Rattle.tw_base.specs.declared.history.question.Question.{Question}
 use Rattle.tw_base.specs.declared.history.question.Question.TheVariants as ask

@@ -5,8 +5,8 @@ use Rattle.std.proofs.Common.{inr, add-one, arith}
 use Rattle.std.specs.Prelude.{None, Result, Ok, Err, IfErr, MatchOption}
 use Rattle.std.proofs.lemmas.Bool.{cases_lt}
 use Rattle.tw_answers.specs.Refusals.{IsFault, IsTooLong}
-use Rattle.tw_answers.specs.declared.refusal.Refusal.{Refusal}
-use Rattle.tw_answers.specs.declared.refusal.Refusal.TheVariants.{BadPage, DiskFault, NoMemory, Reopen, TooLong}
+use Rattle.tw_base.specs.declared.history.refusal.Refusal.{Refusal}
+use Rattle.tw_base.specs.declared.history.refusal.Refusal.TheVariants.{BadPage, DiskFault, NoMemory, Reopen, TooLong}
 use Rattle.tw_base.specs.declared.history.question.Question.{Question}
 use Rattle.tw_base.specs.declared.history.question.Question.TheVariants.{Export}
 use Rattle.tw_base.specs.declared.history.thread.Thread.{Thread}

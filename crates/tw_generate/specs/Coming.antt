@@ -1,6 +1,6 @@
 -- What comes of every schedule.
 use Rattle.std.specs.Prelude.{ℕ, ◌≤◌, List, [], ◌∷◌, Bool, None, Result, Ok, Err}
-use Rattle.tw_answers.specs.declared.refusal.Refusal.{Refusal}
+use Rattle.tw_base.specs.declared.history.refusal.Refusal.{Refusal}
 use Rattle.tw_audit.specs.declared.finding.AuditFault.{AuditFault}
 use Rattle.tw_audit.specs.declared.finding.AuditFault.TheVariants.{NoMemory, NotHeld}
 use Rattle.tw_audit.specs.declared.finding.Finding.{Finding}

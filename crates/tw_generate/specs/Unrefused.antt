@@ -1,7 +1,7 @@
 -- Services that play histories which refuse no call, so that a call on them fails by the disk or by want of memory alone.
 use Rattle.std.specs.Prelude.{◌≡◌, ℕ, List}
-use Rattle.tw_answers.specs.declared.refusal.Refusal.{Refusal}
-use Rattle.tw_answers.specs.declared.refusal.Refusal.TheVariants.{DiskFault, NoMemory, TooLong}
+use Rattle.tw_base.specs.declared.history.refusal.Refusal.{Refusal}
+use Rattle.tw_base.specs.declared.history.refusal.Refusal.TheVariants.{DiskFault, NoMemory, TooLong}
 use Rattle.tw_base.specs.declared.history.question.Question.{Question}
 use Rattle.tw_base.specs.declared.history.question.Question.TheVariants as ask
 use Rattle.tw_base.specs.history.History.{History}

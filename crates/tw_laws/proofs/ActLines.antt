@@ -3,7 +3,7 @@ use Rattle.std.proofs.Common.{◌≡◌, ℕ, suc, List, [], ◌∷◌, ◌++◌
 use Rattle.std.proofs.Common.{inl, arith}
 use Rattle.std.specs.Prelude.{◌-◌, codes, slice_get, Option, Some, None, MatchOption}
 use Rattle.std.proofs.lemmas.List.{length_push}
-use Rattle.tw_answers.specs.declared.refusal.Refusal.{Refusal}
+use Rattle.tw_base.specs.declared.history.refusal.Refusal.{Refusal}
 use Rattle.tw_base.specs.declared.history.question.Question.TheVariants.{ThreadOut}
 use Rattle.tw_base.specs.format.Formats.{Spells}
 use Rattle.tw_base.specs.history.Family.{AllSound}

@@ -11,8 +11,8 @@ use Rattle.tw_pages.specs.Slots.{IsTaken}
 use Rattle.tw_pages.specs.Store.{Opening, OpensAs}
 use Rattle.tw_pages.specs.declared.open.StoreFault.{StoreFault}
 use Rattle.tw_pages.specs.declared.open.StoreFault.TheVariants.{DiskFault as DiskFailed, Taken}
-use Rattle.tw_answers.specs.declared.refusal.Refusal.{Refusal}
-use Rattle.tw_answers.specs.declared.refusal.Refusal.TheVariants.{BadPage, DiskFault, Malformed, NoMemory, Reopen}
+use Rattle.tw_base.specs.declared.history.refusal.Refusal.{Refusal}
+use Rattle.tw_base.specs.declared.history.refusal.Refusal.TheVariants.{BadPage, DiskFault, Malformed, NoMemory, Reopen}
 use Rattle.tw_answers.specs.declared.root.RootRecord.{RootRecord}
 use Rattle.tw_service.specs.declared.service.Service.{Service}
 use Rattle.tw_msg.specs.declared.message.Message.{Message}

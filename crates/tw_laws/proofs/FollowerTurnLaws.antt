@@ -18,7 +18,7 @@ use Rattle.tw_service.specs.Stands.{IsNotOpenedFor as IsNoService}
 use Rattle.tw_text.specs.declared.fault.CommandFault.{CommandFault}
 use Rattle.tw_follow.specs.declared.judging.Offered.{Offered}
 use Rattle.tw_follow.specs.declared.judging.Offered.TheVariants.{Known, Moves}
-use Rattle.tw_follow.specs.declared.refusal.FollowRefusal.{FollowRefusal}
+use Rattle.tw_base.specs.declared.history.refusal.FollowRefusal.{FollowRefusal}
 use Rattle.tw_follow.specs.DiskRuns.{GoesOnByMoves, IsImageOfList, KeepsAll}
 use Rattle.tw_follow.specs.HeadLists.{Kept, last_head, with_head}
 use Rattle.tw_follow.specs.Offers.{judged_offer}

@@ -25,8 +25,8 @@ use Rattle.tw_chain.specs.Proofs.{proof_codec, proof_layout}
 use Rattle.tw_chain.proofs.ProofCodec.{from_existence, proof-lawful}
 use Rattle.tw_skipproof.specs.declared.existence.Part.{Part}
 use Rattle.tw_skipproof.specs.HistoryProofs.{IsPartOfHistory, MakesExistence}
-use Rattle.tw_answers.specs.declared.refusal.Refusal.{Refusal}
-use Rattle.tw_answers.specs.declared.refusal.Refusal.TheVariants.{NoStep, TooLong}
+use Rattle.tw_base.specs.declared.history.refusal.Refusal.{Refusal}
+use Rattle.tw_base.specs.declared.history.refusal.Refusal.TheVariants.{NoStep, TooLong}
 use Rattle.tw_answers.specs.Limits.{is_in_order, link_refusal, or_else, order_refusal, top_refusal}
 use Rattle.tw_msg.specs.declared.message.Message.{Message}
 use Rattle.tw_msg.specs.HistoryMessages.{thread_at_step}

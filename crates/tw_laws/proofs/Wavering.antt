@@ -11,8 +11,8 @@ use Rattle.tw_pages.specs.Runs.{Acted, Happening, HoldsOnly, IsRunFrom, Laws, St
 use Rattle.tw_pages.specs.Runs.State.{Closed, Open}
 use Rattle.tw_pages.specs.Runs as runs
 use Rattle.tw_pages.proofs.Wavering as wavering
-use Rattle.tw_answers.specs.declared.refusal.Refusal.{Refusal}
-use Rattle.tw_answers.specs.declared.refusal.Refusal.TheVariants.{DiskFault, Reopen}
+use Rattle.tw_base.specs.declared.history.refusal.Refusal.{Refusal}
+use Rattle.tw_base.specs.declared.history.refusal.Refusal.TheVariants.{DiskFault, Reopen}
 use Rattle.tw_service.specs.declared.service.Service.{Service}
 use Rattle.tw_service.specs.Machine.{Call, Reply, last_thread}
 use Rattle.tw_service.specs.Serves.{HasSameDisk, Serves, disk_of, has_failed, head_of, head_thread, name_of}

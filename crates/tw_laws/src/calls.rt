@@ -8,7 +8,7 @@ ghost use Rattle.tw_base.specs.history.History.{History};
 ghost use Rattle.tw_disk.specs.Image.{Image};
 ghost use Rattle.tw_msg.specs.declared.message.Message.{Message};
 ghost use Rattle.tw_msg.specs.Messages.{message_layout};
-ghost use Rattle.tw_answers.specs.declared.refusal.Refusal.TheVariants.{NoMemory};
+ghost use Rattle.tw_base.specs.declared.history.refusal.Refusal.TheVariants.{NoMemory};
 ghost use Rattle.tw_service.specs.Machine.Call.{Append, Receive};
 ghost use Rattle.tw_service.specs.Machine.Reply.{OfReceipt, OfThread};
 ghost use Rattle.tw_service.specs.Serves.{Serves, disk_of};

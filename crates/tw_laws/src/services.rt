@@ -27,7 +27,7 @@ ghost use Rattle.tw_skiplist.specs.declared.head.Head.{Head};
 ghost use Rattle.tw_skiplist.specs.Keeping.{Keeps, archive_at};
 ghost use Rattle.tw_skipproof.specs.HistoryProofs.{IsPathOf, MakesExistence};
 ghost use Rattle.tw_skipproof.specs.declared.path.Path.{Path};
-ghost use Rattle.tw_answers.specs.declared.refusal.Refusal.TheVariants.{NoEvent, NoThread};
+ghost use Rattle.tw_base.specs.declared.history.refusal.Refusal.TheVariants.{NoEvent, NoThread};
 ghost use Rattle.tw_answers.specs.declared.root.RootRecord.{RootRecord};
 ghost use Rattle.tw_answers.specs.Finds.{event_proof, link_proof, path_down, thread_proof};
 ghost use Rattle.tw_answers.specs.Limits.{append_refusal, archive_refusal, clock_refusal};

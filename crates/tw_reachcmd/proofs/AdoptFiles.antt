@@ -235,11 +235,7 @@ pub under_lines : (file lines : List ℕ) (h : History) (proofs : List (List ℕ
     → TakenIs held h proofs r → TakenUnder file lines h proofs r
 under_lines file lines h proofs held (Ok taken) are is = (held, are, is)
 under_lines file lines h proofs held (Err command.NoMemory) are is = tt
-under_lines file lines h proofs held (Err (command.Unreadable bad)) are is = absurd is
-under_lines file lines h proofs held (Err command.InputFault) are is = absurd is
-under_lines file lines h proofs held (Err command.DiskFault) are is = absurd is
-under_lines file lines h proofs held (Err (command.Refused refusal)) are is = absurd is
-under_lines file lines h proofs held (Err (command.Unserved cause)) are is = absurd is
+under_lines file lines h proofs held _ are is = absurd is
 
 -- ---- the history
 
@@ -289,11 +285,7 @@ module _ (a : Asked) (history anchors : List ℕ) (proofs : List (List ℕ)) (by
   refuses_history (command.Unreadable (Unsound named step rule)) is =
       (is.0, (there, (anchors_there, each)), λ all tells. rule_of_file bytes all (read all tells) step rule is.1)
   refuses_history command.NoMemory is = tt
-  refuses_history (command.Unreadable (BadLine named number)) is = absurd is
-  refuses_history command.InputFault is = absurd is
-  refuses_history command.DiskFault is = absurd is
-  refuses_history (command.Refused refusal) is = absurd is
-  refuses_history (command.Unserved cause) is = absurd is
+  refuses_history _ is = absurd is
 
   module _ (h : History) (is_file : IsHistoryFileOf bytes h) where
     of_history : (P : History → Type 0) → P h → OfHistory a.told history P
@@ -325,9 +317,4 @@ module _ (a : Asked) (history anchors : List ℕ) (proofs : List (List ℕ)) (by
       of_history (λ g. Unit {0}) tt,
     )
     takes given (Err command.NoMemory) anchors_read are is = tt
-    takes given (Err (command.Unreadable (BadByte named place))) anchors_read are is = absurd is
-    takes given (Err (command.Unreadable (Unsound named step rule))) anchors_read are is = absurd is
-    takes given (Err command.InputFault) anchors_read are is = absurd is
-    takes given (Err command.DiskFault) anchors_read are is = absurd is
-    takes given (Err (command.Refused refusal)) anchors_read are is = absurd is
-    takes given (Err (command.Unserved cause)) anchors_read are is = absurd is
+    takes given _ anchors_read are is = absurd is

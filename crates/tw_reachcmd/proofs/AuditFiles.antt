@@ -17,8 +17,7 @@ use Rattle.tw_outside.specs.Files.{Files, IsReadTo, IsThere, TellsBytes}
 use Rattle.tw_outside.proofs.Counting.{Rose-earlier}
 use Rattle.tw_text.specs.Faults.{fault_of_input}
 use Rattle.tw_text.specs.declared.fault.CommandFault.{CommandFault}
-use Rattle.tw_text.specs.declared.fault.CommandFault.TheVariants.{DiskFault, InputFault, NoMemory, Refused, Unreadable}
-use Rattle.tw_text.specs.declared.fault.CommandFault.TheVariants.{Unserved}
+use Rattle.tw_text.specs.declared.fault.CommandFault.TheVariants.{InputFault, NoMemory, Unreadable}
 use Rattle.tw_text.specs.declared.refusal.BadInput.{BadInput}
 use Rattle.tw_text.specs.declared.refusal.BadInput.TheVariants.{BadByte, BadLine, Unsound}
 use Rattle.tw_chain.specs.Proofs.{proof_layout}
@@ -125,10 +124,7 @@ under_of a proof anchors histories front f (Ok audited) there far each are comes
 under_of a proof anchors histories front f (Err (Unreadable bad)) there far each are comes =
     (there, hold_none a.told histories f each are bad comes)
 under_of a proof anchors histories front f (Err NoMemory) there far each are comes = tt
-under_of a proof anchors histories front f (Err InputFault) there far each are comes = absurd comes
-under_of a proof anchors histories front f (Err DiskFault) there far each are comes = absurd comes
-under_of a proof anchors histories front f (Err (Refused refusal)) there far each are comes = absurd comes
-under_of a proof anchors histories front f (Err (Unserved cause)) there far each are comes = absurd comes
+under_of a proof anchors histories front f _ there far each are comes = absurd comes
 
 -- where a file couldn't be read
 pub under_failed : (a : Asked) (proof : List ℕ) (anchors : List Thread) (histories : List (List ℕ)) (why : ReadingFault)
@@ -166,9 +162,7 @@ audits_since told now before begun after proof anchors held histories r same le 
     by (Err (Unreadable (BadLine named number))) comes = absurd comes.1.of_files
     by (Err InputFault) comes = Rose-earlier before begun after le comes
     by (Err NoMemory) comes = tt
-    by (Err DiskFault) comes = absurd comes
-    by (Err (Refused refusal)) comes = absurd comes
-    by (Err (Unserved cause)) comes = absurd comes
+    by _ comes = absurd comes
 
 -- a bad line, once all are read
 pub refuses_line : (a : Asked) (proof anchors all : List ℕ) (histories : List (List ℕ)) (fault : CommandFault)
@@ -181,7 +175,4 @@ refuses_line a proof anchors all histories NoMemory proof_there there read each 
 refuses_line a proof anchors all histories (Unreadable (BadByte named place)) proof_there there read each is = absurd is
 refuses_line a proof anchors all histories (Unreadable (Unsound named step rule)) proof_there there read each is =
     absurd is
-refuses_line a proof anchors all histories InputFault proof_there there read each is = absurd is
-refuses_line a proof anchors all histories DiskFault proof_there there read each is = absurd is
-refuses_line a proof anchors all histories (Refused refusal) proof_there there read each is = absurd is
-refuses_line a proof anchors all histories (Unserved cause) proof_there there read each is = absurd is
+refuses_line a proof anchors all histories _ proof_there there read each is = absurd is

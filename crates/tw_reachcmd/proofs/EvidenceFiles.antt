@@ -7,9 +7,8 @@ use Rattle.tw_outside.specs.Asked.{Asked}
 use Rattle.tw_outside.specs.Files.{Files, IsReadTo, IsThere}
 use Rattle.tw_msg.specs.AnchorsFile.{IsFirstBadLine, lines}
 use Rattle.tw_text.specs.declared.fault.CommandFault.{CommandFault}
-use Rattle.tw_text.specs.declared.fault.CommandFault.TheVariants.{DiskFault, InputFault, NoMemory, Refused, Unreadable}
-use Rattle.tw_text.specs.declared.fault.CommandFault.TheVariants.{Unserved}
-use Rattle.tw_text.specs.declared.refusal.BadInput.TheVariants.{BadByte, BadLine, Unsound}
+use Rattle.tw_text.specs.declared.fault.CommandFault.TheVariants.{NoMemory, Unreadable}
+use Rattle.tw_text.specs.declared.refusal.BadInput.TheVariants.{BadLine}
 use Rattle.tw_evidence.specs.declared.fork.ForkReason.TheVariants.{Malformed}
 use Rattle.tw_evidence.specs.declared.fork.ForkVerdict.{ForkVerdict}
 use Rattle.tw_evidence.specs.declared.fork.ForkVerdict.TheVariants.{No}
@@ -74,9 +73,4 @@ pub refuses_anchors : (a : Asked) (file anchors all : List ℕ) (fault : Command
 refuses_anchors a file anchors all (Unreadable (BadLine named number)) file_there there read is =
     (is.0, bad_line_of a.told anchors all there read file number file_there is.1)
 refuses_anchors a file anchors all NoMemory file_there there read is = tt
-refuses_anchors a file anchors all (Unreadable (BadByte named place)) file_there there read is = absurd is
-refuses_anchors a file anchors all (Unreadable (Unsound named step rule)) file_there there read is = absurd is
-refuses_anchors a file anchors all InputFault file_there there read is = absurd is
-refuses_anchors a file anchors all DiskFault file_there there read is = absurd is
-refuses_anchors a file anchors all (Refused refusal) file_there there read is = absurd is
-refuses_anchors a file anchors all (Unserved cause) file_there there read is = absurd is
+refuses_anchors a file anchors all _ file_there there read is = absurd is

@@ -6,9 +6,8 @@ use Rattle.tw_base.specs.format.Formats.{Spells}
 use Rattle.tw_outside.specs.Asked.{Asked}
 use Rattle.tw_outside.specs.Files.{IsReadTo, IsThere}
 use Rattle.tw_text.specs.declared.fault.CommandFault.{CommandFault}
-use Rattle.tw_text.specs.declared.fault.CommandFault.TheVariants.{DiskFault, InputFault, NoMemory, Refused, Unreadable}
-use Rattle.tw_text.specs.declared.fault.CommandFault.TheVariants.{Unserved}
-use Rattle.tw_text.specs.declared.refusal.BadInput.TheVariants.{BadByte, BadLine, Unsound}
+use Rattle.tw_text.specs.declared.fault.CommandFault.TheVariants.{NoMemory, Unreadable}
+use Rattle.tw_text.specs.declared.refusal.BadInput.TheVariants.{BadByte, BadLine}
 use Rattle.tw_tmap.specs.declared.map_file.HighFile.{HighFile}
 use Rattle.tw_tmap.specs.declared.map_file.LowFile.{LowFile}
 use Rattle.tw_tmap.specs.declared.map_verdict.MapVerdict.{MapVerdict}
@@ -53,12 +52,7 @@ module _ (a : Asked) (low one : List ℕ) (low_there : IsThere a.told low) (low_
         there,
       )
   low_refused NoMemory is = tt
-  low_refused (Unreadable (BadLine named number)) is = absurd is
-  low_refused (Unreadable (Unsound named step rule)) is = absurd is
-  low_refused InputFault is = absurd is
-  low_refused DiskFault is = absurd is
-  low_refused (Refused refusal) is = absurd is
-  low_refused (Unserved cause) is = absurd is
+  low_refused _ is = absurd is
 
   high_refused : (l : LowFile) (fault : CommandFault) → Spells low_layout one l → IsPartRead high_layout high other
       (Err fault)
@@ -69,12 +63,7 @@ module _ (a : Asked) (low one : List ℕ) (low_there : IsThere a.told low) (low_
         (is.0, holds_none high_layout high-short a.told high other high_there high_read place is.1.0 is.1.1, there),
       )
   high_refused l NoMemory spelled is = tt
-  high_refused l (Unreadable (BadLine named number)) spelled is = absurd is
-  high_refused l (Unreadable (Unsound named step rule)) spelled is = absurd is
-  high_refused l InputFault spelled is = absurd is
-  high_refused l DiskFault spelled is = absurd is
-  high_refused l (Refused refusal) spelled is = absurd is
-  high_refused l (Unserved cause) spelled is = absurd is
+  high_refused l _ spelled is = absurd is
 
   pub maps_refused : (fault : CommandFault) → AreMapsOf low one high other (Err fault) → CheckMapComes a low high
       anchors (Err fault)
@@ -109,9 +98,4 @@ module _ (a : Asked) (low one : List ℕ) (low_there : IsThere a.told low) (low_
     ),
   )
   maps_judged all read maps (Err NoMemory) low_spelled high_spelled comes = tt
-  maps_judged all read maps (Err (Unreadable (BadByte named place))) low_spelled high_spelled comes = absurd comes
-  maps_judged all read maps (Err (Unreadable (Unsound named step rule))) low_spelled high_spelled comes = absurd comes
-  maps_judged all read maps (Err InputFault) low_spelled high_spelled comes = absurd comes
-  maps_judged all read maps (Err DiskFault) low_spelled high_spelled comes = absurd comes
-  maps_judged all read maps (Err (Refused refusal)) low_spelled high_spelled comes = absurd comes
-  maps_judged all read maps (Err (Unserved cause)) low_spelled high_spelled comes = absurd comes
+  maps_judged all read maps _ low_spelled high_spelled comes = absurd comes

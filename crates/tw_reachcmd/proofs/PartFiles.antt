@@ -7,9 +7,8 @@ use Rattle.tw_base.proofs.lemmas.format.CodecLaws.{spelled-fits}
 use Rattle.tw_outside.specs.Asked.{Asked}
 use Rattle.tw_outside.specs.Files.{Files, IsReadTo, IsThere}
 use Rattle.tw_text.specs.declared.fault.CommandFault.{CommandFault}
-use Rattle.tw_text.specs.declared.fault.CommandFault.TheVariants.{DiskFault, InputFault, NoMemory, Refused, Unreadable}
-use Rattle.tw_text.specs.declared.fault.CommandFault.TheVariants.{Unserved}
-use Rattle.tw_text.specs.declared.refusal.BadInput.TheVariants.{BadByte, BadLine, Unsound}
+use Rattle.tw_text.specs.declared.fault.CommandFault.TheVariants.{NoMemory, Unreadable}
+use Rattle.tw_text.specs.declared.refusal.BadInput.TheVariants.{BadByte}
 use Rattle.tw_chain.specs.declared.proof.LinkProof.{LinkProof}
 use Rattle.tw_chain.specs.declared.proof.ThreadProof.{ThreadProof}
 use Rattle.tw_evidence.specs.declared.evidence.Evidence.{Evidence}
@@ -86,12 +85,7 @@ module _ (a : Asked) (first one : List ℕ) (first_there : IsThere a.told first)
         link_there,
       )
   first_refused link NoMemory link_there is = tt
-  first_refused link (Unreadable (BadLine named number)) link_there is = absurd is
-  first_refused link (Unreadable (Unsound named step rule)) link_there is = absurd is
-  first_refused link InputFault link_there is = absurd is
-  first_refused link DiskFault link_there is = absurd is
-  first_refused link (Refused refusal) link_there is = absurd is
-  first_refused link (Unserved cause) link_there is = absurd is
+  first_refused link _ link_there is = absurd is
 
   second_refused : (link : Option (List ℕ)) (p : ThreadProof) (fault : CommandFault) → IfSome link (IsThere a.told)
       → Spells thread_proof_layout one p
@@ -106,12 +100,7 @@ module _ (a : Asked) (first one : List ℕ) (first_there : IsThere a.told first)
         ),
       ))
   second_refused link p NoMemory link_there spelled is = tt
-  second_refused link p (Unreadable (BadLine named number)) link_there spelled is = absurd is
-  second_refused link p (Unreadable (Unsound named step rule)) link_there spelled is = absurd is
-  second_refused link p InputFault link_there spelled is = absurd is
-  second_refused link p DiskFault link_there spelled is = absurd is
-  second_refused link p (Refused refusal) link_there spelled is = absurd is
-  second_refused link p (Unserved cause) link_there spelled is = absurd is
+  second_refused link p _ link_there spelled is = absurd is
 
   pub refuses_pair : (link : Option (List ℕ)) (fault : CommandFault) → IfSome link (IsThere a.told)
       → ArePairOf first one second other (Err fault)
@@ -154,12 +143,7 @@ module _ (a : Asked) (first one : List ℕ) (first_there : IsThere a.told first)
           ),
         ))
     refuses_link p q NoMemory p_spelled q_spelled is = tt
-    refuses_link p q (Unreadable (BadLine named number)) p_spelled q_spelled is = absurd is
-    refuses_link p q (Unreadable (Unsound named step rule)) p_spelled q_spelled is = absurd is
-    refuses_link p q InputFault p_spelled q_spelled is = absurd is
-    refuses_link p q DiskFault p_spelled q_spelled is = absurd is
-    refuses_link p q (Refused refusal) p_spelled q_spelled is = absurd is
-    refuses_link p q (Unserved cause) p_spelled q_spelled is = absurd is
+    refuses_link p q _ p_spelled q_spelled is = absurd is
 
     pub linked_comes : (p q : ThreadProof) (r : Result Accused CommandFault) → Spells thread_proof_layout one p
         → Spells thread_proof_layout other q

@@ -17,8 +17,7 @@ use Rattle.tw_outside.specs.Asked.{Asked}
 use Rattle.tw_outside.specs.Files.{Files, IsReadTo, IsThere}
 use Rattle.tw_text.specs.Faults.{fault_of_input}
 use Rattle.tw_text.specs.declared.fault.CommandFault.{CommandFault}
-use Rattle.tw_text.specs.declared.fault.CommandFault.TheVariants.{DiskFault, InputFault, NoMemory, Refused, Unreadable}
-use Rattle.tw_text.specs.declared.fault.CommandFault.TheVariants.{Unserved}
+use Rattle.tw_text.specs.declared.fault.CommandFault.TheVariants.{InputFault, NoMemory, Unreadable}
 use Rattle.tw_text.specs.declared.refusal.BadInput.{BadInput}
 use Rattle.tw_text.specs.declared.refusal.BadInput.TheVariants.{BadByte, BadLine, Unsound}
 use Rattle.tw_msg.specs.declared.receipt.Receipt.{Receipt}
@@ -219,6 +218,4 @@ atlas_of a start files result fault is comes =
     by (Unreadable (Unsound named step rule)) comes = absurd comes
     by InputFault comes = comes
     by NoMemory comes = tt
-    by DiskFault comes = absurd comes
-    by (Refused refusal) comes = absurd comes
-    by (Unserved cause) comes = absurd comes
+    by _ comes = absurd comes

@@ -9,8 +9,8 @@ use Rattle.tw_service.specs.EventSteps.{with_events_at}
 use Rattle.tw_service.specs.Machine.{AnswersByMachine, Call, IsStepOf, Reply, append_table, last_thread}
 use Rattle.tw_service.specs.Machine.Call.{Append}
 use Rattle.tw_service.specs.Machine.Reply.{OfThread, Refused}
-use Rattle.tw_answers.specs.declared.refusal.Refusal.{Refusal}
-use Rattle.tw_answers.specs.declared.refusal.Refusal.TheVariants.{BadPage, DiskFault, Reopen, NoMemory}
+use Rattle.tw_base.specs.declared.history.refusal.Refusal.{Refusal}
+use Rattle.tw_base.specs.declared.history.refusal.Refusal.TheVariants.{BadPage, DiskFault, Reopen, NoMemory}
 
 -- ---- a disk fault is a fault
 

@@ -12,8 +12,8 @@ use Rattle.tw_pages.specs.Rests.{RestsWith}
 use Rattle.tw_pages.proofs.Written.{only_same, still_rests}
 use Rattle.tw_pages.specs.Same.{IsSameStore}
 use Rattle.tw_pages.specs.SameSteps.{is_same_itself}
-use Rattle.tw_answers.specs.declared.refusal.Refusal.{Refusal}
-use Rattle.tw_answers.specs.declared.refusal.Refusal.TheVariants.{DiskFault}
+use Rattle.tw_base.specs.declared.history.refusal.Refusal.{Refusal}
+use Rattle.tw_base.specs.declared.history.refusal.Refusal.TheVariants.{DiskFault}
 use Rattle.tw_answers.specs.declared.root.RootRecord.{RootRecord}
 use Rattle.tw_service.specs.declared.service.Service.{Service}
 use Rattle.tw_service.specs.Asking.{AsksOr}

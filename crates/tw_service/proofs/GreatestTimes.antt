@@ -6,7 +6,7 @@ use Rattle.std.proofs.lemmas.Bool.{ltb-false}
 use Rattle.std.proofs.lemmas.List.{append-nil}
 use Rattle.tw_base.specs.history.Limits.{IsTimeWithinLimits}
 use Rattle.tw_base.specs.kinds.Lists.{Each}
-use Rattle.tw_answers.specs.declared.refusal.Refusal.TheVariants.{ClockBack}
+use Rattle.tw_base.specs.declared.history.refusal.Refusal.TheVariants.{ClockBack}
 use Rattle.tw_answers.specs.Limits.{clock_refusal}
 use Rattle.tw_service.specs.Stands.{greater, greatest}
 

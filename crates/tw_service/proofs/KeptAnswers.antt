@@ -25,8 +25,8 @@ use Rattle.tw_skiplist.specs.Readings.{found_link, found_proof, found_skip_path}
 use Rattle.tw_disk.proofs.FoundLaws.{is_on}
 use Rattle.tw_skiplist.proofs.KeptEvents.{events_are}
 use Rattle.tw_skiplist.proofs.KeptReadings.{link_found, path_found, proof_found}
-use Rattle.tw_answers.specs.declared.refusal.Refusal.{Refusal}
-use Rattle.tw_answers.specs.declared.refusal.Refusal.TheVariants.{NoEvent}
+use Rattle.tw_base.specs.declared.history.refusal.Refusal.{Refusal}
+use Rattle.tw_base.specs.declared.history.refusal.Refusal.TheVariants.{NoEvent}
 use Rattle.tw_answers.specs.Finds.{event_proof, event_proof_bytes, link_proof, link_to_step, part_to_step, path_down}
 use Rattle.tw_answers.specs.Finds.{unless}
 use Rattle.tw_service.specs.Finds.{found_thread, thread_at}

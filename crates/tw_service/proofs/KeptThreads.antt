@@ -48,8 +48,8 @@ use Rattle.tw_skiplist.specs.declared.info.StepProof.{StepProof}
 use Rattle.tw_skiplist.specs.Infos.{IsInfoOf}
 use Rattle.tw_skiplist.specs.Readings.{found_proof}
 use Rattle.tw_skiplist.proofs.KeptReadings.{proof_found}
-use Rattle.tw_answers.specs.declared.refusal.Refusal.{Refusal}
-use Rattle.tw_answers.specs.declared.refusal.Refusal.TheVariants.{BadPage, HasThread, NoThread}
+use Rattle.tw_base.specs.declared.history.refusal.Refusal.{Refusal}
+use Rattle.tw_base.specs.declared.history.refusal.Refusal.TheVariants.{BadPage, HasThread, NoThread}
 use Rattle.tw_answers.specs.declared.root.RootRecord.{RootRecord}
 use Rattle.tw_answers.specs.Finds.{IsRefusalFound, absence_bytes, absence_in, absence_proof, entry_thread}
 use Rattle.tw_answers.specs.Finds.{found_absence_of, found_thread_of, part_to_step, thread_bytes, thread_proof}

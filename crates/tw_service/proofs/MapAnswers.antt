@@ -15,8 +15,8 @@ use Rattle.tw_skiplist.specs.declared.info.StepInfo.{StepInfo}
 use Rattle.tw_skiplist.specs.Readings.{found_proof, found_step}
 use Rattle.tw_tmap.specs.declared.map_file.LowPart.{LowPart}
 use Rattle.tw_tmap.specs.MapFiles.{high_bytes}
-use Rattle.tw_answers.specs.declared.refusal.Refusal.{Refusal}
-use Rattle.tw_answers.specs.declared.refusal.Refusal.TheVariants.{BadPage, DiskFault, NoMemory}
+use Rattle.tw_base.specs.declared.history.refusal.Refusal.{Refusal}
+use Rattle.tw_base.specs.declared.history.refusal.Refusal.TheVariants.{BadPage, DiskFault, NoMemory}
 use Rattle.tw_answers.specs.Finds.{tree_shown}
 use Rattle.tw_answers.specs.Refusals.{IsFault, service_refusals}
 use Rattle.tw_tmap.specs.Checking.{first_after, last_before}

@@ -30,9 +30,9 @@ use Rattle.tw_chain.proofs.Completeness.{Accepts-made, own-accepted}
 use Rattle.tw_skipproof.specs.HistoryProofs.{MakesExistence}
 use Rattle.tw_history.specs.Refusals.{ReadsHistory}
 use Rattle.tw_service.proofs.ShortFiles.{reads-back}
-use Rattle.tw_answers.specs.declared.refusal.Refusal.{Refusal}
-use Rattle.tw_answers.specs.declared.refusal.Refusal.TheVariants.{BadPage, DiskFault, HasThread, NoEvent, NoMemory}
-use Rattle.tw_answers.specs.declared.refusal.Refusal.TheVariants.{NoThread, TooLong}
+use Rattle.tw_base.specs.declared.history.refusal.Refusal.{Refusal}
+use Rattle.tw_base.specs.declared.history.refusal.Refusal.TheVariants.{BadPage, DiskFault, HasThread, NoEvent, NoMemory}
+use Rattle.tw_base.specs.declared.history.refusal.Refusal.TheVariants.{NoThread, TooLong}
 use Rattle.tw_answers.specs.declared.root.RootRecord.{RootRecord}
 use Rattle.tw_answers.specs.Finds.{IsRefusalFound, link_proof, path_down, written_found}
 use Rattle.tw_answers.specs.Limits.{broken_refusal, has_thread, no_thread, or_else, thread_refusal}

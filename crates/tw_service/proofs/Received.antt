@@ -16,9 +16,9 @@ use Rattle.tw_pages.specs.Same.{IsSameStore, store_list}
 use Rattle.tw_pages.specs.SameSteps.{is_same_itself}
 use Rattle.tw_pages.specs.StoreValue.{is_broken, store_disk}
 use Rattle.tw_archive.specs.Judging.{judged_message}
-use Rattle.tw_answers.specs.declared.refusal.Refusal.{Refusal}
-use Rattle.tw_answers.specs.declared.refusal.Refusal.TheVariants.{Own, Forked, Stale, BadLink, Full, ClockBack}
-use Rattle.tw_answers.specs.declared.refusal.Refusal.TheVariants.{DiskFault, Reopen}
+use Rattle.tw_base.specs.declared.history.refusal.Refusal.{Refusal}
+use Rattle.tw_base.specs.declared.history.refusal.Refusal.TheVariants.{Own, Forked, Stale, BadLink, Full, ClockBack}
+use Rattle.tw_base.specs.declared.history.refusal.Refusal.TheVariants.{DiskFault, Reopen}
 use Rattle.tw_answers.specs.declared.root.RootRecord.{RootRecord}
 use Rattle.tw_answers.specs.Limits.{own_refusal}
 use Rattle.tw_answers.specs.Refusals.{IsBadPageRefusal, IsFault}

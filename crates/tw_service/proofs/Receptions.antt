@@ -43,9 +43,9 @@ use Rattle.tw_archive.proofs.SoundNext.{same-length}
 use Rattle.tw_skiplist.proofs.KeptReadings.{step_found}
 use Rattle.tw_skiplist.specs.Readings.{found_step}
 use Rattle.tw_service.specs.declared.receiving.Reception.TheVariants as becomes
-use Rattle.tw_answers.specs.declared.refusal.Refusal.{Refusal}
-use Rattle.tw_answers.specs.declared.refusal.Refusal.TheVariants as refused
-use Rattle.tw_answers.specs.declared.refusal.Refusal.TheVariants.{Full, ClockBack}
+use Rattle.tw_base.specs.declared.history.refusal.Refusal.{Refusal}
+use Rattle.tw_base.specs.declared.history.refusal.Refusal.TheVariants as refused
+use Rattle.tw_base.specs.declared.history.refusal.Refusal.TheVariants.{Full, ClockBack}
 use Rattle.tw_answers.specs.declared.root.RootRecord.{RootRecord}
 use Rattle.tw_service.specs.Finds.{found_receipt, found_reception, found_room, receipt_of, room_in}
 use Rattle.tw_answers.specs.Limits.{archive_refusal, clock_refusal, full_refusal}

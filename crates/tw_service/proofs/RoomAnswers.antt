@@ -9,9 +9,9 @@ use Rattle.tw_disk.proofs.FoundLaws.{bad_ends, is_on}
 use Rattle.tw_skiplist.specs.declared.fault.ListFault.{ListFault}
 use Rattle.tw_skiplist.specs.declared.fault.ListFault.TheVariants as list
 use Rattle.tw_skiplist.specs.Appended.{appended}
-use Rattle.tw_skiplist.specs.ListFaults.{list_faults}
-use Rattle.tw_answers.specs.declared.refusal.Refusal.{Refusal}
-use Rattle.tw_answers.specs.declared.refusal.Refusal.TheVariants as refused
+use Rattle.tw_skiplist.specs.ListFaults.{list_faults, list_refusal}
+use Rattle.tw_base.specs.declared.history.refusal.Refusal.{Refusal}
+use Rattle.tw_base.specs.declared.history.refusal.Refusal.TheVariants as refused
 use Rattle.tw_answers.specs.declared.root.RootRecord.{RootRecord}
 use Rattle.tw_service.specs.Archiving.{ArchivesAs}
 use Rattle.tw_base.specs.declared.history.root.Root.{Root}
@@ -21,7 +21,7 @@ use Rattle.tw_rbtree.specs.FaultWords.{tree_faults}
 use Rattle.tw_rbtree.specs.declared.fault.TreeFault.{TreeFault}
 use Rattle.tw_rbtree.specs.declared.fault.TreeFault.TheVariants.{Present, Untrue, BadPage, DiskFault, NoMemory}
 use Rattle.tw_service.specs.Finds.{found_archived, found_room, receipt_at, room_in}
-use Rattle.tw_answers.specs.Refusals.{list_refusal, refusal_of_tree, service_refusals}
+use Rattle.tw_answers.specs.Refusals.{refusal_of_tree, service_refusals}
 
 module _ (root : Root) where
   -- a refused insert says of the pages what it found in them

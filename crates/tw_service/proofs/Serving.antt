@@ -28,7 +28,7 @@ use Rattle.tw_pages.specs.declared.store.Store.{Store}
 use Rattle.tw_pages.specs.Same.{IsSameStore}
 use Rattle.tw_pages.specs.StoreValue.{store_disk}
 use Rattle.tw_skiplist.specs.declared.head.Head.{Head}
-use Rattle.tw_answers.specs.declared.refusal.Refusal.{Refusal}
+use Rattle.tw_base.specs.declared.history.refusal.Refusal.{Refusal}
 use Rattle.tw_answers.specs.declared.limits.TheConstants.{MOST_PAGES_OF_A_STEP}
 use Rattle.tw_answers.specs.declared.root.RootRecord.{RootRecord}
 use Rattle.tw_answers.specs.Limits.{clock_refusal}

@@ -27,7 +27,7 @@ use Rattle.tw_skiplist.specs.Appended.{appended, new_step, next_of, put_behind}
 use Rattle.tw_skiplist.specs.Walks.{next_links}
 use Rattle.tw_steppage.specs.declared.link.StepRef.{StepRef}
 use Rattle.tw_answers.specs.Limits.{append_refusal}
-use Rattle.tw_answers.specs.declared.refusal.Refusal.TheVariants.{DiskFault}
+use Rattle.tw_base.specs.declared.history.refusal.Refusal.TheVariants.{DiskFault}
 use Rattle.tw_answers.specs.declared.root.RootRecord.{RootRecord}
 use Rattle.tw_answers.specs.Roots.{HasLastPage, IsAllowed, root_kind}
 use Rattle.tw_answers.proofs.RootLaws.{root-fits, root-name, root-time}

@@ -33,8 +33,8 @@ use Rattle.tw_pages.specs.StoreValue.{is_broken, staged_of, store_disk}
 use Rattle.tw_archive.specs.Archives.{MayArchive}
 use Rattle.tw_archive.specs.Judging.{judged_message}
 use Rattle.tw_skiplist.specs.declared.head.Head.{Head}
-use Rattle.tw_answers.specs.declared.refusal.Refusal.{Refusal}
-use Rattle.tw_answers.specs.declared.refusal.Refusal.TheVariants.{Own, BadPage, DiskFault, NoMemory}
+use Rattle.tw_base.specs.declared.history.refusal.Refusal.{Refusal}
+use Rattle.tw_base.specs.declared.history.refusal.Refusal.TheVariants.{Own, BadPage, DiskFault, NoMemory}
 use Rattle.tw_answers.specs.declared.root.RootRecord.{RootRecord}
 use Rattle.tw_answers.specs.Finds.{IsFoundAnswer}
 use Rattle.tw_answers.specs.Limits.{clock_refusal, own_refusal}

@@ -17,7 +17,7 @@ use Rattle.tw_rbtree.specs.Putting.{PutsIn}
 use Rattle.tw_rbtree.specs.Standing.{HasNamed, Named, StandsWith}
 use Rattle.tw_skiplist.specs.declared.head.Head.{Head}
 use Rattle.tw_skiplist.specs.Appended.{appended}
-use Rattle.tw_answers.specs.declared.refusal.Refusal.{Refusal}
+use Rattle.tw_base.specs.declared.history.refusal.Refusal.{Refusal}
 use Rattle.tw_answers.specs.declared.root.RootRecord.{RootRecord}
 use Rattle.tw_answers.specs.Finds.{IsFoundAnswer}
 use Rattle.tw_service.specs.declared.receiving.Reception.{Reception}

@@ -6,9 +6,9 @@ use Rattle.tw_disk.specs.Disk.{DiskView, LeavesOnly}
 use Rattle.tw_disk.specs.Found.{Found}
 use Rattle.tw_disk.specs.Image.{Image}
 use Rattle.tw_pages.specs.Records.{IsWritten, written_record}
-use Rattle.tw_answers.specs.declared.refusal.Refusal.{Refusal}
+use Rattle.tw_base.specs.declared.history.refusal.Refusal.{Refusal}
 use Rattle.tw_answers.specs.Roots.{root_kind}
-use Rattle.tw_answers.specs.declared.refusal.Refusal.TheVariants.{DiskFault}
+use Rattle.tw_base.specs.declared.history.refusal.Refusal.TheVariants.{DiskFault}
 use Rattle.tw_service.specs.declared.service.Service.{Service}
 use Rattle.tw_answers.specs.Finds.{IsFoundAnswer}
 use Rattle.tw_service.specs.Answered.{HasFewFor, IsAcceptedFor}

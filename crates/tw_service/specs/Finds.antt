@@ -14,7 +14,7 @@ use Rattle.tw_rbtree.specs.Answers.{found_insert}
 use Rattle.tw_skiplist.specs.declared.head.Head.{Head}
 use Rattle.tw_skiplist.specs.Appended.{appended}
 use Rattle.tw_skiplist.specs.Readings.{found_step}
-use Rattle.tw_answers.specs.declared.refusal.Refusal.{Refusal}
+use Rattle.tw_base.specs.declared.history.refusal.Refusal.{Refusal}
 use Rattle.tw_answers.specs.Finds.{unless}
 use Rattle.tw_answers.specs.Limits.{append_refusal}
 use Rattle.tw_service.specs.declared.receiving.Reception.{Reception}

@@ -24,8 +24,8 @@ use Rattle.tw_skipproof.specs.HistoryProofs.{MakesExistence}
 use Rattle.tw_service.specs.EventSteps.{with_events_at}
 use Rattle.tw_service.specs.declared.receiving.Reception.{Reception}
 use Rattle.tw_service.specs.declared.receiving.Reception.TheVariants.{Refuse, Known, Archive}
-use Rattle.tw_answers.specs.declared.refusal.Refusal.{Refusal}
-use Rattle.tw_answers.specs.declared.refusal.Refusal.TheVariants.{BadPage, DiskFault, Reopen, NoMemory}
+use Rattle.tw_base.specs.declared.history.refusal.Refusal.{Refusal}
+use Rattle.tw_base.specs.declared.history.refusal.Refusal.TheVariants.{BadPage, DiskFault, Reopen, NoMemory}
 use Rattle.tw_answers.specs.Limits.{append_refusal, own_refusal}
 use Rattle.tw_service.specs.Mapping.{MakesHigh, MakesLow}
 use Rattle.tw_base.specs.declared.history.question.Question.{Question}

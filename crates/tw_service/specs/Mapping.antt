@@ -17,7 +17,7 @@ use Rattle.tw_tmap.specs.Checking.{first_after, last_before}
 use Rattle.tw_tmap.specs.MapFiles.{high_bytes, high_layout, low_bytes, low_layout}
 use Rattle.tw_tmap.specs.OwnFiles.{IsOwnHigh, IsOwnLow}
 use Rattle.tw_answers.specs.Finds.{tree_shown}
-use Rattle.tw_answers.specs.declared.refusal.Refusal.{Refusal}
+use Rattle.tw_base.specs.declared.history.refusal.Refusal.{Refusal}
 
 -- what a low file shows of the step before
 abbrev pub mapped_low_part : StepProof → TreeProof → LowPart

@@ -6,7 +6,7 @@ use Rattle.tw_disk.specs.Answers.{Next}
 use Rattle.tw_disk.specs.Found.{Found}
 use Rattle.tw_disk.specs.Found.Found.{Is, Bad}
 use Rattle.tw_skiplist.specs.declared.head.Head.{Head}
-use Rattle.tw_answers.specs.declared.refusal.Refusal.{Refusal}
+use Rattle.tw_base.specs.declared.history.refusal.Refusal.{Refusal}
 use Rattle.tw_answers.specs.declared.root.RootRecord.{RootRecord}
 use Rattle.tw_answers.specs.Refusals.{OfBadPage}
 use Rattle.tw_service.specs.Stands.{greater}

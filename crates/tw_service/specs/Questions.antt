@@ -10,7 +10,7 @@ use Rattle.tw_msg.specs.declared.message.Message.{Message}
 use Rattle.tw_msg.specs.Messages.{message_bytes}
 use Rattle.tw_skiplist.specs.declared.head.Head.{Head}
 use Rattle.tw_skipproof.specs.declared.path.Path.{Path}
-use Rattle.tw_answers.specs.declared.refusal.Refusal.{Refusal}
+use Rattle.tw_base.specs.declared.history.refusal.Refusal.{Refusal}
 use Rattle.tw_answers.specs.Finds.{absence_proof, event_proof, link_proof, path_down, thread_proof, unless, written_found}
 use Rattle.tw_answers.specs.Limits.{broken_refusal, event_refusal, has_thread, link_refusal, no_thread, or_else, order_refusal, thread_refusal, top_refusal}
 use Rattle.tw_answers.specs.Refusals.{IsHasThread, IsNoEvent, IsNoThread, IsTooLong}

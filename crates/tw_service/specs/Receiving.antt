@@ -8,8 +8,8 @@ use Rattle.tw_msg.specs.declared.message.Message.{Message}
 use Rattle.tw_msg.specs.Messages.{message_layout}
 use Rattle.tw_service.specs.declared.receiving.Reception.{Reception}
 use Rattle.tw_service.specs.declared.receiving.Reception.TheVariants.{Refuse, Known, Archive}
-use Rattle.tw_answers.specs.declared.refusal.Refusal.{Refusal}
-use Rattle.tw_answers.specs.declared.refusal.Refusal.TheVariants.{Malformed, Forked, Stale, BadLink, Full, ClockBack, Reopen, NoMemory}
+use Rattle.tw_base.specs.declared.history.refusal.Refusal.{Refusal}
+use Rattle.tw_base.specs.declared.history.refusal.Refusal.TheVariants.{Malformed, Forked, Stale, BadLink, Full, ClockBack, Reopen, NoMemory}
 use Rattle.tw_answers.specs.Limits.{archive_refusal}
 
 -- the refusal, where there is one, and else the other

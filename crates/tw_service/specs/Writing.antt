@@ -12,8 +12,8 @@ use Rattle.tw_msg.specs.declared.message.Message.{Message}
 use Rattle.tw_msg.specs.declared.receipt.Receipt.{Receipt}
 use Rattle.tw_pages.specs.declared.store.Store.{Store}
 use Rattle.tw_skiplist.specs.Appended.{appended}
-use Rattle.tw_answers.specs.declared.refusal.Refusal.{Refusal}
-use Rattle.tw_answers.specs.declared.refusal.Refusal.TheVariants.{DiskFault}
+use Rattle.tw_base.specs.declared.history.refusal.Refusal.{Refusal}
+use Rattle.tw_base.specs.declared.history.refusal.Refusal.TheVariants.{DiskFault}
 use Rattle.tw_answers.specs.Limits.{append_refusal}
 use Rattle.tw_service.specs.declared.receiving.Reception.TheVariants.{Archive}
 use Rattle.tw_answers.specs.declared.root.RootRecord.{RootRecord}

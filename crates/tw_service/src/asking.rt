@@ -13,8 +13,8 @@ use crate::mapping::{make_high, make_low};
 use crate::service::Service;
 use std::alloc::Global;
 use tw_answers::{
-    Refusal, is_disk_fault, link_refusal, make_absence, make_link, make_proof, make_thread,
-    order_refusal, path_down, thread_refusal, top_refusal,
+    Refusal, link_refusal, make_absence, make_link, make_proof, make_thread, order_refusal,
+    path_down, thread_refusal, top_refusal,
 };
 use tw_base::limits::LAST_STEP;
 use tw_base::{Bytes, Hasher, Key, Name, Question, Thread, see_name};
@@ -208,7 +208,7 @@ impl<D: Disk, H: Hasher> Service<D, H> {
         ) {
             Ok(bytes) => Ok(bytes),
             Err(refusal) => {
-                self.is_broken = is_disk_fault(&refusal);
+                self.is_broken = refusal.is_disk_fault();
                 Err(refusal)
             }
         }
@@ -358,7 +358,7 @@ impl<D: Disk, H: Hasher> Service<D, H> {
         ) {
             Ok(message) => Ok(message),
             Err(refusal) => {
-                self.is_broken = is_disk_fault(&refusal);
+                self.is_broken = refusal.is_disk_fault();
                 Err(refusal)
             }
         }

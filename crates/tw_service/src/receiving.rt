@@ -9,7 +9,7 @@ ghost use Rattle.tw_disk.specs.Found.Found.{Bad};
 ghost use Rattle.tw_msg.specs.Messages.{IsLinked};
 ghost use Rattle.tw_service.specs.Finds.{found_receipt, found_reception, receipt_of};
 ghost use Rattle.tw_answers.specs.Limits.{clock_refusal};
-ghost use Rattle.tw_answers.specs.declared.refusal.Refusal.{Refusal as RefusalOf};
+ghost use Rattle.tw_base.specs.declared.history.refusal.Refusal.{Refusal as RefusalOf};
 ghost use Rattle.tw_service.specs.Receiving.{TellsOfMessage, reception as reception_of};
 ghost use Rattle.tw_answers.specs.Refusals.{IsFault, service_refusals};
 

@@ -2,7 +2,7 @@
 
 ghost use Rattle.std.specs.Prelude.{◌≡◌};
 
-use tw_base::NoMemory;
+use tw_base::{NoMemory, Refusal};
 use tw_disk::WalkFault;
 
 /// Why a call on a list of steps has no answer.
@@ -39,6 +39,21 @@ impl From<WalkFault> for ListFault {
         match fault {
             WalkFault::BadPage { page } => ListFault::BadPage { page },
             WalkFault::DiskFault => ListFault::DiskFault,
+        }
+    }
+}
+
+impl From<ListFault> for Refusal {
+    ghost use Rattle.tw_skiplist.specs.ListFaults.{list_refusal};
+
+    ghost from_gives = { λ fault refusal. refusal ≡ list_refusal fault };
+
+    fn from(fault: ListFault) -> Self {
+        match fault {
+            ListFault::NoStep { last } => Refusal::NoStep { last },
+            ListFault::BadPage { page } => Refusal::BadPage { page },
+            ListFault::DiskFault => Refusal::DiskFault,
+            ListFault::NoMemory => Refusal::NoMemory,
         }
     }
 }

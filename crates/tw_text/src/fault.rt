@@ -5,9 +5,12 @@ ghost use Rattle.tw_text.specs.Faults.{fault_of_input, fault_status as fault_sta
 ghost use Rattle.tw_text.specs.declared.fault.CommandFault.TheVariants.{NoMemory as WantedMemory};
 
 use crate::fixed::{fault_disk, fault_input, no_memory};
-use crate::refusal::{BadInput, Refusal, StoreCause, print_bad_input, print_refused, print_store};
+use crate::refusal::{
+    BadInput, StoreCause, print_bad_input, print_not_followed, print_refused, print_store,
+    print_taken,
+};
 use std::alloc::Global;
-use tw_base::{Bytes, InputFault, NoMemory};
+use tw_base::{Bytes, FollowRefusal, InputFault, NoMemory, Refusal};
 
 /// Why a command isn't done.
 #[derive(Drop, Debug)]
@@ -18,8 +21,12 @@ pub enum CommandFault {
     DiskFault,
     /// There was no memory.
     NoMemory,
+    /// There is a store already.
+    Taken,
     /// What was asked for isn't there, or may not be made.
     Refused(Refusal),
+    /// A follower refuses what it is offered.
+    NotFollowed(FollowRefusal),
     /// The disk has no service that can serve the command.
     Unserved(StoreCause),
     /// A file isn't what the command reads.
@@ -54,7 +61,7 @@ pub fn fault_status(fault: &CommandFault) -> u8
         CommandFault::InputFault => 3,
         CommandFault::DiskFault => 5,
         CommandFault::NoMemory => 6,
-        CommandFault::Refused(_) => 7,
+        CommandFault::Taken | CommandFault::Refused(_) | CommandFault::NotFollowed(_) => 7,
         CommandFault::Unserved(_) => 8,
         CommandFault::Unreadable(_) => 9,
     }
@@ -69,7 +76,9 @@ pub fn print_fault(alloc: Global, fault: &CommandFault) -> Result<Bytes, NoMemor
         CommandFault::InputFault => Bytes::from_slice(alloc, fault_input()),
         CommandFault::DiskFault => Bytes::from_slice(alloc, fault_disk()),
         CommandFault::NoMemory => Bytes::from_slice(alloc, no_memory()),
+        CommandFault::Taken => print_taken(alloc),
         CommandFault::Refused(refusal) => print_refused(alloc, refusal),
+        CommandFault::NotFollowed(refusal) => print_not_followed(alloc, refusal),
         CommandFault::Unserved(cause) => print_store(alloc, cause),
         CommandFault::Unreadable(bad) => print_bad_input(alloc, bad),
     }

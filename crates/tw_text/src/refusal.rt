@@ -4,73 +4,12 @@ ghost use Rattle.std.specs.Prelude.{◌≡◌, ◌∷◌, [], ◌++◌, codes, O
 ghost use Rattle.tw_text.specs.Lines.{line};
 ghost use Rattle.tw_text.specs.declared.field.Field.TheVariants.{Hex, Number, Word};
 ghost use Rattle.tw_text.specs.declared.refusal.BadInput.TheVariants.{Unsound};
-ghost use Rattle.tw_text.specs.Refusals.{bad_input_text, cause_fields, refusal_fields, refused_text, store_text};
+ghost use Rattle.tw_text.specs.Refusals.{bad_input_text, cause_fields, follow_fields, not_followed_text, refusal_fields, refusal_name as refusal_name_of, refusal_values, refused_text, store_text, store_taken_text};
 
-use crate::field::{Field, FieldList};
+use crate::field::{Field, FieldList, push_numbered, push_word};
 use crate::line::print_line;
 use std::alloc::Global;
-use tw_base::{Bytes, Digest, Name, NoMemory};
-
-/// Why there is no answer to what was asked.
-#[derive(Clone, Copy, PartialEq, Eq, Debug, Drop)]
-pub enum Refusal {
-    /// The history has no such step, or not up to that top; its last one is this, 0 where it has
-    /// none.
-    NoStep {
-        last: u64,
-    },
-    /// The step has no event of that index; it has so many.
-    NoEvent {
-        count: u32,
-    },
-    /// No step up to the one that is named received the thread.
-    NoThread,
-    /// A step up to the one that is named received the thread: this one.
-    HasThread {
-        archived: u64,
-    },
-    /// There is a store already.
-    Taken,
-    /// The service has 2^40 - 1 steps.
-    Full,
-    /// There are more than 1,024 events: so many.
-    TooMany {
-        count: u64,
-    },
-    /// An event is longer than 1,024 bytes, the first such one this; or, where none is, all together
-    /// are longer than 65,536 bytes, and this long.
-    TooLong {
-        bytes: u64,
-    },
-    /// The given time is below the greatest time of the steps so far. Both are told, the greatest one
-    /// first.
-    ClockBack {
-        last: u64,
-        given: u64,
-    },
-    /// The message is of the service that is to receive it.
-    Own,
-    /// The message is of another service than the one that is followed: of this one.
-    Other {
-        name: Name,
-    },
-    /// The message's step is below the last one of its service that is kept, which is this one.
-    Stale {
-        last: u64,
-    },
-    /// Another authenticator of the message's step is kept. The step is told, the kept authenticator, and the offered one.
-    Forked {
-        step: u64,
-        kept: Digest,
-        offered: Digest,
-    },
-    /// The message's link doesn't lead up from the last step of its service that is kept. That step is told with its
-    /// authenticator; where none is kept, these are of step 0.
-    BadLink {
-        last: u64,
-        kept: Digest,
-    },
-}
+use tw_base::{Bytes, Digest, FollowRefusal, NoMemory, Refusal};
 
 /// Why the disk has no service that can serve the command.
 #[derive(Clone, Copy, PartialEq, Eq, Debug, Drop)]
@@ -97,6 +36,32 @@ pub enum BadInput {
     Unsound { file: Bytes, step: u64, rule: u8 },
 }
 
+/// The name of a service's refusal.
+pub fn refusal_name(refusal: &Refusal) -> &'static [u8]
+    // Each refusal has the name that the definitions give it.
+    ensures { result.now ≡ refusal_name_of refusal.now }
+{
+    match refusal {
+        Refusal::Malformed { .. } => b"Malformed",
+        Refusal::Own => b"Own",
+        Refusal::Stale { .. } => b"Stale",
+        Refusal::Forked { .. } => b"Forked",
+        Refusal::BadLink { .. } => b"BadLink",
+        Refusal::NoStep { .. } => b"NoStep",
+        Refusal::NoEvent { .. } => b"NoEvent",
+        Refusal::NoThread => b"NoThread",
+        Refusal::HasThread { .. } => b"HasThread",
+        Refusal::TooMany { .. } => b"TooMany",
+        Refusal::TooLong { .. } => b"TooLong",
+        Refusal::Full => b"Full",
+        Refusal::ClockBack { .. } => b"ClockBack",
+        Refusal::BadPage { .. } => b"BadPage",
+        Refusal::DiskFault => b"DiskFault",
+        Refusal::Reopen => b"Reopen",
+        Refusal::NoMemory => b"NoMemory",
+    }
+}
+
 /// The line `refused` with the refusal's name and fields.
 pub(crate) fn print_refused(alloc: Global, refusal: &Refusal) -> Result<Bytes, NoMemory>
     ensures { IfOk result (λ text. text ≡ refused_text refusal.now) }
@@ -106,43 +71,96 @@ pub(crate) fn print_refused(alloc: Global, refusal: &Refusal) -> Result<Bytes, N
     print_line(alloc, b"refused", &fields)
 }
 
-/// Puts the refusal's name and fields at the end of the fields.
+/// The same line of a follower's refusal.
+pub(crate) fn print_not_followed(alloc: Global, refusal: &FollowRefusal) -> Result<Bytes, NoMemory>
+    ensures { IfOk result (λ text. text ≡ not_followed_text refusal.now) }
+{
+    let mut fields = FieldList::new(alloc);
+    put_follow_refusal(alloc, &mut fields, refusal)?;
+    print_line(alloc, b"refused", &fields)
+}
+
+/// The same line where there is a store already.
+pub(crate) fn print_taken(alloc: Global) -> Result<Bytes, NoMemory>
+    ensures { IfOk result (λ text. text ≡ store_taken_text) }
+{
+    let mut fields = FieldList::new(alloc);
+    push_word(alloc, &mut fields, b"Taken")?;
+    print_line(alloc, b"refused", &fields)
+}
+
+/// Puts the refusal's name and its fields at the end of the fields.
 fn put_refusal(alloc: Global, fields: &mut FieldList, refusal: &Refusal) -> Result<(), NoMemory>
     ensures { OnOk result (fields.new ≡ fields.old ++ refusal_fields refusal.now) }
 {
+    push_word(alloc, fields, refusal_name(refusal))?;
+    put_values(alloc, fields, refusal)
+}
+
+/// Puts what the refusal tells at the end of the fields.
+fn put_values(alloc: Global, fields: &mut FieldList, refusal: &Refusal) -> Result<(), NoMemory>
+    ensures { OnOk result (fields.new ≡ fields.old ++ refusal_values refusal.now) }
+{
     match refusal {
-        Refusal::NoStep { last } => put_number(alloc, fields, b"NoStep", *last),
-        Refusal::NoEvent { count } => put_number(alloc, fields, b"NoEvent", *count as u64),
-        Refusal::NoThread => put_word(alloc, fields, b"NoThread"),
-        Refusal::HasThread { archived } => put_number(alloc, fields, b"HasThread", *archived),
-        Refusal::Taken => put_word(alloc, fields, b"Taken"),
-        Refusal::Full => put_word(alloc, fields, b"Full"),
-        Refusal::TooMany { count } => put_number(alloc, fields, b"TooMany", *count),
-        Refusal::TooLong { bytes } => put_number(alloc, fields, b"TooLong", *bytes),
-        Refusal::ClockBack { last, given } => {
-            put_number(alloc, fields, b"ClockBack", *last)?;
-            fields.push(Field::Number(*given))
-        }
-        Refusal::Own => put_word(alloc, fields, b"Own"),
-        Refusal::Other { name } => {
-            put_word(alloc, fields, b"Other")?;
-            fields.push(Field::Named(*name))
-        }
-        Refusal::Stale { last } => put_number(alloc, fields, b"Stale", *last),
+        Refusal::Malformed { place } => fields.push(Field::Number(*place)),
+        Refusal::Stale { last } | Refusal::NoStep { last } => fields.push(Field::Number(*last)),
         Refusal::Forked {
             step,
             kept,
             offered,
         } => {
-            put_number(alloc, fields, b"Forked", *step)?;
+            fields.push(Field::Number(*step))?;
             put_digest(alloc, fields, kept)?;
             put_digest(alloc, fields, offered)
         }
         Refusal::BadLink { last, kept } => {
-            put_number(alloc, fields, b"BadLink", *last)?;
+            fields.push(Field::Number(*last))?;
             put_digest(alloc, fields, kept)
         }
+        Refusal::NoEvent { count } => fields.push(Field::Number(*count as u64)),
+        Refusal::HasThread { archived } => fields.push(Field::Number(*archived)),
+        Refusal::TooMany { count } => fields.push(Field::Number(*count)),
+        Refusal::TooLong { bytes } => fields.push(Field::Number(*bytes)),
+        Refusal::ClockBack { last, given } => {
+            fields.push(Field::Number(*last))?;
+            fields.push(Field::Number(*given))
+        }
+        Refusal::BadPage { page } => fields.push(Field::Number(*page)),
+        _ => Ok(()),
     }
+}
+
+/// Puts a follower's refusal at the end of the fields: as the service's of the same name, where that has one.
+fn put_follow_refusal(
+    alloc: Global,
+    fields: &mut FieldList,
+    refusal: &FollowRefusal,
+) -> Result<(), NoMemory>
+    ensures { OnOk result (fields.new ≡ fields.old ++ follow_fields refusal.now) }
+{
+    let same = match *refusal {
+        FollowRefusal::Other { name } => {
+            push_word(alloc, fields, b"Other")?;
+            return fields.push(Field::Named(name));
+        }
+        FollowRefusal::Malformed { place } => Refusal::Malformed { place },
+        FollowRefusal::Stale { last } => Refusal::Stale { last },
+        FollowRefusal::Forked {
+            step,
+            kept,
+            offered,
+        } => Refusal::Forked {
+            step,
+            kept,
+            offered,
+        },
+        FollowRefusal::BadLink { last, kept } => Refusal::BadLink { last, kept },
+        FollowRefusal::BadPage { page } => Refusal::BadPage { page },
+        FollowRefusal::DiskFault => Refusal::DiskFault,
+        FollowRefusal::Reopen => Refusal::Reopen,
+        FollowRefusal::NoMemory => Refusal::NoMemory,
+    };
+    put_refusal(alloc, fields, &same)
 }
 
 /// The line `store` with the name of the cause and its field.
@@ -159,9 +177,9 @@ fn put_cause(alloc: Global, fields: &mut FieldList, cause: &StoreCause) -> Resul
     ensures { OnOk result (fields.new ≡ fields.old ++ cause_fields cause.now) }
 {
     match cause {
-        StoreCause::Blank => put_word(alloc, fields, b"Blank"),
-        StoreCause::NotAStore { slot } => put_number(alloc, fields, b"NotAStore", *slot as u64),
-        StoreCause::BadPage { page } => put_number(alloc, fields, b"BadPage", *page),
+        StoreCause::Blank => push_word(alloc, fields, b"Blank"),
+        StoreCause::NotAStore { slot } => push_numbered(alloc, fields, b"NotAStore", *slot as u64),
+        StoreCause::BadPage { page } => push_numbered(alloc, fields, b"BadPage", *page),
     }
 }
 
@@ -192,8 +210,8 @@ fn print_unreadable(
     ensures { IfOk result (λ text. text ≡ line (codes "unreadable") (Word file.now ∷ Word counted.now ∷ Number number ∷ [])) }
 {
     let mut fields = FieldList::new(alloc);
-    put_word(alloc, &mut fields, file)?;
-    put_word(alloc, &mut fields, counted)?;
+    push_word(alloc, &mut fields, file)?;
+    push_word(alloc, &mut fields, counted)?;
     fields.push(Field::Number(number))?;
     print_line(alloc, b"unreadable", &fields)
 }
@@ -203,25 +221,12 @@ fn print_unsound(alloc: Global, file: &[u8], step: u64, rule: u8) -> Result<Byte
     ensures { IfOk result (λ text. text ≡ bad_input_text (Unsound file.now step rule)) }
 {
     let mut fields = FieldList::new(alloc);
-    put_word(alloc, &mut fields, file)?;
-    put_word(alloc, &mut fields, b"step")?;
+    push_word(alloc, &mut fields, file)?;
+    push_word(alloc, &mut fields, b"step")?;
     fields.push(Field::Number(step))?;
-    put_word(alloc, &mut fields, b"rule")?;
+    push_word(alloc, &mut fields, b"rule")?;
     fields.push(Field::Number(rule as u64))?;
     print_line(alloc, b"unsound", &fields)
-}
-
-/// Puts a word and a number at the end of the fields.
-fn put_number(
-    alloc: Global,
-    fields: &mut FieldList,
-    word: &[u8],
-    number: u64,
-) -> Result<(), NoMemory>
-    ensures { OnOk result (fields.new ≡ fields.old ++ Word word.now ∷ Number number ∷ []) }
-{
-    put_word(alloc, fields, word)?;
-    fields.push(Field::Number(number))
 }
 
 /// Puts a digest at the end of the fields.
@@ -229,14 +234,4 @@ fn put_digest(alloc: Global, fields: &mut FieldList, digest: &Digest) -> Result<
     ensures { OnOk result (fields.new ≡ fields.old ++ Hex digest.now ∷ []) }
 {
     fields.push(Field::Hex(Bytes::from_slice(alloc, &digest.0)?))
-}
-
-/// Puts a word at the end of the fields.
-fn put_word(alloc: Global, fields: &mut FieldList, word: &[u8]) -> Result<(), NoMemory>
-    ensures { OnOk result (fields.new ≡ fields.old ++ Word word.now ∷ []) }
-{
-    match Vec::from_slice(alloc, word) {
-        Ok(bytes) => fields.push(Field::Word(Bytes::from_vec(bytes))),
-        Err(_) => Err(NoMemory),
-    }
 }

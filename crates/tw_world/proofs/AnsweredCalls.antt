@@ -9,8 +9,8 @@ use Rattle.tw_base.specs.history.History.{History}
 use Rattle.tw_base.proofs.lemmas.format.FormatLaws.{whole-longer, whole-stops, whole-word}
 use Rattle.tw_answers.specs.Limits.{append_refusal}
 use Rattle.tw_answers.specs.Refusals.{IsFault}
-use Rattle.tw_answers.specs.declared.refusal.Refusal.{Refusal}
-use Rattle.tw_answers.specs.declared.refusal.Refusal.TheVariants.{BadPage, DiskFault, Malformed, NoMemory, Reopen}
+use Rattle.tw_base.specs.declared.history.refusal.Refusal.{Refusal}
+use Rattle.tw_base.specs.declared.history.refusal.Refusal.TheVariants.{BadPage, DiskFault, Malformed, NoMemory, Reopen}
 use Rattle.tw_answers.proofs.TableAnswers.{NoFault, Of, append_no_fault}
 use Rattle.tw_disk.specs.Image.{Image}
 use Rattle.tw_disk.specs.MemDisk.{mem_disk_view}

@@ -5,7 +5,7 @@ use Rattle.std.proofs.lemmas.List.{map-set}
 use Rattle.std.proofs.lemmas.Option.{slice_get-get_or, slice_get-map}
 use Rattle.std.specs.Vec.{with_item}
 use Rattle.std.specs.Prelude.{map, option_map, Option, Some, None, Result, is_some, slice_get, slice_set}
-use Rattle.tw_answers.specs.declared.refusal.Refusal.{Refusal}
+use Rattle.tw_base.specs.declared.history.refusal.Refusal.{Refusal}
 use Rattle.tw_base.specs.declared.history.question.Question.{Question}
 use Rattle.tw_base.specs.history.History.{History}
 use Rattle.tw_world.specs.Hosts.{Given, GivesReply, GoesOnByReply, HoldsHistory, TakesGiven, own_answer}

@@ -20,7 +20,7 @@ use Rattle.tw_msg.proofs.MessageCodec.{message-lawful}
 use Rattle.tw_script.specs.declared.line.Line.{Line}
 use Rattle.tw_script.specs.declared.line.Line.TheVariants.{Service, Hostile, Append, Send, Inject, Deliver, Lose, Crash}
 use Rattle.tw_script.specs.declared.line.Line.TheVariants.{Prove, Join, Anchor, Verify}
-use Rattle.tw_answers.specs.declared.refusal.Refusal.{Refusal}
+use Rattle.tw_base.specs.declared.history.refusal.Refusal.{Refusal}
 use Rattle.tw_service.specs.Machine.{IsStepOf, Makes, Reply}
 use Rattle.tw_service.specs.Machine.Call.{Ask}
 use Rattle.tw_service.specs.Machine.Reply.{OfBytes, Refused}

@@ -18,7 +18,7 @@ use Rattle.tw_msg.specs.Messages.{message_layout}
 use Rattle.tw_msg.specs.declared.message.Message.{Message}
 use Rattle.tw_archive.specs.Judging.{judged_message}
 use Rattle.tw_archive.specs.declared.judgement.Judgement.{Judgement}
-use Rattle.tw_archive.specs.declared.judgement.Judgement.TheVariants.{Known, Forked, Stale, BadLink, Accept}
+use Rattle.tw_archive.specs.declared.judgement.Judgement.TheVariants.{Accept}
 use Rattle.tw_base.specs.history.Tree.{entries, tree}
 use Rattle.tw_service.specs.Receiving.{reception, refuse_or}
 use Rattle.tw_service.specs.EventSteps.{event_step, with_events_at}
@@ -28,8 +28,8 @@ use Rattle.tw_service.specs.Machine.{Archives, IsStepOf, Reply, RepliesTo, appen
 use Rattle.tw_service.specs.Machine.Reply.{OfThread, Refused}
 use Rattle.tw_service.specs.Machine.Call.{Append as AppendEvents}
 use Rattle.tw_service.specs.Stands.{greatest_time}
-use Rattle.tw_answers.specs.declared.refusal.Refusal.{Refusal}
-use Rattle.tw_answers.specs.declared.refusal.Refusal.TheVariants.{Full, TooLong, TooMany}
+use Rattle.tw_base.specs.declared.history.refusal.Refusal.{Refusal}
+use Rattle.tw_base.specs.declared.history.refusal.Refusal.TheVariants.{Full, TooLong, TooMany}
 use Rattle.tw_answers.proofs.EventLimits.{none_long}
 use Rattle.tw_service.proofs.NextHistories.{sound_plus}
 use Rattle.tw_world.specs.Runs.{TakesBytes}
@@ -129,12 +129,9 @@ module _ (dig : List ℕ → List ℕ) where
       → ReceivesOne h next m
   unfolding reception archive_refusal
   judged-goes h next m time reply (Some refusal) judgement is = inl is.0
-  judged-goes h next m time reply None (Known archived) is = inl is.0
-  judged-goes h next m time reply None (Forked step kept offered) is = inl is.0
-  judged-goes h next m time reply None (Stale last) is = inl is.0
-  judged-goes h next m time reply None (BadLink last kept) is = inl is.0
   judged-goes h next m time reply None Accept is = accepted-goes h next m time reply
       (archive_refusal (length h.steps) (greatest_time h) time) is
+  judged-goes h next m time reply None _ is = inl is.0
 
   -- the bytes of a message: the same history, or a step that received its thread
   pub given-goes : (h next : History) (bytes : List ℕ) (time : Option ℕ) (reply : Reply) → TakesBytes dig h bytes time

@@ -12,8 +12,8 @@ use Rattle.tw_base.specs.format.Formats.{Spells}
 use Rattle.tw_base.specs.history.Auth.{auth}
 use Rattle.tw_base.specs.history.History.{History}
 use Rattle.tw_answers.specs.Limits.{link_refusal, or_else}
-use Rattle.tw_answers.specs.declared.refusal.Refusal.{Refusal}
-use Rattle.tw_answers.specs.declared.refusal.Refusal.TheVariants.{NoStep}
+use Rattle.tw_base.specs.declared.history.refusal.Refusal.{Refusal}
+use Rattle.tw_base.specs.declared.history.refusal.Refusal.TheVariants.{NoStep}
 use Rattle.tw_chain.specs.Proofs.{proof_codec, proof_layout}
 use Rattle.tw_chain.specs.Reasons.{IsVerdict}
 use Rattle.tw_chain.specs.declared.proof.LinkProof.{LinkProof}

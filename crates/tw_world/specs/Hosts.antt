@@ -5,8 +5,8 @@ use Rattle.sha2.specs.Sha256.{sha256}
 use Rattle.tw_base.specs.declared.history.question.Question.{Question}
 use Rattle.tw_base.specs.history.History.{History}
 use Rattle.tw_base.specs.kinds.Names.{name_text}
-use Rattle.tw_answers.specs.declared.refusal.Refusal.{Refusal}
-use Rattle.tw_answers.specs.declared.refusal.Refusal.TheVariants.{DiskFault, NoMemory}
+use Rattle.tw_base.specs.declared.history.refusal.Refusal.{Refusal}
+use Rattle.tw_base.specs.declared.history.refusal.Refusal.TheVariants.{DiskFault, NoMemory}
 use Rattle.tw_disk.specs.Disk.{IsAtRest}
 use Rattle.tw_disk.specs.Image.{Image}
 use Rattle.tw_disk.specs.MemDisk.{mem_disk_view}

@@ -25,7 +25,7 @@ use Rattle.tw_script.specs.declared.line.Line.TheVariants.{Service, Hostile, App
 use Rattle.tw_service.specs.Machine.{IsStepOf, Reply}
 use Rattle.tw_service.specs.Machine.Call.{Append as AppendEvents, Ask, Receive}
 use Rattle.tw_service.specs.Machine.Reply.{OfBytes, OfReceipt, Refused}
-use Rattle.tw_answers.specs.declared.refusal.Refusal.TheVariants.{Malformed, NoStep}
+use Rattle.tw_base.specs.declared.history.refusal.Refusal.TheVariants.{Malformed, NoStep}
 use Rattle.tw_world.specs.declared.told.Answer.{Answer}
 use Rattle.tw_world.specs.declared.told.Answer.TheVariants as answer
 use Rattle.tw_world.specs.declared.told.Told.{Told}

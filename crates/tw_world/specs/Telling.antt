@@ -4,37 +4,17 @@ use Rattle.std.specs.List.{count_by}
 use Rattle.std.specs.Str.{bytes_eq}
 use Rattle.serde_json.specs.Data.{Data, Members, member, no_members, number, object, put, unsigned}
 use Rattle.serde_json.specs.Written.{compact_text}
-use Rattle.tw_answers.specs.declared.refusal.Refusal.{Refusal}
-use Rattle.tw_answers.specs.declared.refusal.Refusal.TheVariants.{Malformed, Own, Stale, Forked, BadLink, NoStep, NoEvent, NoThread, HasThread, TooMany, TooLong, Full, ClockBack, BadPage, DiskFault, Reopen, NoMemory}
 use Rattle.tw_base.specs.history.History.{History}
 use Rattle.tw_base.specs.kinds.Names.{name_text}
 use Rattle.tw_script.specs.declared.script.NumberedLine.{NumberedLine}
 use Rattle.tw_text.specs.Lines.{line}
+use Rattle.tw_text.specs.Refusals.{refusal_name}
 use Rattle.tw_text.specs.declared.field.Field.{Field}
 use Rattle.tw_text.specs.declared.field.Field.TheVariants.{Number, Word}
 use Rattle.tw_world.specs.declared.told.Answer.{Answer}
 use Rattle.tw_world.specs.declared.told.Answer.TheVariants.{Done, Stepped, Sent, Archived, Filed, Accepted, Rejected, NotJoined, Refused, Nothing}
 use Rattle.tw_world.specs.declared.told.Told.{Told}
 use Rattle.tw_world.specs.declared.told.Told.TheVariants.{Plain, Crashed, Stopped}
-
-abbrev pub refusal_name : Refusal → List ℕ
-refusal_name (Malformed place) = codes "Malformed"
-refusal_name Own = codes "Own"
-refusal_name (Stale last) = codes "Stale"
-refusal_name (Forked step kept offered) = codes "Forked"
-refusal_name (BadLink last kept) = codes "BadLink"
-refusal_name (NoStep last) = codes "NoStep"
-refusal_name (NoEvent count) = codes "NoEvent"
-refusal_name NoThread = codes "NoThread"
-refusal_name (HasThread archived) = codes "HasThread"
-refusal_name (TooMany count) = codes "TooMany"
-refusal_name (TooLong bytes) = codes "TooLong"
-refusal_name Full = codes "Full"
-refusal_name (ClockBack last given) = codes "ClockBack"
-refusal_name (BadPage page) = codes "BadPage"
-refusal_name DiskFault = codes "DiskFault"
-refusal_name Reopen = codes "Reopen"
-refusal_name NoMemory = codes "NoMemory"
 
 -- ---- a line
 

@@ -3,71 +3,29 @@
 ghost use Rattle.std.specs.Prelude.{◌≡◌, ◌∷◌, [], ◌++◌, codes, length, IfOk, OnOk};
 ghost use Rattle.tw_world.specs.Telling.{answer_fields, reopened_fields, told_fields as told_fields_of, told_line, told_lines as told_lines_of};
 ghost use Rattle.tw_text.specs.declared.field.Field.TheVariants.{Number, Word};
-ghost use Rattle.tw_world.specs.Telling.{refusal_name as refusal_name_of};
+ghost use Rattle.tw_text.specs.Refusals.{refusal_name as refusal_name_of};
 
 use crate::told::{Answer, Told};
 use itoa::Buffer;
 use std::alloc::Global;
-use tw_answers::Refusal;
-use tw_base::{Bytes, NoMemory};
+use tw_base::{Bytes, NoMemory, Refusal};
 use tw_script::Script;
-use tw_text::{Field, FieldList, print_line};
-
-/// The name of a refusal.
-fn refusal_name(refusal: &Refusal) -> &'static [u8]
-    ensures { result.now ≡ refusal_name_of refusal.now }
-{
-    match refusal {
-        Refusal::Malformed { .. } => b"Malformed",
-        Refusal::Own => b"Own",
-        Refusal::Stale { .. } => b"Stale",
-        Refusal::Forked { .. } => b"Forked",
-        Refusal::BadLink { .. } => b"BadLink",
-        Refusal::NoStep { .. } => b"NoStep",
-        Refusal::NoEvent { .. } => b"NoEvent",
-        Refusal::NoThread => b"NoThread",
-        Refusal::HasThread { .. } => b"HasThread",
-        Refusal::TooMany { .. } => b"TooMany",
-        Refusal::TooLong { .. } => b"TooLong",
-        Refusal::Full => b"Full",
-        Refusal::ClockBack { .. } => b"ClockBack",
-        Refusal::BadPage { .. } => b"BadPage",
-        Refusal::DiskFault => b"DiskFault",
-        Refusal::Reopen => b"Reopen",
-        Refusal::NoMemory => b"NoMemory",
-    }
-}
-
-/// A word more.
-fn put_word(alloc: Global, fields: &mut FieldList, word: &[u8]) -> Result<(), NoMemory>
-    ensures { OnOk result (fields.new ≡ fields.old ++ Word word.now ∷ []) }
-{
-    let word = Bytes::from_slice(alloc, word)?;
-    fields.push(Field::Word(word))
-}
-
-/// A word and a number more.
-fn put_both(alloc: Global, fields: &mut FieldList, word: &[u8], number: u64) -> Result<(), NoMemory>
-    ensures { OnOk result (fields.new ≡ fields.old ++ Word word.now ∷ Number number ∷ []) }
-{
-    put_word(alloc, fields, word)?;
-    fields.push(Field::Number(number))
-}
+use tw_text::{FieldList, print_line, push_numbered, push_word, refusal_name};
 
 /// The words `rejected Gap` and the place more.
 fn put_gap(alloc: Global, fields: &mut FieldList, place: u64) -> Result<(), NoMemory>
     ensures { OnOk result (fields.new ≡ fields.old ++ Word (codes "rejected") ∷ Word (codes "Gap") ∷ Number place ∷ []) }
 {
-    put_word(alloc, fields, b"rejected")?;
-    put_both(alloc, fields, b"Gap", place)
+    push_word(alloc, fields, b"rejected")?;
+    push_numbered(alloc, fields, b"Gap", place)
 }
 
 /// The word `refused` and the refusal's name more.
 fn put_refused(alloc: Global, fields: &mut FieldList, refusal: &Refusal) -> Result<(), NoMemory>
     ensures { OnOk result (fields.new ≡ fields.old ++ Word (codes "refused") ∷ Word (refusal_name_of refusal.now) ∷ []) }
 {
-    put_word(alloc, fields, b"refused")?;
-    put_word(alloc, fields, refusal_name(refusal))
+    push_word(alloc, fields, b"refused")?;
+    push_word(alloc, fields, refusal_name(refusal))
 }
 
 /// The fields of the answer more.
@@ -75,16 +33,16 @@ fn put_answer(alloc: Global, fields: &mut FieldList, answer: &Answer) -> Result<
     ensures { OnOk result (fields.new ≡ fields.old ++ answer_fields answer.now) }
 {
     match answer {
-        Answer::Done => put_word(alloc, fields, b"ok"),
-        Answer::Stepped { step } => put_both(alloc, fields, b"step", *step),
-        Answer::Sent { number } => put_both(alloc, fields, b"message", *number),
-        Answer::Archived { step } => put_both(alloc, fields, b"receipt", *step),
-        Answer::Filed { number } => put_both(alloc, fields, b"file", *number),
-        Answer::Accepted => put_word(alloc, fields, b"accepted"),
-        Answer::Rejected { reason } => put_both(alloc, fields, b"rejected", *reason),
+        Answer::Done => push_word(alloc, fields, b"ok"),
+        Answer::Stepped { step } => push_numbered(alloc, fields, b"step", *step),
+        Answer::Sent { number } => push_numbered(alloc, fields, b"message", *number),
+        Answer::Archived { step } => push_numbered(alloc, fields, b"receipt", *step),
+        Answer::Filed { number } => push_numbered(alloc, fields, b"file", *number),
+        Answer::Accepted => push_word(alloc, fields, b"accepted"),
+        Answer::Rejected { reason } => push_numbered(alloc, fields, b"rejected", *reason),
         Answer::NotJoined { place } => put_gap(alloc, fields, *place),
         Answer::Refused(refusal) => put_refused(alloc, fields, refusal),
-        Answer::Nothing => put_word(alloc, fields, b"none"),
+        Answer::Nothing => push_word(alloc, fields, b"none"),
     }
 }
 
@@ -92,7 +50,7 @@ fn put_answer(alloc: Global, fields: &mut FieldList, answer: &Answer) -> Result<
 fn put_reopened(alloc: Global, fields: &mut FieldList, steps: u64) -> Result<(), NoMemory>
     ensures { OnOk result (fields.new ≡ fields.old ++ reopened_fields steps) }
 {
-    put_both(alloc, fields, b"reopened", steps)
+    push_numbered(alloc, fields, b"reopened", steps)
 }
 
 /// The fields of what is told of a line.
@@ -107,7 +65,7 @@ fn told_fields(alloc: Global, told: &Told) -> Result<FieldList, NoMemory>
             put_reopened(alloc, &mut fields, *steps)?;
         }
         Told::Stopped { steps } => {
-            put_word(alloc, &mut fields, b"stopped")?;
+            push_word(alloc, &mut fields, b"stopped")?;
             put_reopened(alloc, &mut fields, *steps)?;
         }
     }

@@ -26,9 +26,9 @@ MOST_TWINS = 140
 # The crates that have more, and how much at most: no crate comes in, no number rises but for a reason that docs/DECISIONS.md tells, and one
 # that has no more than the others goes.
 LARGE = {
-    "tw_base": (2984, 154),
+    "tw_base": (3144, 158),
     "tw_history": (2027, 103),
-    "tw_skiplist": (1568, 100),
+    "tw_skiplist": (1583, 100),
     "tw_verifier": (1943, 100),
 }
 
@@ -205,7 +205,7 @@ WANTS = {
         timeweave/src/store_path.rt: path_of_store, timeweave/src/words.rt: read_argument, timeweave/src/words.rt: read_arguments,
         timeweave_c/src/exports.rt: tell_no_memory, tw_app/src/ending.rt: end_without_memory, tw_base/src/kinds/label_list.rt: push,
         tw_base/src/kinds/label_list.rt: with_capacity, tw_rbtree/src/listing.rt: child_on_heap, tw_follow/src/follower.rt: move_to,
-        tw_script/src/word_values.rt: bytes_of, tw_text/src/refusal.rt: put_word""",
+        tw_script/src/word_values.rt: bytes_of""",
     "one that was refused in an earlier call on the same value": """
         tw_audit/src/keys.rt: into_repeated, tw_audit/src/table.rt: into_pair, tw_pieces/src/feeding.rt: feed,
         tw_pieces/src/feeding.rt: finish""",

@@ -1,7 +1,9 @@
-use Rattle.std.proofs.Common.{ℕ, List, length, ap, sym, subst, ◌∙◌}
+use Rattle.std.proofs.Common.{ℕ, List, length, ap, inr, refl, sym, subst, ◌∙◌}
 use Rattle.tw_judge.specs.Forks.{IsForkTold}
+use Rattle.tw_text.specs.declared.fault.CommandFault.TheVariants.{NoMemory}
 use Rattle.timeweave_c.specs.Answers.{anchors_name}
 use Rattle.timeweave_c.specs.Buffers.{put_in}
+use Rattle.timeweave_c.proofs.WithoutMemory.{without_memory}
 use Rattle.timeweave_c.proofs.exports.timeweave_checkfork.Goals as goal
 
 pub returns-in-Ok : goal.returns-in-Ok
@@ -13,3 +15,9 @@ returns-in-Ok c = record {
   size_is = c.tell.ensures.size ∙ ap length c.as_slice.ensures;
   after_is = c.tell.ensures.text ∙ ap (λ (text : List ℕ). put_in text c.args.out.now) c.as_slice.ensures;
 }
+
+pub returns-in-Err : goal.returns-in-Err
+returns-in-Err c =
+    without_memory
+    (inr (record { fault = NoMemory; unjudged = tt; status_is = c.tell_no_memory.ensures.status; text_is = refl }))
+    c.tell_no_memory.ensures.size c.tell_no_memory.ensures.text

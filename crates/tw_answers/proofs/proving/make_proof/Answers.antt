@@ -9,12 +9,12 @@ use Rattle.tw_disk.specs.Found.Found.{Is}
 use Rattle.tw_skiplist.specs.declared.info.StepProof.{StepProof}
 use Rattle.tw_skiplist.specs.declared.head.Head.{Head}
 use Rattle.tw_skiplist.specs.Events.{events_of_info}
-use Rattle.tw_skiplist.specs.ListFaults.{list_faults}
+use Rattle.tw_skiplist.specs.ListFaults.{list_faults, list_refusal}
 use Rattle.tw_skiplist.specs.Readings.{found_proof}
-use Rattle.tw_answers.specs.declared.refusal.Refusal.{Refusal}
+use Rattle.tw_base.specs.declared.history.refusal.Refusal.{Refusal}
 use Rattle.tw_answers.specs.Finds.{event_proof, event_proof_bytes, unless}
 use Rattle.tw_answers.specs.Limits.{event_refusal}
-use Rattle.tw_answers.specs.Refusals.{IsNoEvent, list_refusal, service_refusals}
+use Rattle.tw_answers.specs.Refusals.{IsNoEvent, service_refusals}
 use Rattle.tw_answers.proofs.TableAnswers.{event_told, no_event_told, of_some}
 use Rattle.tw_answers.proofs.FoundAnswers.{fault_own, of_disk, same_sort, table_found}
 use Rattle.tw_answers.proofs.proving.make_proof.Goals as goal

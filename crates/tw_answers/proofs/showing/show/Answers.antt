@@ -4,7 +4,7 @@ use Rattle.tw_disk.proofs.ReadingLaws.{reads_weaker}
 use Rattle.tw_rbtree.specs.FaultWords.{tree_faults}
 use Rattle.tw_answers.specs.Finds.{tree_shown}
 use Rattle.tw_answers.specs.Refusals.{IsFault, service_refusals}
-use Rattle.tw_answers.specs.declared.refusal.Refusal.{Refusal}
+use Rattle.tw_base.specs.declared.history.refusal.Refusal.{Refusal}
 use Rattle.tw_answers.proofs.TreeAnswers.{shown-says, shown-told, tree-failed, tree-fault}
 use Rattle.tw_answers.proofs.showing.show.Goals as goal
 

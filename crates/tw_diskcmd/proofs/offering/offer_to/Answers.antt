@@ -5,7 +5,7 @@ use Rattle.tw_base.specs.declared.history.thread.Thread.{Thread}
 use Rattle.tw_base.specs.kinds.Faults.{Rose}
 use Rattle.tw_follow.specs.Follows.{disk_of, pages_of, record_of}
 use Rattle.tw_follow.specs.Offers.{AnswersOffer}
-use Rattle.tw_follow.specs.declared.refusal.FollowRefusal.TheVariants as follower
+use Rattle.tw_base.specs.declared.history.refusal.FollowRefusal.TheVariants as follower
 use Rattle.tw_follow.proofs.Following.{rest_head}
 use Rattle.tw_pages.specs.Records.{written_record}
 use Rattle.tw_diskcmd.specs.Steps.{AddsFrom}

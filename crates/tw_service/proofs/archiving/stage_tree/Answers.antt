@@ -12,7 +12,7 @@ use Rattle.tw_disk.specs.Pages.{OnlyAdds}
 use Rattle.tw_rbtree.specs.Answers.{found_insert}
 use Rattle.tw_rbtree.specs.declared.fault.TreeFault.{TreeFault}
 use Rattle.tw_rbtree.specs.Putting.{PutsIn}
-use Rattle.tw_answers.specs.declared.refusal.Refusal.{Refusal}
+use Rattle.tw_base.specs.declared.history.refusal.Refusal.{Refusal}
 use Rattle.tw_service.specs.Finds.{found_room, room_in}
 use Rattle.tw_answers.specs.Refusals.{IsFault, refusal_of_tree, service_refusals}
 use Rattle.tw_answers.proofs.TreeAnswers.{tree-failed, tree-fault}

@@ -4,7 +4,7 @@ use Rattle.sha2.specs.Sha256.{sha256}
 use Rattle.tw_base.specs.history.History.{History}
 use Rattle.tw_disk.specs.MemDisk.{mem_disk_view}
 use Rattle.tw_service.specs.Adding.{AppendsEvents}
-use Rattle.tw_answers.specs.declared.refusal.Refusal.{Refusal}
+use Rattle.tw_base.specs.declared.history.refusal.Refusal.{Refusal}
 use Rattle.tw_base.specs.declared.history.thread.Thread.{Thread}
 use Rattle.tw_world.specs.Hosts.{Answered, AnswersRefusal}
 use Rattle.tw_world.specs.Hosts.Given.{OfEvents}

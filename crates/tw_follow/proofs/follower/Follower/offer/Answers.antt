@@ -1,6 +1,6 @@
 use Rattle.std.proofs.Common.{Bool, refl, subst, sym}
 use Rattle.std.specs.Prelude.{Err}
-use Rattle.tw_follow.specs.declared.refusal.FollowRefusal.TheVariants.{Malformed, NoMemory, Reopen}
+use Rattle.tw_base.specs.declared.history.refusal.FollowRefusal.TheVariants.{Malformed, NoMemory, Reopen}
 use Rattle.tw_follow.specs.Offers.{AnswersOffer}
 use Rattle.tw_follow.proofs.Answering.{malformed_is_none, memory_is_none, own-by, refused_offer, reopen_is_none}
 use Rattle.tw_follow.proofs.follower.Follower.offer.Goals as goal

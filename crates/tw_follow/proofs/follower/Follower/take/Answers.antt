@@ -2,7 +2,7 @@ use Rattle.std.proofs.Common.{Bool, ap, refl, subst, sym, ◌∙◌}
 use Rattle.std.specs.Prelude.{Err, Ok}
 use Rattle.tw_follow.specs.declared.judging.Offered.{Offered}
 use Rattle.tw_follow.specs.declared.judging.Offered.TheVariants.{Known, Moves}
-use Rattle.tw_follow.specs.declared.refusal.FollowRefusal.TheVariants.{Reopen}
+use Rattle.tw_base.specs.declared.history.refusal.FollowRefusal.TheVariants.{Reopen}
 use Rattle.tw_follow.specs.Offers.{AnswersOffer}
 use Rattle.tw_follow.proofs.Answering.{known_offer, moves_answer, refused_offer, reopen_is_none}
 use Rattle.tw_follow.proofs.Offering.{judges-table, moved-next, no_fault, refused-answer}

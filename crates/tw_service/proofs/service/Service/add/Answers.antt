@@ -14,7 +14,7 @@ use Rattle.tw_pages.specs.Same.{IsSameStore}
 use Rattle.tw_pages.specs.SameSteps.{is_same_itself}
 use Rattle.tw_skiplist.specs.Appended.{appended}
 use Rattle.tw_skiplist.specs.declared.head.Head.{Head}
-use Rattle.tw_answers.specs.declared.refusal.Refusal.{Refusal}
+use Rattle.tw_base.specs.declared.history.refusal.Refusal.{Refusal}
 use Rattle.tw_answers.specs.declared.root.RootRecord.{RootRecord}
 use Rattle.tw_service.specs.EventSteps.{with_events_at}
 use Rattle.tw_answers.specs.Finds.{IsRefusalFound, unless}

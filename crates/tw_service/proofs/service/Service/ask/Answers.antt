@@ -2,7 +2,7 @@ use Rattle.std.proofs.Common.{◌≡◌, ◌∙◌, ℕ, List, length, Bool, ap,
 use Rattle.std.specs.Prelude.{is_some, Option, None, Some, Result}
 use Rattle.tw_base.specs.history.History.{History}
 use Rattle.tw_disk.specs.Found.{Found}
-use Rattle.tw_answers.specs.declared.refusal.Refusal.{Refusal}
+use Rattle.tw_base.specs.declared.history.refusal.Refusal.{Refusal}
 use Rattle.tw_answers.specs.Finds.{IsRefusalFound, unless}
 use Rattle.tw_answers.specs.Limits.{or_else}
 use Rattle.tw_answers.proofs.FoundAnswers.{of_disk_fault}

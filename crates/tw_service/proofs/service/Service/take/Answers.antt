@@ -1,8 +1,8 @@
 use Rattle.std.proofs.Common.{◌≡◌, ◌∙◌, ap, false, subst, sym, Bool}
 use Rattle.std.specs.Prelude.{◌↔◌, IsTrue, is_some, Result, Ok, Err}
 use Rattle.tw_msg.specs.declared.receipt.Receipt.{Receipt}
-use Rattle.tw_answers.specs.declared.refusal.Refusal.{Refusal}
-use Rattle.tw_answers.specs.declared.refusal.Refusal.TheVariants.{DiskFault}
+use Rattle.tw_base.specs.declared.history.refusal.Refusal.{Refusal}
+use Rattle.tw_base.specs.declared.history.refusal.Refusal.TheVariants.{DiskFault}
 use Rattle.tw_service.proofs.Received.{received_refused, received_taken}
 use Rattle.tw_service.proofs.service.Service.take.Goals as goal
 

@@ -1,8 +1,8 @@
 use Rattle.std.proofs.Common.{◌≡◌, inr, refl, subst, sym, Bool, true}
 use Rattle.std.specs.Prelude.{Result, Err}
 use Rattle.tw_msg.specs.declared.receipt.Receipt.{Receipt}
-use Rattle.tw_answers.specs.declared.refusal.Refusal.{Refusal}
-use Rattle.tw_answers.specs.declared.refusal.Refusal.TheVariants.{Reopen}
+use Rattle.tw_base.specs.declared.history.refusal.Refusal.{Refusal}
+use Rattle.tw_base.specs.declared.history.refusal.Refusal.TheVariants.{Reopen}
 use Rattle.tw_service.specs.Receiving.{RefusesNoMessage}
 use Rattle.tw_service.proofs.Received.{own_broken, received_refused}
 use Rattle.tw_service.proofs.service.Service.take_bytes.Goals as goal

@@ -3,7 +3,7 @@ use Rattle.std.specs.Prelude.{is_some, Option, None, Some, Result}
 use Rattle.tw_disk.specs.Found.{Found}
 use Rattle.tw_msg.specs.declared.message.Message.{Message}
 use Rattle.tw_msg.specs.Messages.{message_bytes}
-use Rattle.tw_answers.specs.declared.refusal.Refusal.{Refusal}
+use Rattle.tw_base.specs.declared.history.refusal.Refusal.{Refusal}
 use Rattle.tw_answers.specs.Finds.{IsRefusalFound, unless}
 use Rattle.tw_answers.specs.Limits.{thread_refusal}
 use Rattle.tw_answers.proofs.FoundAnswers.{of_disk_fault}

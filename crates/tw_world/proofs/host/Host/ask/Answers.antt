@@ -1,8 +1,8 @@
 use Rattle.std.proofs.Common.{List, ℕ, refl, ◌∙◌, sym, subst}
 use Rattle.std.specs.Prelude.{Result, Ok, Err}
 use Rattle.sha2.specs.Sha256.{sha256}
-use Rattle.tw_answers.specs.declared.refusal.Refusal.{Refusal}
-use Rattle.tw_answers.specs.declared.refusal.Refusal.TheVariants.{BadPage, DiskFault, NoMemory, Reopen}
+use Rattle.tw_base.specs.declared.history.refusal.Refusal.{Refusal}
+use Rattle.tw_base.specs.declared.history.refusal.Refusal.TheVariants.{BadPage, DiskFault, NoMemory, Reopen}
 use Rattle.tw_base.specs.declared.history.question.Question.{Question}
 use Rattle.tw_base.specs.history.History.{History}
 use Rattle.tw_disk.specs.MemDisk.{mem_disk_view}

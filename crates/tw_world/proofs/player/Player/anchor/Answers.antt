@@ -1,6 +1,6 @@
 use Rattle.std.proofs.Common.{◌≡◌, ℕ, List, sym, subst}
 use Rattle.std.specs.Prelude.{Result, None}
-use Rattle.tw_answers.specs.declared.refusal.Refusal.{Refusal}
+use Rattle.tw_base.specs.declared.history.refusal.Refusal.{Refusal}
 use Rattle.tw_base.specs.declared.history.question.Question.TheVariants.{Link}
 use Rattle.tw_base.specs.format.Formats.{Spells}
 use Rattle.tw_chain.specs.Proofs.{proof_layout}
