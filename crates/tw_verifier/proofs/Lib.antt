@@ -7,3 +7,5 @@ pub mod StageForms
 pub mod StageLaws
 pub mod NoRoot
 pub mod LinkRuns
+pub mod ProofRanges
+pub mod ChainRuns

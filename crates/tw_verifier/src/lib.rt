@@ -11,5 +11,6 @@ mod judging;
 mod stage;
 mod tree_attempts;
 mod verifier;
+mod whole;
 
 pub use verifier::{Verifier, verify};

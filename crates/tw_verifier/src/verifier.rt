@@ -10,10 +10,11 @@ ghost use Rattle.tw_chain.specs.Reasons.{IsVerdict};
 ghost use Rattle.tw_verifier.specs.Verifying.{IsFed};
 
 use crate::stage::Stage;
+use crate::whole::judge_proof;
 use std::alloc::Global;
 use std::marker::PhantomData;
 use tw_base::{Hasher, NoMemory, ReadFault, Reason, Thread, Threads};
-use tw_chain::Verdict;
+use tw_chain::{Verdict, read_proof};
 use tw_pieces::Fed;
 
 /// What was taken of a proof, and the anchors under which it is judged.
@@ -99,8 +100,8 @@ impl<H: Hasher> Verifier<H> {
 }
 
 /// The verdict on the bytes of a proof under the anchors: Yes exactly where the bytes spell a proof that is accepted and, in the strict
-/// form, carries no thread, with its report; else No with the lowest reason that stands. Each text is hashed once, and one part of the
-/// proof (its head, a hop or its tail) is held at a time, with what the report needs.
+/// form, carries no thread, with its report; else No with the lowest reason that stands. Each text is hashed once. The proof is read and
+/// held whole.
 ///
 /// Where it is Yes, in every family of sound histories that has the held threads the report's claim holds, by the report's own hops, or
 /// two different texts of the histories and of the proof, both of bytes, have one digest.
@@ -118,25 +119,12 @@ pub fn verify<H: Hasher>(
     // of these histories and of the proof, both of bytes, have one digest.
     ensures binds { IfOk result (BindsHistories H.dig anchors.now bytes.now) }
 {
-    fed_whole::<H>(alloc, bytes, anchors, strict)?.finish()
-}
-
-/// A verifier that was fed these bytes in one piece.
-fn fed_whole<H: Hasher>(
-    alloc: Global,
-    bytes: &[u8],
-    anchors: &[Thread],
-    strict: bool,
-) -> Result<Verifier<H>, NoMemory>
-    ensures { IfOk result (λ v. IsFed H.dig anchors.now strict v bytes.now) }
-{
-    let mut verifier = Verifier::<H>::new(alloc, anchors, strict)?;
-    match verifier.feed(bytes) {
-        Ok(()) => Ok(verifier),
-        // Not by `?`: a verifier that goes out of scope is looked at part by part, and proved slowly.
-        Err(fault) => {
-            drop(verifier);
-            Err(fault)
+    match read_proof(alloc, bytes) {
+        Ok(proof) => {
+            let judgement = judge_proof::<H>(alloc, proof, anchors)?;
+            Ok(judgement.verdict(strict))
         }
+        Err(ReadFault::Malformed { place }) => Ok(Verdict::No(Reason::Malformed { place })),
+        Err(ReadFault::NoMemory) => Err(NoMemory),
     }
 }

@@ -29,7 +29,7 @@ LARGE = {
     "tw_base": (3144, 158),
     "tw_history": (2027, 103),
     "tw_skiplist": (1583, 100),
-    "tw_verifier": (1943, 100),
+    "tw_verifier": (2030, 100),
 }
 
 # The names that stand for a definition in two modules of `specs`: one notion over two subjects, which a reader always sees with their module.
