@@ -1,6 +1,6 @@
 -- What a call that may add a step was answered, from what the service says of it.
 use Rattle.std.proofs.Common.{◌≡◌, ◌⊎◌, ℕ, suc, List, length, refl, ap, sym, ◌∙◌, subst, inl, inr, Bool, false}
-use Rattle.std.specs.Prelude.{IfErr, IfOk, Ok, Option, Some, None, Result, Err, MatchOption}
+use Rattle.std.specs.Prelude.{IfErr, IfOk, OnOk, Ok, Option, Some, None, Result, Err, MatchOption}
 use Rattle.std.proofs.lemmas.Bool.{cases_lt}
 use Rattle.sha2.specs.Sha256.{sha256}
 use Rattle.tw_base.specs.declared.history.thread.Thread.{Thread}
@@ -50,6 +50,10 @@ same-refusal T one other e = cc
 pub if-ok : {A E : Type 0} (r : Result A E) (P Q : A → Type 0) → ((a : A) → P a → Q a) → IfOk r P → IfOk r Q
 if-ok (Ok a) P Q to is = to a is
 if-ok (Err e) P Q to is = is
+
+pub on-ok : {A E : Type 0} (r : Result A E) (P Q : Type 0) → (P → Q) → OnOk r P → OnOk r Q
+on-ok (Ok a) P Q to is = to is
+on-ok (Err e) P Q to is = is
 
 module _ {H : Type 0} {g : _} {k : _} (given : Given) (h : History) (new : Service MemDisk H g k) where
   -- a refusal, which the machine answers; or a disk fault

@@ -94,3 +94,18 @@ module _ {H : Type 0} {g : _} {k : _} (given : Given) (h : History) (service : S
         → LineEnds given true h told after steps
     ends-crashed (Some a) is answered = answered-crash a is answered
     ends-crashed None is answered = stopped-crash is answered
+
+module _ {H : Type 0} {g : _} {k : _} (given : Given) (h : History) (service : Service MemDisk H g k) (disk : MemDisk)
+    (closed : disk ≡ disk_of service)
+    (stands : (x : History) → Serves sha256 mem_disk_view service x → IsAtRest (mem_disk_view disk)
+    (λ i. StandsFor sha256 i (name_of service) x)) where
+  -- what a crash may leave stands for a history that it has, or for the next one
+  pub may-leave : (answer : Option Answer) → Answered given h service answer
+      → (one : History) × (other : History) × ((c : Image) → (mem_disk_view disk).may_leave c → StandsAs one c
+      ⊎ StandsAs other c)
+  may-leave (Some a) answered =
+      let next : History = answered.next in
+      let good : StandsForGood disk next = stands-closed disk (name_of service) next (stands next answered.serves) in
+      (next, next, λ c may. inl (stands-each disk next good c may))
+  may-leave None answered =
+      (h, answered.next, λ c may. answered.leaves c (subst (λ (d : MemDisk). (mem_disk_view d).may_leave c) closed may))

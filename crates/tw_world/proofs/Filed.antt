@@ -60,3 +60,10 @@ module _ (w : World) where
       let first = some-file (numbered w.files n) all.0 in
       let rest = files-without numbers i d (omega (arith, within)) is all.1 in
       (first.0 ∷ rest.0, (first.1, rest.1), inr rest.2)
+
+  -- each of them is there
+  pub filed-at : (numbers : List ℕ) (i d : ℕ) → i < length numbers → AreFiled w numbers
+      → IsSome (numbered w.files (get_or numbers i d))
+  filed-at [] i d within all = absurd (omega (arith, within))
+  filed-at (n ∷ numbers) zero d within all = all.0
+  filed-at (n ∷ numbers) (suc i) d within all = filed-at numbers i d (omega (arith, within)) all.1

@@ -1,9 +1,10 @@
 -- Services that are played, and the members of a world that they are.
 use Rattle.std.proofs.Common.{◌≡◌, ℕ, suc, zero, ◌+◌, ◌<◌, List, [], ◌∷◌, ◌++◌, length, drop, get_or, refl, ap, sym}
 use Rattle.std.proofs.Common.{◌∙◌, subst, Bool, true, false, add-one, arith}
-use Rattle.std.specs.Prelude.{Some, None, slice_get, slice_set, if◌then◌else◌}
+use Rattle.std.specs.Prelude.{IsSome, Some, None, slice_get, slice_set, if◌then◌else◌}
 use Rattle.std.specs.Str.{bytes_eq}
 use Rattle.std.proofs.Math.Seq.{drop-cons}
+use Rattle.std.proofs.lemmas.Slice.Eq.{bytes_eq-Decides}
 use Rattle.tw_world.specs.Players.{AreHostsOf, IsFirst, IsHostOf}
 use Rattle.tw_world.specs.Worlds.{Member, member_of, put_member}
 use Rattle.tw_world.specs.declared.host.Host.{Host}
@@ -109,3 +110,34 @@ pub first-here : (hosts : List Host) (name : List ℕ) (i : ℕ) (d : Host) → 
 first-here hosts name i d within same before =
     subst (IsFirst hosts name) (omega arith)
     (before zero (subst (λ (hs : List Host). IsFirst hs name zero) (sym (drop-cons hosts i d within)) same))
+
+-- a service that a world has stands somewhere
+pub first-of : (hosts : List Host) (members : List Member) (name : List ℕ) → AreHostsOf hosts members
+    → IsSome (member_of members name) → (k : ℕ) × IsFirst hosts name k
+first-of [] [] name are some = cc
+first-of [] (m ∷ members) name are some = absurd are
+first-of (x ∷ hosts) [] name are some = absurd are
+first-of (x ∷ hosts) (m ∷ members) name are some = by (bytes_eq x.name name) refl (first-of hosts members name are.1)
+  where
+    by : (b : Bool) → bytes_eq x.name name ≡ b → (IsSome (member_of members name) → (k : ℕ) × IsFirst hosts name k)
+        → (k : ℕ) × IsFirst (x ∷ hosts) name k
+    by true is rest = (zero, (bytes_eq-Decides x.name name).0 is)
+    by false is rest =
+        let other : bytes_eq m.history.name name ≡ false = ap (λ n. bytes_eq n name) (sym are.0.holds.named) ∙ is in
+        let later = rest (subst (λ (b : Bool). IsSome (if b then Some m else member_of members name)) other some) in
+        (suc later.0, (is, later.1))
+
+-- among the services from a place on there is one of the name, and it isn't the first
+pub first-behind : (hosts : List Host) (name : List ℕ) (i : ℕ) (d : Host) → i < length hosts
+    → bytes_eq (get_or hosts i d).name name ≡ false
+    → (k : ℕ) × IsFirst (drop i hosts) name k → (k : ℕ) × IsFirst (drop (i + 1) hosts) name k
+first-behind hosts name i d within other there =
+    let split : drop i hosts ≡ get_or hosts i d ∷ drop (i + 1) hosts =
+    drop-cons hosts i d within ∙ ap (λ j. get_or hosts i d ∷ drop j hosts) (sym (add-one i)) in
+    by there.0 (subst (λ (hs : List Host). IsFirst hs name there.0) split there.1)
+  where
+    by : (k : ℕ) → IsFirst (get_or hosts i d ∷ drop (i + 1) hosts) name k → (j : ℕ) × IsFirst (drop (i + 1) hosts)
+        name j
+    by zero same = let yes : bytes_eq (get_or hosts i d).name name ≡ true =
+        (bytes_eq-Decides (get_or hosts i d).name name).1 same in cc
+    by (suc k) first = (k, first.1)

@@ -1,17 +1,17 @@
 -- What is played follows the world on, where a service goes on or is asked.
-use Rattle.std.proofs.Common.{◌≡◌, ℕ, suc, zero, ◌+◌, ◌<◌, List, [], ◌∷◌, length, get_or, refl, ap, sym, ◌∙◌, subst}
-use Rattle.std.proofs.Common.{arith}
-use Rattle.std.proofs.lemmas.List.{map-set}
+use Rattle.std.proofs.Common.{◌≡◌, ℕ, suc, zero, ◌+◌, ◌<◌, ◌≤◌, List, [], ◌∷◌, length, get_or, refl, ap, sym, ◌∙◌}
+use Rattle.std.proofs.Common.{subst, arith}
+use Rattle.std.proofs.lemmas.List.{length-map, map-set}
 use Rattle.std.proofs.lemmas.Option.{slice_get-get_or, slice_get-map}
 use Rattle.std.specs.Vec.{with_item}
-use Rattle.std.specs.Prelude.{map, option_map, Option, Some, None, Result, is_some, slice_get, slice_set}
+use Rattle.std.specs.Prelude.{map, option_map, IsSome, Option, Some, None, Result, is_some, slice_get, slice_set}
 use Rattle.tw_base.specs.declared.history.refusal.Refusal.{Refusal}
 use Rattle.tw_base.specs.declared.history.question.Question.{Question}
 use Rattle.tw_base.specs.history.History.{History}
 use Rattle.tw_world.specs.Hosts.{Given, GivesReply, GoesOnByReply, HoldsHistory, TakesGiven, own_answer}
-use Rattle.tw_world.specs.Players.{AreHostsOf, IsFirst, IsHostOf, PlayerFollows, mail_kept}
-use Rattle.tw_world.specs.Runs.{IsMember, Moves}
-use Rattle.tw_world.specs.Worlds.{Mail, Member, World, after_line, with_member, without_message}
+use Rattle.tw_world.specs.Players.{AreHostsOf, IsFirst, IsHostOf, IsMessage, PlayerFollows, mail_kept}
+use Rattle.tw_world.specs.Runs.{IsMember, Moves, loss_answer}
+use Rattle.tw_world.specs.Worlds.{Mail, Member, World, after_line, numbered, with_member, without_message}
 use Rattle.tw_world.specs.declared.host.Host.{Host}
 use Rattle.tw_world.specs.declared.player.Mail.{Mail as KeptMail}
 use Rattle.tw_world.specs.declared.player.Mail.TheVariants.{Dropped}
@@ -20,6 +20,7 @@ use Rattle.tw_world.specs.declared.told.Told.{Told}
 use Rattle.tw_world.proofs.Following.{find-member, keep-host, put-host}
 use Rattle.tw_world.proofs.LineMoves.{goes-moves}
 use Rattle.tw_world.proofs.Members.{named}
+use Rattle.tw_world.proofs.ToldLines.{numbered-at}
 
 pub later : (p : Player) (w : World) → PlayerFollows p w → PlayerFollows p (after_line w)
 later p w f = record { hosts = f.hosts; messages = f.messages; files = f.files; anchors = f.anchors }
@@ -47,6 +48,15 @@ served-at old name at host one found is = record {
   files = refl;
   anchors = refl;
 }
+
+-- the service that is found has a history
+pub held-at : (p : Player) (w : World) (name : List ℕ) (at : ℕ) (host : Host) → PlayerFollows p w
+    → (at < length p.hosts.items) × IsFirst p.hosts.items name at → host ≡ get_or p.hosts.items at host → (h : History)
+    × HoldsHistory host h
+held-at p w name at host f first is =
+    let served = served-at p name at host host first is in
+    let found = find-member p.hosts.items w.members name at host f.hosts served.first served.there in
+    (found.member.history, found.is.holds)
 
 pub host-there : (hosts : List Host) (at : ℕ) → at < length hosts → (host : Host) × (slice_get hosts at ≡ Some host)
 host-there [] at within = absurd (omega (arith, within))
@@ -140,3 +150,46 @@ module _ (old new : Player) (name : List ℕ) (at : ℕ) (host one : Host) (serv
               (follows-put n (record { holds = holds; waits = ap is_some crash ∙ sym is.waits }) names),
         ),
       )
+
+-- ---- what a line may use is there
+
+within-length : {X : Type 0} (xs : List X) (index : ℕ) (x : X) → slice_get xs index ≡ Some x → index < length xs
+within-length [] index x is = cc
+within-length (y ∷ xs) zero x is = omega arith
+within-length (y ∷ xs) (suc index) x is = let rest = within-length xs index x is in omega (arith, rest)
+
+-- what has a number is one of so many
+pub numbered-within : {X : Type 0} (xs : List X) (number : ℕ) (x : X) → numbered xs number ≡ Some x → (0 < number)
+    × (number ≤ length xs)
+numbered-within xs zero x is = cc
+numbered-within xs (suc index) x is = let within = within-length xs index x is in (omega arith, omega (arith, within))
+
+pub message-within : (p : Player) (w : World) (number : ℕ) → PlayerFollows p w → IsMessage w number → (0 < number)
+    × (number ≤ length p.messages.items)
+message-within p w number f is =
+    let there = numbered-within w.messages number is.0 is.1 in
+    let same : length w.messages ≡ length p.messages.items = ap length (sym f.messages) ∙ length-map p.messages.items
+    mail_kept in
+    (there.0, omega (arith, there.1, same))
+
+pub file-within : (p : Player) (w : World) (number : ℕ) → PlayerFollows p w → IsSome (numbered w.files number)
+    → (0 < number) × (number ≤ length p.files.items)
+file-within p w number f is = by (numbered w.files number) refl is
+  where
+    by : (o : Option (Option (List ℕ))) → numbered w.files number ≡ o → IsSome o → (0 < number)
+        × (number ≤ length p.files.items)
+    by None at some = cc
+    by (Some file) at some =
+        let there = numbered-within w.files number file at in
+        let same : length w.files ≡ length p.files.items = ap length (sym f.files) in
+        (there.0, omega (arith, there.1, same))
+
+-- a message that a line may use wasn't dropped
+pub message-kept : (p : Player) (w : World) (index number : ℕ) (kept : KeptMail) → PlayerFollows p w
+    → index < length p.messages.items → kept ≡ get_or p.messages.items index kept
+    → index + 1 ≡ number → IsMessage w number → IsSome (loss_answer (mail_kept kept))
+message-kept p w index number kept f within is at message =
+    let both : Some (mail_kept kept) ≡ Some message.0 = sym (message-there p w index kept f within is)
+    ∙ sym (numbered-at w.messages index number at) ∙ message.1 in
+    let same : mail_kept kept ≡ message.0 = cc in
+    subst (λ (mail : Mail). IsSome (loss_answer mail)) (sym same) message.2

@@ -1,4 +1,6 @@
 pub mod Members
+pub mod NameBytes
+pub mod Opened
 pub mod Births
 pub mod Ordered
 pub mod Growing

@@ -2,7 +2,7 @@
 use Rattle.std.proofs.Common.{◌≡◌, ◌⊎◌, ℕ, suc, zero, ◌+◌, ◌-◌, ◌<◌, List, [], ◌∷◌, ◌++◌, length, map, Bool, true}
 use Rattle.std.proofs.Common.{false, not, ◌&&◌, ◌||◌, nat_le, nat_lt, Option, Some, None, if◌then◌else◌, refl, ap, sym}
 use Rattle.std.proofs.Common.{◌∙◌, inl, inr, arith}
-use Rattle.std.specs.Prelude.{IsSome, is_some, slice_get, slice_set}
+use Rattle.std.specs.Prelude.{IsSome, is_some, slice_get, slice_index_or, slice_set}
 use Rattle.std.specs.List.{list_all, list_any}
 use Rattle.std.specs.Str.{bytes_eq}
 use Rattle.std.proofs.lemmas.Bool.{and_parts, leb-true, not-true, or_parts, or_right}
@@ -13,10 +13,12 @@ use Rattle.tw_base.specs.declared.history.thread.Thread.{Thread}
 use Rattle.tw_base.specs.kinds.Lists.{Each, In}
 use Rattle.tw_base.proofs.lemmas.kinds.ListLemmas.{In-cases_append, In-left, In-right}
 use Rattle.tw_script.specs.Allowed as allowed
-use Rattle.tw_script.specs.Allowed.{is_file, is_hostile, is_name_free, is_service, nothing_made}
+use Rattle.tw_script.specs.Allowed.{is_file, is_hostile, is_message, is_name_free, is_service, nothing_made}
 use Rattle.tw_script.specs.declared.limits.TheConstants.{MOST_SCRIPT_NAMES}
 use Rattle.tw_script.specs.declared.made.Declared.{Declared}
 use Rattle.tw_script.specs.declared.made.Made.{Made}
+use Rattle.tw_world.specs.Players.{HasMember, IsMessage}
+use Rattle.tw_world.specs.Runs.{loss_answer}
 use Rattle.tw_world.specs.Worlds.{Mail, Member, World, after_line, member_of, no_world, numbered, put_member}
 use Rattle.tw_world.specs.Worlds.{with_anchor, with_file, with_hostile, with_member, with_message, with_service}
 use Rattle.tw_world.specs.Worlds.{without_message}
@@ -254,7 +256,7 @@ module _ (made : Made) (w : World) (o : HasMade made w) where
   numbered-some (f ∷ files) zero within = refl
   numbered-some (f ∷ files) (suc index) within = numbered-some files index (omega (arith, within))
 
-  file-there : (n : ℕ) → is_file made n ≡ true → IsSome (numbered w.files n)
+  pub file-there : (n : ℕ) → is_file made n ≡ true → IsSome (numbered w.files n)
   file-there zero is = absurd (cc)
   file-there (suc index) is =
       let parts = and_parts (nat_le 1 (suc index)) (nat_le (suc index) made.files) is in
@@ -268,3 +270,24 @@ module _ (made : Made) (w : World) (o : HasMade made w) where
   files-there (n ∷ numbers) all =
       let parts = and_parts (is_file made n) (list_all (is_file made) numbers) all in
       (file-there n parts.0, files-there numbers parts.1)
+
+  -- so is the service
+  pub service-there : (name : List ℕ) → is_service made name ≡ true → HasMember w name
+  service-there name is = sym (o.services name) ∙ is
+
+  -- and so is the message
+  there-at : (mails : List Mail) (index : ℕ) → slice_index_or (map is_there mails) index false ≡ true → (mail : Mail)
+      × (slice_get mails index ≡ Some mail) × IsSome (loss_answer mail)
+  there-at [] index is = cc
+  there-at (MadeMail bytes ∷ mails) zero is = (MadeMail bytes, refl, refl)
+  there-at (Unmade ∷ mails) zero is = (Unmade, refl, refl)
+  there-at (Dropped ∷ mails) zero is = cc
+  there-at (m ∷ mails) (suc index) is = there-at mails index is
+
+  pub message-there : (number : ℕ) → is_message made number ≡ true → IsMessage w number
+  message-there zero is = cc
+  message-there (suc index) is =
+      let parts = and_parts (nat_le 1 (suc index) && nat_le (suc index) (length made.messages))
+      (slice_index_or made.messages (suc index - 1) false) is in
+      there-at w.messages index (ap (λ (there : List Bool). slice_index_or there index false) (sym o.messages)
+      ∙ ap (λ i. slice_index_or made.messages i false) (omega arith) ∙ parts.1)

@@ -18,7 +18,7 @@ use Rattle.tw_join.specs.declared.joining.JoinFault.TheVariants.{Gap, NoMemory}
 use Rattle.tw_msg.specs.Messages.{message_layout}
 use Rattle.tw_msg.specs.declared.message.Message.{Message}
 use Rattle.tw_script.specs.Allowed as allowed
-use Rattle.tw_script.specs.Allowed.{is_hostile, made_by, may_follow, nothing_made}
+use Rattle.tw_script.specs.Allowed.{is_hostile, is_message, is_service, made_by, may_follow, nothing_made}
 use Rattle.tw_script.specs.AskedWords.{AsksWell}
 use Rattle.tw_script.specs.Injected.{is_own_or_none}
 use Rattle.tw_script.specs.ScriptLines.{AreAllowed, IsLineOf, IsScript, made_by_all}
@@ -43,8 +43,9 @@ use Rattle.tw_world.specs.Worlds.{Mail, Member, World, no_world, numbered}
 use Rattle.tw_world.specs.Worlds.Mail.{Made as MadeMail, Unmade, Dropped}
 use Rattle.tw_world.specs.declared.told.Answer.{Answer}
 use Rattle.tw_world.specs.declared.told.Told.{Told}
-use Rattle.tw_world.proofs.MadeWorlds.{HasMade, files-there, free-new, is_there, made-anchor, made-file, made-hostile}
-use Rattle.tw_world.proofs.MadeWorlds.{made-later, made-lost, made-mail, made-member, made-service, nothing-made}
+use Rattle.tw_world.proofs.MadeWorlds.{HasMade, file-there, files-there, free-new, is_there, made-anchor, made-file}
+use Rattle.tw_world.proofs.MadeWorlds.{made-hostile, made-later, made-lost, made-mail, made-member, made-service}
+use Rattle.tw_world.proofs.MadeWorlds.{message-there, nothing-made, service-there}
 
 -- ---- a line more
 
@@ -132,18 +133,20 @@ module _ (made : Made) (w : World) (o : HasMade made w) where
   unfolding may_follow
   line-may (Service name) has may = let new = free-new made w o name may in (has, new.0, new.1)
   line-may (Hostile name) has may = let new = free-new made w o name may in (has, new.0, new.1)
-  line-may (Append name events) has may = has
-  line-may (Send name since) has may = tt
+  line-may (Append name events) has may = (has, service-there made w o name may)
+  line-may (Send name since) has may = service-there made w o name may
   line-may (Inject name bytes) has may =
       let parts = and_parts (is_hostile made name) (is_own_or_none name bytes) may in
       (o.hostile name parts.0, own-name name bytes parts.1)
-  line-may (Deliver number name) has may = tt
-  line-may (Lose number) has may = tt
-  line-may (Crash name call choice) has may = tt
-  line-may (Prove name asked) has may = tt
+  line-may (Deliver number name) has may =
+      let parts = and_parts (is_message made number) (is_service made name) may in
+      (message-there made w o number parts.0, service-there made w o name parts.1)
+  line-may (Lose number) has may = message-there made w o number may
+  line-may (Crash name call choice) has may = service-there made w o name may
+  line-may (Prove name asked) has may = service-there made w o name may
   line-may (Join numbers) has may = (has, files-there made w o numbers may)
-  line-may (Anchor name step) has may = has
-  line-may (Verify number) has may = tt
+  line-may (Anchor name step) has may = (has, service-there made w o name may)
+  line-may (Verify number) has may = file-there made w o number may
 
 -- ---- runs
 

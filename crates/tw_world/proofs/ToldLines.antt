@@ -1,14 +1,16 @@
 -- What is told of a line of a world, by what its service gives, its message is, or its files are.
 use Rattle.std.proofs.Common.{◌≡◌, ◌⊎◌, ℕ, ◌+◌, ◌≤◌, List, length, refl, ap, sym, ◌∙◌, subst, inl, inr, Bool, true}
 use Rattle.std.proofs.Common.{false, arith}
-use Rattle.std.specs.Prelude.{Ok, Option, Some, None, Err, MatchOption, ◌&&◌, slice_get, nat_le, if◌then◌else◌}
+use Rattle.std.specs.Prelude.{Ok, Option, Some, None, Err, Result, MatchOption, ◌&&◌, slice_get, nat_le, if◌then◌else◌}
 use Rattle.std.proofs.Common.{add-one}
 use Rattle.std.proofs.lemmas.Bool.{le-leb, leb-true}
 use Rattle.sha2.specs.Sha256.{sha256}
 use Rattle.tw_base.proofs.lemmas.format.CodecLaws.{unambiguous}
 use Rattle.tw_base.specs.declared.history.question.Question.TheVariants.{Link}
 use Rattle.tw_base.specs.declared.history.thread.Thread.{Thread}
-use Rattle.tw_base.specs.format.Formats.{Spells}
+use Rattle.tw_base.specs.declared.kinds.failure.ReadFault.{ReadFault}
+use Rattle.tw_base.specs.declared.kinds.failure.ReadFault.TheVariants.{Malformed, NoMemory}
+use Rattle.tw_base.specs.format.Formats.{ReadsAs, Spells}
 use Rattle.tw_base.specs.history.Auth.{auth}
 use Rattle.tw_base.specs.history.History.{History}
 use Rattle.tw_answers.specs.Limits.{link_refusal, or_else}
@@ -17,17 +19,20 @@ use Rattle.tw_base.specs.declared.history.refusal.Refusal.TheVariants.{NoStep}
 use Rattle.tw_chain.specs.Proofs.{proof_codec, proof_layout}
 use Rattle.tw_chain.specs.Reasons.{IsVerdict}
 use Rattle.tw_chain.specs.declared.proof.LinkProof.{LinkProof}
+use Rattle.tw_chain.specs.declared.proof.Proof.{Proof}
 use Rattle.tw_chain.specs.declared.proof.Proof.TheVariants.{Linked}
 use Rattle.tw_chain.specs.declared.verdict.Verdict.{Verdict}
 use Rattle.tw_chain.proofs.ProofCodec.{proof-lawful}
-use Rattle.tw_script.specs.declared.line.Line.TheVariants.{Deliver, Lose, Anchor, Verify}
+use Rattle.tw_join.specs.declared.joining.JoinFault.TheVariants.{Gap}
+use Rattle.tw_script.specs.declared.line.Line.TheVariants.{Deliver, Lose, Join, Anchor, Verify}
 use Rattle.tw_service.specs.Machine.{IsStepOf, Makes, MakesLink, Reply}
 use Rattle.tw_service.specs.Machine.Call.{Ask}
 use Rattle.tw_service.specs.Machine.Reply.{OfBytes, Refused}
 use Rattle.tw_service.specs.Questions.{history_refusal, pages_refusal, question_refusal}
 use Rattle.tw_world.specs.Hosts.{GivesReply, claims_none}
-use Rattle.tw_world.specs.Players.{thread_of_link}
-use Rattle.tw_world.specs.Runs.{HasStep, IsDelivered, IsLineTold, IsMember, loss_answer, verdict_answer}
+use Rattle.tw_world.specs.Players.{FilesJoinTo, thread_of_link}
+use Rattle.tw_world.specs.Runs.{HasStep, IsDelivered, IsFiled, IsLineTold, IsMember, IsNotFiled, loss_answer}
+use Rattle.tw_world.specs.Runs.{verdict_answer}
 use Rattle.tw_world.specs.Worlds.{Mail, Member, World, after_line, numbered, with_anchor, without_message}
 use Rattle.tw_world.specs.declared.told.Answer.{Answer}
 use Rattle.tw_world.specs.declared.told.Answer.TheVariants as answer
@@ -39,6 +44,13 @@ use Rattle.tw_world.proofs.Members.{named}
 pub numbered-at : {X : Type 0} (xs : List X) (index number : ℕ) → index + 1 ≡ number → numbered xs number ≡ slice_get xs
     index
 numbered-at xs index number is = ap (numbered xs) (sym is ∙ add-one index)
+
+same-why : (given : Result (List ℕ) Answer) (one other : Answer) → given ≡ Err one → given ≡ Err other → one ≡ other
+same-why given one other is also = cc
+
+not-both-given : (given : Result (List ℕ) Answer) (bytes : List ℕ) (why : Answer) → given ≡ Ok bytes → given ≡ Err why
+    → ⊥
+not-both-given given bytes why is also = cc
 
 module _ (w : World) where
   -- ---- messages
@@ -80,7 +92,59 @@ module _ (w : World) where
         (sym (numbered-at w.files index number at ∙ there)) (verdict, is, refl),
   )
 
+  -- the files' proofs join to the next file
+  pub told-filed : (numbers bytes : List ℕ) (told : Told) (next : World) → 2 ≤ length numbers
+      → FilesJoinTo w numbers (Ok bytes) → IsFiled w bytes told next
+      → IsLineTold sha256 claims_none w (Join numbers) told next
+  told-filed numbers bytes told next two join filed = (
+    two,
+    (
+      join.0,
+      join.1,
+      elim join.2 [
+        | inl none ↦ absurd (not-both-given (Ok bytes) bytes answer.Nothing refl none.1)
+        | inr made ↦ inr (
+          made.0,
+          made.1,
+          (Ok made.2.0, made.2.1, subst (λ b. IsFiled w b told next) made.2.2 filed),
+        )
+      ],
+    ),
+  )
+
+  -- or the next file isn't made
+  pub told-not_filed : (numbers : List ℕ) (why : Answer) (told : Told) (next : World) → 2 ≤ length numbers
+      → FilesJoinTo w numbers (Err why) → IsNotFiled w why told next
+      → IsLineTold sha256 claims_none w (Join numbers) told next
+  told-not_filed numbers why told next two join not_filed = (
+    two,
+    (
+      join.0,
+      join.1,
+      elim join.2 [
+        | inl none ↦ inl (
+          none.0,
+          subst (λ a. IsNotFiled w a told next) (same-why (Err why) why answer.Nothing refl none.1) not_filed,
+        )
+        | inr made ↦ inr (
+          made.0,
+          made.1,
+          (Err (Gap made.2.0), made.2.1, subst (λ a. IsNotFiled w a told next) made.2.2 not_filed),
+        )
+      ],
+    ),
+  )
+
 -- ---- anchors
+
+-- bytes that spell the proof of a link are read as it, but for want of memory
+pub read-linked : (bytes : List ℕ) (link : LinkProof) (read : Result Proof ReadFault)
+    → Spells proof_layout bytes (Linked link) → ReadsAs (λ p. p) proof_layout bytes read
+    → (read ≡ Ok (Linked link)) ⊎ (read ≡ Err NoMemory)
+read-linked bytes link (Ok p) spells reads =
+    inl (ap Ok ((unambiguous proof_codec proof-lawful).one_value bytes p (Linked link) reads spells))
+read-linked bytes link (Err (Malformed place)) spells reads = absurd (reads.0 (Linked link) spells)
+read-linked bytes link (Err NoMemory) spells reads = inr refl
 
 not-both : true ≡ false → ⊥
 not-both e = cc
@@ -151,6 +215,20 @@ module _ (w : World) (name : List ℕ) (step : ℕ) (m : Member) (is : IsMember 
       (owns.service ∙ named w.members name m is)
       ∙ ap (λ n. record { from = name; step = n; auth = made.0.auth }) owns.at_step
       ∙ ap (λ a. record { from = name; step = step; auth = a }) owns.given
+
+  -- what is given is a proof of it
+  pub linked-made : (bytes : List ℕ) → GivesReply m.history (Link step None) (Ok bytes) → (link : LinkProof)
+      × Spells proof_layout bytes (Linked link)
+  unfolding Makes
+  linked-made bytes gives =
+      elim (link-cases m.history step one) [
+        | inl has ↦
+            let made = replies (OfBytes bytes) None has.1 gives in
+            let makes = subst (Makes sha256 m.history (Link step None)) (same-bytes made.0 bytes (sym made.2)) made.1 in
+            (makes.0, makes.1)
+        | inr none ↦ absurd (no-bytes bytes (NoStep (length m.history.steps))
+            (replies (OfBytes bytes) (Some (NoStep (length m.history.steps))) none.1 gives))
+      ]
 
   -- the authenticator that a proof tells is held
   pub told-anchored : (bytes : List ℕ) (link : LinkProof) → GivesReply m.history (Link step None) (Ok bytes)

@@ -1,5 +1,5 @@
 -- What is played of a world: services on disks, messages, files and anchors.
-use Rattle.std.specs.Prelude.{◌≡◌, ℕ, zero, suc, ◌≤◌, List, [], ◌∷◌, length, map, false, Option, None, is_some, IsSome, MatchOption, Result}
+use Rattle.std.specs.Prelude.{◌≡◌, ◌⊎◌, ℕ, zero, suc, ◌≤◌, List, [], ◌∷◌, length, map, false, Option, Some, None, is_some, IsSome, MatchOption, Result, Ok, Err}
 use Rattle.std.specs.Str.{bytes_eq}
 use Rattle.sha2.specs.Sha256.{sha256}
 use Rattle.tw_base.specs.declared.history.refusal.Refusal.{Refusal}
@@ -8,20 +8,25 @@ use Rattle.tw_base.specs.declared.history.question.Question.{Question}
 use Rattle.tw_base.specs.declared.history.thread.Thread.{Thread}
 use Rattle.tw_base.specs.kinds.Bytes.{AreBytes}
 use Rattle.tw_base.specs.kinds.Lists.{Each, In}
+use Rattle.tw_chain.specs.Proofs.{proof_bytes}
 use Rattle.tw_chain.specs.declared.proof.LinkProof.{LinkProof}
 use Rattle.tw_chain.specs.declared.proof.Proof.{Proof}
+use Rattle.tw_join.specs.Joining.{Joins}
+use Rattle.tw_join.specs.declared.joining.JoinFault.TheVariants.{Gap}
 use Rattle.tw_msg.specs.Messages.{message_layout}
 use Rattle.tw_msg.specs.declared.message.Message.{Message}
 use Rattle.tw_script.specs.declared.line.Line.{Line}
-use Rattle.tw_script.specs.declared.line.Line.TheVariants.{Service, Hostile, Append, Inject, Join, Anchor}
+use Rattle.tw_script.specs.declared.line.Line.TheVariants.{Service, Hostile, Append, Send, Inject, Deliver, Lose, Crash, Prove, Join, Anchor, Verify}
 use Rattle.tw_world.specs.Hosts.{GivesReply, HoldsHistory, claims_none}
-use Rattle.tw_world.specs.Runs.{AreFiles, AreProofs, IsLineTold, IsMember, IsNew}
-use Rattle.tw_world.specs.Worlds.{Mail, Member, World, numbered}
+use Rattle.tw_world.specs.Runs.{AreFiles, AreProofs, IsLineTold, IsMember, IsNew, loss_answer}
+use Rattle.tw_world.specs.Worlds.{Mail, Member, World, member_of, numbered}
 use Rattle.tw_world.specs.Worlds.Mail.{Made, Unmade, Dropped}
 use Rattle.tw_world.specs.declared.host.Host.{Host}
 use Rattle.tw_world.specs.declared.player.Mail.{Mail as KeptMail}
 use Rattle.tw_world.specs.declared.player.Mail.TheVariants as kept
 use Rattle.tw_world.specs.declared.player.Player.{Player}
+use Rattle.tw_world.specs.declared.told.Answer.{Answer}
+use Rattle.tw_world.specs.declared.told.Answer.TheVariants.{NotJoined, Nothing}
 use Rattle.tw_world.specs.declared.told.Told.{Told}
 
 -- the service has the member's history on its disk for good, and a crash waits for it where one waits for the member
@@ -57,19 +62,51 @@ pub record PlayerFollows (player : Player) (w : World) : Type 0 where
 abbrev pub AreFiled : World → (numbers : List ℕ) → Type 0
 AreFiled w numbers = Each (λ n. IsSome (numbered w.files n)) numbers
 
--- what a script's line keeps that isn't looked at again when it is played
+-- a service has the name
+abbrev pub HasMember : World → (name : List ℕ) → Type 0
+HasMember w name = IsSome (member_of w.members name)
+
+-- the message of this number is there, and wasn't dropped
+abbrev pub IsMessage : World → (number : ℕ) → Type 0
+IsMessage w number = (mail : Mail) × (numbered w.messages number ≡ Some mail) × IsSome (loss_answer mail)
+
+-- what a script's line keeps
 abbrev pub MayTell : World → Line → Type 0
 MayTell w (Service name) = IsNew w name
 MayTell w (Hostile name) = IsNew w name
-MayTell w (Append name events) = Each AreBytes events
+MayTell w (Append name events) = Each AreBytes events × HasMember w name
+MayTell w (Send name since) = HasMember w name
 MayTell w (Inject name bytes) = In name w.hostile × ((m : Message) → Spells message_layout bytes m → m.thread.from ≡ name)
+MayTell w (Deliver number name) = IsMessage w number × HasMember w name
+MayTell w (Lose number) = IsMessage w number
+MayTell w (Crash name call choice) = HasMember w name
+MayTell w (Prove name asked) = HasMember w name
 MayTell w (Join numbers) = (2 ≤ length numbers) × AreFiled w numbers
-MayTell w (Anchor name step) = 1 ≤ step
-MayTell w _ = Unit {0}
+MayTell w (Anchor name step) = (1 ≤ step) × HasMember w name
+MayTell w (Verify number) = IsSome (numbered w.files number)
+
+-- what is played is a world of which the line may be told
+abbrev pub CanPlayLine : Player → Line → Type 0
+CanPlayLine player line = (w : World) × PlayerFollows player w × MayTell w line
+
+-- a service that is played has the name
+abbrev pub HasService : Player → (name : List ℕ) → Type 0
+HasService player name = (w : World) × PlayerFollows player w × HasMember w name
 
 -- the proofs that the files of these numbers are, or none where one of them wasn't made
 abbrev pub AreProofsOfNumbers : World → (numbers : List ℕ) → Option (List Proof) → Type 0
 AreProofsOfNumbers w numbers proofs = (files : List (Option (List ℕ))) × AreFiles w numbers files × MatchOption proofs (In None files) (AreProofs files)
+
+-- what proofs join to: the bytes of a proof, or where they don't join
+abbrev pub ProofsJoinTo : List Proof → Result (List ℕ) Answer → Type 0
+ProofsJoinTo proofs (Ok bytes) = (p : Proof) × Joins proofs (Ok p) × (bytes ≡ proof_bytes p)
+ProofsJoinTo proofs (Err why) = (place : ℕ) × Joins proofs (Err (Gap place)) × (why ≡ NotJoined place)
+
+-- what the files of these numbers join to; nothing where one of them wasn't made
+abbrev pub FilesJoinTo : World → (numbers : List ℕ) → Result (List ℕ) Answer → Type 0
+FilesJoinTo w numbers joined =
+    (files : List (Option (List ℕ))) × AreFiles w numbers files
+    × ((In None files × (joined ≡ Err Nothing)) ⊎ ((proofs : List Proof) × AreProofs files proofs × ProofsJoinTo proofs joined))
 
 -- the thread whose authenticator a proof tells
 abbrev pub thread_of_link : LinkProof → Thread

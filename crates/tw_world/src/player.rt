@@ -1,6 +1,6 @@
 // A world as it is played: its services on disks in memory, and what lines made.
 
-ghost use Rattle.std.specs.Prelude.{◌≡◌, ◌<◌, ◌+◌, ℕ, suc, List, length, false, Some, IfOk, OnOk};
+ghost use Rattle.std.specs.Prelude.{◌≡◌, ◌<◌, ◌≤◌, ◌+◌, ℕ, suc, List, length, false, Some, IfOk, IsSome, OnOk};
 ghost use Rattle.sha2.specs.Sha256.{sha256};
 ghost use Rattle.tw_base.specs.format.Formats.{Spells};
 ghost use Rattle.tw_base.specs.history.Questions.{MayAsk};
@@ -12,7 +12,7 @@ ghost use Rattle.tw_chain.specs.declared.verdict.Verdict.{Verdict as VerdictOf};
 ghost use Rattle.tw_script.specs.AskedWords.{AsksWell};
 ghost use Rattle.tw_script.specs.declared.line.Line.TheVariants.{Service, Append, Send, Inject, Deliver, Lose, Crash, Prove, Join, Anchor, Verify};
 ghost use Rattle.tw_world.specs.PlayedLines.{AreLinesRead, HasPlayed, TellsNext};
-ghost use Rattle.tw_world.specs.Players.{AreFiled, AreProofsOfNumbers, HasGiven, IsFirst, PlayerFollows, PlaysLine, mail_kept, thread_of_link};
+ghost use Rattle.tw_world.specs.Players.{AreFiled, AreProofsOfNumbers, CanPlayLine, FilesJoinTo, HasGiven, HasService, IsFirst, PlayerFollows, PlaysLine, ProofsJoinTo, mail_kept, thread_of_link};
 ghost use Rattle.tw_world.specs.Playing.{script_lines};
 ghost use Rattle.tw_world.specs.Runs.{IsFiled, IsNotFiled, loss_answer as loss_answer_of, verdict_answer};
 ghost use Rattle.tw_world.specs.Worlds.{World, after_line, no_world, with_anchor, with_message};
@@ -23,7 +23,7 @@ use crate::host::{Host, Planned};
 use crate::told::{Answer, Told, ToldList};
 use std::alloc::Global;
 use tw_answers::Refusal;
-use tw_base::{Bytes, EventList, Name, NoMemory, Question, Sequence, Sha, Thread};
+use tw_base::{Bytes, EventList, Name, NoMemory, Question, ReadFault, Sequence, Sha, Thread};
 use tw_chain::{Proof, Verdict, read_proof, write_proof};
 use tw_join::{JoinFault, join};
 use tw_script::{Line, Script};
@@ -87,7 +87,8 @@ impl Player {
 
     /// Plays the line, and tells what came of it behind what was told before.
     fn play_next(&mut self, told: &mut ToldList, line: &Line) -> Result<(), NoMemory>
-        requires { AsksWell line.now }
+        requires asks { AsksWell line.now }
+        requires may { CanPlayLine self.old line.now }
         ensures { OnOk result (TellsNext self.old self.new line.now told.old told.new) }
     {
         match self.play(line)? {
@@ -100,7 +101,8 @@ impl Player {
 
     /// Plays the line. The script's lines use only what is there.
     fn play(&mut self, line: &Line) -> Result<Told, NoMemory>
-        requires { AsksWell line.now }
+        requires asks { AsksWell line.now }
+        requires may { CanPlayLine self.old line.now }
         ensures { IfOk result (PlaysLine self.old self.new line.now) }
     {
         match line {
@@ -110,7 +112,7 @@ impl Player {
             Line::Send { service, since } => self.send(service, *since),
             Line::Inject { bytes, .. } => self.inject(bytes.as_slice()),
             Line::Deliver { message, service } => self.deliver(*message, service),
-            Line::Lose { message } => self.lose(*message),
+            Line::Lose { message } => Ok(self.lose(*message)),
             Line::Crash {
                 service,
                 call,
@@ -120,7 +122,7 @@ impl Player {
                     call: *call,
                     choice: *choice,
                 };
-                self.plan(service, planned)
+                Ok(self.plan(service, planned))
             }
             Line::Prove { service, asked } => self.prove(service, asked),
             Line::Join { files } => self.join(files.as_slice()),
@@ -129,16 +131,17 @@ impl Player {
         }
     }
 
-    /// Where the service of this name stands. NoMemory also where there is none, which no script's line names.
-    fn find(&self, name: &Name) -> Result<usize, NoMemory>
-        ensures { IfOk result (λ at. (at < length self.now.hosts.items) × IsFirst self.now.hosts.items name.now at) }
+    /// Where the service of this name stands.
+    fn find(&self, name: &Name) -> usize
+        requires { HasService self.now name.now }
+        ensures { (result < length self.now.hosts.items) × IsFirst self.now.hosts.items name.now result }
     {
         for at in 0..self.hosts.len() {
             if self.hosts[at].name == *name {
-                return Ok(at);
+                return at;
             }
         }
-        Err(NoMemory)
+        unreachable!()
     }
 
     /// Makes a service.
@@ -152,9 +155,10 @@ impl Player {
 
     /// Appends a step of these events to the service's history.
     fn append(&mut self, service: &Name, events: &EventList) -> Result<Told, NoMemory>
+        requires { CanPlayLine self.old (Append service.now events.now) }
         ensures { IfOk result (PlaysLine self.old self.new (Append service.now events.now)) }
     {
-        let at = self.find(service)?;
+        let at = self.find(service);
         let told = self.hosts[at].append(self.alloc, events)?;
         Ok(told)
     }
@@ -174,16 +178,18 @@ impl Player {
         service: &Name,
         question: &Question,
     ) -> Result<Result<Bytes, Refusal>, NoMemory>
-        requires { MayAsk question.now }
+        requires asks { MayAsk question.now }
+        requires there { HasService self.old service.now }
         ensures { IfOk result (HasGiven self.old self.new service.now question.now) }
     {
-        let at = self.find(service)?;
+        let at = self.find(service);
         let given = self.hosts[at].ask(self.alloc, question)?;
         Ok(given)
     }
 
     /// Makes the next message, of the service's last step.
     fn send(&mut self, service: &Name, since: u64) -> Result<Told, NoMemory>
+        requires { CanPlayLine self.old (Send service.now since) }
         ensures { IfOk result (PlaysLine self.old self.new (Send service.now since)) }
     {
         match self.ask(service, &Question::ThreadOut { since })? {
@@ -207,39 +213,42 @@ impl Player {
         Ok(Told::Plain(Answer::Sent { number }))
     }
 
-    /// Gives a message to the service. NoMemory also where it was dropped, which no script's line names.
+    /// Gives a message to the service.
     fn deliver(&mut self, number: u64, service: &Name) -> Result<Told, NoMemory>
+        requires { CanPlayLine self.old (Deliver number service.now) }
         ensures { IfOk result (PlaysLine self.old self.new (Deliver number service.now)) }
     {
-        let at = self.find(service)?;
-        let index = index_of(number, self.messages.len())?;
+        let at = self.find(service);
+        let index = index_of(number, self.messages.len());
         match &self.messages[index] {
             Mail::Made(bytes) => {
                 let told = self.hosts[at].deliver(self.alloc, bytes.as_slice())?;
                 Ok(told)
             }
             Mail::Unmade => Ok(Told::Plain(Answer::Nothing)),
-            Mail::Dropped => Err(NoMemory),
+            Mail::Dropped => unreachable!(),
         }
     }
 
     /// Drops a message.
-    fn lose(&mut self, number: u64) -> Result<Told, NoMemory>
-        ensures { IfOk result (PlaysLine self.old self.new (Lose number)) }
+    fn lose(&mut self, number: u64) -> Told
+        requires { CanPlayLine self.old (Lose number) }
+        ensures { PlaysLine self.old self.new (Lose number) result }
     {
-        let index = index_of(number, self.messages.len())?;
-        let answer = loss_answer(&self.messages[index])?;
+        let index = index_of(number, self.messages.len());
+        let answer = loss_answer(&self.messages[index]);
         self.messages[index] = Mail::Dropped;
-        Ok(Told::Plain(answer))
+        Told::Plain(answer)
     }
 
     /// A crash waits for the service's next append or delivery, in place of another that waited.
-    fn plan(&mut self, service: &Name, planned: Planned) -> Result<Told, NoMemory>
-        ensures { IfOk result (PlaysLine self.old self.new (Crash service.now planned.call planned.choice)) }
+    fn plan(&mut self, service: &Name, planned: Planned) -> Told
+        requires { CanPlayLine self.old (Crash service.now planned.call planned.choice) }
+        ensures { PlaysLine self.old self.new (Crash service.now planned.call planned.choice) result }
     {
-        let at = self.find(service)?;
+        let at = self.find(service);
         self.hosts[at].crash = Some(planned);
-        Ok(Told::Plain(Answer::Done))
+        Told::Plain(Answer::Done)
     }
 
     /// Makes the next file of these bytes.
@@ -262,7 +271,8 @@ impl Player {
 
     /// Makes the next file, a proof of the service's history.
     fn prove(&mut self, service: &Name, asked: &Question) -> Result<Told, NoMemory>
-        requires { MayAsk asked.now }
+        requires asks { MayAsk asked.now }
+        requires may { CanPlayLine self.old (Prove service.now asked.now) }
         ensures { IfOk result (PlaysLine self.old self.new (Prove service.now asked.now)) }
     {
         match self.ask(service, asked)? {
@@ -273,11 +283,12 @@ impl Player {
 
     /// The proofs that these files are; None where one of them wasn't made.
     fn proofs(&self, numbers: &[u64]) -> Result<Option<Sequence<Proof>>, NoMemory>
+        requires { (w : World) × PlayerFollows self.now w × AreFiled w numbers.now }
         ensures { IfOk result (λ proofs. (w : World) → PlayerFollows self.now w → AreFiled w numbers.now → AreProofsOfNumbers w numbers.now proofs) }
     {
         let mut proofs = Sequence::new(self.alloc);
         for number in numbers {
-            let index = index_of(*number, self.files.len())?;
+            let index = index_of(*number, self.files.len());
             match &self.files[index] {
                 None => return Ok(None),
                 Some(bytes) => match read_proof(self.alloc, bytes.as_slice()) {
@@ -289,25 +300,31 @@ impl Player {
         Ok(Some(proofs))
     }
 
-    /// Joins files into the next one.
-    fn join(&mut self, numbers: &[u64]) -> Result<Told, NoMemory>
-        ensures { IfOk result (PlaysLine self.old self.new (Join numbers.now)) }
+    /// What the files of these numbers join to: the bytes of a proof, or why there is none.
+    fn joined(&self, numbers: &[u64]) -> Result<Result<Bytes, Answer>, NoMemory>
+        requires { (w : World) × PlayerFollows self.now w × AreFiled w numbers.now }
+        ensures { IfOk result (λ joined. (w : World) → PlayerFollows self.now w → AreFiled w numbers.now → FilesJoinTo w numbers.now joined) }
     {
         let Some(proofs) = self.proofs(numbers)? else {
-            return self.add_none(Answer::Nothing);
+            return Ok(Err(Answer::Nothing));
         };
-        match join(self.alloc, proofs.as_slice()) {
-            Ok(proof) => {
-                let bytes = write_proof(self.alloc, &proof)?;
-                self.add_file(bytes)
-            }
-            Err(JoinFault::Gap { place }) => self.add_none(Answer::NotJoined { place }),
-            Err(JoinFault::NoMemory) => Err(NoMemory),
+        joined_proofs(self.alloc, proofs.as_slice())
+    }
+
+    /// Joins files into the next one.
+    fn join(&mut self, numbers: &[u64]) -> Result<Told, NoMemory>
+        requires { CanPlayLine self.old (Join numbers.now) }
+        ensures { IfOk result (PlaysLine self.old self.new (Join numbers.now)) }
+    {
+        match self.joined(numbers)? {
+            Ok(bytes) => self.add_file(bytes),
+            Err(why) => self.add_none(why),
         }
     }
 
     /// Holds the service's authenticator at a step.
     fn anchor(&mut self, service: &Name, step: u64) -> Result<Told, NoMemory>
+        requires { CanPlayLine self.old (Anchor service.now step) }
         ensures { IfOk result (PlaysLine self.old self.new (Anchor service.now step)) }
     {
         match self.ask(service, &Question::Link { step, top: None })? {
@@ -318,6 +335,7 @@ impl Player {
 
     /// Holds the authenticator that the bytes of a proof tell.
     fn hold_linked(&mut self, bytes: &[u8]) -> Result<Told, NoMemory>
+        requires { (link : LinkProof) × Spells proof_layout bytes.now (Linked link) }
         ensures { IfOk result (λ told. (told ≡ Plain Done) × ((w : World) → PlayerFollows self.old w → (link : LinkProof)
             × Spells proof_layout bytes.now (Linked link) × PlayerFollows self.new (after_line (with_anchor w (thread_of_link link))))) }
     {
@@ -337,9 +355,10 @@ impl Player {
 
     /// Judges a file under the anchors held.
     fn verify(&mut self, number: u64) -> Result<Told, NoMemory>
+        requires { CanPlayLine self.old (Verify number) }
         ensures { IfOk result (PlaysLine self.old self.new (Verify number)) }
     {
-        let index = index_of(number, self.files.len())?;
+        let index = index_of(number, self.files.len());
         let Some(bytes) = &self.files[index] else {
             return Ok(Told::Plain(Answer::Nothing));
         };
@@ -348,8 +367,23 @@ impl Player {
     }
 }
 
+/// What the proofs join to: the bytes of a proof, or where they don't join.
+fn joined_proofs(alloc: Global, proofs: &[Proof]) -> Result<Result<Bytes, Answer>, NoMemory>
+    ensures { IfOk result (ProofsJoinTo proofs.now) }
+{
+    match join(alloc, proofs) {
+        Ok(proof) => {
+            let bytes = write_proof(alloc, &proof)?;
+            Ok(Ok(bytes))
+        }
+        Err(JoinFault::Gap { place }) => Ok(Err(Answer::NotJoined { place })),
+        Err(JoinFault::NoMemory) => Err(NoMemory),
+    }
+}
+
 /// The thread of the authenticator that the bytes of a proof tell. A service gives no other bytes for it.
 fn linked_thread(alloc: Global, bytes: &[u8]) -> Result<Thread, NoMemory>
+    requires { (link : LinkProof) × Spells proof_layout bytes.now (Linked link) }
     ensures { IfOk result (λ t. (link : LinkProof) × Spells proof_layout bytes.now (Linked link) × (t ≡ thread_of_link link)) }
 {
     match read_proof(alloc, bytes) {
@@ -358,18 +392,20 @@ fn linked_thread(alloc: Global, bytes: &[u8]) -> Result<Thread, NoMemory>
             step: link.step,
             auth: link.auth,
         }),
-        _ => Err(NoMemory),
+        Err(ReadFault::NoMemory) => Err(NoMemory),
+        _ => unreachable!(),
     }
 }
 
-/// What is told of a message that is dropped. NoMemory where it was dropped before, which no script's line names.
-fn loss_answer(mail: &Mail) -> Result<Answer, NoMemory>
-    ensures { IfOk result (λ answer. loss_answer_of (mail_kept mail.now) ≡ Some answer) }
+/// What is told of a message that is dropped, and wasn't before.
+fn loss_answer(mail: &Mail) -> Answer
+    requires { IsSome (loss_answer_of (mail_kept mail.now)) }
+    ensures { loss_answer_of (mail_kept mail.now) ≡ Some result }
 {
     match mail {
-        Mail::Made(_) => Ok(Answer::Done),
-        Mail::Unmade => Ok(Answer::Nothing),
-        Mail::Dropped => Err(NoMemory),
+        Mail::Made(_) => Answer::Done,
+        Mail::Unmade => Answer::Nothing,
+        Mail::Dropped => unreachable!(),
     }
 }
 
@@ -395,12 +431,10 @@ fn answer_of(verdict: &Verdict) -> Answer
     }
 }
 
-/// Where that which has this number, counted from 1, stands among so many. NoMemory where there is none, which no script's line names.
-fn index_of(number: u64, count: usize) -> Result<usize, NoMemory>
-    ensures { IfOk result (λ index. (index < count) × (index + 1 ≡ number)) }
+/// Where that which has this number, counted from 1, stands among so many.
+fn index_of(number: u64, count: usize) -> usize
+    requires { (0 < number) × (number ≤ count) }
+    ensures { (result < count) × (result + 1 ≡ number) }
 {
-    if number == 0 || number > count as u64 {
-        return Err(NoMemory);
-    }
-    Ok(number as usize - 1)
+    number as usize - 1
 }

@@ -1,11 +1,12 @@
 // What a service on a disk in memory does for a line.
 
-ghost use Rattle.std.specs.Prelude.{◌≡◌, ◌⊎◌, ◌≤◌, true, false, None, is_some, IfOk, IsNone, IsTrue, OnOk};
+ghost use Rattle.std.specs.Prelude.{◌≡◌, ◌⊎◌, ◌≤◌, true, false, None, Ok, is_some, IfErr, IfOk, IsNone, IsTrue, OnOk};
 ghost use Rattle.sha2.specs.Sha256.{sha256};
 ghost use Rattle.tw_base.specs.history.History.{History};
 ghost use Rattle.tw_base.specs.history.Questions.{MayAsk};
 ghost use Rattle.tw_disk.specs.Image.{Image};
 ghost use Rattle.tw_disk.specs.MemDisk.{is_stopped, mem_disk_view};
+ghost use Rattle.tw_pages.specs.declared.open.StoreFault.TheVariants.{DiskFault as FailedDisk};
 ghost use Rattle.tw_service.specs.Serves.{Serves, disk_of, has_failed};
 ghost use Rattle.tw_service.specs.Stands.{no_history};
 ghost use Rattle.tw_world.specs.Hosts.{Given, Answered, AnswersRefusal, LineEnds, GivesReply, GoesOnByReply, HoldsHistory, IsGiven, RestsAs, StandsAs, StandsForGood, crash_told as crash_told_of};
@@ -18,21 +19,32 @@ use std::mem;
 use tw_answers::Refusal;
 use tw_base::{Bytes, EventList, Name, NoMemory, Question, Sha};
 use tw_disk::MemDisk;
+use tw_pages::StoreFault;
 use tw_script::CrashChoice;
 use tw_service::Service;
 
 /// A service over a disk in memory.
 type MemService = Service<MemDisk, Sha>;
 
-/// Opens the service of a disk; a fault comes from want of memory.
+/// The service that was made or opened; a fault of the disk comes from want of memory.
+fn service_of(opened: Result<MemService, (MemDisk, StoreFault)>) -> Result<MemService, NoMemory>
+    requires { IfErr opened (λ e. e.1 ≡ FailedDisk) }
+    ensures { IfOk result (λ service. opened ≡ Ok service) }
+{
+    match opened {
+        Ok(service) => Ok(service),
+        Err((_, StoreFault::DiskFault)) => Err(NoMemory),
+        Err((_, _)) => unreachable!(),
+    }
+}
+
+/// Opens the service of a disk.
 fn open(alloc: Global, disk: MemDisk) -> Result<MemService, NoMemory>
+    requires { (h : History) × StandsForGood disk h }
     ensures serves { IfOk result (λ service. (h : History) → StandsForGood disk h → Serves sha256 mem_disk_view service h) }
     ensures whole { IfOk result (λ service. has_failed service ≡ false) }
 {
-    match MemService::open(alloc, disk) {
-        Ok(service) => Ok(service),
-        Err((_, _)) => Err(NoMemory),
-    }
+    service_of(MemService::open(alloc, disk))
 }
 
 /// The disk, to be stopped where a crash waits: opening makes the first device call.
@@ -51,6 +63,7 @@ fn stopping(disk: MemDisk, crash: Option<Planned>) -> MemDisk
 
 /// Opens it, where a crash waits so that the service is stopped at its call.
 fn open_for(alloc: Global, disk: MemDisk, crash: Option<Planned>) -> Result<MemService, NoMemory>
+    requires { (h : History) × StandsForGood disk h }
     ensures serves { IfOk result (λ service. (h : History) → StandsForGood disk h → Serves sha256 mem_disk_view service h) }
     ensures whole { IfOk result (λ service. has_failed service ≡ false) }
 {
@@ -100,6 +113,7 @@ fn closed(service: MemService) -> Rested
 
 /// Crashes, and opens the service again.
 fn reopened(alloc: Global, disk: MemDisk, planned: Planned) -> Result<Rested, NoMemory>
+    requires { (one : History) × (other : History) × ((c : Image) → (mem_disk_view disk).may_leave c → StandsAs one c ⊎ StandsAs other c) }
     ensures { IfOk result (λ rested. (one other : History) → ((c : Image) → (mem_disk_view disk).may_leave c → StandsAs one c ⊎ StandsAs other c)
         → RestsAs rested.disk rested.steps one ⊎ RestsAs rested.disk rested.steps other) }
 {
@@ -143,6 +157,7 @@ fn crashed(
     planned: Planned,
     answer: Option<Answer>,
 ) -> Result<Ended, NoMemory>
+    requires { (given : Given) × (h : History) × Answered given h service answer }
     ensures ends { IfOk result (λ ended. (given : Given) (h : History) → Answered given h service answer
         → LineEnds given true h ended.told ended.rested.disk ended.rested.steps) }
     ensures told { IfOk result (λ ended. ended.told ≡ crash_told_of answer ended.rested.steps) }
@@ -165,6 +180,7 @@ fn end_line(
     crash: Option<Planned>,
     answer: Option<Answer>,
 ) -> Result<Ended, NoMemory>
+    requires { (given : Given) × (h : History) × Answered given h service answer }
     ensures { IfOk result (λ ended. (given : Given) (h : History) → Answered given h service answer
         → LineEnds given (is_some crash) h ended.told ended.rested.disk ended.rested.steps) }
 {
@@ -243,18 +259,14 @@ impl Host {
         ensures holds { IfOk result (λ host. HoldsHistory host (no_history name)) }
         ensures waits { IfOk result (λ host. host.crash ≡ None) }
     {
-        match MemService::init(alloc, MemDisk::new(alloc), name) {
-            Ok(service) => {
-                let Rested { disk, steps } = closed(service);
-                Ok(Host {
-                    name,
-                    disk,
-                    steps,
-                    crash: None,
-                })
-            }
-            Err((_, _)) => Err(NoMemory),
-        }
+        let service = service_of(MemService::init(alloc, MemDisk::new(alloc), name))?;
+        let Rested { disk, steps } = closed(service);
+        Ok(Host {
+            name,
+            disk,
+            steps,
+            crash: None,
+        })
     }
 
     /// Takes the disk out; another stands in its place.
@@ -281,6 +293,7 @@ impl Host {
 
     /// Appends a step of these events. After want of memory the host has to be given up; so everywhere here.
     pub(crate) fn append(&mut self, alloc: Global, events: &EventList) -> Result<Told, NoMemory>
+        requires { (h : History) × HoldsHistory self.old h }
         ensures goes { IfOk result (λ told. (h : History) → HoldsHistory self.old h
             → (next : History) × GoesOnByReply (OfEvents events.now) (is_some self.old.crash) h next told × HoldsHistory self.new next) }
         ensures same { OnOk result ((self.new.name ≡ self.old.name) × (self.new.crash ≡ None)) }
@@ -293,6 +306,7 @@ impl Host {
 
     /// Gives the bytes of a message to the service.
     pub(crate) fn deliver(&mut self, alloc: Global, bytes: &[u8]) -> Result<Told, NoMemory>
+        requires { (h : History) × HoldsHistory self.old h }
         ensures goes { IfOk result (λ told. (h : History) → HoldsHistory self.old h
             → (next : History) × GoesOnByReply (OfBytes bytes.now) (is_some self.old.crash) h next told × HoldsHistory self.new next) }
         ensures same { OnOk result ((self.new.name ≡ self.old.name) × (self.new.crash ≡ None)) }
@@ -303,13 +317,14 @@ impl Host {
         Ok(self.end(ended))
     }
 
-    /// Asks a question; a fault comes from want of memory.
+    /// Asks a question; a fault of the disk comes from want of memory.
     pub(crate) fn ask(
         &mut self,
         alloc: Global,
         question: &Question,
     ) -> Result<Result<Bytes, Refusal>, NoMemory>
-        requires { MayAsk question.now }
+        requires asks { MayAsk question.now }
+        requires holds { (h : History) × HoldsHistory self.old h }
         ensures gives { IfOk result (λ given. (h : History) → HoldsHistory self.old h → GivesReply h question.now given × HoldsHistory self.new h) }
         ensures waits { OnOk result (self.new.crash ≡ self.old.crash) }
     {

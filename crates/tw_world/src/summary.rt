@@ -29,7 +29,7 @@ fn put_steps(
             serde_json::put(named, alloc, name, Value::from(steps))?;
             Ok(())
         }
-        Err(_) => Err(NoMemory),
+        Err(_) => unreachable!(),
     }
 }
 

@@ -214,12 +214,10 @@ WANTS = {
         tw_export/src/nodes.rt: side_number, tw_export/src/received.rt: take_in, tw_pieces/src/resumed.rt: feed""",
     "a fault of a disk in memory, which isn't stopped": """
         tw_generate/src/telling.rt: given, tw_generate/src/telling.rt: service_made, tw_world/src/serving.rt: end_line,
-        tw_world/src/serving.rt: given, tw_world/src/serving.rt: make, tw_world/src/serving.rt: open, tw_world/src/serving.rt: see_stopped""",
+        tw_world/src/serving.rt: given, tw_world/src/serving.rt: see_stopped, tw_world/src/serving.rt: service_of""",
     "such a fault, or that a history's file would be too long": "tw_generate/src/judging.rt: file_given",
     "what can't come, as a reader of the code sees, and no clause says": """
-        tw_audit/src/finder.rt: into_pair, tw_audit/src/holding.rt: hold_bytes, tw_world/src/player.rt: deliver, tw_world/src/player.rt: find,
-        tw_world/src/player.rt: index_of, tw_world/src/player.rt: linked_thread, tw_world/src/player.rt: loss_answer,
-        tw_world/src/player.rt: proofs, tw_world/src/summary.rt: put_steps""",
+        tw_audit/src/finder.rt: into_pair, tw_audit/src/holding.rt: hold_bytes, tw_world/src/player.rt: proofs""",
 }
 
 # In code: a line that makes want of memory, which is no pattern, type, declaration or clause.

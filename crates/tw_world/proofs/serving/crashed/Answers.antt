@@ -1,4 +1,4 @@
-use Rattle.tw_world.proofs.Ends.{ends-crashed}
+use Rattle.tw_world.proofs.Ends.{ends-crashed, may-leave}
 use Rattle.tw_world.proofs.serving.crashed.Goals as goal
 
 pub returns-clause-ends : goal.returns-clause-ends
@@ -6,3 +6,8 @@ returns-clause-ends c given h answered =
     ends-crashed given h c.args.service c.in_ok-rested.rested.disk c.in_ok-rested.rested.steps c.crash_told.result
     c.close-disk.result c.close-disk.ensures.disk
     c.close-disk.ensures.stands c.in_ok-rested.ensures c.args.answer c.crash_told.ensures answered
+
+pub reopened-requires : goal.reopened-requires
+reopened-requires c =
+    may-leave c.requires.0 c.requires.1 c.args.service c.close-disk.result c.close-disk.ensures.disk
+    c.close-disk.ensures.stands c.args.answer c.requires.2

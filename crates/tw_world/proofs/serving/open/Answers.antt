@@ -1,4 +1,18 @@
+use Rattle.tw_world.proofs.AnsweredCalls.{if-ok}
+use Rattle.tw_world.proofs.Opened.{opened-only}
 use Rattle.tw_world.proofs.serving.open.Goals as goal
 
-pub returns-in-Ok-clause-serves : goal.returns-in-Ok-clause-serves
-returns-in-Ok-clause-serves c h stands = c.in-Ok.ensures.served stands.image h.name h stands.told stands.has
+pub returns-clause-serves : goal.returns-clause-serves
+returns-clause-serves c = if-ok c.service_of.result _ _ (λ service is. λ h stands.
+    let served = rw is at c.open.ensures.served in
+    served stands.image h.name h stands.told stands.has) c.service_of.ensures
+
+pub returns-clause-whole : goal.returns-clause-whole
+returns-clause-whole c = if-ok c.service_of.result _ _ (λ service is. rw is at c.open.ensures.whole)
+    c.service_of.ensures
+
+pub service_of-requires : goal.service_of-requires
+service_of-requires c =
+    let stands = c.requires.1 in
+    opened-only _ _ c.open.result (c.open.ensures.served stands.image c.requires.0.name c.requires.0 stands.told
+    stands.has)

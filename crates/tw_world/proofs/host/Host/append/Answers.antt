@@ -25,3 +25,17 @@ returns-clause-goes c h holds =
         stands = subst (λ d. StandsForGood d next) (sym c.end.ensures.rests.0) ended.rests.1;
       },
     )
+
+pub open_for-requires : goal.open_for-requires
+open_for-requires c = let has = c.requires in
+    (has.0, subst (λ d. StandsForGood d has.0) (sym c.take_disk.ensures.disk) has.1.stands)
+
+pub end_line-requires : goal.end_line-requires
+end_line-requires c =
+    let has = c.requires in
+    let taken : StandsForGood c.take_disk.result has.0 = subst (λ d. StandsForGood d has.0)
+    (sym c.take_disk.ensures.disk) has.1.stands in (
+      OfEvents c.args.events.now,
+      has.0,
+      c.in_ok-answer.ensures has.0 (c.in_ok-service.ensures.serves has.0 taken) c.in_ok-service.ensures.whole,
+    )

@@ -41,3 +41,7 @@ returns-clause-gives c h holds =
         stands = stands-closed c.close.result name h (c.close.ensures.stands h (asks.same h served).0);
       },
     )
+
+pub open-requires : goal.open-requires
+open-requires c = let has = c.requires.holds in
+    (has.0, subst (λ d. StandsForGood d has.0) (sym c.take_disk.ensures.disk) has.1.stands)

@@ -17,16 +17,16 @@ use Rattle.tw_world.specs.declared.told.Told.{Told}
 use Rattle.tw_world.specs.declared.told.Told.TheVariants.{Plain}
 use Rattle.tw_world.proofs.AnsweredCalls.{if-ok}
 use Rattle.tw_world.proofs.Follows.{later}
-use Rattle.tw_world.proofs.ToldLines.{told-anchored, told-unanchored}
+use Rattle.tw_world.proofs.ToldLines.{linked-made, told-anchored, told-unanchored}
 use Rattle.tw_world.proofs.player.Player.anchor.Goals as goal
 
 pub returns-in-Err : goal.returns-in-Err
-returns-in-Err c w f one =
+returns-in-Err c w f may =
     let given = c.in_ok-refusal.ensures w f in
     let gives = subst (λ (r : Result (List ℕ) Refusal). GivesReply given.0.history (Link c.args.step None) r)
     c.in-Err.is given.2 in (
       after_line w,
-      told-unanchored w c.args.service.now c.args.step given.0 given.1 one c.in-Err.refusal gives,
+      told-unanchored w c.args.service.now c.args.step given.0 given.1 may.0 c.in-Err.refusal gives,
       later c.ask.new.self w given.3,
     )
 
@@ -42,7 +42,7 @@ returns-in-Ok c =
     × Spells proof_layout c.as_slice.result.now (Linked link) × PlayerFollows new
     (after_line (with_anchor w (thread_of_link link)))))
     (PlaysLine c.args.self.now new (Anchor name step))
-    (λ told held w f one.
+    (λ told held w f may.
     let given = c.in_ok-refusal.ensures w f in
     let gives = subst (λ (r : Result (List ℕ) Refusal). GivesReply given.0.history (Link step None) r) c.in-Ok.is
     given.2 in
@@ -51,7 +51,19 @@ returns-in-Ok c =
     let next : World = after_line (with_anchor w (thread_of_link done.0)) in (
       next,
       subst (λ (t : Told). IsLineTold sha256 claims_none w (Anchor name step) t next) (sym held.0)
-          (told-anchored w name step given.0 given.1 one bytes done.0 gives spells),
+          (told-anchored w name step given.0 given.1 may.0 bytes done.0 gives spells),
       done.2,
     ))
     c.hold_linked.ensures
+
+pub ask-requires-clause-there : goal.ask-requires-clause-there
+ask-requires-clause-there c = let can = c.requires in (can.0, can.1, can.2.1)
+
+pub hold_linked-requires : goal.hold_linked-requires
+hold_linked-requires c =
+    let can = c.requires in
+    let given = c.in_ok-refusal.ensures can.0 can.1 in
+    let gives = subst (λ (r : Result (List ℕ) Refusal). GivesReply given.0.history (Link c.args.step None) r) c.in-Ok.is
+    given.2 in
+    let made = linked-made can.0 c.args.service.now c.args.step given.0 given.1 can.2.0 c.in-Ok.bytes gives in
+    (made.0, subst (λ b. Spells proof_layout b (Linked made.0)) (sym c.as_slice.ensures) made.1)

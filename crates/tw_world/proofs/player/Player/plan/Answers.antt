@@ -13,16 +13,19 @@ returns c w f may =
     let name = c.args.service.now in
     let host : Host = c.index_mut.result.now in
     let one : Host = record host { crash = Some c.args.planned } in
-    let served = served-at old name c.in_ok-at.at host one c.in_ok-at.ensures c.index_mut.ensures.value in
-    let found = find-member old.hosts.items w.members name c.in_ok-at.at host f.hosts served.first served.there in
+    let served = served-at old name c.find-at.result host one c.find-at.ensures c.index_mut.ensures.value in
+    let found = find-member old.hosts.items w.members name c.find-at.result host f.hosts served.first served.there in
     let m : Member = record found.member { waits = true } in
     let holds = found.is.holds in (
       after_line (with_member w m),
       (found.member, found.there, refl, refl),
-      follows-put old (with_host old c.in_ok-at.at one) name c.in_ok-at.at host one served w f m
+      follows-put old (with_host old c.find-at.result one) name c.find-at.result host one served w f m
           (record {
             holds = record { named = holds.named; counted = holds.counted; stands = holds.stands };
             waits = refl;
           })
           (named w.members name found.member found.there),
     )
+
+pub find-at-requires : goal.find-at-requires
+find-at-requires c = c.requires

@@ -20,12 +20,24 @@ loop-numbered-init c = (
   c.requires.nothing,
 )
 
-pub play_next-requires : goal.play_next-requires
-play_next-requires c =
+pub play_next-requires-clause-asks : goal.play_next-requires-clause-asks
+play_next-requires-clause-asks c =
     let lines : List NumberedLine = c.as_slice-lines.result.now in
     let read : AreLinesRead lines = subst AreLinesRead (sym c.as_slice-lines.ensures) c.requires.read in
     asks-next lines c.loop-numbered.numbered-index c.numbered-item.result read c.loop-numbered-test.true
     (sym c.numbered-item.is)
+
+pub play_next-requires-clause-may : goal.play_next-requires-clause-may
+play_next-requires-clause-may c =
+    let at = c.loop-numbered in
+    let lines : List NumberedLine = c.as_slice-lines.result.now in
+    let read : AreLinesRead lines = subst AreLinesRead (sym c.as_slice-lines.ensures) c.requires.read in
+    let played = at.invariant in (
+      played.0,
+      played.2,
+      may-next lines at.numbered-index c.numbered-item.result at.told played.0 read c.loop-numbered-test.true
+          (sym c.numbered-item.is) played.1,
+    )
 
 pub loop-numbered-preserved : goal.loop-numbered-preserved
 loop-numbered-preserved c =

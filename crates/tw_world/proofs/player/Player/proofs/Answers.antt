@@ -6,8 +6,8 @@ use Rattle.tw_base.specs.format.Formats.{Spells}
 use Rattle.tw_chain.specs.Proofs.{proof_layout}
 use Rattle.tw_chain.specs.declared.proof.Proof.{Proof}
 use Rattle.tw_world.specs.Runs.{AreFiles, AreProofs}
-use Rattle.tw_world.proofs.Filed.{files-next, files-without, proofs-more}
-use Rattle.tw_world.proofs.Follows.{file-there}
+use Rattle.tw_world.proofs.Filed.{filed-at, files-next, files-without, proofs-more}
+use Rattle.tw_world.proofs.Follows.{file-there, file-within}
 use Rattle.tw_world.proofs.ToldLines.{numbered-at}
 use Rattle.tw_world.proofs.player.Player.proofs.Goals as goal
 
@@ -15,8 +15,8 @@ pub returns-in-None : goal.returns-in-None
 returns-in-None c w f filed =
     let old = c.args.self.now in
     let numbers = c.args.numbers.now in
-    let index = c.in_ok-index.index in
-    let at = c.in_ok-index.ensures in
+    let index = c.index_of-index.result in
+    let at = c.index_of-index.ensures in
     let within : index < length old.files.items = omega (arith, at.0, c.len.ensures, old.files.ok.0) in
     let there = file-there old w index c.index.result.now f.files within c.index.ensures ∙ ap Some c.in-None.is in
     files-without w numbers c.loop-number.number-index 0 c.loop-number-test.true
@@ -26,8 +26,8 @@ pub loop-number-preserved : goal.loop-number-preserved
 loop-number-preserved c w same =
     let old = c.args.self.now in
     let numbers = c.args.numbers.now in
-    let index = c.in_ok-index.index in
-    let at = c.in_ok-index.ensures in
+    let index = c.index_of-index.result in
+    let at = c.index_of-index.ensures in
     let within : index < length old.files.items = omega (arith, at.0, c.len.ensures, old.files.ok.0) in
     let bytes : List ℕ = c.in-Some.bytes in
     let there = file-there old w index c.index.result.now same within c.index.ensures ∙ ap Some c.in-Some.is in
@@ -49,3 +49,11 @@ returns c w f filed =
           c.loop-number-test.false) sofar.1,
       sofar.2,
     )
+
+pub index_of-index-requires : goal.index_of-index-requires
+index_of-index-requires c =
+    let can = c.requires in
+    let old = c.args.self.now in
+    let there = filed-at can.0 c.args.numbers.now c.loop-number.number-index 0 c.loop-number-test.true can.2 in
+    let within = file-within old can.0 (get_or c.args.numbers.now c.loop-number.number-index 0) can.1 there in
+    (within.0, omega (arith, within.1, c.len.ensures, old.files.ok.0))

@@ -9,16 +9,16 @@ use Rattle.tw_world.specs.Runs.{IsLineTold}
 use Rattle.tw_world.specs.Worlds.{after_line}
 use Rattle.tw_world.specs.declared.told.Answer.{Answer}
 use Rattle.tw_world.specs.declared.told.Told.TheVariants.{Plain}
-use Rattle.tw_world.proofs.Follows.{file-there, later}
+use Rattle.tw_world.proofs.Follows.{file-there, file-within, later}
 use Rattle.tw_world.proofs.ToldLines.{told-verified}
 use Rattle.tw_world.proofs.player.Player.verify.Goals as goal
 
 pub returns : goal.returns
 returns c w f may =
     let old = c.args.self.now in
-    let index = c.in_ok-index.index in
+    let index = c.index_of-index.result in
     let number = c.args.number in
-    let at = c.in_ok-index.ensures in
+    let at = c.index_of-index.ensures in
     let within : index < length old.files.items = omega (arith, at.0, c.len.ensures, old.files.ok.0) in
     let bytes = c.in-Some.bytes in
     let judged = c.in_ok-answer.ensures in
@@ -31,3 +31,10 @@ returns c w f may =
     subst (λ (a : Answer). IsLineTold sha256 claims_none w (Verify number) (Plain a) (after_line w)) (sym judged.2)
     (told-verified w number index bytes judged.0 at.1 there is) in
     (after_line w, told, later old w f)
+
+pub index_of-index-requires : goal.index_of-index-requires
+index_of-index-requires c =
+    let can = c.requires in
+    let old = c.args.self.now in
+    let within = file-within old can.0 c.args.number can.1 can.2 in
+    (within.0, omega (arith, within.1, c.len.ensures, old.files.ok.0))
