@@ -1,39 +1,26 @@
 -- What a pass over a history keeps of it: its authenticators at the steps that were shown.
-use Rattle.std.specs.Prelude.{◌≡◌, ℕ, ◌+◌, ◌≤◌, List, [], ◌∷◌, Bool, false, Option, Some, None, ◌==◌, find, if◌then◌else◌, Result, Ok, Err}
-use Rattle.std.specs.Option.{option_map, option_map_or}
+use Rattle.std.specs.Prelude.{◌≡◌, ℕ, ◌+◌, List, [], ◌∷◌, Bool, false, Option, Some, None, if◌then◌else◌, Result, Ok, Err}
+use Rattle.std.specs.Option.{option_map_or}
 use Rattle.std.specs.Str.{bytes_eq}
-use Rattle.tw_base.specs.history.Auth.{auth}
 use Rattle.tw_base.specs.history.History.{History}
-use Rattle.tw_base.specs.kinds.Lists.{Each, In}
+use Rattle.tw_base.specs.kinds.Lists.{Each}
+use Rattle.tw_history.specs.declared.stops.Stop.{Stop}
+use Rattle.tw_history.specs.Stops.{stopped_at}
 use Rattle.tw_adopt.specs.FirstSteps.{auth_up_to}
 use Rattle.tw_adopt.specs.declared.adopted.AdoptFault.{AdoptFault}
 use Rattle.tw_adopt.specs.declared.adopted.AdoptFault.TheVariants.{Differs, NoMemory}
 use Rattle.tw_adopt.specs.declared.adopted.Adopted.{Adopted}
-use Rattle.tw_adopt.specs.declared.stops.Stop.{Stop}
 use Rattle.tw_adopt.specs.declared.receiving.Receiving.{Receiving}
 use Rattle.tw_adopt.specs.Adopting.{adopted_by}
-
--- the authenticator that was kept at this step
-abbrev pub stop_shown_at : List Stop → (step : ℕ) → Option (List ℕ)
-stop_shown_at stops step = option_map (λ (s : Stop). s.auth) (find (λ (s : Stop). s.step == step) stops)
-
--- one was kept at this step
-abbrev pub HasStopAt : List Stop → (step : ℕ) → Type 0
-HasStopAt stops step = (s : Stop) × In s stops × (s.step ≡ step)
 
 -- the authenticator that was found is this one
 abbrev pub is_auth_found : Option (List ℕ) → (held : List ℕ) → Bool
 is_auth_found found held = option_map_or (λ auth. bytes_eq auth held) found false
 
 module _ (dig : List ℕ → List ℕ) (h : History) where
-  -- of a history that was passed up to this step: each that was kept is the history's, and one was kept for each step shown
-  pub record HasStopsShown (shown : List Receiving) (stops : List Stop) (upto : ℕ) : Type 0 where
-    pub own : Each (λ (s : Stop). (s.step ≤ upto) × (s.auth ≡ auth dig h s.step)) stops
-    pub all : Each (λ (t : Receiving). t.entry.thread.step ≤ upto → HasStopAt stops t.entry.thread.step) shown
-
   -- what was kept tells what the history has at each step shown
   abbrev pub AnswersForShown : List Receiving → List Stop → Type 0
-  AnswersForShown shown stops = Each (λ (t : Receiving). stop_shown_at stops t.entry.thread.step ≡ auth_up_to dig h t.entry.thread.step) shown
+  AnswersForShown shown stops = Each (λ (t : Receiving). stopped_at stops t.entry.thread.step ≡ auth_up_to dig h t.entry.thread.step) shown
 
   -- the first of what was shown from which the history differs, counted from this number on
   abbrev pub differing : (number : ℕ) → List Receiving → Option AdoptFault

@@ -12,10 +12,10 @@ ghost use Rattle.tw_adopt.specs.declared.receiving.Receiving.{Receiving as Recei
 use crate::adopted::AdoptFault;
 use crate::hearing::Heard;
 use crate::receiving::Receiving;
-use crate::stops::{Stop, stop_at, stops_of};
+use crate::stops::stops_of;
 use std::alloc::Global;
 use tw_base::{Digest, Hasher, NoMemory};
-use tw_history::History;
+use tw_history::{History, Stop, stop_at};
 
 /// Whether this is the authenticator that was found.
 fn is_found(found: &Option<Digest>, held: &Digest) -> bool

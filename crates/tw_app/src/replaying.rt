@@ -9,7 +9,7 @@ use tw_base::{Bytes, NoMemory};
 use tw_outside::{Inputs, read_all};
 use tw_script::ScriptFault;
 use tw_script::limits::MOST_SCRIPT_BYTES;
-use tw_text::{BadInput, CommandFault};
+use tw_text::{CommandFault, bad_line};
 use tw_world::{Played, replay};
 
 /// Of a script so many bytes are read: one more than it may have.
@@ -46,8 +46,7 @@ fn bad_script(alloc: Global, file: &str, fault: ScriptFault) -> Result<CommandFa
 {
     match fault {
         ScriptFault::BadLine { line } | ScriptFault::TooLong { line } => {
-            let file = Bytes::from_slice(alloc, file.as_bytes())?;
-            Ok(CommandFault::Unreadable(BadInput::BadLine { file, line }))
+            Ok(CommandFault::Unreadable(bad_line(alloc, file, line)?))
         }
         ScriptFault::NoMemory => Ok(CommandFault::NoMemory),
     }

@@ -1,28 +1,14 @@
 -- What a pass over a history keeps of it: the authenticators at the steps of the threads held of its service.
-use Rattle.std.specs.Prelude.{◌≡◌, ℕ, ◌≤◌, List, [], ◌∷◌, Option, None, ◌==◌, find, not, if◌then◌else◌}
+use Rattle.std.specs.Prelude.{◌≡◌, ℕ, List, [], ◌∷◌, Option, None, find, not, if◌then◌else◌}
 use Rattle.std.specs.Option.{option_map}
 use Rattle.std.specs.Str.{bytes_eq}
 use Rattle.tw_base.specs.declared.history.thread.Thread.{Thread}
-use Rattle.tw_base.specs.history.Auth.{auth}
 use Rattle.tw_base.specs.history.History.{History}
-use Rattle.tw_base.specs.kinds.Lists.{Each, In}
+use Rattle.tw_base.specs.kinds.Lists.{Each}
+use Rattle.tw_history.specs.Stops.{stopped_at}
 use Rattle.tw_audit.specs.declared.passing.Missing.{Missing}
 use Rattle.tw_audit.specs.declared.passing.Passed.{Passed}
-use Rattle.tw_audit.specs.declared.passing.Stop.{Stop}
 use Rattle.tw_audit.specs.Auditing.{agrees_with, auth_in, auth_within}
-
--- the authenticator that was kept at this step
-abbrev pub stopped_at : List Stop → (step : ℕ) → Option (List ℕ)
-stopped_at stops step = option_map (λ (s : Stop). s.auth) (find (λ (s : Stop). s.step == step) stops)
-
--- one was kept at this step
-abbrev pub HasStop : List Stop → (step : ℕ) → Type 0
-HasStop stops step = (s : Stop) × In s stops × (s.step ≡ step)
-
--- of a history that was passed up to this step: each that was kept is the history's, and one was kept for each thread held
-pub record HasStopsHeld (dig : List ℕ → List ℕ) (h : History) (held : List Thread) (stops : List Stop) (upto : ℕ) : Type 0 where
-  pub own : Each (λ (s : Stop). (s.step ≤ upto) × (s.auth ≡ auth dig h s.step)) stops
-  pub all : Each (λ (t : Thread). t.from ≡ h.name → t.step ≤ upto → HasStop stops t.step) held
 
 -- what was kept of the first history of the thread's service, at its step
 abbrev pub found_by_stops : List Passed → Thread → Option (List ℕ)

@@ -1,26 +1,18 @@
-// Passing histories, with the authenticators at the steps of the threads held; tw_adopt/src/stops.rt passes one, for the steps
-// that proofs show.
+// Passing histories, with the authenticators at the steps of the threads held, and the first of these threads that the
+// histories don't have; tw_adopt passes a history (stops.rt) and compares it with what proofs show (weighing.rt) so.
 
-ghost use Rattle.std.specs.Prelude.{◌≡◌, ◌<◌, ◌≤◌, ℕ, List, length, IfOk, OnOk};
+ghost use Rattle.std.specs.Prelude.{◌≡◌, ℕ, List, IfOk, OnOk};
 ghost use Rattle.tw_base.specs.history.Family.{family_texts};
 ghost use Rattle.tw_base.specs.history.History.{History as HistoryMeant};
 ghost use Rattle.tw_base.specs.history.HistoryTexts.{history_texts};
-ghost use Rattle.tw_base.specs.kinds.Lists.{Each};
-ghost use Rattle.tw_history.specs.PassSteps.{HandsOn, HasPassed};
+ghost use Rattle.tw_base.specs.kinds.Lists.{Each, In};
 ghost use Rattle.tw_audit.specs.Auditing.{is_found};
-ghost use Rattle.tw_audit.specs.Stops.{AnswersAll, AnswersForHeld, HasStopsHeld, found_by_stops, missing_in, stopped_at};
+ghost use Rattle.tw_audit.specs.Stops.{AnswersAll, AnswersForHeld, found_by_stops, missing_in};
 ghost use Rattle.tw_base.specs.kinds.Handing.{Hands};
 
 use std::alloc::Global;
 use tw_base::{Digest, Name, NoMemory, Thread, Transcript};
-use tw_history::{Digests, History, auth_passed, begin_pass, count_of_steps, pass_steps};
-
-/// A stop of an audit's pass over a history: the step, and the history's authenticator there.
-#[derive(Clone, Copy, Drop)]
-pub(crate) struct Stop {
-    pub(crate) step: u64,
-    pub(crate) auth: Digest,
-}
+use tw_history::{History, Stop, count_of_steps, stop_at, stops_to};
 
 /// What is kept of a history that was passed: its service, and its authenticators at the steps of the
 /// threads held of that service, among others.
@@ -30,59 +22,17 @@ pub(crate) struct Passed {
     pub(crate) stops: Vec<Stop>,
 }
 
-/// The step, or that of the thread where it is of the service and between.
-fn nearer(step: u64, thread: &Thread, service: &Name, after: u64) -> u64
-    requires { after < step }
-    ensures beyond { after < result }
-    ensures within { result ≤ step }
-    ensures between { thread.now.from ≡ service.now → thread.now.step < result → thread.now.step ≤ after }
+/// The steps of the threads held of the service.
+fn steps_held(alloc: Global, held: &[Thread], service: &Name) -> Result<Vec<u64>, NoMemory>
+    ensures { IfOk result (λ steps. Each (λ t. t.from ≡ service.now → In t.step steps.items) held.now) }
 {
-    if thread.from == *service && after < thread.step && thread.step < step {
-        thread.step
-    } else {
-        step
-    }
-}
-
-/// The least step behind this one of the threads held of the service, and at most the last.
-fn next_stop(held: &[Thread], service: &Name, after: u64, last: u64) -> u64
-    requires { after < last }
-    ensures beyond { after < result }
-    ensures within { result ≤ last }
-    ensures between { Each (λ t. t.from ≡ service.now → t.step < result → t.step ≤ after) held.now }
-{
-    let mut next = last;
+    let mut steps = Vec::new(alloc);
     for thread in held {
-        next = nearer(next, thread, service, after);
+        if thread.from == *service {
+            steps.push(thread.step)?;
+        }
     }
-    next
-}
-
-/// Passes the history from its beginning to its end, and stops at each step of a thread held.
-fn pass_to_end<T: Transcript>(
-    history: &History,
-    held: &[Thread],
-    digests: &mut Digests,
-    stops: &mut Vec<Stop>,
-    texts: &mut T,
-) -> Result<(), NoMemory>
-    requires passed { HasPassed T.dig history.now 0 digests.old }
-    requires stops { HasStopsHeld T.dig history.now held.now stops.old.items 0 }
-    ensures stops { OnOk result (HasStopsHeld T.dig history.now held.now stops.new.items (length history.now.steps)) }
-    ensures took { OnOk result (HandsOn T.dig history.now T.took texts.old texts.new 0 (length history.now.steps)) }
-{
-    let last = count_of_steps(history);
-    let mut at = 0;
-    while at < last {
-        let next = next_stop(held, history.service(), at, last);
-        pass_steps(history, at, next, digests, texts)?;
-        stops.push(Stop {
-            step: next,
-            auth: auth_passed(digests),
-        })?;
-        at = next;
-    }
-    Ok(())
+    Ok(steps)
 }
 
 /// Passes a history, whose texts are handed on, each hashed once.
@@ -95,13 +45,9 @@ fn pass_history<T: Transcript>(
     ensures answers { IfOk result (AnswersForHeld T.dig held.now history.now) }
     ensures took { OnOk result (Hands T.took texts.old texts.new (history_texts T.dig history.now)) }
 {
-    let mut digests = begin_pass(alloc, history, texts)?;
-    let mut stops = Vec::new(alloc);
-    stops.push(Stop {
-        step: 0,
-        auth: auth_passed(&digests),
-    })?;
-    pass_to_end(history, held, &mut digests, &mut stops, texts)?;
+    let steps = steps_held(alloc, held, history.service())?;
+    let last = count_of_steps(history);
+    let stops = stops_to(alloc, history, steps.as_slice(), last, texts)?;
     Ok(Passed {
         service: *history.service(),
         stops,
@@ -124,18 +70,6 @@ pub(crate) fn pass_histories<T: Transcript>(
         passed.push(one)?;
     }
     Ok(passed)
-}
-
-/// The authenticator that was kept at the step.
-fn stop_at(stops: &[Stop], step: u64) -> Option<Digest>
-    ensures { result ≡ stopped_at stops.now step }
-{
-    for stop in stops {
-        if stop.step == step {
-            return Some(stop.auth);
-        }
-    }
-    None
 }
 
 /// What the first history of the thread's service has at its step.

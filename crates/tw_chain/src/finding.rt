@@ -5,11 +5,13 @@ ghost use Rattle.tw_base.specs.declared.kinds.limits.TheConstants.{LAST_STEP, MO
 ghost use Rattle.tw_base.specs.declared.history.report.Reason.TheVariants.{BadTree};
 ghost use Rattle.tw_base.specs.declared.history.thread.Thread.{Thread as Anchor};
 ghost use Rattle.tw_chain.specs.Finding.{found_in, is_lower as is_lower_of, lower_of, reason_with};
-ghost use Rattle.tw_chain.specs.Checks.{link_checks, opening_checks, under_anchor as under_anchor_of};
+ghost use Rattle.tw_chain.specs.Checks.{checks, link_checks, opening_checks, under_anchor as under_anchor_of};
 ghost use Rattle.tw_chain.specs.Checks.Check.{AnswerOf, EventOf, InOrder, PathOf};
 ghost use Rattle.tw_chain.specs.Checks.Upper.{Known};
+ghost use Rattle.tw_chain.specs.declared.proof.Proof.TheVariants.{Archived};
 
 use crate::passing::{answers, climbs, opens, reaches, shows};
+use crate::proof::ThreadProof;
 use tw_base::{Ask, Digest, EventPart, Hasher, Reason, Thread, TreeProof, find_anchor};
 use tw_skipproof::{Opening, Part, Path};
 
@@ -21,7 +23,8 @@ fn is_lower(one: &Reason, other: &Reason) -> bool
 }
 
 /// The lower of what was found and this reason; of one number and place the first.
-fn lower(found: Option<Reason>, reason: Reason) -> Option<Reason>
+pub fn lower(found: Option<Reason>, reason: Reason) -> Option<Reason>
+    // The lower of what was found and the reason, by number and then by place; of two alike what was found.
     ensures { result ≡ lower_of found (Some reason) }
 {
     match found {
@@ -31,7 +34,8 @@ fn lower(found: Option<Reason>, reason: Reason) -> Option<Reason>
 }
 
 /// What was found, and the reason where the check doesn't pass.
-fn unless(passes: bool, found: Option<Reason>, reason: Reason) -> Option<Reason>
+pub fn unless(passes: bool, found: Option<Reason>, reason: Reason) -> Option<Reason>
+    // The lower of what was found and the reason where the check doesn't pass; else what was found.
     ensures { result ≡ lower_of found (if passes then None else Some reason) }
 {
     if passes { found } else { lower(found, reason) }
@@ -179,4 +183,17 @@ pub fn without_answer(found: Option<Reason>, part: u8) -> Option<Reason>
     ensures { result ≡ lower_of found (Some (BadTree part)) }
 {
     lower(found, Reason::BadTree { part })
+}
+
+/// What is found of a proof that a thread was received.
+pub fn found_of_thread<H: Hasher>(proof: &ThreadProof, anchors: &[Thread]) -> Option<Reason>
+    requires step { proof.now.at.step ≤ LAST_STEP }
+    requires top { proof.now.at.top ≤ LAST_STEP }
+    // The lowest reason of the checks of a proof that a thread was received, where one of them doesn't pass.
+    ensures { result ≡ found_in H.dig anchors.now (checks (Archived proof.now)) }
+{
+    let found = under_anchor::<H>(&proof.at, anchors);
+    let found = with_order(found, proof.entry.archived, proof.at.step);
+    let ask = Ask::Present(proof.entry);
+    with_answer::<H>(found, 0, &proof.at.opening.archive_root, &ask, &proof.shown)
 }

@@ -12,14 +12,14 @@ mod verdict;
 mod writing;
 
 pub use finding::{
-    under_anchor, with_answer, with_event, with_link, with_opening, with_order, with_path,
-    without_answer,
+    found_of_thread, lower, under_anchor, unless, with_answer, with_event, with_link, with_opening,
+    with_order, with_path, without_answer,
 };
 pub use laws::{chain_laws, completeness_laws, proof_laws};
 pub use passing::{answers, climbs, opens, reaches, shows};
 pub use proof::{
     AbsenceProof, HopPart, HopParts, LinkProof, PrecedenceProof, Proof, Tail, ThreadProof,
 };
-pub use reading::{read_first, read_proof, take_key, take_kind};
+pub use reading::{read_first, read_proof, take_key, take_kind, take_link_body, take_thread_body};
 pub use verdict::Verdict;
-pub use writing::write_proof;
+pub use writing::{put_thread_body, write_proof};

@@ -16,9 +16,11 @@ use tw_base::{
 use tw_skipproof::{PROOF_MAGIC, take_existence_body, take_part, take_path};
 use tw_treeproof::{take_gap, take_present};
 
-/// Takes a proof that an archive has an entry, behind its kind.
-fn take_thread_body(alloc: Global, bytes: &[u8], at: &mut u64) -> Result<ThreadProof, ReadFault>
+/// Takes a proof that an archive has an entry, behind its kind, and sets the place behind it. Malformed at the first byte at
+/// which no such proof goes on.
+pub fn take_thread_body(alloc: Global, bytes: &[u8], at: &mut u64) -> Result<ThreadProof, ReadFault>
     requires { at.old ≤ length bytes.now }
+    // A proof of a received thread is taken exactly where its codec's word stands at the place.
     ensures { Takes thread_body (λ p. p) bytes.now at.old at.new result }
 {
     let part = take_part(alloc, bytes, at, 0)?;
@@ -58,9 +60,11 @@ fn take_absence_body(alloc: Global, bytes: &[u8], at: &mut u64) -> Result<Absenc
     })
 }
 
-/// Takes a proof of the authenticator of a step, which may be 0, behind its kind.
-fn take_link_body(alloc: Global, bytes: &[u8], at: &mut u64) -> Result<LinkProof, ReadFault>
+/// Takes a proof of the authenticator of a step, which may be 0, behind its kind, and sets the place behind it. Malformed at the
+/// first byte at which no such proof goes on.
+pub fn take_link_body(alloc: Global, bytes: &[u8], at: &mut u64) -> Result<LinkProof, ReadFault>
     requires { at.old ≤ length bytes.now }
+    // A proof of a step's authenticator is taken exactly where its codec's word stands at the place.
     ensures { Takes link_body (λ p. p) bytes.now at.old at.new result }
 {
     let service = take_name(bytes, at)?;

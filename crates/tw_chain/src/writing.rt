@@ -21,8 +21,9 @@ fn put_key(into: &mut Bytes, key: &Key) -> Result<(), NoMemory>
     Ok(())
 }
 
-/// Appends the proof of an entry, behind its kind.
-fn put_thread_body(into: &mut Bytes, proof: &ThreadProof) -> Result<(), NoMemory>
+/// Appends the proof that a thread was received, behind its kind.
+pub fn put_thread_body(into: &mut Bytes, proof: &ThreadProof) -> Result<(), NoMemory>
+    // What is appended is the proof's word in its codec.
     ensures { OnOk result (into.new ≡ into.old ++ thread_body.write proof.now) }
 {
     put_part(into, &proof.at)?;

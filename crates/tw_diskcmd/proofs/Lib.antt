@@ -14,7 +14,6 @@ pub mod MessageFiles
 pub mod Received
 pub mod QuestionAnswers
 pub mod FollowerAtRest
-pub mod OfferedFiles
 pub mod Offered
 pub mod Listed
 pub mod FollowerCommandLaws

@@ -21,7 +21,7 @@ ghost use Rattle.tw_service.specs.Writing.{AppendsTo, IsThreadOfNext};
 
 use crate::faults::fault_of_service;
 use crate::limits::{EVENTS_LIMIT, EVENTS_READ};
-use crate::store_faults::{bad_byte, fault_of_store};
+use crate::store_faults::fault_of_store;
 use crate::worked::Worked;
 use std::alloc::Global;
 use tw_base::{EventList, ReadFault, Refusal, Sha, Thread};
@@ -29,7 +29,7 @@ use tw_disk::Disk;
 use tw_msg::read_events;
 use tw_outside::{Inputs, read_all};
 use tw_service::Service;
-use tw_text::{ClaimedTime, CommandFault};
+use tw_text::{ClaimedTime, CommandFault, bad_byte};
 
 /// Adds a step of the events of the named file to the service on the disk, at this time or at none, and
 /// answers its thread. The file is read and judged before the disk is touched.
@@ -72,11 +72,14 @@ fn read_step<I: Inputs>(
 {
     let bytes = read_all(alloc, inputs, file, EVENTS_READ)?;
     if bytes.len() > EVENTS_LIMIT {
-        return Err(bad_byte(alloc, file, EVENTS_LIMIT as u64)?);
+        let bad = bad_byte(alloc, file, EVENTS_LIMIT as u64)?;
+        return Err(CommandFault::Unreadable(bad));
     }
     match read_events(alloc, bytes.as_slice()) {
         Ok(events) => Ok(events),
-        Err(ReadFault::Malformed { place }) => Err(bad_byte(alloc, file, place)?),
+        Err(ReadFault::Malformed { place }) => {
+            Err(CommandFault::Unreadable(bad_byte(alloc, file, place)?))
+        }
         Err(ReadFault::NoMemory) => Err(CommandFault::NoMemory),
     }
 }

@@ -1,6 +1,6 @@
 // The command `offer`, which offers a follower a message.
 
-ghost use Rattle.std.specs.Prelude.{◌≡◌, ◌≤◌, ℕ, List, Option, Some, IfErr, IfOk, false};
+ghost use Rattle.std.specs.Prelude.{◌≡◌, ◌≤◌, ℕ, List, Option, Some, false};
 ghost use Rattle.sha2.specs.Sha256.{sha256};
 ghost use Rattle.tw_base.specs.format.Formats.{Spells};
 ghost use Rattle.tw_base.specs.history.Limits.{IsThread};
@@ -13,21 +13,19 @@ ghost use Rattle.tw_outside.specs.Asked.{asked};
 ghost use Rattle.tw_diskcmd.specs.FollowerDisks.{IsFollower, IsImageOfHeads, IsLeft, ReadsAsHeads, SparesOtherThanFollower, found_disk};
 ghost use Rattle.tw_diskcmd.specs.Offering.{IsNextBy, IsNextListBy, OfferComes, OfferLeaves, OfferedMessageComes};
 ghost use Rattle.tw_pages.specs.Records.{written_record};
-ghost use Rattle.tw_diskcmd.specs.Files.{IsBadMessageByte, IsMessageIn, StopsAt};
 ghost use Rattle.tw_diskcmd.specs.Leaves.{WritesNothing};
 ghost use Rattle.tw_diskcmd.specs.Steps.{AddsFrom, AddsTo};
 
 use crate::follower_faults::fault_of_follower;
-use crate::store_faults::{bad_byte, fault_of_store};
+use crate::message_files::read_message_file;
+use crate::store_faults::fault_of_store;
 use crate::worked::Worked;
 use std::alloc::Global;
-use tw_base::{ReadFault, Sha, Thread};
+use tw_base::{Sha, Thread};
 use tw_disk::Disk;
-use tw_filecmd::limits::FILE_READ;
 use tw_follow::Follower;
-use tw_msg::{Message, message_laws, read_message};
-use tw_outside::{Inputs, read_all};
-use tw_text::CommandFault;
+use tw_msg::Message;
+use tw_outside::Inputs;
 
 /// Offers the message of the named file to the follower on the disk, and answers its head then, which is
 /// the message's thread. The file is read and judged before the disk is touched.
@@ -50,27 +48,12 @@ pub fn offer<D: Disk, I: Inputs>(
     // content is one of the two; and each image since is one that a crash might have left before, or opens so.
     ensures leaves { OfferLeaves D.view disk result.disk (I.told inputs.old) file.now result.outcome }
 {
-    message_laws();
-    match read_offer(alloc, inputs, file) {
+    match read_message_file(alloc, inputs, file) {
         Ok(message) => offer_message(alloc, disk, &message),
         Err(fault) => Worked {
             outcome: Err(fault),
             disk,
         },
-    }
-}
-
-/// The message of the named file, or what comes of a file that isn't read or is none.
-fn read_offer<I: Inputs>(alloc: Global, inputs: &mut I, file: &str) -> Result<Message, CommandFault>
-    requires { I.may_ask inputs.old file.now }
-    ensures read { IfOk result (IsMessageIn (I.told inputs.old) file.now) }
-    ensures stopped { IfErr result (StopsAt (asked (I.told inputs.old) (I.faults inputs.old) (I.faults inputs.new)) file.now IsBadMessageByte) }
-{
-    let bytes = read_all(alloc, inputs, file, FILE_READ)?;
-    match read_message(alloc, bytes.as_slice()) {
-        Ok(message) => Ok(message),
-        Err(ReadFault::Malformed { place }) => Err(bad_byte(alloc, file, place)?),
-        Err(ReadFault::NoMemory) => Err(CommandFault::NoMemory),
     }
 }
 

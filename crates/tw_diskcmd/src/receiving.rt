@@ -1,6 +1,6 @@
 // The command `receive`, which has a service archive the thread of a message.
 
-ghost use Rattle.std.specs.Prelude.{◌≡◌, ◌≤◌, ℕ, Option, IfErr, IfOk, false};
+ghost use Rattle.std.specs.Prelude.{◌≡◌, ◌≤◌, ℕ, Option, false};
 ghost use Rattle.sha2.specs.Sha256.{sha256};
 ghost use Rattle.tw_base.specs.history.History.{History};
 ghost use Rattle.tw_base.specs.history.Limits.{IsThread, IsTimeWithinLimits};
@@ -14,22 +14,21 @@ ghost use Rattle.tw_diskcmd.specs.Answers.{IsOpened};
 ghost use Rattle.tw_diskcmd.specs.Disks.{IsImageOfHistory, IsLeft, IsService, NextBy, ReadsAsHistory, SparesOtherThanService, StepsBy, found_disk};
 ghost use Rattle.tw_diskcmd.specs.Receiving.{ReceiveComes, ReceiveLeaves, ReceivedMessageComes};
 ghost use Rattle.tw_pages.specs.Records.{written_record};
-ghost use Rattle.tw_diskcmd.specs.Files.{IsBadMessageByte, IsMessageIn, StopsAt};
 ghost use Rattle.tw_diskcmd.specs.Leaves.{StaysOr, WritesNothing};
 ghost use Rattle.tw_diskcmd.specs.Steps.{AddsFrom, AddsTo};
 ghost use Rattle.tw_service.specs.Writing.{ArchivesTo, IsReceiptOfRecord};
 
 use crate::faults::fault_of_service;
-use crate::store_faults::{bad_byte, fault_of_store};
+use crate::message_files::read_message_file;
+use crate::store_faults::fault_of_store;
 use crate::worked::Worked;
 use std::alloc::Global;
-use tw_base::{ReadFault, Sha};
+use tw_base::Sha;
 use tw_disk::Disk;
-use tw_filecmd::limits::FILE_READ;
-use tw_msg::{Message, Receipt, message_laws, read_message};
-use tw_outside::{Inputs, read_all};
+use tw_msg::{Message, Receipt};
+use tw_outside::Inputs;
 use tw_service::Service;
-use tw_text::{ClaimedTime, CommandFault};
+use tw_text::ClaimedTime;
 
 /// Archives the thread of the message in the named file in a step of the service on the disk, at this time
 /// or at none, and answers the receipt of that step; or, where the archive has the thread, that of the step
@@ -55,33 +54,12 @@ pub fn receive<D: Disk, I: Inputs>(
     // was.
     ensures leaves { ReceiveLeaves D.view disk result.disk (I.told inputs.old) file.now time result.outcome }
 {
-    match read_thread(alloc, inputs, file) {
+    match read_message_file(alloc, inputs, file) {
         Ok(message) => receive_message(alloc, disk, &message, time),
         Err(fault) => Worked {
             outcome: Err(fault),
             disk,
         },
-    }
-}
-
-/// The message of the named file, or what comes of a file that isn't read or is none.
-fn read_thread<I: Inputs>(
-    alloc: Global,
-    inputs: &mut I,
-    file: &str,
-) -> Result<Message, CommandFault>
-    requires { I.may_ask inputs.old file.now }
-    ensures read { IfOk result (IsMessageIn (I.told inputs.old) file.now) }
-    ensures linked { IfOk result IsLinked }
-    ensures thread { IfOk result (λ message. IsThread message.thread) }
-    ensures stopped { IfErr result (StopsAt (asked (I.told inputs.old) (I.faults inputs.old) (I.faults inputs.new)) file.now IsBadMessageByte) }
-{
-    let bytes = read_all(alloc, inputs, file, FILE_READ)?;
-    message_laws();
-    match read_message(alloc, bytes.as_slice()) {
-        Ok(message) => Ok(message),
-        Err(ReadFault::Malformed { place }) => Err(bad_byte(alloc, file, place)?),
-        Err(ReadFault::NoMemory) => Err(CommandFault::NoMemory),
     }
 }
 

@@ -1,13 +1,12 @@
 -- The codecs that the reader and the writer of evidence look into.
 use Rattle.tw_base.specs.format.Seen.{records}
-use Rattle.tw_chain.specs.Proofs.{link_body, thread_body}
 use Rattle.tw_skipproof.specs.Seen.{parts}
 use Rattle.tw_evidence.specs.Evidence.{evidence_codec, link_proof_codec, thread_proof_codec}
 
 unfoldable pub evidence_reading : Unit {0}
-unfolding evidence_codec link_body link_proof_codec records thread_body thread_proof_codec
+unfolding evidence_codec link_proof_codec records thread_proof_codec
 evidence_reading = tt
 
 unfoldable pub evidence_writing : Unit {0}
-unfolding evidence_codec parts thread_body thread_proof_codec
+unfolding evidence_codec parts thread_proof_codec
 evidence_writing = tt

@@ -2,9 +2,6 @@
 
 ghost use Rattle.std.specs.Prelude.{◌≡◌, ◌≤◌, IfOk, IsTrue};
 ghost use Rattle.tw_base.specs.declared.kinds.limits.TheConstants.{LAST_STEP};
-ghost use Rattle.tw_chain.specs.declared.proof.Proof.TheVariants.{Archived};
-ghost use Rattle.tw_chain.specs.Checks.{checks};
-ghost use Rattle.tw_chain.specs.Finding.{found_in};
 ghost use Rattle.tw_evidence.specs.declared.fork.Fork.{Fork as AnyFork};
 ghost use Rattle.tw_evidence.specs.declared.fork.ForkVerdict.TheVariants.{Yes};
 ghost use Rattle.tw_evidence.specs.Binding.{BindsFork, IsForked};
@@ -15,22 +12,9 @@ use crate::evidence::Evidence;
 use crate::fork::{Fork, ForkReason, ForkVerdict};
 use crate::reading::read_evidence;
 use std::alloc::Global;
-use tw_base::{Ask, Hasher, NoMemory, ReadFault, Reason, Thread, is_same_digest};
-use tw_chain::{ThreadProof, under_anchor, with_answer, with_order};
+use tw_base::{Hasher, NoMemory, ReadFault, Thread, is_same_digest};
+use tw_chain::found_of_thread;
 use tw_skipproof::climb;
-
-/// What is found of a proof that a thread was received, as a verifier finds it (tw_verifier/src/judgement.rt);
-/// `found_of` of judging.rt is of any file that shows an archive.
-fn found_of<H: Hasher>(proof: &ThreadProof, anchors: &[Thread]) -> Option<Reason>
-    requires step { proof.now.at.step ≤ LAST_STEP }
-    requires top { proof.now.at.top ≤ LAST_STEP }
-    ensures { result ≡ found_in H.dig anchors.now (checks (Archived proof.now)) }
-{
-    let found = under_anchor::<H>(&proof.at, anchors);
-    let found = with_order(found, proof.entry.archived, proof.at.step);
-    let ask = Ask::Present(proof.entry);
-    with_answer::<H>(found, 0, &proof.at.opening.archive_root, &ask, &proof.shown)
-}
 
 /// Whether both threads are of one service, and the first isn't of the later step.
 pub(crate) fn in_order(lower: &Thread, upper: &Thread) -> bool
@@ -94,10 +78,10 @@ fn verdict_on<H: Hasher>(evidence: &Evidence, anchors: &[Thread]) -> ForkVerdict
     ensures verdict { result ≡ fork_verdict H.dig anchors.now evidence.now }
     ensures forked { (f : AnyFork) → result ≡ Yes f → IsForked H.dig evidence.now f }
 {
-    if let Some(reason) = found_of::<H>(&evidence.first, anchors) {
+    if let Some(reason) = found_of_thread::<H>(&evidence.first, anchors) {
         return ForkVerdict::No(ForkReason::Part { number: 1, reason });
     }
-    if let Some(reason) = found_of::<H>(&evidence.second, anchors) {
+    if let Some(reason) = found_of_thread::<H>(&evidence.second, anchors) {
         return ForkVerdict::No(ForkReason::Part { number: 2, reason });
     }
     conflict_verdict::<H>(evidence)

@@ -40,7 +40,7 @@ fn with_own_order(found: Option<Reason>, ask: &Ask, step: u64) -> Option<Reason>
     }
 }
 
-/// The lowest reason against what a file shows; `found_of` of checking.rt is of a proof in evidence of a fork.
+/// The lowest reason against what a file shows, which is a proof or a map file.
 fn found_of<H: Hasher>(proof: &ArchiveProof, anchors: &[Thread]) -> Option<Reason>
     requires { IsSmall proof.now }
     ensures { result ≡ found_in H.dig anchors.now (archive_checks proof.now) }

@@ -8,11 +8,9 @@ ghost use Rattle.tw_evidence.specs.Evidence.{evidence_codec, evidence_layout, li
 
 use crate::evidence::Evidence;
 use std::alloc::Global;
-use tw_base::limits::LAST_STEP;
-use tw_base::{ReadFault, take_digest, take_entry, take_name, take_number, take_text, whole_to};
-use tw_chain::{LinkProof, ThreadProof};
-use tw_skipproof::{PROOF_MAGIC, take_part, take_path};
-use tw_treeproof::take_present;
+use tw_base::{ReadFault, take_digest, take_text, whole_to};
+use tw_chain::{LinkProof, ThreadProof, take_link_body, take_thread_body};
+use tw_skipproof::{PROOF_MAGIC, take_path};
 
 /// How evidence begins: the four bytes `TWV1`.
 pub(crate) const EVIDENCE_MAGIC: [u8; 4] = *b"TWV1";
@@ -41,14 +39,7 @@ fn take_thread_proof(alloc: Global, bytes: &[u8], at: &mut u64) -> Result<Thread
     ensures { Takes thread_proof_codec (λ p. p) bytes.now at.old at.new result }
 {
     take_text(bytes, at, &THREAD_MAGIC)?;
-    let part = take_part(alloc, bytes, at, 0)?;
-    let entry = take_entry(bytes, at)?;
-    let shown = take_present(alloc, bytes, at)?;
-    Ok(ThreadProof {
-        at: part,
-        entry,
-        shown,
-    })
+    take_thread_body(alloc, bytes, at)
 }
 
 /// Takes a proof of a step's authenticator.
@@ -57,18 +48,7 @@ fn take_link_proof(alloc: Global, bytes: &[u8], at: &mut u64) -> Result<LinkProo
     ensures { Takes link_proof_codec (λ p. p) bytes.now at.old at.new result }
 {
     take_text(bytes, at, &LINK_MAGIC)?;
-    let service = take_name(bytes, at)?;
-    let step = take_number(bytes, at, 8, 0, LAST_STEP)?;
-    let top = take_number(bytes, at, 8, 1, LAST_STEP)?;
-    let auth = take_digest(bytes, at)?;
-    let path = take_path(alloc, bytes, at, top, step)?;
-    Ok(LinkProof {
-        service,
-        step,
-        top,
-        auth,
-        path,
-    })
+    take_link_body(alloc, bytes, at)
 }
 
 /// Takes evidence.

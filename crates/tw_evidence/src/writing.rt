@@ -8,19 +8,16 @@ ghost use Rattle.tw_evidence.specs.Evidence.{evidence_bytes, evidence_codec, evi
 use crate::evidence::Evidence;
 use crate::reading::{EVIDENCE_MAGIC, THREAD_MAGIC};
 use std::alloc::Global;
-use tw_base::{Bytes, NoMemory, put_digest, put_entry, put_text};
-use tw_chain::ThreadProof;
-use tw_skipproof::{put_part, put_path};
-use tw_treeproof::put_present;
+use tw_base::{Bytes, NoMemory, put_digest, put_text};
+use tw_chain::{ThreadProof, put_thread_body};
+use tw_skipproof::put_path;
 
 /// Appends the proof of a received thread.
 fn put_thread_proof(into: &mut Bytes, proof: &ThreadProof) -> Result<(), NoMemory>
     ensures { OnOk result (into.new ≡ into.old ++ thread_proof_codec.write proof.now) }
 {
     put_text(into, &THREAD_MAGIC)?;
-    put_part(into, &proof.at)?;
-    put_entry(into, &proof.entry)?;
-    put_present(into, &proof.shown)?;
+    put_thread_body(into, proof)?;
     Ok(())
 }
 

@@ -1,16 +1,16 @@
 // The bytes of a history's file, to which one step after another is added within the file's limits.
 #![tactic(auto, unfolding(tw_base::specs::format::Seen::fields))]
 
-ghost use Rattle.std.specs.Prelude.{◌≡◌, ◌++◌, ℕ, IfOk, List, OnOk, drop, length, take, true};
+ghost use Rattle.std.specs.Prelude.{◌≡◌, ℕ, IfOk, List, OnOk, drop, length, take, true};
 ghost use Rattle.tw_export.specs.Copied.{file_before};
-ghost use Rattle.tw_export.specs.Files.{begun, front_of, stays_short as stays_short_of, told_file, with_text};
+ghost use Rattle.tw_export.specs.Files.{begun, stays_short as stays_short_of, told_file, with_text};
 ghost use Rattle.tw_export.specs.Told.{file_of};
 
 use std::alloc::Global;
 use std::mem;
 use tw_base::limits::MOST_HISTORY_BYTES;
-use tw_base::{Bytes, Name, NoMemory, put_last_bytes, put_name, put_text};
-use tw_history::MAGIC;
+use tw_base::{Bytes, Name, NoMemory};
+use tw_history::put_file_front;
 
 /// The file so far: its bytes, which are kept while it is within its limits, how many they are or would be,
 /// at most 2^64 - 1, and whether it is within them.
@@ -21,18 +21,8 @@ pub(crate) struct HistoryFile {
     pub is_short: bool,
 }
 
-/// Appends what stands before the first of so many steps.
-fn put_front(into: &mut Bytes, name: &Name, count: u64) -> Result<(), NoMemory>
-    ensures { OnOk result (into.new ≡ into.old ++ front_of name.now count) }
-{
-    put_text(into, &MAGIC)?;
-    put_name(into, name)?;
-    put_last_bytes(into, count, 8)?;
-    Ok(())
-}
-
 /// The file of a history of this name before the first of so many steps, in room for so many bytes, at most those that a file may have.
-#[tactic(auto)]
+#[tactic(auto, unfolding(tw_history::specs::WritingSteps::front_codec, tw_base::specs::format::Seen::codecs))]
 pub(crate) fn begin_file(
     alloc: Global,
     name: &Name,
@@ -42,7 +32,7 @@ pub(crate) fn begin_file(
     ensures { IfOk result (λ file. file_of file ≡ begun name.now count) }
 {
     let mut bytes = Bytes::with_capacity(alloc, room.min(MOST_HISTORY_BYTES) as usize)?;
-    put_front(&mut bytes, name, count)?;
+    put_file_front(&mut bytes, name, count)?;
     let size = bytes.len() as u64;
     Ok(HistoryFile {
         bytes,

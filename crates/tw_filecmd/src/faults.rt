@@ -3,7 +3,6 @@
 ghost use Rattle.std.specs.Prelude.{◌≡◌, IfOk};
 ghost use Rattle.tw_filecmd.specs.Faults.{fault_of_history, fault_of_show as fault_of_showing};
 ghost use Rattle.tw_text.specs.declared.fault.CommandFault.TheVariants.{Unreadable};
-ghost use Rattle.tw_text.specs.declared.refusal.BadInput.TheVariants.{BadByte, BadLine};
 
 use std::alloc::Global;
 use tw_base::limits::MOST_HISTORY_BYTES;
@@ -11,41 +10,21 @@ use tw_base::{Bytes, NoMemory, Refusal};
 use tw_history::{HistoryFault, ShowFault};
 use tw_text::{BadInput, CommandFault};
 
-/// The fault of an anchors file with this first bad line.
-pub(crate) fn bad_line(alloc: Global, file: &str, line: u64) -> Result<CommandFault, NoMemory>
-    ensures { IfOk result (λ fault. fault ≡ Unreadable (BadLine file.now line)) }
+/// What is told of a file that was read as no sound history. One that is too long is refused at the byte of the limit.
+pub fn bad_history(alloc: Global, file: &str, fault: HistoryFault) -> Result<BadInput, NoMemory>
+    // Each fault of a history file is told as the definitions say.
+    ensures { IfOk result (λ bad. Unreadable bad ≡ fault_of_history file.now fault) }
 {
     let file = Bytes::from_slice(alloc, file.as_bytes())?;
-    Ok(CommandFault::Unreadable(BadInput::BadLine { file, line }))
-}
-
-/// What is told of a file that is no proof from this byte on.
-pub(crate) fn bad_byte(alloc: Global, file: &str, place: u64) -> Result<BadInput, NoMemory>
-    ensures { IfOk result (λ bad. bad ≡ BadByte file.now place) }
-{
-    let file = Bytes::from_slice(alloc, file.as_bytes())?;
-    Ok(BadInput::BadByte { file, place })
-}
-
-/// The fault of a history file. One that is too long is refused at the byte of the limit.
-pub(crate) fn bad_history(
-    alloc: Global,
-    file: &str,
-    fault: HistoryFault,
-) -> Result<CommandFault, NoMemory>
-    ensures { IfOk result (λ told. told ≡ fault_of_history file.now fault) }
-{
-    let file = Bytes::from_slice(alloc, file.as_bytes())?;
-    let bad = match fault {
-        HistoryFault::TooLong { .. } => BadInput::BadByte {
+    match fault {
+        HistoryFault::TooLong { .. } => Ok(BadInput::BadByte {
             file,
             place: MOST_HISTORY_BYTES,
-        },
-        HistoryFault::Malformed { place } => BadInput::BadByte { file, place },
-        HistoryFault::Unsound { step, rule } => BadInput::Unsound { file, step, rule },
-        HistoryFault::NoMemory => return Err(NoMemory),
-    };
-    Ok(CommandFault::Unreadable(bad))
+        }),
+        HistoryFault::Malformed { place } => Ok(BadInput::BadByte { file, place }),
+        HistoryFault::Unsound { step, rule } => Ok(BadInput::Unsound { file, step, rule }),
+        HistoryFault::NoMemory => Err(NoMemory),
+    }
 }
 
 /// The fault of showing as the command's.

@@ -9,6 +9,7 @@ mod parts;
 mod showing;
 mod verifying;
 
+pub use faults::bad_history;
 pub use joining::{Joined, join_files};
 pub use limits::limit_laws;
 pub use showing::show;

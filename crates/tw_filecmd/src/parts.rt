@@ -6,14 +6,13 @@ ghost use Rattle.tw_outside.specs.Asked.{asked};
 ghost use Rattle.tw_outside.specs.Files.{Files, IsReadTo, IsThere};
 ghost use Rattle.tw_filecmd.specs.Parts.{ArePartsRead, PartsCome};
 
-use crate::faults::bad_byte;
 use crate::limits::FILE_READ;
 use std::alloc::Global;
 use tw_base::{NoMemory, ReadFault, Sequence};
 use tw_chain::{Proof, read_proof};
 use tw_join::MOST_PARTS;
 use tw_outside::{Inputs, read_all};
-use tw_text::{BadInput, CommandFault, FilePath};
+use tw_text::{BadInput, CommandFault, FilePath, bad_byte};
 
 /// As many parts as decide what all of them join to: one more than ever join.
 const MOST_KEPT: usize = MOST_PARTS + 1;

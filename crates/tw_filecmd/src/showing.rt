@@ -31,7 +31,9 @@ pub fn show<I: Inputs>(
     let bytes = read_all(alloc, inputs, file, HISTORY_READ)?;
     let history = match read_history(alloc, bytes.as_slice()) {
         Ok(history) => history,
-        Err(fault) => return Err(bad_history(alloc, file, fault)?),
+        Err(fault) => {
+            return Err(CommandFault::Unreadable(bad_history(alloc, file, fault)?));
+        }
     };
     match show_at(alloc, &history, step, index) {
         Ok(proof) => Ok(proof),

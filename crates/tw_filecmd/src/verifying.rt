@@ -3,7 +3,6 @@
 ghost use Rattle.tw_outside.specs.Asked.{asked};
 ghost use Rattle.tw_filecmd.specs.Verifying.{JudgingComes, VerifyFileComes, VerifyOneComes};
 
-use crate::faults::bad_line;
 use crate::feeding::feed_file;
 use crate::limits::FILE_READ;
 use std::alloc::Global;
@@ -11,7 +10,7 @@ use tw_base::Thread;
 use tw_chain::Verdict;
 use tw_msg::{AnchorFault, read_anchors};
 use tw_outside::{Inputs, read_all};
-use tw_text::CommandFault;
+use tw_text::{CommandFault, bad_line};
 
 /// Judges the named proof under one anchor. Threads that it carries are allowed. Of the proof one piece
 /// is held at a time.
@@ -50,7 +49,7 @@ pub fn verify_file<I: Inputs>(
         Ok(held) => judge(alloc, inputs, proof, held.as_slice(), strict),
         Err(AnchorFault::BadLine { line }) => {
             drop(feed_file(alloc, inputs, proof, &[], strict)?);
-            Err(bad_line(alloc, anchors, line)?)
+            Err(CommandFault::Unreadable(bad_line(alloc, anchors, line)?))
         }
         Err(AnchorFault::NoMemory) => Err(CommandFault::NoMemory),
     }

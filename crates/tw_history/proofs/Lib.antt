@@ -16,3 +16,4 @@ pub mod EventSizes
 pub mod RulesJudged
 pub mod SoundFiles
 pub mod LinkLabels
+pub mod StopLaws

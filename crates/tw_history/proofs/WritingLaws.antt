@@ -115,6 +115,14 @@ four_put into one two three four a b c d first second third last =
     ((into ++ one) ++ two) three four
     ∙ append_assoc (into ++ one) two (three ++ four) ∙ append_assoc into one (two ++ (three ++ four))
 
+-- the front of a file was appended, and then its steps
+pub front_put : (into magic name count steps a b : List ℕ) → a ≡ into ++ (magic ++ (name ++ count)) → b ≡ a ++ steps
+    → b ≡ into ++ (magic ++ (name ++ (count ++ steps)))
+front_put into magic name count steps a b first last =
+    last ∙ ap (λ w. w ++ steps) first ∙ append_assoc into (magic ++ (name ++ count)) steps
+    ∙ ap (λ w. into ++ w) (append_assoc magic (name ++ count) steps
+    ∙ ap (λ w. magic ++ w) (append_assoc name count steps))
+
 -- what a step records was appended, and then the number of its nodes, each of them, and the root
 pub step_put : (s : Step) (into a b c d : List ℕ) (count : ℕ) → count ≡ length s.fresh
     → a ≡ into ++ recorded_codec.write (s.time, s.content) → b ≡ a ++ number_bytes 2 count

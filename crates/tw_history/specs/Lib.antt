@@ -7,3 +7,4 @@ pub mod WritingSteps
 pub mod PassSteps
 pub mod JudgingSteps
 pub mod Links
+pub mod Stops

@@ -16,6 +16,7 @@ mod sizes;
 mod soundness;
 mod step;
 mod step_digests;
+mod stops;
 mod writing;
 
 pub use authenticators::auth_of;
@@ -28,5 +29,6 @@ pub use reading::read_history;
 pub use showing::show_event;
 pub use soundness::is_sound;
 pub use step::{Node, Nodes, Step, Steps};
+pub use stops::{Stop, stop_at, stops_to};
 pub use tw_base::Content;
-pub use writing::{MAGIC, put_recorded, write_history};
+pub use writing::{put_file_front, put_recorded, write_history};

@@ -11,7 +11,7 @@ ghost use Rattle.tw_base.specs.kinds.Lists.{Each};
 ghost use Rattle.tw_base.specs.format.Taking.{Puts};
 ghost use Rattle.tw_history.specs.Refusals.{TellsLength};
 ghost use Rattle.tw_history.specs.Tables.{IsInRange, node_of, step_of, steps_of_table};
-ghost use Rattle.tw_history.specs.WritingSteps.{has_events};
+ghost use Rattle.tw_history.specs.WritingSteps.{front_codec, has_events};
 
 use crate::fault::HistoryFault;
 use crate::history::History;
@@ -20,11 +20,11 @@ use crate::step::{Node, Step};
 use std::alloc::Global;
 use tw_base::limits::MOST_HISTORY_BYTES;
 use tw_base::{
-    Bytes, Content, NoMemory, put_name, put_number, put_sized, put_text, put_thread, put_time,
+    Bytes, Content, Name, NoMemory, put_name, put_number, put_sized, put_text, put_thread, put_time,
 };
 
-/// The four bytes at the head of a history file, which tw_export writes, too.
-pub const MAGIC: [u8; 4] = *b"TWH1";
+/// The four bytes at the head of a history file.
+pub(crate) const MAGIC: [u8; 4] = *b"TWH1";
 
 /// The bytes of the history's file: `TWH1`, the name, the number of steps, and then for each step
 /// its time, if any, its content, its new nodes and its root. They spell the history. The time is linear in their
@@ -58,13 +58,23 @@ fn written_history(alloc: Global, history: &History, size: usize) -> Result<Byte
     Ok(bytes)
 }
 
+/// Appends what a history's file has before the first of so many steps: `TWH1`, the name, and their number.
+#[tactic(auto, unfolding(crate::specs::WritingSteps::front_codec, tw_base::specs::format::Seen::codecs))]
+pub fn put_file_front(into: &mut Bytes, name: &Name, count: u64) -> Result<(), NoMemory>
+    // What a file has before its first step is appended as its codec writes it.
+    ensures { Puts front_codec (name.now, count) into.old into.new result }
+{
+    put_text(into, &MAGIC)?;
+    put_name(into, name)?;
+    put_number(into, count, 8)?;
+    Ok(())
+}
+
 /// Appends the bytes of the history's file.
 fn put_history(into: &mut Bytes, history: &History) -> Result<(), NoMemory>
     ensures { Puts history_codec history.now into.old into.new result }
 {
-    put_text(into, &MAGIC)?;
-    put_name(into, &history.name)?;
-    put_number(into, history.steps.len() as u64, 8)?;
+    put_file_front(into, &history.name, history.steps.len() as u64)?;
     put_steps(into, history.steps.as_slice(), history.nodes.as_slice())?;
     Ok(())
 }

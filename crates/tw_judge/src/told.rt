@@ -11,7 +11,9 @@ use std::alloc::Global;
 use tw_base::{Bytes, NoMemory, Sha};
 use tw_chain::Verdict;
 use tw_msg::{AnchorFault, read_anchors};
-use tw_text::{BadInput, CommandFault, fault_status, print_fault, print_rejected, print_report};
+use tw_text::{
+    CommandFault, bad_byte, bad_line, fault_status, print_fault, print_rejected, print_report,
+};
 use tw_verifier::verify;
 
 /// A status of the program, 0, 1 or 9, with its text.
@@ -71,17 +73,24 @@ fn print_verdict(alloc: Global, verdict: &Verdict) -> Result<Bytes, NoMemory>
     }
 }
 
+/// What is told of this fault.
+fn tell_fault(alloc: Global, fault: &CommandFault) -> Result<Told, NoMemory>
+    ensures status { IfOk result (λ told. told.status ≡ fault_status_of fault.now) }
+    ensures text { IfOk result (λ told. told.text ≡ fault_text fault.now) }
+{
+    Ok(Told {
+        status: fault_status(fault),
+        text: print_fault(alloc, fault)?,
+    })
+}
+
 /// What is told of an anchors file of this name with this first bad line.
 pub(crate) fn tell_line(alloc: Global, file: &str, line: u64) -> Result<Told, NoMemory>
     ensures status { IfOk result (λ told. told.status ≡ fault_status_of (Unreadable (BadLine file.now line))) }
     ensures text { IfOk result (λ told. told.text ≡ fault_text (Unreadable (BadLine file.now line))) }
 {
-    let file = Bytes::from_slice(alloc, file.as_bytes())?;
-    let fault = CommandFault::Unreadable(BadInput::BadLine { file, line });
-    Ok(Told {
-        status: fault_status(&fault),
-        text: print_fault(alloc, &fault)?,
-    })
+    let bad = bad_line(alloc, file, line)?;
+    tell_fault(alloc, &CommandFault::Unreadable(bad))
 }
 
 /// What is told of a file of this name that is none of its format from this byte on.
@@ -89,10 +98,6 @@ pub(crate) fn tell_byte(alloc: Global, file: &str, place: u64) -> Result<Told, N
     ensures status { IfOk result (λ told. told.status ≡ fault_status_of (Unreadable (BadByte file.now place))) }
     ensures text { IfOk result (λ told. told.text ≡ fault_text (Unreadable (BadByte file.now place))) }
 {
-    let file = Bytes::from_slice(alloc, file.as_bytes())?;
-    let fault = CommandFault::Unreadable(BadInput::BadByte { file, place });
-    Ok(Told {
-        status: fault_status(&fault),
-        text: print_fault(alloc, &fault)?,
-    })
+    let bad = bad_byte(alloc, file, place)?;
+    tell_fault(alloc, &CommandFault::Unreadable(bad))
 }

@@ -20,6 +20,8 @@ use Rattle.tw_history.specs.declared.fault.HistoryFault.TheVariants as fault
 use Rattle.tw_outside.specs.Files.{Files, IsReadTo}
 use Rattle.tw_text.specs.declared.refusal.BadInput.{BadInput}
 use Rattle.tw_text.specs.declared.refusal.BadInput.TheVariants.{BadByte, BadLine, Unsound}
+use Rattle.tw_text.specs.declared.fault.CommandFault.TheVariants.{Unreadable}
+use Rattle.tw_filecmd.specs.Faults.{fault_of_history}
 use Rattle.tw_filecmd.proofs.FormatFronts.{whole_below}
 use Rattle.tw_reachcmd.specs.declared.histories.Family.{Family}
 use Rattle.tw_reachcmd.specs.declared.histories.HistoryRefusal.{HistoryRefusal}
@@ -28,7 +30,7 @@ use Rattle.tw_reachcmd.proofs.TellingAll.{ends_with}
 use Rattle.tw_reachcmd.specs.Held.{TellAll}
 use Rattle.tw_reachcmd.specs.Histories.{AreHistories, HasBadHistory, IsBadBeside, IsBadByteBeside, IsHistoryBeside}
 use Rattle.tw_reachcmd.specs.Histories.{IsOfFiles}
-use Rattle.tw_reachcmd.specs.Reading.{AreHistoriesRead, AreSoFar, IsAloneBeside, IsHistoryRefusalOf, IsReadBeside}
+use Rattle.tw_reachcmd.specs.Reading.{AreHistoriesRead, AreSoFar, IsAloneBeside, IsReadBeside}
 use Rattle.tw_reachcmd.specs.Reading.{left_by}
 
 -- ---- a service that one of them is of
@@ -61,17 +63,18 @@ some_of (h ∷ family) service is none = by (bytes_eq h.name service) is none (s
 -- ---- bytes that hold no history beside others
 
 pub refused_beside : (left : ℕ) (before : List History) (file bytes : List ℕ) (why : HistoryFault)
-    (refusal : HistoryRefusal) → left ≤ MOST_HISTORY_BYTES
-    → length bytes ≤ left → ReadsHistory bytes (Err why) → IsHistoryRefusalOf file why refusal
-    → IsReadBeside left before file bytes (Err refusal)
-refused_beside left before file bytes (fault.TooLong count) refusal few short read is =
+    (bad : BadInput) → left ≤ MOST_HISTORY_BYTES
+    → length bytes ≤ left → ReadsHistory bytes (Err why) → Unreadable bad ≡ fault_of_history file why
+    → IsBadBeside left before file bytes bad
+refused_beside left before file bytes (fault.TooLong count) bad few short read is =
     absurd (let long = read.0 in omega (arith, few, short, long))
-refused_beside left before file bytes (fault.Malformed place) refusal few short read is =
-    subst (λ (r : HistoryRefusal). IsReadBeside left before file bytes (Err r)) (sym is)
+refused_beside left before file bytes (fault.Malformed place) bad few short read is =
+    subst (λ (b : BadInput). IsBadBeside left before file bytes b) (let same : BadByte file place ≡ bad = cc in same)
     (refl, inr (inl (short, read.1, read.2)))
-refused_beside left before file bytes (fault.Unsound step rule) refusal few short read is =
-    subst (λ (r : HistoryRefusal). IsReadBeside left before file bytes (Err r)) (sym is) (refl, short, read.1)
-refused_beside left before file bytes fault.NoMemory refusal few short read is = absurd is
+refused_beside left before file bytes (fault.Unsound step rule) bad few short read is =
+    subst (λ (b : BadInput). IsBadBeside left before file bytes b)
+    (let same : Unsound file step rule ≡ bad = cc in same) (refl, short, read.1)
+refused_beside left before file bytes fault.NoMemory bad few short read is = absurd cc
 
 pub alone_comes : (left : ℕ) (before : List History) (file bytes : List ℕ) (h : History)
     (r : Result History HistoryRefusal) → length bytes ≤ left

@@ -9,9 +9,7 @@ use Rattle.tw_outside.specs.Files.{Files}
 use Rattle.tw_text.specs.declared.fault.CommandFault.{CommandFault}
 use Rattle.tw_text.specs.declared.fault.CommandFault.TheVariants as command
 use Rattle.tw_text.specs.declared.refusal.BadInput.{BadInput}
-use Rattle.tw_text.specs.declared.refusal.BadInput.TheVariants.{BadByte, Unsound}
-use Rattle.tw_history.specs.declared.fault.HistoryFault.{HistoryFault}
-use Rattle.tw_history.specs.declared.fault.HistoryFault.TheVariants as fault
+use Rattle.tw_text.specs.declared.refusal.BadInput.TheVariants.{BadByte}
 use Rattle.tw_audit.specs.Auditing.{IsAudit}
 use Rattle.tw_reachcmd.specs.declared.auditing.Audited.{Audited}
 use Rattle.tw_reachcmd.specs.declared.histories.Family.{Family}
@@ -26,13 +24,6 @@ abbrev pub IsReadBeside : (left : ℕ) → (before : List History) → (file byt
 IsReadBeside left before file bytes (Ok h) = IsHistoryBeside left before bytes h
 IsReadBeside left before file bytes (Err (Bad bad)) = IsBadBeside left before file bytes bad
 IsReadBeside left before file bytes (Err NoMemory) = Unit {0}
-
--- how a fault of a history file is told
-abbrev pub IsHistoryRefusalOf : (file : List ℕ) → HistoryFault → HistoryRefusal → Type 0
-IsHistoryRefusalOf file (fault.TooLong count) refusal = refusal ≡ Bad (BadByte file MOST_HISTORY_BYTES)
-IsHistoryRefusalOf file (fault.Malformed place) refusal = refusal ≡ Bad (BadByte file place)
-IsHistoryRefusalOf file (fault.Unsound step rule) refusal = refusal ≡ Bad (Unsound file step rule)
-IsHistoryRefusalOf file fault.NoMemory refusal = ⊥
 
 -- what files left of so many bytes
 abbrev pub left_by : (left : ℕ) → (all : List (List ℕ)) → ℕ

@@ -8,7 +8,6 @@ ghost use Rattle.tw_reachcmd.specs.Accusing.{AccuseComes, PartsMake};
 ghost use Rattle.tw_reachcmd.specs.Parts.{ArePairOf, IsPartRead, LinkedCome};
 ghost use Rattle.tw_reachcmd.specs.declared.accusing.Accused.TheVariants as Accused;
 
-use crate::faults::bad_byte;
 use crate::reading::read_both;
 use std::alloc::Global;
 use tw_base::{Bytes, NoMemory, ReadFault};
@@ -17,7 +16,7 @@ use tw_evidence::{Evidence, accuse, read_link_proof, read_thread_proof, write_ev
 use tw_filecmd::limits::FILE_READ;
 use tw_join::JoinFault;
 use tw_outside::{Inputs, read_all};
-use tw_text::CommandFault;
+use tw_text::{CommandFault, bad_byte};
 
 /// What accusing a service of a fork comes to.
 #[derive(Drop, Debug)]
@@ -119,7 +118,9 @@ fn thread_of(alloc: Global, file: &str, bytes: &[u8]) -> Result<ThreadProof, Com
 {
     match read_thread_proof(alloc, bytes) {
         Ok(proof) => Ok(proof),
-        Err(ReadFault::Malformed { place }) => Err(bad_byte(alloc, file, place)?),
+        Err(ReadFault::Malformed { place }) => Err(CommandFault::Unreadable(bad_byte(
+            alloc, file, place,
+        )?)),
         Err(ReadFault::NoMemory) => Err(CommandFault::NoMemory),
     }
 }
@@ -130,7 +131,9 @@ fn link_of(alloc: Global, file: &str, bytes: &[u8]) -> Result<LinkProof, Command
 {
     match read_link_proof(alloc, bytes) {
         Ok(proof) => Ok(proof),
-        Err(ReadFault::Malformed { place }) => Err(bad_byte(alloc, file, place)?),
+        Err(ReadFault::Malformed { place }) => Err(CommandFault::Unreadable(bad_byte(
+            alloc, file, place,
+        )?)),
         Err(ReadFault::NoMemory) => Err(CommandFault::NoMemory),
     }
 }

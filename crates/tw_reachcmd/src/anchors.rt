@@ -6,9 +6,9 @@ ghost use Rattle.tw_base.specs.declared.kinds.limits.TheConstants.{MOST_ANCHORS}
 ghost use Rattle.tw_reachcmd.specs.Anchors.{AreAnchorsOf, IsNoAnchors};
 
 use std::alloc::Global;
-use tw_base::{Bytes, Threads};
+use tw_base::Threads;
 use tw_msg::{AnchorFault, read_anchors};
-use tw_text::{BadInput, CommandFault};
+use tw_text::{CommandFault, bad_line};
 
 /// The anchors of the lines of an anchors file; or the fault that names the file and its first bad line.
 pub(crate) fn anchors_of(alloc: Global, file: &str, lines: &[u8]) -> Result<Threads, CommandFault>
@@ -19,8 +19,7 @@ pub(crate) fn anchors_of(alloc: Global, file: &str, lines: &[u8]) -> Result<Thre
     match read_anchors(alloc, lines) {
         Ok(anchors) => Ok(anchors),
         Err(AnchorFault::BadLine { line }) => {
-            let file = Bytes::from_slice(alloc, file.as_bytes())?;
-            Err(CommandFault::Unreadable(BadInput::BadLine { file, line }))
+            Err(CommandFault::Unreadable(bad_line(alloc, file, line)?))
         }
         Err(AnchorFault::NoMemory) => Err(CommandFault::NoMemory),
     }

@@ -1,23 +1,20 @@
 // The command `atlas`, which reads files of receipts and finds the earliest steps to which a step leads.
 
-ghost use Rattle.std.specs.Prelude.{◌≡◌, ◌≢◌, ◌≤◌, ◌∷◌, [], ◌++◌, ℕ, List, length, is_some, Err, IfErr, IfOk, None, OnOk, Option, Some};
-ghost use Rattle.tw_atlas.specs.declared.limits.TheConstants.{MOST_RECEIPTS};
-ghost use Rattle.tw_base.specs.kinds.Faults.{Rose};
+ghost use Rattle.std.specs.Prelude.{◌≡◌, IfErr, IfOk, None, Some};
 ghost use Rattle.tw_base.specs.kinds.Lists.{Each};
 ghost use Rattle.tw_outside.specs.Asked.{asked};
-ghost use Rattle.tw_outside.specs.Files.{Files, IsReadTo, IsThere};
 ghost use Rattle.tw_reachcmd.specs.Atlas.{AtlasComes};
-ghost use Rattle.tw_reachcmd.specs.ReadingReceipts.{AreReceiptsRead, HopsCome};
+ghost use Rattle.tw_reachcmd.specs.ReadingReceipts.{HopsCome};
 ghost use Rattle.tw_text.specs.declared.fault.CommandFault.TheVariants.{Unreadable};
 ghost use Rattle.tw_text.specs.declared.refusal.BadInput.{BadInput as AnyBad};
 
-use crate::faults::bad_input;
+use crate::gathering::{Gathers, read_files};
 use std::alloc::Global;
 use tw_atlas::{Atlas, add_hops, plan};
-use tw_base::{HopList, InputFault, Key, Name, NoMemory, ReadFault};
+use tw_base::{HopList, Key, Name, NoMemory, ReadFault};
 use tw_filecmd::limits::FILE_READ;
-use tw_outside::{Inputs, read_all};
-use tw_text::{BadInput, CommandFault, FilePath};
+use tw_outside::Inputs;
+use tw_text::{BadInput, CommandFault, FilePath, bad_byte};
 
 /// Where the receipts of files lead from a step of a service.
 #[derive(Drop, Debug)]
@@ -74,7 +71,7 @@ fn read_hops<I: Inputs>(
         hops: HopList::new(alloc),
         bad: None,
     };
-    match receipts.read(alloc, inputs, files) {
+    match read_files(alloc, inputs, files, &mut receipts) {
         Ok(()) => receipts.judged(),
         // Not by `?`: what goes out of scope there is looked at part by part, and proved slowly.
         Err(fault) => {
@@ -99,45 +96,34 @@ impl Receipts {
             }
         }
     }
+}
 
-    /// Reads the files, one after another.
-    fn read<I: Inputs>(
-        &mut self,
-        alloc: Global,
-        inputs: &mut I,
-        files: &[FilePath],
-    ) -> Result<(), InputFault>
-        requires ask { Each (I.may_ask inputs.old) files.now }
-        requires few { length self.old.hops ≤ MOST_RECEIPTS }
-        ensures later { I.faults inputs.old ≤ I.faults inputs.new }
-        ensures failed { result ≡ Err InputFault.Failed → Rose (I.faults inputs.old) (I.faults inputs.new) }
-        ensures there { OnOk result (Each (IsThere (I.told inputs.old)) files.now) }
-        ensures some { result ≡ Err InputFault.Failed → files.now ≢ [] }
-        ensures few { length self.new.hops ≤ MOST_RECEIPTS }
-        ensures read { OnOk result (AreReceiptsRead (I.told inputs.old) [] self.old → AreReceiptsRead (I.told inputs.old) files.now self.new) }
-    {
-        for file in files {
-            let bytes = read_all(alloc, inputs, file.as_str(), FILE_READ)?;
-            self.add(alloc, file.as_str(), bytes.as_slice())?;
-        }
-        Ok(())
+impl Gathers for Receipts {
+    ghost use Rattle.std.specs.Prelude.{◌≤◌, length};
+    ghost use Rattle.tw_atlas.specs.declared.limits.TheConstants.{MOST_RECEIPTS};
+    ghost use Rattle.tw_filecmd.specs.declared.limits.TheConstants.{FILE_READ};
+    ghost use Rattle.tw_reachcmd.specs.ReadingReceipts.{AreReceiptsRead};
+
+    ghost holds = { λ r. length r.hops ≤ MOST_RECEIPTS };
+
+    ghost room_of = { λ r. FILE_READ };
+
+    ghost reads = { AreReceiptsRead };
+
+    fn room(&self) -> usize {
+        FILE_READ
     }
 
     /// Adds the hops of the receipts in these bytes of the named file, unless a file before isn't as it has to
     /// be.
-    fn add(&mut self, alloc: Global, file: &str, bytes: &[u8]) -> Result<(), NoMemory>
-        requires { length self.old.hops ≤ MOST_RECEIPTS }
-        ensures few { length self.new.hops ≤ MOST_RECEIPTS }
-        ensures read { OnOk result ((told : Option Files) (files : List (List ℕ)) → IsReadTo told file.now FILE_READ bytes.now →
-            AreReceiptsRead told files self.old → AreReceiptsRead told (files ++ file.now ∷ []) self.new) }
-    {
+    fn add(&mut self, alloc: Global, file: &str, bytes: &[u8]) -> Result<(), NoMemory> {
         if self.bad.is_some() {
             return Ok(());
         }
         match add_hops(alloc, bytes, &mut self.hops) {
             Ok(()) => Ok(()),
             Err(ReadFault::Malformed { place }) => {
-                self.bad = Some(bad_input(alloc, file, place)?);
+                self.bad = Some(bad_byte(alloc, file, place)?);
                 Ok(())
             }
             Err(ReadFault::NoMemory) => Err(NoMemory),

@@ -8,13 +8,12 @@ ghost use Rattle.tw_reachcmd.specs.ReadMaps.{AreMapsOf, MapsCome};
 ghost use Rattle.tw_tmap.specs.MapFiles.{high_codec, high_layout, low_codec, low_layout};
 
 use crate::anchors::anchors_of;
-use crate::faults::bad_byte;
 use crate::reading::read_both;
 use std::alloc::Global;
 use tw_base::{ReadFault, Sha};
 use tw_filecmd::limits::FILE_READ;
 use tw_outside::{Inputs, read_all};
-use tw_text::CommandFault;
+use tw_text::{CommandFault, bad_byte};
 use tw_tmap::{HighFile, LowFile, MapVerdict, check_map, read_high, read_low};
 
 /// A low and a high map file that were read.
@@ -95,7 +94,9 @@ fn low_of(alloc: Global, file: &str, bytes: &[u8]) -> Result<LowFile, CommandFau
 {
     match read_low(alloc, bytes) {
         Ok(low) => Ok(low),
-        Err(ReadFault::Malformed { place }) => Err(bad_byte(alloc, file, place)?),
+        Err(ReadFault::Malformed { place }) => Err(CommandFault::Unreadable(bad_byte(
+            alloc, file, place,
+        )?)),
         Err(ReadFault::NoMemory) => Err(CommandFault::NoMemory),
     }
 }
@@ -107,7 +108,9 @@ fn high_of(alloc: Global, file: &str, bytes: &[u8]) -> Result<HighFile, CommandF
 {
     match read_high(alloc, bytes) {
         Ok(high) => Ok(high),
-        Err(ReadFault::Malformed { place }) => Err(bad_byte(alloc, file, place)?),
+        Err(ReadFault::Malformed { place }) => Err(CommandFault::Unreadable(bad_byte(
+            alloc, file, place,
+        )?)),
         Err(ReadFault::NoMemory) => Err(CommandFault::NoMemory),
     }
 }

@@ -1,21 +1,22 @@
 // Reading the histories of an audit.
 
-ghost use Rattle.std.specs.Prelude.{◌≡◌, ◌≤◌, ◌+◌, ◌∷◌, [], ◌++◌, ℕ, List, Err, IfErr, IfOk, None, OnOk, Option, Some};
+ghost use Rattle.std.specs.Prelude.{◌≡◌, ◌≤◌, Err, IfErr, IfOk, None, OnOk, Some};
 ghost use Rattle.std.specs.List.{list_any};
 ghost use Rattle.std.specs.Str.{bytes_eq};
 ghost use Rattle.tw_base.specs.declared.kinds.limits.TheConstants.{MOST_HISTORY_BYTES as MOST};
 ghost use Rattle.tw_base.specs.kinds.Faults.{Rose};
 ghost use Rattle.tw_base.specs.kinds.Lists.{Each};
-ghost use Rattle.tw_outside.specs.Files.{Files, IsReadTo, IsThere};
-ghost use Rattle.tw_reachcmd.specs.Reading.{AreHistoriesRead, IsAloneBeside, IsHistoryRefusalOf, IsReadBeside};
+ghost use Rattle.tw_outside.specs.Files.{IsThere};
+ghost use Rattle.tw_reachcmd.specs.Reading.{AreHistoriesRead, IsAloneBeside, IsReadBeside};
 
-use crate::faults::bad_input;
+use crate::gathering::{Gathers, read_files};
 use std::alloc::Global;
 use tw_base::limits::MOST_HISTORY_BYTES;
-use tw_base::{Bytes, InputFault, Name, NoMemory, Sequence};
-use tw_history::{History, HistoryFault, read_history};
-use tw_outside::{Inputs, read_all};
-use tw_text::{BadInput, FilePath};
+use tw_base::{InputFault, Name, NoMemory, Sequence};
+use tw_filecmd::bad_history;
+use tw_history::{History, read_history};
+use tw_outside::Inputs;
+use tw_text::{BadInput, FilePath, bad_byte};
 
 /// The place of the service's name in a history file.
 pub(crate) const NAME_PLACE: u64 = 4;
@@ -67,7 +68,7 @@ pub(crate) fn read_family<I: Inputs>(
         bad: None,
         left: MOST_HISTORY_BYTES as usize,
     };
-    match family.read(alloc, inputs, files) {
+    match read_files(alloc, inputs, files, &mut family) {
         Ok(()) => Ok(family),
         // Not by `?`: what goes out of scope there is looked at part by part, and proved slowly.
         Err(fault) => {
@@ -92,35 +93,25 @@ impl Family {
             }
         }
     }
+}
 
-    /// Reads the files, one after another.
-    fn read<I: Inputs>(
-        &mut self,
-        alloc: Global,
-        inputs: &mut I,
-        files: &[FilePath],
-    ) -> Result<(), InputFault>
-        requires ask { Each (I.may_ask inputs.old) files.now }
-        requires few { self.old.left ≤ MOST }
-        ensures later { I.faults inputs.old ≤ I.faults inputs.new }
-        ensures failed { result ≡ Err InputFault.Failed → Rose (I.faults inputs.old) (I.faults inputs.new) }
-        ensures there { OnOk result (Each (IsThere (I.told inputs.old)) files.now) }
-        ensures read { OnOk result (AreHistoriesRead (I.told inputs.old) [] self.old → AreHistoriesRead (I.told inputs.old) files.now self.new) }
-    {
-        for file in files {
-            let bytes = read_all(alloc, inputs, file.as_str(), self.left + 1)?;
-            self.add(alloc, file.as_str(), bytes.as_slice())?;
-        }
-        Ok(())
+impl Gathers for Family {
+    ghost use Rattle.std.specs.Prelude.{◌+◌, ◌≤◌};
+    ghost use Rattle.tw_base.specs.declared.kinds.limits.TheConstants.{MOST_HISTORY_BYTES as MOST};
+    ghost use Rattle.tw_reachcmd.specs.Reading.{AreHistoriesRead};
+
+    ghost holds = { λ f. f.left ≤ MOST };
+
+    ghost room_of = { λ f. f.left + 1 };
+
+    ghost reads = { AreHistoriesRead };
+
+    fn room(&self) -> usize {
+        self.left + 1
     }
 
     /// Adds what these bytes of the named file hold, unless a file before held no history.
-    fn add(&mut self, alloc: Global, file: &str, bytes: &[u8]) -> Result<(), NoMemory>
-        requires { self.old.left ≤ MOST }
-        ensures left { self.new.left ≤ self.old.left }
-        ensures read { OnOk result ((told : Option Files) (files : List (List ℕ)) → IsReadTo told file.now (self.old.left + 1) bytes.now →
-            AreHistoriesRead told files self.old → AreHistoriesRead told (files ++ file.now ∷ []) self.new) }
-    {
+    fn add(&mut self, alloc: Global, file: &str, bytes: &[u8]) -> Result<(), NoMemory> {
         let left = self.left;
         self.left = left.saturating_sub(bytes.len());
         if self.bad.is_some() {
@@ -153,11 +144,11 @@ pub(crate) fn history_beside(
     ensures { IsReadBeside left before.now file.now bytes.now result }
 {
     if bytes.len() > left {
-        return Err(HistoryRefusal::Bad(bad_input(alloc, file, left as u64)?));
+        return Err(HistoryRefusal::Bad(bad_byte(alloc, file, left as u64)?));
     }
     match read_history(alloc, bytes) {
         Ok(history) => alone_beside(alloc, file, history, before),
-        Err(fault) => Err(refusal_of(alloc, file, fault)?),
+        Err(fault) => Err(HistoryRefusal::Bad(bad_history(alloc, file, fault)?)),
     }
 }
 
@@ -172,7 +163,7 @@ fn alone_beside(
 {
     if has_service(before, history.service()) {
         drop(history);
-        Err(HistoryRefusal::Bad(bad_input(alloc, file, NAME_PLACE)?))
+        Err(HistoryRefusal::Bad(bad_byte(alloc, file, NAME_PLACE)?))
     } else {
         Ok(history)
     }
@@ -185,21 +176,4 @@ fn has_service(histories: &[History], service: &Name) -> bool
     histories
         .iter()
         .any(|history| *history.service() == *service)
-}
-
-/// What is told of a file that was read as no sound history.
-fn refusal_of(alloc: Global, file: &str, fault: HistoryFault) -> Result<HistoryRefusal, NoMemory>
-    ensures { IfOk result (IsHistoryRefusalOf file.now fault) }
-{
-    let file = Bytes::from_slice(alloc, file.as_bytes())?;
-    let bad = match fault {
-        HistoryFault::TooLong { .. } => BadInput::BadByte {
-            file,
-            place: MOST_HISTORY_BYTES,
-        },
-        HistoryFault::Malformed { place } => BadInput::BadByte { file, place },
-        HistoryFault::Unsound { step, rule } => BadInput::Unsound { file, step, rule },
-        HistoryFault::NoMemory => return Err(NoMemory),
-    };
-    Ok(HistoryRefusal::Bad(bad))
 }

@@ -11,8 +11,8 @@ mod audit_text;
 mod auditing;
 mod check_fork;
 mod check_map;
-mod faults;
 mod fronts;
+mod gathering;
 mod histories;
 mod reading;
 

@@ -297,7 +297,7 @@ impl<D: Disk, H: Hasher> Service<D, H> {
     ///
     /// Refusals, the first that stands: `Reopen` where an earlier call on this value answered `DiskFault`; `Malformed` where the bytes
     /// are no message, with the first byte at which none goes on; `Own` where the message is of this service itself; what the archive has
-    /// of the message against it, with what is kept; and, where the thread is to be archived, `Full` where
+    /// against it, with what is kept; and, where the thread is to be archived, `Full` where
     /// there are 2^40 - 1 steps. `BadPage` tells the first page met that isn't of its kind, the one read last where the step that is told
     /// to have received the thread is above the last one, or the root's page of the archive where one reading of it contradicts another;
     /// it never comes where a history is served. All memory is taken before the first write, so after `NoMemory` the disk is as before.
@@ -354,7 +354,7 @@ impl<D: Disk, H: Hasher> Service<D, H> {
         requires time { IsTimeWithinLimits time }
         // Receiving a message. `Reopen` and `Own` come exactly where their lines are the first that stand. Over told pages, whatever they
         // keep, what becomes of the message is what the archive's pages tell of it, and the answer is by that, a disk fault and want of
-        // memory excepted: what the archive has against it, `Full` or `ClockBack`; the receipt of the step that received the thread; or that
+        // memory excepted: what the archive has against it, `Full` or `ClockBack`; the receipt of the step that received it; or that
         // of the next step. Of a store at rest with a record and pages, whatever these keep, every image that a crash since the start may
         // leave opens with them, or with the record of a step that archives the thread and the pages found with it; and so does the
         // content, which is told still, after `DiskFault` too; after the next step's receipt it is the latter, at rest, and after any other

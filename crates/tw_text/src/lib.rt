@@ -2,6 +2,7 @@
 #![tactic(auto)]
 
 mod anchor;
+mod bad_input;
 mod claimed_time;
 mod fault;
 mod field;
@@ -13,6 +14,7 @@ mod refusal;
 mod report;
 
 pub use anchor::{AnchorLine, anchor_line};
+pub use bad_input::{bad_byte, bad_line};
 pub use claimed_time::ClaimedTime;
 pub use fault::{CommandFault, fault_status, print_fault};
 pub use field::{Field, FieldList, push_numbered, push_word};

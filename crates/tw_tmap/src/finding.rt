@@ -1,34 +1,17 @@
 // The lowest reason against map files, as their checks follow one another; tw_chain/src/finding.rt has that against proofs.
 
-ghost use Rattle.std.specs.Prelude.{◌≡◌, ◌↔◌, ℕ, ◌-◌, ◌<◌, ◌≤◌, List, [], ◌∷◌, Some, None, IsTrue, if◌then◌else◌};
+ghost use Rattle.std.specs.Prelude.{◌≡◌, ◌↔◌, ℕ, ◌-◌, ◌<◌, ◌≤◌, List, [], ◌∷◌, IsTrue};
 ghost use Rattle.tw_base.specs.declared.kinds.limits.TheConstants.{LAST_STEP};
 ghost use Rattle.tw_chain.specs.Checks.{under_anchor as under_anchor_of};
 ghost use Rattle.tw_chain.specs.Checks.Check.{NeedsAnchor};
-ghost use Rattle.tw_chain.specs.Finding.{found_in, is_lower as is_lower_of, lower_of, reason_with};
+ghost use Rattle.tw_chain.specs.Finding.{found_in, lower_of, reason_with};
 ghost use Rattle.tw_skipproof.specs.Acceptance.{Reaches};
 ghost use Rattle.tw_tmap.specs.Checking.{high_part, low_file_part};
 
 use crate::map_file::{HighFile, LowFile, LowPart};
 use tw_base::{Digest, Hasher, Name, Reason, Thread, find_anchor, is_same_digest};
-use tw_chain::{climbs, with_order};
+use tw_chain::{climbs, lower, unless, with_order};
 use tw_skipproof::check_opening;
-
-/// Whether the first reason is the lower one: by its number, and then by its place.
-fn is_lower(one: &Reason, other: &Reason) -> bool
-    ensures { result ≡ is_lower_of one.now other.now }
-{
-    one.number() < other.number() || (one.number() == other.number() && one.place() < other.place())
-}
-
-/// The lower of what was found and this reason; of one number and place the first.
-pub(crate) fn lower(found: Option<Reason>, reason: Reason) -> Option<Reason>
-    ensures { result ≡ lower_of found (Some reason) }
-{
-    match found {
-        Some(first) if !is_lower(&reason, &first) => Some(first),
-        _ => Some(reason),
-    }
-}
 
 /// The lower of two that were found; of one number and place the first.
 pub(crate) fn lower_found(found: Option<Reason>, more: Option<Reason>) -> Option<Reason>
@@ -38,13 +21,6 @@ pub(crate) fn lower_found(found: Option<Reason>, more: Option<Reason>) -> Option
         None => found,
         Some(reason) => lower(found, reason),
     }
-}
-
-/// What was found, and the reason where the check doesn't pass.
-pub(crate) fn unless(passes: bool, found: Option<Reason>, reason: Reason) -> Option<Reason>
-    ensures { result ≡ lower_of found (if passes then None else Some reason) }
-{
-    if passes { found } else { lower(found, reason) }
 }
 
 /// What is found with the check that an anchor of the service and step is held.

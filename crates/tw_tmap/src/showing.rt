@@ -6,11 +6,11 @@ ghost use Rattle.tw_treeproof.specs.Answers.{Checks, ancestors_of, shown_answer}
 ghost use Rattle.tw_chain.specs.Finding.{found_in};
 ghost use Rattle.tw_tmap.specs.Checking.{archived_if_of as archived_step_of, before_checks, before_told, first_after, high_ask as high_ask_of, high_checks, high_told, last_before, low_ask as low_ask_of, low_checks, low_told, nearest_in, step_if_of as step_of};
 
-use crate::finding::{high_under, low_under, lower, lower_found, with_anchor};
+use crate::finding::{high_under, low_under, lower_found, with_anchor};
 use crate::map_file::{HighFile, LowFile, LowPart};
 use tw_base::limits::LAST_STEP;
 use tw_base::{Ask, Entry, Hasher, Key, Name, Reason, Thread};
-use tw_chain::with_order;
+use tw_chain::{lower, with_order};
 use tw_treeproof::{Shown, check};
 
 /// What is found of a low or a high map file, and, where nothing is, the bound that it tells.

@@ -13,8 +13,8 @@ use tw_base::{
     Ask, Claim, EventPart, Hasher, HopList, Place, Reason, Report, Seen, Thread, Threads,
 };
 use tw_chain::{
-    AbsenceProof, LinkProof, ThreadProof, Verdict, under_anchor, with_answer, with_event,
-    with_link, with_order,
+    AbsenceProof, LinkProof, ThreadProof, Verdict, found_of_thread, under_anchor, with_answer,
+    with_event, with_link,
 };
 use tw_skipproof::{ExistenceProof, Part};
 
@@ -55,18 +55,6 @@ pub(crate) fn seen(at: &Part, event: EventPart) -> Seen
         event: event.event,
         time: at.opening.time,
     }
-}
-
-/// What is found of a proof that a thread was received.
-fn found_of_thread<H: Hasher>(proof: &ThreadProof, anchors: &[Thread]) -> Option<Reason>
-    requires step { proof.now.at.step ≤ LAST_STEP }
-    requires top { proof.now.at.top ≤ LAST_STEP }
-    ensures { result ≡ found_in H.dig anchors.now (checks (Archived proof.now)) }
-{
-    let found = under_anchor::<H>(&proof.at, anchors);
-    let found = with_order(found, proof.entry.archived, proof.at.step);
-    let ask = Ask::Present(proof.entry);
-    with_answer::<H>(found, 0, &proof.at.opening.archive_root, &ask, &proof.shown)
 }
 
 /// What is found of a proof that no thread of a key was received.

@@ -143,12 +143,13 @@ store_commands =
 -- those over files alone
 abbrev pub file_commands : List (List ℕ × Form)
 file_commands =
-    (codes "show", show) ∷ (codes "join", join) ∷ (codes "verify", verify) ∷ (codes "strict", strict) ∷ (codes "checkmap", check_map)
-    ∷ (codes "audit", audit) ∷ (codes "replay", replay) ∷ (codes "generate", generate) ∷ []
+    (codes "show", show) ∷ (codes "join", join) ∷ (codes "verify", verify) ∷ (codes "strict", strict)
+    ∷ (codes "replay", replay) ∷ (codes "generate", generate) ∷ []
 
 -- those over files that reach beyond one proof
 abbrev pub reach_commands : List (List ℕ × Form)
-reach_commands = (codes "atlas", atlas) ∷ (codes "accuse", accuse) ∷ (codes "checkfork", check_fork) ∷ (codes "adopt", adopt) ∷ []
+reach_commands =
+    (codes "checkmap", check_map) ∷ (codes "audit", audit) ∷ (codes "atlas", atlas) ∷ (codes "accuse", accuse) ∷ (codes "checkfork", check_fork) ∷ (codes "adopt", adopt) ∷ []
 
 abbrev pub commands : List (List ℕ × Form)
 commands = store_commands ++ file_commands ++ reach_commands

@@ -1,12 +1,13 @@
 // Walking over the words of a command line: each is read once, as the value that a form has at its place.
 
-ghost use Rattle.std.specs.Prelude.{◌≡◌, ◌≤◌, IfOk, IfSome, map, length};
+ghost use Rattle.std.specs.Prelude.{◌≡◌, ◌≤◌, ℕ, List, Err, IfOk, IfSome, map, length};
 ghost use Rattle.std.specs.String.{string_bytes};
 ghost use Rattle.tw_base.specs.declared.kinds.limits.TheConstants.{LAST_TIME};
-ghost use Rattle.tw_words.specs.Forms.{count_paths as count_paths_of, digest_value, maybe_number, name_value, no_words, number_value, path_value, paths};
+ghost use Rattle.tw_words.specs.Forms.{Form, count_paths as count_paths_of, digest_value, either, maybe_number, name_value, no_words, number_value, path_value, paths};
 ghost use Rattle.tw_words.specs.declared.cursor.Stop.TheVariants as Stop;
-ghost use Rattle.tw_words.specs.Takings.{ReadsWords, TakesWords};
+ghost use Rattle.tw_words.specs.Takings.{MakesCommand, ReadsWords, TakesWords};
 
+use crate::command::Command;
 use tw_base::limits::LAST_TIME;
 use tw_base::{Digest, Name, NoMemory};
 use tw_text::{ClaimedTime, read_digest, read_number};
@@ -28,6 +29,18 @@ impl From<NoMemory> for Stop {
 
     fn from(_refused: NoMemory) -> Self {
         Stop::NoMemory
+    }
+}
+
+/// What the second of two forms answers, where the first stopped with so many words left.
+pub(crate) fn or_further(left: usize, second: Result<Command, Stop>) -> Result<Command, Stop>
+    ensures { (one other : Form) (words : List (List ℕ)) → one words ≡ Err left → MakesCommand (other words) second → MakesCommand (either one other words) result }
+{
+    match second {
+        Err(Stop::At { left: other }) => Err(Stop::At {
+            left: left.min(other),
+        }),
+        done => done,
     }
 }
 

@@ -5,6 +5,7 @@ mod command;
 mod cursor;
 mod file_forms;
 pub mod limits;
+mod paths;
 mod reach_forms;
 mod store_forms;
 mod words;

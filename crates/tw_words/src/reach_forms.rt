@@ -1,4 +1,5 @@
-// The forms of commands over files that reach beyond one proof, behind their first word.
+// The forms of commands over files that reach beyond one proof, behind their first word: `checkmap`, `audit`, `atlas`, `accuse`,
+// `checkfork` and `adopt`.
 
 ghost use Rattle.std.specs.Prelude.{◌≡◌, map, IfOk};
 ghost use Rattle.std.specs.String.{string_bytes};
@@ -8,9 +9,9 @@ ghost use Rattle.tw_words.specs.Forms.{form_named};
 ghost use Rattle.tw_words.specs.Takings.{MakesCommand, MakesNamed};
 
 use crate::command::Command;
-use crate::cursor::{Stop, Words};
-use crate::file_forms::{or_further, paths_of, push_paths};
-use crate::limits::{MOST_ADOPTING, MOST_RECEIPT_FILES};
+use crate::cursor::{Stop, Words, or_further};
+use crate::limits::{MOST_ADOPTING, MOST_HISTORIES, MOST_RECEIPT_FILES};
+use crate::paths::{paths_of, push_paths};
 use std::alloc::Global;
 use tw_base::limits::LAST_STEP;
 use tw_base::{NoMemory, Sequence};
@@ -25,12 +26,59 @@ pub(crate) fn reach_command(
     ensures { MakesNamed (form_named forms.reach_commands word.now) (map string_bytes behind.entry.left.now) result }
 {
     match word {
+        "checkmap" => Some(check_map(alloc, behind)),
+        "audit" => Some(audit(alloc, behind)),
         "atlas" => Some(atlas(alloc, behind)),
         "accuse" => Some(accuse(alloc, behind)),
         "checkfork" => Some(check_fork(alloc, behind)),
         "adopt" => Some(adopt(alloc, behind)),
         _ => None,
     }
+}
+
+/// `checkmap LOW HIGH ANCHORS`
+#[tactic(auto, unfolding(crate::specs::CommandLine::check_map))]
+fn check_map(alloc: Global, mut words: Words<'_>) -> Result<Command, Stop>
+    ensures { MakesCommand (forms.check_map (map string_bytes words.entry.left.now)) result }
+{
+    let low = words.path()?;
+    let high = words.path()?;
+    let anchors = words.path()?;
+    words.end()?;
+    Ok(Command::CheckMap {
+        low: FilePath::new(alloc, low)?,
+        high: FilePath::new(alloc, high)?,
+        anchors: FilePath::new(alloc, anchors)?,
+    })
+}
+
+/// `audit PROOF ANCHORS HISTORY ..`
+#[tactic(auto, unfolding(crate::specs::CommandLine::audit))]
+fn audit(alloc: Global, mut words: Words<'_>) -> Result<Command, Stop>
+    ensures { MakesCommand (forms.audit (map string_bytes words.entry.left.now)) result }
+{
+    let proof = words.path()?;
+    let anchors = words.path()?;
+    let one = words.path()?;
+    let more = words.paths(MOST_HISTORIES - 1)?;
+    let histories = paths_of(alloc, one, more)?;
+    Ok(audit_of(alloc, proof, anchors, histories)?)
+}
+
+/// The command that audits the proof of this path under the anchors of that one, over these histories.
+fn audit_of(
+    alloc: Global,
+    proof: &str,
+    anchors: &str,
+    histories: Sequence<FilePath>,
+) -> Result<Command, NoMemory>
+    ensures { IfOk result (λ command. command ≡ Command.Audit proof.now anchors.now histories) }
+{
+    Ok(Command::Audit {
+        proof: FilePath::new(alloc, proof)?,
+        anchors: FilePath::new(alloc, anchors)?,
+        histories,
+    })
 }
 
 /// `atlas NAME POS FILE ..`

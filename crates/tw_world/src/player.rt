@@ -7,8 +7,10 @@ ghost use Rattle.tw_base.specs.history.Questions.{MayAsk};
 ghost use Rattle.tw_chain.specs.Proofs.{proof_layout};
 ghost use Rattle.tw_chain.specs.Reasons.{IsVerdict};
 ghost use Rattle.tw_chain.specs.declared.proof.LinkProof.{LinkProof};
+ghost use Rattle.tw_chain.specs.declared.proof.Proof.{Proof as ProofOf};
 ghost use Rattle.tw_chain.specs.declared.proof.Proof.TheVariants.{Linked};
 ghost use Rattle.tw_chain.specs.declared.verdict.Verdict.{Verdict as VerdictOf};
+ghost use Rattle.tw_join.specs.Joining.{Joins};
 ghost use Rattle.tw_script.specs.AskedWords.{AsksWell};
 ghost use Rattle.tw_script.specs.declared.line.Line.TheVariants.{Service, Append, Send, Inject, Deliver, Lose, Crash, Prove, Join, Anchor, Verify};
 ghost use Rattle.tw_world.specs.PlayedLines.{AreLinesRead, HasPlayed, TellsNext};
@@ -367,18 +369,31 @@ impl Player {
     }
 }
 
+/// The bytes of the proof that proofs joined to, or where they didn't join.
+fn written(
+    alloc: Global,
+    joined: &Result<Proof, JoinFault>,
+) -> Result<Result<Bytes, Answer>, NoMemory>
+    ensures { IfOk result (λ given. (proofs : List ProofOf) → Joins proofs joined.now → ProofsJoinTo proofs given) }
+{
+    match joined {
+        Ok(proof) => {
+            let bytes = write_proof(alloc, proof)?;
+            Ok(Ok(bytes))
+        }
+        Err(JoinFault::Gap { place }) => Ok(Err(Answer::NotJoined { place: *place })),
+        Err(JoinFault::NoMemory) => Err(NoMemory),
+    }
+}
+
 /// What the proofs join to: the bytes of a proof, or where they don't join.
 fn joined_proofs(alloc: Global, proofs: &[Proof]) -> Result<Result<Bytes, Answer>, NoMemory>
     ensures { IfOk result (ProofsJoinTo proofs.now) }
 {
-    match join(alloc, proofs) {
-        Ok(proof) => {
-            let bytes = write_proof(alloc, &proof)?;
-            Ok(Ok(bytes))
-        }
-        Err(JoinFault::Gap { place }) => Ok(Err(Answer::NotJoined { place })),
-        Err(JoinFault::NoMemory) => Err(NoMemory),
-    }
+    let joined = join(alloc, proofs);
+    let given = written(alloc, &joined);
+    drop(joined);
+    given
 }
 
 /// The thread of the authenticator that the bytes of a proof tell. A service gives no other bytes for it.

@@ -1,4 +1,4 @@
-// What a service on a disk in memory does for a line.
+// What a service on a disk in memory does for a line of a script; for a schedule, tw_generate/src/telling.rt has that.
 
 ghost use Rattle.std.specs.Prelude.{◌≡◌, ◌⊎◌, ◌≤◌, true, false, None, Ok, is_some, IfErr, IfOk, IsNone, IsTrue, OnOk};
 ghost use Rattle.sha2.specs.Sha256.{sha256};

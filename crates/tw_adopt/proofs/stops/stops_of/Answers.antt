@@ -1,21 +1,19 @@
-use Rattle.std.proofs.Common.{◌≤◌, ◌++◌, ◌∷◌, [], List, ap, arith, subst, ◌∙◌}
+use Rattle.std.proofs.Common.{◌≡◌, ◌≤◌, ◌∙◌, length, arith, subst}
 use Rattle.tw_base.specs.kinds.Lists.{Each}
-use Rattle.tw_adopt.specs.declared.receiving.Receiving.{Receiving}
-use Rattle.tw_adopt.specs.declared.stops.Stop.{Stop}
-use Rattle.tw_adopt.proofs.StopLaws.{stops-answer, stops-begin}
+use Rattle.tw_history.specs.Stops.{auth_to, stopped_at}
+use Rattle.tw_adopt.proofs.StopLaws.{stops-answer}
 use Rattle.tw_adopt.proofs.stops.stops_of.Goals as goal
-
-pub pass_to-requires-clause-stops : goal.pass_to-requires-clause-stops
-pass_to-requires-clause-stops g c =
-    stops-begin g.H.Hasher.dig c.args.history.now c.args.shown.now c.auth_passed.result c.push.new.self.items
-    (c.auth_passed.ensures g.H.Hasher.dig c.args.history.now 0 c.in_ok-digests.ensures.passed)
-    (c.in_ok-push.ensures.items ∙ ap (λ (ss : List Stop). ss ++ record { step = 0; auth = c.auth_passed.result } ∷ [])
-    c.new-stops.ensures.items)
 
 pub returns : goal.returns
 returns g c =
-    stops-answer g.H.Hasher.dig c.args.history.now c.args.shown.now c.pass_to.new.stops.items c.last_shown-last.result
-    (omega (arith, c.last_shown-last.ensures.within, c.count_of_steps.ensures.count))
-    c.in_ok-pass_to.ensures
-    (subst (λ n. Each (λ (t : Receiving). t.entry.thread.step ≤ n → t.entry.thread.step ≤ c.last_shown-last.result)
-    c.args.shown.now) c.count_of_steps.ensures.count c.last_shown-last.ensures.all)
+    let dig = g.H.Hasher.dig in
+    let h = c.args.history.now in
+    let last = c.last_shown-last.result in
+    stops-answer dig h last (omega (arith, c.last_shown-last.ensures.within, c.count_of_steps.ensures.count))
+    c.in_ok-stops.stops.items c.args.shown.now
+    (subst (λ steps. Each (λ step. step ≤ length h.steps → step ≤ last) steps)
+    (c.as_slice.ensures.value ∙ c.in_ok-steps.ensures)
+    (subst (λ n. Each (λ step. step ≤ n → step ≤ last) c.as_slice.result.now) c.count_of_steps.ensures.count
+    c.last_shown-last.ensures.all))
+    (subst (λ steps. Each (λ step. stopped_at c.in_ok-stops.stops.items step ≡ auth_to dig h last step) steps)
+    (c.as_slice-2.ensures.value ∙ c.in_ok-steps.ensures) c.in_ok-stops.ensures.stops)

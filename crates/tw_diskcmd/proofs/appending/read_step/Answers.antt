@@ -1,5 +1,6 @@
-use Rattle.std.proofs.Common.{◌∙◌, arith}
+use Rattle.std.proofs.Common.{◌∙◌, ap, arith}
 use Rattle.tw_outside.specs.Asked.{asked}
+use Rattle.tw_text.specs.declared.fault.CommandFault.TheVariants.{Unreadable}
 use Rattle.tw_diskcmd.proofs.EventFiles.{are_events, no_events, too_long}
 use Rattle.tw_diskcmd.proofs.appending.read_step.Goals as goal
 
@@ -8,7 +9,7 @@ returns-then-len-gt-EVENTS_LIMIT-clause-stopped g c =
     too_long (asked (g.I.Inputs.told c.args.inputs.now) (g.I.Inputs.faults c.args.inputs.now)
     (g.I.Inputs.faults c.read_all.new.inputs))
     c.args.file.now c.in_ok-bytes.bytes.items c.in_ok-bytes.ensures.there c.in_ok-bytes.ensures.read _ (omega arith)
-    c.in_ok-bad_byte.ensures
+    (ap Unreadable c.in_ok-bad.ensures)
 
 pub returns-in-Ok-clause-read : goal.returns-in-Ok-clause-read
 returns-in-Ok-clause-read g c =
@@ -25,4 +26,5 @@ returns-in-Err-Malformed-clause-stopped g c =
     c.args.file.now c.as_slice.result.now c.in_ok-bytes.ensures.there
     (λ bytes tells. c.as_slice.ensures.value ∙ c.in_ok-bytes.ensures.read bytes tells)
     c.in-Err-Malformed.place _ (omega arith)
-    (rw c.in-Err-Malformed.field-0-is at c.in-Err-Malformed.ensures) c.in_ok-bad_byte-in-Err-Malformed.ensures
+    (rw c.in-Err-Malformed.field-0-is at c.in-Err-Malformed.ensures)
+    (ap Unreadable c.in_ok-bad_byte-in-Err-Malformed.ensures)

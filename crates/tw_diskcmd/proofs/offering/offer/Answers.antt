@@ -7,20 +7,12 @@ use Rattle.tw_diskcmd.specs.FollowerDisks.{IsImageOfHeads, found_disk}
 use Rattle.tw_diskcmd.specs.Offering.{IsNextBy, IsNextListBy, IsOffered}
 use Rattle.tw_diskcmd.proofs.offering.offer.Goals as goal
 
-pub offer_message-requires-clause-linked : goal.offer_message-requires-clause-linked
-offer_message-requires-clause-linked g c = (c.message_laws.ensures.shape c.in-Ok.ensures.read.bytes c.in-Ok.message
-    c.in-Ok.ensures.read.spelled).0
-
-pub offer_message-requires-clause-thread : goal.offer_message-requires-clause-thread
-offer_message-requires-clause-thread g c = (c.message_laws.ensures.shape c.in-Ok.ensures.read.bytes c.in-Ok.message
-    c.in-Ok.ensures.read.spelled).1
-
 pub returns-in-Ok-clause-comes : goal.returns-in-Ok-clause-comes
 returns-in-Ok-clause-comes g c =
     let d = g.D.Disk in
     let read = c.in-Ok.ensures.read in
     comes_of_file (asked (g.I.Inputs.told c.args.inputs.now) (g.I.Inputs.faults c.args.inputs.now)
-    (g.I.Inputs.faults c.read_offer.new.inputs)) c.args.file.now IsBadMessageByte
+    (g.I.Inputs.faults c.read_message_file.new.inputs)) c.args.file.now IsBadMessageByte
     (IsMessageIn (g.I.Inputs.told c.args.inputs.now) c.args.file.now) (λ m found came. IsOffered found m came)
     (found_disk (d.view c.args.disk).content (d.view c.args.disk).faults (d.view c.offer_message.result.disk).faults)
     c.in-Ok.message c.offer_message.result.outcome read (c.offer_message.ensures.comes read.bytes read.spelled)
@@ -42,7 +34,7 @@ pub returns-in-Err-clause-comes : goal.returns-in-Err-clause-comes
 returns-in-Err-clause-comes g c =
     let d = g.D.Disk in
     stopped_comes (asked (g.I.Inputs.told c.args.inputs.now) (g.I.Inputs.faults c.args.inputs.now)
-    (g.I.Inputs.faults c.read_offer.new.inputs)) c.args.file.now IsBadMessageByte
+    (g.I.Inputs.faults c.read_message_file.new.inputs)) c.args.file.now IsBadMessageByte
     (IsMessageIn (g.I.Inputs.told c.args.inputs.now) c.args.file.now) (λ m found came. IsOffered found m came)
     (found_disk (d.view c.args.disk).content (d.view c.args.disk).faults (d.view c.args.disk).faults) c.in-Err.fault
     c.in-Err.ensures.stopped
@@ -53,5 +45,5 @@ returns-in-Err-clause-leaves g c =
     IsNextListBy IsNextBy (λ m found came. IsOffered found m came)
     (λ m thread. IsNextListBy m) (λ m thread. IsNextBy m) g.met.D.Disk.only_now
     (asked (g.I.Inputs.told c.args.inputs.now) (g.I.Inputs.faults c.args.inputs.now)
-    (g.I.Inputs.faults c.read_offer.new.inputs)) c.args.file.now IsBadMessageByte
+    (g.I.Inputs.faults c.read_message_file.new.inputs)) c.args.file.now IsBadMessageByte
     c.args.disk c.in-Err.fault c.in-Err.ensures.stopped

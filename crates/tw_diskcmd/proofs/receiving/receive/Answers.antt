@@ -14,7 +14,7 @@ use Rattle.tw_diskcmd.proofs.receiving.receive.Goals as goal
 pub returns-in-Ok-clause-comes : goal.returns-in-Ok-clause-comes
 returns-in-Ok-clause-comes g c =
     comes_of_file (asked (g.I.Inputs.told c.args.inputs.now) (g.I.Inputs.faults c.args.inputs.now)
-    (g.I.Inputs.faults c.read_thread.new.inputs)) c.args.file.now IsBadMessageByte
+    (g.I.Inputs.faults c.read_message_file.new.inputs)) c.args.file.now IsBadMessageByte
     (IsMessageIn (g.I.Inputs.told c.args.inputs.now) c.args.file.now) (λ m found came. IsReceived m c.args.time found
     came)
     (found_disk (g.D.Disk.view c.args.disk).content (g.D.Disk.view c.args.disk).faults
@@ -37,7 +37,7 @@ returns-in-Ok-clause-leaves g c =
 pub returns-in-Err-clause-comes : goal.returns-in-Err-clause-comes
 returns-in-Err-clause-comes g c =
     stopped_comes (asked (g.I.Inputs.told c.args.inputs.now) (g.I.Inputs.faults c.args.inputs.now)
-    (g.I.Inputs.faults c.read_thread.new.inputs)) c.args.file.now IsBadMessageByte
+    (g.I.Inputs.faults c.read_message_file.new.inputs)) c.args.file.now IsBadMessageByte
     (IsMessageIn (g.I.Inputs.told c.args.inputs.now) c.args.file.now) (λ m found came. IsReceived m c.args.time found
     came)
     (found_disk (g.D.Disk.view c.args.disk).content (g.D.Disk.view c.args.disk).faults
@@ -52,5 +52,5 @@ returns-in-Err-clause-leaves g c =
     (λ m found came. IsReceived m time found came) (λ m receipt. StepsBy (Receive m time) (OfReceipt receipt))
     (λ m receipt. IsReceiptOfRecord sha256 m time receipt)
     g.met.D.Disk.only_now (asked (g.I.Inputs.told c.args.inputs.now) (g.I.Inputs.faults c.args.inputs.now)
-    (g.I.Inputs.faults c.read_thread.new.inputs)) c.args.file.now IsBadMessageByte
+    (g.I.Inputs.faults c.read_message_file.new.inputs)) c.args.file.now IsBadMessageByte
     c.args.disk c.in-Err.fault c.in-Err.ensures.stopped

@@ -1,5 +1,6 @@
 use Rattle.std.proofs.Common.{◌∙◌}
 use Rattle.tw_outside.specs.Asked.{asked}
+use Rattle.tw_text.specs.declared.fault.CommandFault.TheVariants.{Unreadable}
 use Rattle.tw_filecmd.specs.Showing.{ProvesEvent}
 use Rattle.tw_filecmd.proofs.Histories.{of_history, refuses_file, refuses_show}
 use Rattle.tw_filecmd.proofs.showing.show.Goals as goal
@@ -10,7 +11,7 @@ returns-in-Err g c =
     (g.I.Inputs.faults c.read_all.new.inputs))
     c.args.file.now c.as_slice.result.now c.in_ok-bytes.ensures.there (λ bytes tells. c.as_slice.ensures.value
     ∙ c.in_ok-bytes.ensures.read bytes tells)
-    c.args.step c.args.index c.in-Err.fault c.in_ok-bad_history-in-Err.field-0 c.in-Err.ensures.read
+    c.args.step c.args.index c.in-Err.fault (Unreadable c.in_ok-bad_history-in-Err.field-0) c.in-Err.ensures.read
     c.in_ok-bad_history-in-Err.ensures
 
 pub returns-in-Ok-show_at : goal.returns-in-Ok-show_at

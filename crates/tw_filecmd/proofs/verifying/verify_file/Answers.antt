@@ -1,6 +1,7 @@
-use Rattle.std.proofs.Common.{◌∙◌, subst}
+use Rattle.std.proofs.Common.{◌∙◌, ap, subst}
 use Rattle.tw_outside.specs.Asked.{asked}
 use Rattle.tw_outside.specs.Files.{IsThere}
+use Rattle.tw_text.specs.declared.fault.CommandFault.TheVariants.{Unreadable}
 use Rattle.tw_filecmd.proofs.Judging.{has_anchors, judges_file, judging_since, refuses_line}
 use Rattle.tw_filecmd.proofs.verifying.verify_file.Goals as goal
 
@@ -22,9 +23,11 @@ returns-in-Ok g c =
 pub returns-in-Err-BadLine : goal.returns-in-Err-BadLine
 returns-in-Err-BadLine g c =
     let told = g.I.Inputs.told c.args.inputs.now in
-    refuses_line (asked told (g.I.Inputs.faults c.args.inputs.now) _) c.args.proof.now c.args.anchors.now c.args.strict
+    refuses_line (asked told (g.I.Inputs.faults c.args.inputs.now) (g.I.Inputs.faults c.feed_file.new.inputs))
+    c.args.proof.now c.args.anchors.now c.args.strict
     c.in-Err-BadLine.line
-    c.as_slice.result.now c.in_ok-bad_line-in-Err-BadLine.field-0
+    c.as_slice.result.now (Unreadable c.in_ok-bad_line-in-Err-BadLine.field-0)
     (subst (λ t. IsThere t c.args.proof.now) c.in_ok-lines.ensures.kept c.in_ok-feed_file-in-Err-BadLine.ensures.there)
     c.in_ok-lines.ensures.there (λ bytes tells. c.as_slice.ensures.value ∙ c.in_ok-lines.ensures.read bytes tells)
-    (rw c.in-Err-BadLine.field-0-is at c.in-Err-BadLine.ensures.bad) c.in_ok-bad_line-in-Err-BadLine.ensures
+    (rw c.in-Err-BadLine.field-0-is at c.in-Err-BadLine.ensures.bad)
+    (ap Unreadable c.in_ok-bad_line-in-Err-BadLine.ensures)

@@ -4,9 +4,9 @@ use Rattle.tw_base.specs.history.Family.{history_of}
 use Rattle.tw_reachcmd.proofs.HistoryFiles.{none_of, some_of}
 use Rattle.tw_reachcmd.proofs.histories.alone_beside.Goals as goal
 
-pub returns-in_ok-bad_input : goal.returns-in_ok-bad_input
-returns-in_ok-bad_input c = (
-  c.in_ok-bad_input.ensures,
+pub returns-in_ok-bad_byte : goal.returns-in_ok-bad_byte
+returns-in_ok-bad_byte c = (
+  c.in_ok-bad_byte.ensures,
   subst (λ service. history_of c.args.before.now service ≡ None → ⊥) c.service.ensures
       (some_of c.args.before.now c.service.result.now (sym c.has_service.ensures ∙ c.if-has_service.true)),
 )
