@@ -11,11 +11,6 @@ unfoldable pub records : Unit {0}
 unfolding behind pair seen
 records = tt
 
--- several values of one codec
-unfoldable pub lists : Unit {0}
-unfolding counted each many written
-lists = tt
-
 -- one of several forms, or none
 unfoldable pub choices : Unit {0}
 unfolding nothing present variant
@@ -23,5 +18,5 @@ choices = tt
 
 -- all of them
 unfoldable pub codecs : Unit {0}
-unfolding choices fields lists records
+unfolding choices counted each fields many records written
 codecs = tt

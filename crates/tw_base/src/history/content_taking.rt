@@ -3,7 +3,7 @@
 
 ghost use Rattle.std.specs.Prelude.{◌≡◌, ◌≢◌, ◌≤◌, length, IfErr};
 ghost use Rattle.tw_base.specs.history.HistoryCodec.{is_of_events as is_kind_of_events, is_timed as is_timed_kind};
-ghost use Rattle.tw_base.specs.history.HistoryCodec.{content_codec, of_kind, recorded_codec, thread_codec};
+ghost use Rattle.tw_base.specs.history.HistoryCodec.{of_kind, recorded_codec, thread_codec};
 ghost use Rattle.tw_base.specs.format.Taking.{Takes};
 
 use crate::format::event_taking::take_events;
@@ -31,25 +31,6 @@ pub fn take_thread(bytes: &[u8], at: &mut u64) -> Result<Thread, ReadFault>
     Ok(Thread { from, step, auth })
 }
 
-/// Takes what a step records: events, or the thread that it received.
-fn take_content(
-    alloc: Global,
-    bytes: &[u8],
-    at: &mut u64,
-    is_events: bool,
-) -> Result<Content, ReadFault>
-    requires { at.old ≤ length bytes.now }
-    // A step's content is taken at a place exactly as its codec reads it; else the place of the first bad byte is told.
-    ensures { Takes (content_codec is_events) (λ c. c) bytes.now at.old at.new result }
-{
-    if is_events {
-        let events = take_events(alloc, bytes, at)?;
-        return Ok(Content::Events(StepEvents::new(events)));
-    }
-    let thread = take_thread(bytes, at)?;
-    Ok(Content::Received(ReceivedThread::new(alloc, thread)?))
-}
-
 /// Whether a step of this kind has a time.
 #[tactic(auto)]
 pub fn is_timed(kind: u64) -> bool
@@ -66,8 +47,7 @@ pub fn is_of_events(kind: u64) -> bool
     kind == 1 || kind == 3
 }
 
-/// Takes what a step of this kind has.
-#[tactic(auto, unfolding(crate::specs::format::Codecs::pair))]
+/// Takes what a step of this kind has: its time, if any, and its events or the thread that it received.
 fn take_of_kind(
     alloc: Global,
     bytes: &[u8],
@@ -78,8 +58,12 @@ fn take_of_kind(
     ensures { Takes (of_kind kind) (λ r. r) bytes.now at.old at.new result }
 {
     let time = take_time(bytes, at, is_timed(kind))?;
-    let content = take_content(alloc, bytes, at, is_of_events(kind))?;
-    Ok((time, content))
+    if is_of_events(kind) {
+        let events = take_events(alloc, bytes, at)?;
+        return Ok((time, Content::Events(StepEvents::new(events))));
+    }
+    let thread = take_thread(bytes, at)?;
+    Ok((time, Content::Received(ReceivedThread::new(alloc, thread)?)))
 }
 
 /// Takes the time of a step, if it has one, and what it records, behind its kind: 1 for events, 2

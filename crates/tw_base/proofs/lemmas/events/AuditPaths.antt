@@ -10,8 +10,8 @@ use Rattle.tw_base.specs.declared.events.side.Side.TheVariants.{Left, Right}
 use Rattle.tw_base.specs.events.AuditPath.{path_length, path_sides, sides_within}
 use Rattle.tw_base.specs.events.EventTree.{audit_path, largest_power_below, left_half, right_half}
 use Rattle.tw_base.proofs.lemmas.events.EventTrees.{audit_path-left, audit_path-none, audit_path-one, audit_path-right}
-use Rattle.tw_base.proofs.lemmas.events.EventTrees.{by_halves, largest_power_below-is, largest_power_below-less}
-use Rattle.tw_base.proofs.lemmas.events.EventTrees.{largest_power_below-some, length-left_half, length-right_half}
+use Rattle.tw_base.proofs.lemmas.events.EventTrees.{by_halves, halves, largest_power_below-is}
+use Rattle.tw_base.proofs.lemmas.events.EventTrees.{largest_power_below-less, largest_power_below-some}
 
 module _ (count : ℕ) where
   sides_of : ℕ → (index : ℕ) → List Side
@@ -163,15 +163,13 @@ module _ (dig : List ℕ → List ℕ) where
       large : (n : ℕ) → 1 < n → P (largest_power_below n) → P (n - largest_power_below n) → P n
       large n more left right events index e =
           let more' : 1 < length events = omega arith in
-          let same : largest_power_below (length events) ≡ largest_power_below n = ap largest_power_below e in
-          let rest : length (right_half events) ≡ n - largest_power_below n = length-right_half events
-          ∙ ap (λ x. x - largest_power_below (length events)) e ∙ ap (λ x. n - x) same in
+          let sizes = halves n events more e in
           elim (cases_lt index (largest_power_below n)) [
             | inl less ↦ ap length (audit_path-left dig events index more' (omega arith)) ∙ one_more _ _
-                ∙ ap suc (left (left_half events) index (length-left_half events more' ∙ same))
+                ∙ ap suc (left (left_half events) index sizes.1)
                 ∙ sym (path_length-left n index more less)
             | inr past ↦ ap length (audit_path-right dig events index more' (omega arith)) ∙ one_more _ _
-                ∙ ap suc (right (right_half events) (index - largest_power_below (length events)) rest)
-                ∙ ap (λ x. suc (path_length (n - largest_power_below n) (index - x))) same
+                ∙ ap suc (right (right_half events) (index - largest_power_below (length events)) sizes.2)
+                ∙ ap (λ x. suc (path_length (n - largest_power_below n) (index - x))) sizes.0
                 ∙ sym (path_length-right n index more past)
           ]

@@ -11,8 +11,7 @@ use Rattle.tw_base.specs.kinds.Texts.{event_leaf_text, event_node_text}
 use Rattle.tw_base.specs.events.AuditPath.{ChecksEvent, path_length, path_sides, root_above}
 use Rattle.tw_base.specs.events.EventTree.{audit_path, event_root, largest_power_below, left_half, right_half}
 use Rattle.tw_base.proofs.lemmas.events.EventTrees.{audit_path-left, audit_path-right, by_halves, event_root-more}
-use Rattle.tw_base.proofs.lemmas.events.EventTrees.{event_root-one, largest_power_below-less, length-left_half}
-use Rattle.tw_base.proofs.lemmas.events.EventTrees.{length-right_half}
+use Rattle.tw_base.proofs.lemmas.events.EventTrees.{event_root-one, halves, largest_power_below-less}
 use Rattle.tw_base.proofs.lemmas.events.AuditPaths.{length-audit_path, path_sides-few, path_sides-left}
 use Rattle.tw_base.proofs.lemmas.events.AuditPaths.{path_sides-right}
 use Rattle.tw_base.proofs.lemmas.events.Upwards.{root_above-last, root_above-none}
@@ -49,10 +48,7 @@ module _ (dig : List ℕ → List ℕ) where
   many n more left right events index e inside =
       let more' : 1 < length events = omega arith in
       let k_less = largest_power_below-less n more in
-      let same : largest_power_below (length events) ≡ largest_power_below n = ap largest_power_below e in
-      let first : length (left_half events) ≡ largest_power_below n = length-left_half events more' ∙ same in
-      let rest : length (right_half events) ≡ n - largest_power_below n =
-      length-right_half events ∙ ap (λ x. x - largest_power_below (length events)) e ∙ ap (λ x. n - x) same in
+      let sizes = halves n events more e in
       elim (cases_lt index (largest_power_below n)) [
         | inl less ↦ (
             let path : List (List ℕ) = audit_path dig (left_half events) index in
@@ -65,10 +61,10 @@ module _ (dig : List ℕ → List ℕ) where
             ∙ ap (λ p. root_above dig (sides ++ Right ∷ []) p (leaf_at events index))
             (audit_path-left dig events index more' (omega arith))
             ∙ root_above-last dig sides Right path (event_root dig (right_half events)) (leaf_at events index)
-            (fits (largest_power_below n) (left_half events) index first)
+            (fits (largest_power_below n) (left_half events) index sizes.1)
             ∙ ap (λ x. dig (event_node_text (root_above dig sides path x) (event_root dig (right_half events)))) leaf_is
             ∙ ap (λ x. dig (event_node_text x (event_root dig (right_half events))))
-            (left (left_half events) index first less)
+            (left (left_half events) index sizes.1 less)
             ∙ sym (event_root-more dig events more'))
         | inr past ↦ (
             let below : ℕ = index - largest_power_below n in
@@ -82,12 +78,12 @@ module _ (dig : List ℕ → List ℕ) where
             (path_sides-right n index more past)
             ∙ ap (λ p. root_above dig (sides ++ Left ∷ []) p (leaf_at events index))
             (audit_path-right dig events index more' (omega arith)
-            ∙ ap (λ x. audit_path dig (right_half events) (index - x) ++ event_root dig (left_half events) ∷ []) same)
+            ∙ ap (λ x. audit_path dig (right_half events) (index - x) ++ event_root dig (left_half events) ∷ []) sizes.0)
             ∙ root_above-last dig sides Left path (event_root dig (left_half events)) (leaf_at events index)
-            (fits (n - largest_power_below n) (right_half events) below rest)
+            (fits (n - largest_power_below n) (right_half events) below sizes.2)
             ∙ ap (λ x. dig (event_node_text (event_root dig (left_half events)) (root_above dig sides path x))) leaf_is
             ∙ ap (λ x. dig (event_node_text (event_root dig (left_half events)) x))
-            (right (right_half events) below rest (omega arith))
+            (right (right_half events) below sizes.2 (omega arith))
             ∙ sym (event_root-more dig events more'))
       ]
 

@@ -1,6 +1,6 @@
 -- The equations of the event tree, without the bound on splits, and what its texts hold.
 use Rattle.std.proofs.Common.{◌≡◌, ℕ, suc, zero, ◌+◌, ◌-◌, ◌*◌, ◌<◌, ◌≤◌, ◌^◌, List, [], ◌∷◌, ◌++◌, length, take, drop}
-use Rattle.std.proofs.Common.{refl, ap, sym, ◌∙◌, subst, arith, lit<, inl, inr}
+use Rattle.std.proofs.Common.{refl, ap, sym, ◌∙◌, subst, arith, lit<, inl, inr, Bool, true, false}
 use Rattle.std.specs.Prelude.{nat_lt, if◌then◌else◌}
 use Rattle.std.proofs.lemmas.Bool.{cases_lt, lt-ltb, le-ltb}
 use Rattle.std.proofs.lemmas.List.{length-take-le, length-drop}
@@ -99,6 +99,20 @@ pub length-right_half : (events : List (List ℕ)) → length (right_half events
     (length events)
 length-right_half events = length-drop (largest_power_below (length events)) events
 
+-- the sizes of the halves of n events
+pub halves : (n : ℕ) (events : List (List ℕ)) → 1 < n → length events ≡ n
+    → (largest_power_below (length events) ≡ largest_power_below n)
+    × (length (left_half events) ≡ largest_power_below n) × (length (right_half events) ≡ n - largest_power_below n)
+halves n events more e =
+    let same : largest_power_below (length events) ≡ largest_power_below n = ap largest_power_below e in
+    let left : length (left_half events) ≡ largest_power_below (length events) =
+    length-left_half events (omega arith) in (
+      same,
+      left ∙ same,
+      length-right_half events ∙ ap (λ x. x - largest_power_below (length events)) e
+          ∙ ap (λ x. n - x) same,
+    )
+
 -- where a list of more than one event is made from its halves, splits past its number of events change nothing
 enough : {X : Type 0} (f : ℕ → List (List ℕ) → X) (join : List (List ℕ) → X → X → X)
     → ((a b : ℕ) (events : List (List ℕ)) → length events ≤ 1 → f a events ≡ f b events)
@@ -120,12 +134,11 @@ enough {X} f join few more a b events m n = by_halves P small large (length even
         let l = largest_power_below-less n two in
         let s = largest_power_below-some n two in
         let two' : 1 < length events = omega arith in
-        let same : largest_power_below (length events) ≡ largest_power_below n = ap largest_power_below e in
+        let sizes = halves n events two e in
         let first : f a (left_half events) ≡ f b (left_half events) =
-        left a b (left_half events) (length-left_half events two' ∙ same) (omega arith) (omega arith) in
+        left a b (left_half events) sizes.1 (omega arith) (omega arith) in
         let second : f a (right_half events) ≡ f b (right_half events) =
-        right a b (right_half events) (length-right_half events ∙ ap (λ x. x - largest_power_below (length events)) e
-        ∙ ap (λ x. n - x) same) (omega arith) (omega arith) in
+        right a b (right_half events) sizes.2 (omega arith) (omega arith) in
         more a events two' ∙ ap (λ x. join events x (f a (right_half events))) first
         ∙ ap (λ y. join events (f b (left_half events)) y) second ∙ sym (more b events two')
 
@@ -213,28 +226,29 @@ module _ (dig : List ℕ → List ℕ) where
   unfolding audit_path path_within
   audit_path-one event index = refl
 
+  path-side : (events : List (List ℕ)) (index : ℕ) (is_left : Bool) → 1 < length events
+      → nat_lt index (largest_power_below (length events)) ≡ is_left
+      → audit_path dig events index ≡ (if is_left then audit_path dig (left_half events) index ++ event_root dig
+      (right_half events) ∷ [] else audit_path dig (right_half events) (index - largest_power_below (length events))
+      ++ event_root dig (left_half events) ∷ [])
+  unfolding path_join
+  path-side events index is_left h is = path-halved events index h
+      ∙ ap (λ t. if t then audit_path dig (left_half events) index ++ event_root dig (right_half events) ∷ []
+      else audit_path dig (right_half events) (index - largest_power_below (length events)) ++ event_root dig
+      (left_half events) ∷ []) is
+
   pub audit_path-left : (events : List (List ℕ)) (index : ℕ) → 1 < length events → index < largest_power_below
       (length events)
       → audit_path dig events index ≡ audit_path dig (left_half events) index ++ event_root dig (right_half events) ∷ []
-  unfolding path_join
   audit_path-left events index h less =
-      path-halved events index h
-      ∙ ap (λ t. if t then audit_path dig (left_half events) index ++ event_root dig (right_half events) ∷ []
-      else audit_path dig (right_half events) (index - largest_power_below (length events)) ++ event_root dig
-      (left_half events) ∷ [])
-      (lt-ltb index (largest_power_below (length events)) less)
+      path-side events index true h (lt-ltb index (largest_power_below (length events)) less)
 
   pub audit_path-right : (events : List (List ℕ)) (index : ℕ) → 1 < length events → largest_power_below (length events)
       ≤ index
       → audit_path dig events index ≡ audit_path dig (right_half events) (index - largest_power_below (length events))
       ++ event_root dig (left_half events) ∷ []
-  unfolding path_join
   audit_path-right events index h past =
-      path-halved events index h
-      ∙ ap (λ t. if t then audit_path dig (left_half events) index ++ event_root dig (right_half events) ∷ []
-      else audit_path dig (right_half events) (index - largest_power_below (length events)) ++ event_root dig
-      (left_half events) ∷ [])
-      (le-ltb index (largest_power_below (length events)) past)
+      path-side events index false h (le-ltb index (largest_power_below (length events)) past)
 
   texts-few : (a b : ℕ) (events : List (List ℕ)) → length events ≤ 1 → node_texts_within dig a events
       ≡ node_texts_within dig b events

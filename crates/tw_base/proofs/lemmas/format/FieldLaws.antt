@@ -268,6 +268,13 @@ text-ends t bs at i l so_far =
 
 -- ---- names
 
+-- what a part of a name begins with, and what goes on behind a byte
+abbrev begins : (letters zeros : Bool) → ℕ → Bool
+begins letters zeros b = (letters && is_name_byte b) || (zeros && b == 0)
+
+abbrev behind : ℕ → ℕ → Format (List ℕ)
+behind left b = name_part (not (b == 0)) true left
+
 -- a letter is no zero
 letter_is_not_zero : (b : ℕ) → is_name_byte b ≡ true → (b == 0) ≡ false
 letter_is_not_zero zero letter = cc
@@ -278,10 +285,10 @@ pub goes_on-name_part : (letters zeros : Bool) (left : ℕ) → (letters || zero
 unfolding name_part
 goes_on-name_part letters zeros zero some = tt
 goes_on-name_part true zeros (suc left) some =
-    goes_on-byte_then (λ b. (true && is_name_byte b) || (zeros && b == 0)) (λ b. name_part (not (b == 0)) true left) 97
+    goes_on-byte_then (begins true zeros) (behind left) 97
     refl (λ b yes. goes_on-name_part (not (b == 0)) true left (or_right (not (b == 0)) true refl))
 goes_on-name_part false true (suc left) some =
-    goes_on-byte_then (λ b. (false && is_name_byte b) || (true && b == 0)) (λ b. name_part (not (b == 0)) true left) 0
+    goes_on-byte_then (begins false true) (behind left) 0
     refl (λ b yes. goes_on-name_part (not (b == 0)) true left (or_right (not (b == 0)) true refl))
 goes_on-name_part false false (suc left) some = cc
 
@@ -294,7 +301,7 @@ unfolding name_part
 name_part-written letters zeros zero [] x s = s
 name_part-written letters zeros zero (b ∷ bs) x s = absurd s
 name_part-written letters zeros (suc left) word x s =
-    byte_then-written (λ b. (letters && is_name_byte b) || (zeros && b == 0)) (λ b. name_part (not (b == 0)) true left)
+    byte_then-written (begins letters zeros) (behind left)
     (λ b yes. name_part-written (not (b == 0)) true left) word x s
 
 pub name-written : WrittenAs name (λ w. w)
@@ -314,8 +321,7 @@ name-starts bs at = ap (front name bs) (let e : at ≡ at + 0 = omega arith in e
 -- the name from its byte i on
 name_from : (letters zeros : Bool) (bs : List ℕ) (at i : ℕ) → i < 16 → NameReadTo letters zeros bs at i
     → front name bs at ≡ with_front (take i bs)
-    (front (byte_then (λ b. (letters && is_name_byte b) || (zeros && b == 0))
-    (λ b. name_part (not (b == 0)) true (16 - (i + 1)))) (drop i bs) (at + i))
+    (front (byte_then (begins letters zeros) (behind (16 - (i + 1)))) (drop i bs) (at + i))
 unfolding name_part
 name_from letters zeros bs at i l so_far = so_far ∙ ap (λ left. with_front (take i bs)
     (front (name_part letters zeros left) (drop i bs) (at + i))) (let e : 16 - i ≡ suc (16 - (i + 1)) = omega arith in
@@ -325,8 +331,8 @@ pub name-goes : (letters zeros : Bool) (bs : List ℕ) (at i : ℕ) → i < 16 �
     → ((letters && is_name_byte (get_or bs i 0)) || (zeros && get_or bs i 0 == 0)) ≡ true
     → NameReadTo letters zeros bs at i → NameReadTo (not (get_or bs i 0 == 0)) true bs at (i + 1)
 name-goes letters zeros bs at i l within passes so_far =
-    step-passes (λ b. (letters && is_name_byte b) || (zeros && b == 0)) (λ b. name_part (not (b == 0)) true
-    (16 - (i + 1))) (front name bs at) (take i bs) bs at i (name_from letters zeros bs at i l so_far) within passes
+    step-passes (begins letters zeros) (behind (16 - (i + 1))) (front name bs at) (take i bs) bs at i (name_from
+    letters zeros bs at i l so_far) within passes
     ∙ ap (λ ws. with_front ws (front (name_part (not (get_or bs i 0 == 0)) true (16 - (i + 1))) (drop (i + 1) bs)
     (at + (i + 1)))) (sym (take_more bs i 0 within))
 
@@ -334,14 +340,14 @@ pub name-fails : (letters zeros : Bool) (bs : List ℕ) (at i : ℕ) → i < 16 
     → ((letters && is_name_byte (get_or bs i 0)) || (zeros && get_or bs i 0 == 0)) ≡ false
     → NameReadTo letters zeros bs at i → front name bs at ≡ Stopped (at + i)
 name-fails letters zeros bs at i l within fails so_far =
-    step-fails (λ b. (letters && is_name_byte b) || (zeros && b == 0)) (λ b. name_part (not (b == 0)) true
-    (16 - (i + 1))) (front name bs at) (take i bs) bs at i (name_from letters zeros bs at i l so_far) within fails
+    step-fails (begins letters zeros) (behind (16 - (i + 1))) (front name bs at) (take i bs) bs at i (name_from
+    letters zeros bs at i l so_far) within fails
 
 pub name-short : (letters zeros : Bool) (bs : List ℕ) (at i : ℕ) → i < 16 → length bs ≤ i → NameReadTo letters zeros bs
     at i → front name bs at ≡ Stopped (at + i)
 name-short letters zeros bs at i l short so_far =
-    step-short (λ b. (letters && is_name_byte b) || (zeros && b == 0)) (λ b. name_part (not (b == 0)) true
-    (16 - (i + 1))) (front name bs at) (take i bs) bs at i (name_from letters zeros bs at i l so_far) short
+    step-short (begins letters zeros) (behind (16 - (i + 1))) (front name bs at) (take i bs) bs at i (name_from
+    letters zeros bs at i l so_far) short
 
 pub name-ends : (letters zeros : Bool) (bs : List ℕ) (at : ℕ) → NameReadTo letters zeros bs at 16
     → front name bs at ≡ Took (take 16 bs) (at + 16)
@@ -353,18 +359,15 @@ name-ends letters zeros bs at so_far = so_far ∙ ap (with_front (take 16 bs)) (
 zeros_spell : (n : ℕ) → Spells (name_part false true n) (replicate n 0) (replicate n 0)
 unfolding name_part
 zeros_spell zero = refl
-zeros_spell (suc n) = byte_then-spells (λ b. (false && is_name_byte b) || (true && b == 0))
-    (λ b. name_part (not (b == 0)) true n) 0 (replicate n 0) refl (zeros_spell n)
+zeros_spell (suc n) = byte_then-spells (begins false true) (behind n) 0 (replicate n 0) refl (zeros_spell n)
 
 zeros_word : (n : ℕ) (word x : List ℕ) → Spells (name_part false true n) word x → word ≡ replicate n 0
 unfolding name_part
 zeros_word zero [] x s = refl
 zeros_word zero (b ∷ bs) x s = absurd s
-zeros_word (suc n) [] x s = absurd (byte_then-none (λ b. (false && is_name_byte b) || (true && b == 0))
-    (λ b. name_part (not (b == 0)) true n) x s)
+zeros_word (suc n) [] x s = absurd (byte_then-none (begins false true) (behind n) x s)
 zeros_word (suc n) (b ∷ bs) x s =
-    let parts = byte_then-parts (λ b. (false && is_name_byte b) || (true && b == 0))
-    (λ b. name_part (not (b == 0)) true n) b bs x s in
+    let parts = byte_then-parts (begins false true) (behind n) b bs x s in
     let zero_byte : b ≡ 0 = eqb-true b 0 parts.0 in
     let P : ℕ → Type 0 = λ c. Spells (name_part (not (c == 0)) true n) bs parts.1 in
     ap (λ c. c ∷ bs) zero_byte ∙ ap (λ cs. 0 ∷ cs) (zeros_word n bs parts.1 (subst P zero_byte parts.2))
@@ -384,14 +387,12 @@ letters_spell : (t : List ℕ) (k : ℕ) → list_all is_name_byte t ≡ true �
     (t ++ replicate k 0) (t ++ replicate k 0)
 unfolding name_part padded_length
 letters_spell [] zero all = refl
-letters_spell [] (suc k) all = byte_then-spells (λ b. (true && is_name_byte b) || (true && b == 0))
-    (λ b. name_part (not (b == 0)) true k) 0 (replicate k 0) refl (zeros_spell k)
+letters_spell [] (suc k) all = byte_then-spells (begins true true) (behind k) 0 (replicate k 0) refl (zeros_spell k)
 letters_spell (c ∷ cs) k all =
     let parts = and_parts (is_name_byte c) (list_all is_name_byte cs) all in
     let P : Bool → Type 0 = λ zero. Spells (name_part (not zero) true (padded_length cs k)) (cs ++ replicate k 0)
     (cs ++ replicate k 0) in
-    byte_then-spells (λ b. (true && is_name_byte b) || (true && b == 0))
-    (λ b. name_part (not (b == 0)) true (padded_length cs k)) c (cs ++ replicate k 0)
+    byte_then-spells (begins true true) (behind (padded_length cs k)) c (cs ++ replicate k 0)
     (or_left (is_name_byte c) (c == 0) parts.0) (subst P (sym (letter_is_not_zero c parts.0))
     (letters_spell cs k parts.1))
 
@@ -400,11 +401,9 @@ letters_word : (left : ℕ) (word x : List ℕ) → Spells (name_part true true 
 unfolding name_part
 letters_word zero [] x s = ([], refl, omega arith, refl)
 letters_word zero (b ∷ bs) x s = absurd s
-letters_word (suc left) [] x s = absurd (byte_then-none (λ b. (true && is_name_byte b) || (true && b == 0))
-    (λ b. name_part (not (b == 0)) true left) x s)
+letters_word (suc left) [] x s = absurd (byte_then-none (begins true true) (behind left) x s)
 letters_word (suc left) (b ∷ bs) x s =
-    let parts = byte_then-parts (λ b. (true && is_name_byte b) || (true && b == 0))
-    (λ b. name_part (not (b == 0)) true left) b bs x s in
+    let parts = byte_then-parts (begins true true) (behind left) b bs x s in
     let P : Bool → Type 0 = λ zero. Spells (name_part (not zero) true left) bs parts.1 in
     elim (or_cases (is_name_byte b) (b == 0) parts.0) [
       | inl letter ↦ (
@@ -445,19 +444,16 @@ name-spells bs is =
         let Q : ℕ → Type 0 = λ n. Spells (name_part true true n) (cs ++ replicate k 0) (cs ++ replicate k 0) in
         let R : Bool → Type 0 = λ zero. Spells (name_part (not zero) true 15) (cs ++ replicate k 0)
         (cs ++ replicate k 0) in
-        byte_then-spells (λ b. (true && is_name_byte b) || (false && b == 0)) (λ b. name_part (not (b == 0)) true 15) c
-        (cs ++ replicate k 0)
+        byte_then-spells (begins true false) (behind 15) c (cs ++ replicate k 0)
         (or_left (is_name_byte c) false each.0) (subst R (sym (letter_is_not_zero c each.0))
         (subst Q left (letters_spell cs k each.1)))
 
 -- a word of the format of names is a name
 pub name-word : (word x : List ℕ) → Spells name word x → IsName word
 unfolding name name_part
-name-word [] x s = absurd (byte_then-none (λ b. (true && is_name_byte b) || (false && b == 0))
-    (λ b. name_part (not (b == 0)) true 15) x s)
+name-word [] x s = absurd (byte_then-none (begins true false) (behind 15) x s)
 name-word (b ∷ bs) x s =
-    let parts = byte_then-parts (λ b. (true && is_name_byte b) || (false && b == 0))
-    (λ b. name_part (not (b == 0)) true 15) b bs x s in
+    let parts = byte_then-parts (begins true false) (behind 15) b bs x s in
     let letter : is_name_byte b ≡ true = elim (or_cases (is_name_byte b) false parts.0) [ inl h ↦ h | inr h ↦ cc ] in
     let P : Bool → Type 0 = λ zero. Spells (name_part (not zero) true 15) bs parts.1 in
     let rest = letters_word 15 bs parts.1 (subst P (letter_is_not_zero b letter) parts.2) in

@@ -147,25 +147,25 @@ code-short (suc width) least most bytes at n e =
     ap (λ bs. front (number (suc width) least most) bs at) (drop_all at bytes (omega arith)) ∙ number-short width least
     most at
 
-pub code-stops : (width below unit least most b : ℕ) (bytes : List ℕ) (at : ℕ) → width ≡ below + 1 → unit ≡ 256 ^ below
-    → at < length bytes → b ≡ get_or bytes at 0
-    → (b < least / unit) ⊎ (most / unit < b) → front (number width least most) (drop at bytes) at ≡ Stopped at
-code-stops width below unit least most b bytes at e u l read out =
+pub code-stops : (width below unit least most : ℕ) (bytes : List ℕ) (at : ℕ) → width ≡ below + 1 → unit ≡ 256 ^ below
+    → at < length bytes → (get_or bytes at 0 < least / unit) ⊎ (most / unit < get_or bytes at 0)
+    → front (number width least most) (drop at bytes) at ≡ Stopped at
+code-stops width below unit least most bytes at e u l out =
     ap (λ w. front (number w least most) (drop at bytes) at) (let r : width ≡ suc below = omega arith in r)
     ∙ ap (λ bs. front (number (suc below) least most) bs at) (drop_more bytes at 0 l)
     ∙ number-stops below least most (get_or bytes at 0) (drop (at + 1) bytes) at
-    (subst (λ x. (x < least / 256 ^ below) ⊎ (most / 256 ^ below < x)) read
-    (subst (λ v. (b < least / v) ⊎ (most / v < b)) u out))
+    (subst (λ v. (get_or bytes at 0 < least / v) ⊎ (most / v < get_or bytes at 0)) u out)
 
-pub code-more : (width below unit least most b low high : ℕ) (bytes : List ℕ) (at : ℕ) → width ≡ below + 1
-    → unit ≡ 256 ^ below → at < length bytes → b ≡ get_or bytes at 0
-    → least / unit ≤ b → b ≤ most / unit → low ≡ low_after unit b least → high ≡ high_after unit b most
-    → front (number width least most) (drop at bytes) at ≡ shift (b * unit)
+pub code-more : (width below unit least most low high : ℕ) (bytes : List ℕ) (at : ℕ) → width ≡ below + 1
+    → unit ≡ 256 ^ below → at < length bytes
+    → least / unit ≤ get_or bytes at 0 → get_or bytes at 0 ≤ most / unit
+    → low ≡ low_after unit (get_or bytes at 0) least → high ≡ high_after unit (get_or bytes at 0) most
+    → front (number width least most) (drop at bytes) at ≡ shift (get_or bytes at 0 * unit)
     (front (number below low high) (drop (at + 1) bytes) (at + 1))
-code-more width below unit least most b low high bytes at e u l read over under low_is high_is =
+code-more width below unit least most low high bytes at e u l over under low_is high_is =
+    let b : ℕ = get_or bytes at 0 in
     ap (λ w. front (number w least most) (drop at bytes) at) (let r : width ≡ suc below = omega arith in r)
     ∙ ap (λ bs. front (number (suc below) least most) bs at) (drop_more bytes at 0 l)
-    ∙ ap (λ x. front (number (suc below) least most) (x ∷ drop (at + 1) bytes) at) (sym read)
     ∙ number-more below least most b (drop (at + 1) bytes) at (subst (λ v. least / v ≤ b) u over)
     (subst (λ v. b ≤ most / v) u under)
     ∙ ap (λ v. shift (b * v) (front (number below (low_after v b least) (high_after v b most)) (drop (at + 1) bytes)

@@ -55,49 +55,25 @@ b-0 : auth weak b 0 ≡ short 0x72
 unfolding b auth auths genesis_text
 b-0 = refl
 
-a-1-datum : weak (datum_text_at weak a 1) ≡ short 0x28
-unfolding a tree_label datum_text_at tree_hash event_root planted forest tree entry_to datum_text empty_tree_text event_leaf_text event_node_text no_events_text
-a-1-datum = refl
-
-a-1 : auth weak a 1 ≡ short 0xbf
+a-1 : (weak (datum_text_at weak a 1) ≡ short 0x28) × (auth weak a 1 ≡ short 0xbf)
 unfolding a auth auths tree_label datum_text_at link_texts tree_hash event_root planted forest tree entry_to genesis_text datum_text link_text authenticator_text empty_tree_text tree_node_text event_leaf_text event_node_text no_events_text top_level count_trailing_zeros
-a-1 = refl
+a-1 = (refl, refl)
 
-a-2-root : event_root weak ((104 ∷ 105 ∷ []) ∷ []) ≡ short 0xd1
-unfolding tree_hash event_root event_leaf_text
-a-2-root = refl
-
-a-2-datum : weak (datum_text_at weak a 2) ≡ short 0xf9
-unfolding a tree_label datum_text_at tree_hash event_root planted forest tree entry_to datum_text empty_tree_text event_leaf_text event_node_text no_events_text
-a-2-datum = refl
-
-a-2 : auth weak a 2 ≡ short 0x5f
+a-2 : (event_root weak ((104 ∷ 105 ∷ []) ∷ []) ≡ short 0xd1) × (weak (datum_text_at weak a 2) ≡ short 0xf9)
+    × (auth weak a 2 ≡ short 0x5f)
 unfolding a auth auths tree_label datum_text_at link_texts tree_hash event_root planted forest tree entry_to genesis_text datum_text link_text authenticator_text empty_tree_text tree_node_text event_leaf_text event_node_text no_events_text top_level count_trailing_zeros
-a-2 = refl
+a-2 = (refl, refl, refl)
 
-t-1-datum : weak (datum_text_at weak t 1) ≡ short 0x30
-unfolding t tree_label datum_text_at tree_hash event_root planted forest tree entry_to datum_text timed_datum_text empty_tree_text event_leaf_text event_node_text no_events_text
-t-1-datum = refl
-
-t-1-label : map weak (link_texts_at weak t (auths weak t 0) 1) ≡ short 0xb3 ∷ []
+t-1 : (weak (datum_text_at weak t 1) ≡ short 0x30)
+    × (map weak (link_texts_at weak t (auths weak t 0) 1) ≡ short 0xb3 ∷ []) × (auth weak t 1 ≡ short 0xc7)
 unfolding t auth auths tree_label datum_text_at link_texts tree_hash event_root planted forest tree entry_to genesis_text datum_text timed_datum_text link_text authenticator_text empty_tree_text tree_node_text event_leaf_text event_node_text no_events_text top_level count_trailing_zeros
-t-1-label = refl
+t-1 = (refl, refl, refl)
 
-t-1 : auth weak t 1 ≡ short 0xc7
+t-2 : (weak (datum_text_at weak t 2) ≡ short 0xf9)
+    × (map weak (link_texts_at weak t (auths weak t 1) 2) ≡ short 0xd3 ∷ short 0x7e ∷ [])
+    × (auth weak t 2 ≡ short 0x67)
 unfolding t auth auths tree_label datum_text_at link_texts tree_hash event_root planted forest tree entry_to genesis_text datum_text timed_datum_text link_text authenticator_text empty_tree_text tree_node_text event_leaf_text event_node_text no_events_text top_level count_trailing_zeros
-t-1 = refl
-
-t-2-datum : weak (datum_text_at weak t 2) ≡ short 0xf9
-unfolding t tree_label datum_text_at tree_hash event_root planted forest tree entry_to datum_text timed_datum_text empty_tree_text event_leaf_text event_node_text no_events_text
-t-2-datum = refl
-
-t-2-labels : map weak (link_texts_at weak t (auths weak t 1) 2) ≡ short 0xd3 ∷ short 0x7e ∷ []
-unfolding t auth auths tree_label datum_text_at link_texts tree_hash event_root planted forest tree entry_to genesis_text datum_text timed_datum_text link_text authenticator_text empty_tree_text tree_node_text event_leaf_text event_node_text no_events_text top_level count_trailing_zeros
-t-2-labels = refl
-
-t-2 : auth weak t 2 ≡ short 0x67
-unfolding t auth auths tree_label datum_text_at link_texts tree_hash event_root planted forest tree entry_to genesis_text datum_text timed_datum_text link_text authenticator_text empty_tree_text tree_node_text event_leaf_text event_node_text no_events_text top_level count_trailing_zeros
-t-2 = refl
+t-2 = (refl, refl, refl)
 
 b-1-tree : tree_label weak (tree b 1) ≡ short 0x5f
 unfolding b tree_label planted forest tree entry_to empty_tree_text tree_node_text

@@ -1,5 +1,5 @@
 -- Digests are 32 bytes.
-use Rattle.std.proofs.Common.{◌≡◌, ℕ, suc, zero, ◌-◌, ◌<◌, ◌≤◌, List, [], ◌∷◌, length, refl, sym, ap, ◌∙◌, subst, arith}
+use Rattle.std.proofs.Common.{◌≡◌, ℕ, suc, zero, ◌-◌, ◌<◌, ◌≤◌, List, [], ◌∷◌, length, refl, sym, subst, arith}
 use Rattle.std.proofs.Common.{inl, inr}
 use Rattle.std.specs.Prelude.{map, drop, remove}
 use Rattle.std.proofs.lemmas.Bool.{cases_lt}
@@ -13,8 +13,7 @@ use Rattle.tw_base.specs.history.Tree.Tree.{Empty, Branch}
 use Rattle.tw_base.proofs.lemmas.history.Auths.{auth-suc}
 use Rattle.tw_base.proofs.lemmas.events.AuditPaths.{few-events}
 use Rattle.tw_base.proofs.lemmas.events.EventTrees.{audit_path-left, audit_path-right, by_halves, event_root-more}
-use Rattle.tw_base.proofs.lemmas.events.EventTrees.{event_root-none, event_root-one, length-left_half}
-use Rattle.tw_base.proofs.lemmas.events.EventTrees.{length-right_half}
+use Rattle.tw_base.proofs.lemmas.events.EventTrees.{event_root-none, event_root-one, halves}
 use Rattle.tw_base.proofs.lemmas.kinds.ListLemmas.{Each-append}
 
 abbrev pub IsDigest : List ℕ → Type 0
@@ -71,18 +70,16 @@ module _ (dig : List ℕ → List ℕ) (size : (text : List ℕ) → length (dig
       large : (n : ℕ) → 1 < n → P (largest_power_below n) → P (n - largest_power_below n) → P n
       large n more left right events index e =
           let more' : 1 < length events = omega arith in
-          let same : largest_power_below (length events) ≡ largest_power_below n = ap largest_power_below e in
-          let rest : length (right_half events) ≡ n - largest_power_below n = length-right_half events
-          ∙ ap (λ x. x - largest_power_below (length events)) e ∙ ap (λ x. n - x) same in
+          let sizes = halves n events more e in
           elim (cases_lt index (largest_power_below n)) [
             | inl less ↦ subst (Each IsDigest) (sym (audit_path-left dig events index more' (omega arith)))
                 (Each-append IsDigest (audit_path dig (left_half events) index)
                 (event_root dig (right_half events) ∷ [])
-                (left (left_half events) index (length-left_half events more' ∙ same))
+                (left (left_half events) index sizes.1)
                 (event_root-digest (right_half events), tt))
             | inr past ↦ subst (Each IsDigest) (sym (audit_path-right dig events index more' (omega arith)))
                 (Each-append IsDigest (audit_path dig (right_half events) (index - largest_power_below (length events)))
                 (event_root dig (left_half events) ∷ [])
-                (right (right_half events) (index - largest_power_below (length events)) rest)
+                (right (right_half events) (index - largest_power_below (length events)) sizes.2)
                 (event_root-digest (left_half events), tt))
           ]

@@ -1,4 +1,4 @@
-use Rattle.std.proofs.Common.{◌≡◌, ◌+◌, ◌-◌, ◌*◌, ◌^◌, get_or, refl, ◌∙◌, ap, arith, inl, inr}
+use Rattle.std.proofs.Common.{◌≡◌, ◌+◌, ◌-◌, ◌*◌, ◌^◌, get_or, ◌∙◌, ap, arith, inl, inr}
 use Rattle.tw_base.specs.format.Formats.Reading.{Took}
 use Rattle.tw_base.proofs.lemmas.format.NumberLaws.{code-none, code-short, code-stops, code-more, shift-took}
 use Rattle.tw_base.proofs.lemmas.format.NumberLaws.{shift-stopped, range_after, number-fits}
@@ -21,8 +21,8 @@ returns-then-at-bytes-clause-read t c = code-short c.args.width c.args.least c.a
 
 pub returns-then-b-least-clause-read : goal.returns-then-b-least-clause-read
 returns-then-b-least-clause-read t c =
-    code-stops c.args.width (c.args.width - 1) c.unit_of-unit.result c.args.least c.args.most _ c.args.bytes.now
-    c.args.at (omega arith) c.unit_of-unit.ensures.value (omega arith) refl
+    code-stops c.args.width (c.args.width - 1) c.unit_of-unit.result c.args.least c.args.most c.args.bytes.now
+    c.args.at (omega arith) c.unit_of-unit.ensures.value (omega arith)
     (elim c.then-b-least.branch [
       | then-b-least-via-then-b-least w ↦ inl w.if-b-least.true
       | then-b-least-via-else-b-least+then-most-unit w ↦ inr w.if-most-unit.true
@@ -55,10 +55,9 @@ overflow_add-result t c =
 
 pub returns-in-Ok-clause-read : goal.returns-in-Ok-clause-read
 returns-in-Ok-clause-read t c =
-    code-more c.args.width (c.args.width - 1) c.unit_of-unit.result c.args.least c.args.most _ c.low_of-low.result
-    c.high_of-high.result c.args.bytes.now c.args.at
-    (omega arith) c.unit_of-unit.ensures.value (omega arith) refl c.if-b-least.false c.if-most-unit.false
-    c.low_of-low.ensures c.high_of-high.ensures
+    code-more c.args.width (c.args.width - 1) c.unit_of-unit.result c.args.least c.args.most c.low_of-low.result
+    c.high_of-high.result c.args.bytes.now c.args.at (omega arith) c.unit_of-unit.ensures.value (omega arith)
+    c.if-b-least.false c.if-most-unit.false c.low_of-low.ensures c.high_of-high.ensures
     ∙ shift-took _ c.in-Ok.rest _ _ c.in-Ok.ensures.read
     ∙ ap (Took (get_or c.args.bytes.now c.args.at 0 * c.unit_of-unit.result + c.in-Ok.rest))
     (let e : c.args.at + 1 + (c.args.width - 1) ≡ c.args.at + c.args.width = omega arith in e)
@@ -72,8 +71,7 @@ returns-in-Ok-clause-range t c =
 
 pub returns-in-Err-clause-read : goal.returns-in-Err-clause-read
 returns-in-Err-clause-read t c =
-    code-more c.args.width (c.args.width - 1) c.unit_of-unit.result c.args.least c.args.most _ c.low_of-low.result
-    c.high_of-high.result c.args.bytes.now c.args.at
-    (omega arith) c.unit_of-unit.ensures.value (omega arith) refl c.if-b-least.false c.if-most-unit.false
-    c.low_of-low.ensures c.high_of-high.ensures
+    code-more c.args.width (c.args.width - 1) c.unit_of-unit.result c.args.least c.args.most c.low_of-low.result
+    c.high_of-high.result c.args.bytes.now c.args.at (omega arith) c.unit_of-unit.ensures.value (omega arith)
+    c.if-b-least.false c.if-most-unit.false c.low_of-low.ensures c.high_of-high.ensures
     ∙ shift-stopped _ c.in-Err.place _ c.in-Err.ensures.read
