@@ -182,6 +182,13 @@ module _ (dig : List ℕ → List ℕ) where
         (λ text p. within text (inr p)))
         (λ part. step part.0 part.1 part.2 (is_left ask a.entry) refl)
       where
+        -- a side of the opened node, with the other one
+        held : (side o s : Tree) → (if is_left ask a.entry then Branch side a.entry o else Branch o a.entry side) ≡ s
+            → Hangs ask up s t → IsPart a.other o → IsPart below side
+            → (s : Tree) × Hangs ask (a ∷ up) s t × IsPart below s
+        held side o s node hangs other part =
+            (side, (o, sym other.label_is, subst (λ x. Hangs ask up x t) (sym node) hangs), part)
+
         step : (s : Tree) → Hangs ask up s t → IsPart (dig (over_text (is_left ask) a below)) s → (b : Bool)
             → is_left ask a.entry ≡ b → OrClash dig texts ((s : Tree) × Hangs ask (a ∷ up) s t × IsPart below s)
         step s hangs is true e =
@@ -189,31 +196,15 @@ module _ (dig : List ℕ → List ℕ) where
             ap (λ b. if b then entry_text below a.entry a.other else entry_text a.other a.entry below) e in
             and_then dig texts _ _ (opened below a.other a.entry s n sizes.0.1
             (subst (λ x. Among x texts) text_is (within _ (inl refl))) (subst (λ x. IsPart (dig x) s) text_is is))
-            (λ o. inl (
-              o.0,
-              (
-                o.1,
-                sym (o.4).label_is,
-                subst (λ x. Hangs ask up x t)
-                    (sym o.2 ∙ ap (λ b. if b then Branch o.0 a.entry o.1 else Branch o.1 a.entry o.0) (sym e)) hangs,
-              ),
-              o.3,
-            ))
+            (λ o. inl (held o.0 o.1 s (ap (λ b. if b then Branch o.0 a.entry o.1 else Branch o.1 a.entry o.0) e ∙ o.2)
+            hangs o.4 o.3))
         step s hangs is false e =
             let text_is : over_text (is_left ask) a below ≡ entry_text a.other a.entry below =
             ap (λ b. if b then entry_text below a.entry a.other else entry_text a.other a.entry below) e in
             and_then dig texts _ _ (opened a.other below a.entry s sizes.0.0.0 sizes.0.1
             (subst (λ x. Among x texts) text_is (within _ (inl refl))) (subst (λ x. IsPart (dig x) s) text_is is))
-            (λ o. inl (
-              o.1,
-              (
-                o.0,
-                sym (o.3).label_is,
-                subst (λ x. Hangs ask up x t)
-                    (sym o.2 ∙ ap (λ b. if b then Branch o.1 a.entry o.0 else Branch o.0 a.entry o.1) (sym e)) hangs,
-              ),
-              o.4,
-            ))
+            (λ o. inl (held o.1 o.0 s (ap (λ b. if b then Branch o.1 a.entry o.0 else Branch o.0 a.entry o.1) e ∙ o.2)
+            hangs o.3 o.4))
 
     -- the proof's nodes are those above the tree's own place, which is one that what is asked leads to
     abbrev IsOwn : Tree → Ask → TreeProof → Type 0

@@ -1,6 +1,6 @@
 -- The proof that a tree has: it checks under the tree's label, shows the tree's answer, and has a spelling.
-use Rattle.std.proofs.Common.{◌≡◌, ℕ, ◌+◌, ◌≤◌, List, [], ◌∷◌, ◌++◌, length, Bool, true, false, refl, ap, sym, ◌∙◌}
-use Rattle.std.proofs.Common.{subst, arith}
+use Rattle.std.proofs.Common.{◌≡◌, ℕ, ◌+◌, ◌<◌, ◌≤◌, List, [], ◌∷◌, ◌++◌, length, Bool, true, false, refl, ap, sym}
+use Rattle.std.proofs.Common.{◌∙◌, subst, arith}
 use Rattle.std.proofs.Math.Nat.{le-max_left, le-max_right}
 use Rattle.std.proofs.lemmas.List.{length-append}
 use Rattle.tw_base.specs.declared.history.thread.Entry.{Entry}
@@ -34,12 +34,8 @@ module _ (dig : List ℕ → List ℕ) where
       ≡ asks_entry ask
   at-kind (Present e) Empty up at = absurd at
   at-kind (Present e) (Branch l f r) up at = refl
-  at-kind (Absent key) Empty up at = refl
-  at-kind (Absent key) (Branch l f r) up at = absurd at
-  at-kind (Below key) Empty up at = refl
-  at-kind (Below key) (Branch l f r) up at = absurd at
-  at-kind (Above key) Empty up at = refl
-  at-kind (Above key) (Branch l f r) up at = absurd at
+  at-kind _ Empty up at = refl
+  at-kind _ (Branch l f r) up at = absurd at
 
   at-label : (ask : Ask) (place : Tree) (up : List Ancestor) → IsAt ask place
       → dig (place_text ask (proof_at dig place up)) ≡ tree_label dig place
@@ -47,12 +43,8 @@ module _ (dig : List ℕ → List ℕ) where
   at-label (Present e) Empty up at = absurd at
   at-label (Present e) (Branch l f r) up at = ap (λ x. dig (entry_text (tree_label dig l) x (tree_label dig r)))
       (sym at)
-  at-label (Absent key) Empty up at = refl
-  at-label (Absent key) (Branch l f r) up at = absurd at
-  at-label (Below key) Empty up at = refl
-  at-label (Below key) (Branch l f r) up at = absurd at
-  at-label (Above key) Empty up at = refl
-  at-label (Above key) (Branch l f r) up at = absurd at
+  at-label _ Empty up at = refl
+  at-label _ (Branch l f r) up at = absurd at
 
   pub own-checks : (t : Tree) (ask : Ask) → IsRising (entries t) → IsSo (entries t) ask → Checks dig (tree_label dig t)
       ask (proof_of dig t ask)
@@ -97,28 +89,22 @@ module _ (dig : List ℕ → List ℕ) where
       along up place ways places short = subst (λ u. length u + height (place_of_ask ask (Branch l e r)) ≤ height
           (Branch l e r)) (sym ways) (subst (λ p. length up + height p ≤ height (Branch l e r)) (sym places) short)
 
+      -- past the node, down to that side of it
+      past : (s other : Tree) → (way_up dig ask (Branch l e r) ≡ way_up dig ask s ++ ancestor dig e other ∷ [])
+          × (place_of_ask ask (Branch l e r) ≡ place_of_ask ask s) → height s < height (Branch l e r) → Short s
+          → Short (Branch l e r)
+      past s other down lower short =
+          along (way_up dig ask s ++ ancestor dig e other ∷ []) (place_of_ask ask s) down.0 down.1
+          (omega (arith, short, lower, length-append (way_up dig ask s) (ancestor dig e other ∷ [])))
+
       by : (meets left : Bool) → has_asked_key ask e ≡ meets → is_left ask e ≡ left → Short l → Short r
           → Short (Branch l e r)
       by true left is way one other = let here = way-here dig ask l e r is in along [] (Branch l e r) here.0 here.1
           (omega arith)
       by false true is way one other =
-          let down = way-left dig ask l e r is way in
-          along (way_up dig ask l ++ ancestor dig e r ∷ []) (place_of_ask ask l) down.0 down.1
-          (omega (
-            arith,
-            one,
-            length-append (way_up dig ask l) (ancestor dig e r ∷ []),
-            le-max_left (height l) (height r),
-          ))
+          past l r (way-left dig ask l e r is way) (omega (arith, le-max_left (height l) (height r))) one
       by false false is way one other =
-          let down = way-right dig ask l e r is way in
-          along (way_up dig ask r ++ ancestor dig e l ∷ []) (place_of_ask ask r) down.0 down.1
-          (omega (
-            arith,
-            other,
-            length-append (way_up dig ask r) (ancestor dig e l ∷ []),
-            le-max_right (height l) (height r),
-          ))
+          past r l (way-right dig ask l e r is way) (omega (arith, le-max_right (height l) (height r))) other
 
   module _ (size : (text : List ℕ) → length (dig text) ≡ 32) (bytes : (text : List ℕ) → AreBytes (dig text)) where
     label-fits : (t : Tree) → (length (tree_label dig t) ≡ 32) × AreBytes (tree_label dig t)

@@ -77,26 +77,26 @@ module _ (dig : List ℕ → List ℕ) where
           (tree_label dig (place_of_ask ask (Branch l e r)))) ways
           ∙ ap (λ p. climbed_tree dig (is_left ask) up (tree_label dig p)) places ∙ leads
 
+      -- past the node, down to that side of it
+      past : (s other : Tree) → (way_up dig ask (Branch l e r) ≡ way_up dig ask s ++ ancestor dig e other ∷ [])
+          × (place_of_ask ask (Branch l e r) ≡ place_of_ask ask s)
+          → dig (over_text (is_left ask) (ancestor dig e other) (tree_label dig s)) ≡ tree_label dig (Branch l e r)
+          → Leads s → Leads (Branch l e r)
+      past s other down node leads =
+          along (way_up dig ask s ++ ancestor dig e other ∷ []) (place_of_ask ask s) down.0 down.1
+          (climb-one (is_left ask) (way_up dig ask s) (ancestor dig e other) (tree_label dig (place_of_ask ask s))
+          ∙ ap (λ x. dig (over_text (is_left ask) (ancestor dig e other) x)) leads ∙ node)
+
       by : (meets left : Bool) → has_asked_key ask e ≡ meets → is_left ask e ≡ left → Leads l → Leads r
           → Leads (Branch l e r)
       by true left is way one other = let here = way-here ask l e r is in along [] (Branch l e r) here.0 here.1
           (climb-none (is_left ask) (tree_label dig (Branch l e r)))
-      by false true is way one other =
-          let down = way-left ask l e r is way in
-          along (way_up dig ask l ++ ancestor dig e r ∷ []) (place_of_ask ask l) down.0 down.1
-          (climb-one (is_left ask) (way_up dig ask l) (ancestor dig e r) (tree_label dig (place_of_ask ask l))
-          ∙ ap (λ b. dig (if b then entry_text (climbed_tree dig (is_left ask) (way_up dig ask l)
-          (tree_label dig (place_of_ask ask l))) e (tree_label dig r) else entry_text (tree_label dig r) e
-          (climbed_tree dig (is_left ask) (way_up dig ask l) (tree_label dig (place_of_ask ask l))))) way
-          ∙ ap (λ x. dig (entry_text x e (tree_label dig r))) one ∙ label-branch l e r)
-      by false false is way one other =
-          let down = way-right ask l e r is way in
-          along (way_up dig ask r ++ ancestor dig e l ∷ []) (place_of_ask ask r) down.0 down.1
-          (climb-one (is_left ask) (way_up dig ask r) (ancestor dig e l) (tree_label dig (place_of_ask ask r))
-          ∙ ap (λ b. dig (if b then entry_text (climbed_tree dig (is_left ask) (way_up dig ask r)
-          (tree_label dig (place_of_ask ask r))) e (tree_label dig l) else entry_text (tree_label dig l) e
-          (climbed_tree dig (is_left ask) (way_up dig ask r) (tree_label dig (place_of_ask ask r))))) way
-          ∙ ap (λ x. dig (entry_text (tree_label dig l) e x)) other ∙ label-branch l e r)
+      by false true is way one other = past l r (way-left ask l e r is way)
+          (ap (λ b. dig (if b then entry_text (tree_label dig l) e (tree_label dig r) else entry_text (tree_label dig r)
+          e (tree_label dig l))) way ∙ label-branch l e r) one
+      by false false is way one other = past r l (way-right ask l e r is way)
+          (ap (λ b. dig (if b then entry_text (tree_label dig r) e (tree_label dig l) else entry_text (tree_label dig l)
+          e (tree_label dig r))) way ∙ label-branch l e r) other
 
   -- no node above the place has the asked key
   pub way-free : (ask : Ask) (t : Tree) → Each (IsNotAsked ask) (way_up dig ask t)
@@ -148,8 +148,14 @@ module _ (dig : List ℕ → List ℕ) where
           ∙ sym (ap (λ c. option_or (if c then Some b.entry else nearest_left left up) last) is)
 
   -- the nearest node at which the way to the key's place goes right has the last entry below the key
-  pub last-found : (key : Key) (t : Tree) → IsRising (entries t) → last_below (entries t) key ≡ nearest_right
-      (is_left (Below key)) (way_up dig (Below key) t)
+  abbrev FindsLast : Key → Tree → Type 0
+  FindsLast key t = last_below (entries t) key ≡ nearest_right (is_left (Below key)) (way_up dig (Below key) t)
+
+  -- and the nearest at which it goes left the first entry above it
+  abbrev FindsFirst : Key → Tree → Type 0
+  FindsFirst key t = first_above (entries t) key ≡ nearest_left (is_left (Above key)) (way_up dig (Above key) t)
+
+  pub last-found : (key : Key) (t : Tree) → IsRising (entries t) → FindsLast key t
   unfolding way_up
   last-found key Empty rising = refl
   last-found key (Branch l e r) rising =
@@ -159,10 +165,8 @@ module _ (dig : List ℕ → List ℕ) where
       left : Entry → Bool
       left = is_left (Below key)
 
-      Finds : Tree → Type 0
-      Finds t = last_below (entries t) key ≡ nearest_right (is_left (Below key)) (way_up dig (Below key) t)
-
-      by : (b : Bool) → is_lt (key_cmp (key_of e) key) ≡ b → Finds l → Finds r → Finds (Branch l e r)
+      by : (b : Bool) → is_lt (key_cmp (key_of e) key) ≡ b → FindsLast key l → FindsLast key r → FindsLast key
+          (Branch l e r)
       by true is one other =
           below-right key (entries l) e (entries r) rising is ∙ ap (λ o. option_or o (Some e)) other
           ∙ sym (ap (λ b. option_or (nearest_right left (way_up dig (Below key) r)) (if not b then None else Some e))
@@ -177,9 +181,7 @@ module _ (dig : List ℕ → List ℕ) where
           ∙ sym (right-one left (way_up dig (Below key) l) (ancestor dig e r))
           ∙ sym (ap (nearest_right left) (way-left (Below key) l e r refl (ap not is)).0)
 
-  -- and the nearest at which it goes left the first entry above it
-  pub first-found : (key : Key) (t : Tree) → IsRising (entries t) → first_above (entries t) key ≡ nearest_left
-      (is_left (Above key)) (way_up dig (Above key) t)
+  pub first-found : (key : Key) (t : Tree) → IsRising (entries t) → FindsFirst key t
   unfolding way_up
   first-found key Empty rising = refl
   first-found key (Branch l e r) rising =
@@ -190,10 +192,8 @@ module _ (dig : List ℕ → List ℕ) where
       left : Entry → Bool
       left = is_left (Above key)
 
-      Finds : Tree → Type 0
-      Finds t = first_above (entries t) key ≡ nearest_left (is_left (Above key)) (way_up dig (Above key) t)
-
-      by : (b : Bool) → is_lt (key_cmp key (key_of e)) ≡ b → Finds l → Finds r → Finds (Branch l e r)
+      by : (b : Bool) → is_lt (key_cmp key (key_of e)) ≡ b → FindsFirst key l → FindsFirst key r → FindsFirst key
+          (Branch l e r)
       by true is one other =
           above-left key (entries l) e (entries r) is ∙ ap (λ o. option_or o (Some e)) one
           ∙ sym (ap (λ b. option_or (nearest_left left (way_up dig (Above key) l)) (if b then Some e else None)) is)

@@ -23,9 +23,8 @@ pub fn goes_left(ask: &Ask, entry: &Entry) -> bool
     let here = entry_key(entry);
     match ask {
         Ask::Present(asked) => is_below(&entry_key(asked), &here),
-        Ask::Absent(key) => is_below(key, &here),
+        Ask::Absent(key) | Ask::Above(key) => is_below(key, &here),
         Ask::Below(key) => !is_below(&here, key),
-        Ask::Above(key) => is_below(key, &here),
     }
 }
 
