@@ -22,17 +22,6 @@ pub enum InsertFault {
     NoMemory,
 }
 
-impl From<NoMemory> for InsertFault {
-    ghost use Rattle.std.specs.Prelude.{◌≡◌};
-    ghost use Rattle.tw_tree.specs.declared.inserting.InsertFault.TheVariants.{NoMemory as WantedMemory};
-
-    ghost from_gives = { λ _ fault. fault ≡ WantedMemory };
-
-    fn from(_none: NoMemory) -> Self {
-        InsertFault::NoMemory
-    }
-}
-
 /// A tree like this one. Calls itself as deep as the tree is high.
 fn copy(alloc: Global, tree: &Tree) -> Result<Tree, NoMemory>
     ensures { IfOk result (λ copied. meant_tree copied ≡ meant_tree tree.now) }
@@ -85,6 +74,8 @@ pub fn insert_plain(alloc: Global, tree: &Tree, entry: Entry) -> Result<Tree, In
     if get(tree, &entry_key(&entry)).is_some() {
         return Err(InsertFault::Present);
     }
-    let new = grown(alloc, tree, &entry)?;
-    Ok(new)
+    match grown(alloc, tree, &entry) {
+        Ok(new) => Ok(new),
+        Err(NoMemory) => Err(InsertFault::NoMemory),
+    }
 }

@@ -12,10 +12,10 @@ returns-then-is_some c =
     (ap is_some (sym (c.get.ensures ∙ ap (entry_with (entries (meant_tree c.args.tree.now))) c.entry_key.ensures))
     ∙ sym c.is_some.ensures ∙ c.if-is_some.true)
 
-pub returns : goal.returns
-returns c =
+pub returns-in-Ok : goal.returns-in-Ok
+returns-in-Ok c =
     has-leaf c.args.entry (meant_tree c.args.tree.now) _ c.requires
     (none_is _
     (ap is_some (sym (c.get.ensures ∙ ap (entry_with (entries (meant_tree c.args.tree.now))) c.entry_key.ensures))
     ∙ sym c.is_some.ensures ∙ c.if-is_some.false))
-    c.in_ok-new.ensures
+    c.in-Ok.ensures
