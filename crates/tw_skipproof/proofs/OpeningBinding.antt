@@ -32,7 +32,7 @@ use Rattle.tw_skipproof.specs.Openings.{opening_datum_text, opening_link_text, o
 few_events : (h : History) (i : ℕ) → IsSound h → length (events_at h (suc i)) < 2 ^ 32
 few_events h i sound = let few = (sound-may_record h (suc i) sound).are.count in omega arith
 
-small_time : (h : History) (i : ℕ) → IsSound h → IfSome (time_at h (suc i)) (λ t. t < 2 ^ 64)
+pub small_time : (h : History) (i : ℕ) → IsSound h → IfSome (time_at h (suc i)) (λ t. t < 2 ^ 64)
 small_time h i sound = within (time_at h (suc i)) (sound-time h (suc i) sound)
   where
     within : (time : Option ℕ) → IsTimeWithinLimits time → IfSome time (λ t. t < 2 ^ 64)

@@ -1,8 +1,9 @@
 -- A history's own openings and paths compute its authenticators.
 use Rattle.std.proofs.Common.{◌≡◌, ℕ, suc, zero, ◌-◌, ◌<◌, ◌≤◌, ◌^◌, List, [], ◌∷◌, ◌++◌, length, get_or, drop, refl}
 use Rattle.std.proofs.Common.{ap, sym, ◌∙◌, subst, append_assoc, lit<, arith}
-use Rattle.std.specs.Prelude.{map, remove}
+use Rattle.std.specs.Prelude.{Bool, true, false, map, nat_le, remove}
 use Rattle.std.proofs.Math.Nat.{one-le-pow}
+use Rattle.std.proofs.lemmas.Bool.{leb-false, leb-true}
 use Rattle.std.proofs.lemmas.List.{append-nil}
 use Rattle.tw_base.specs.kinds.Texts.{authenticator_text, link_text, step_datum_text}
 use Rattle.tw_base.specs.history.History.{History}
@@ -131,3 +132,29 @@ module _ (dig : List ℕ → List ℕ) (h : History) where
   pub leads-end : (links : List Link) (from step to : ℕ) → step ≤ to → LeadsTo links from step to → IsPathOf dig h links
       from to
   leads-end links from step to end so_far = subst (λ ls. IsPathOf dig h ls from to) (append-nil links) (so_far [] end)
+
+  -- ---- there is a path down to each step
+
+  abbrev pub HasPath : (from to : ℕ) → Type 0
+  HasPath from to = (links : List Link) × IsPathOf dig h links from to
+
+  -- each link leads a step or more down, and not below the lower step
+  path-within : (most from to : ℕ) → from ≤ most → to ≤ from → HasPath from to
+  path-within zero from to few order = ([], omega (arith, few))
+  path-within (suc most) from to few order =
+      let some : 1 ≤ 2 ^ hop_level from to = one-le-pow (hop_level from to) 2 (lit< tt) in
+      by (nat_le from to) refl (λ below. path-within most (hop from to) to (omega (arith, few, below, some))
+      (hop-below from to below))
+    where
+      by : (end : Bool) → nat_le from to ≡ end → (to < from → HasPath (hop from to) to) → HasPath from to
+      by true is onward = ([], leb-true from to is)
+      by false is onward =
+          let below : to < from = leb-false from to is in
+          let rest = onward below in
+          let link : Link =
+          record { datum = dig (datum_text_at dig h from); others = remove (labels_at dig h from) (hop_level from to) }
+          in
+          (link ∷ rest.0, (below, refl, refl, rest.1))
+
+  pub path-made : (from to : ℕ) → to ≤ from → HasPath from to
+  path-made from to order = path-within from from to (omega arith) order
