@@ -44,12 +44,12 @@ same_entry : (e f : Entry) → e.thread.from ≡ f.thread.from → e.thread.step
     → e.thread.auth ≡ f.thread.auth → e.archived ≡ f.archived → e ≡ f
 same_entry e f n s a r = λ i. record { thread = record { from = n i; step = s i; auth = a i }; archived = r i }
 
-record SameNode (l : List ℕ) (e : Entry) (r : List ℕ) (l' : List ℕ) (e' : Entry) (r' : List ℕ) : Type 0 where
-  left : l ≡ l'
-  entry : e ≡ e'
-  right : r ≡ r'
+pub record SameNode (l : List ℕ) (e : Entry) (r : List ℕ) (l' : List ℕ) (e' : Entry) (r' : List ℕ) : Type 0 where
+  pub left : l ≡ l'
+  pub entry : e ≡ e'
+  pub right : r ≡ r'
 
-tree_node-fields : (l r l' r' : List ℕ) (e e' : Entry) → length l ≡ length l' → IsFit e → IsFit e'
+pub tree_node-fields : (l r l' r' : List ℕ) (e e' : Entry) → length l ≡ length l' → IsFit e → IsFit e'
     → entry_text l e r ≡ entry_text l' e' r' → SameNode l e r l' e' r'
 unfolding tree_node_text
 tree_node-fields l r l' r' e e' n f g same =
@@ -64,7 +64,8 @@ tree_node-fields l r l' r' e e' n f g same =
     ∙ ap (from_be_bytes w64) five.0 ∙ from_be_bytes-to_be_bytes_8 e'.archived g.archived in
     record { left = one.0; entry = same_entry e e' two.0 step four.0 archived; right = five.1 }
 
-not_leaf : (l r : List ℕ) (e : Entry) → empty_tree_text ≡ entry_text l e r → ⊥
+-- a node's text is none of the empty tree
+pub not_leaf : (l r : List ℕ) (e : Entry) → empty_tree_text ≡ entry_text l e r → ⊥
 unfolding empty_tree_text tree_node_text
 not_leaf l r e same = let never : 0x14 ≡ 0x15 = ap (λ t. get_or t 0 0) same in absurd (omega (arith, never))
 
