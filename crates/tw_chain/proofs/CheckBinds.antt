@@ -68,6 +68,21 @@ pub record Setting : Type 0 where
   pub texts : List (List ℕ)
   pub has_texts : Within (family_texts dig family) texts
 
+-- over the family's texts, and these
+abbrev pub setting_of : (dig : List ℕ → List ℕ) → ((text : List ℕ) → length (dig text) ≡ 32)
+    → ((text : List ℕ) → AreBytes (dig text)) → List Thread → (family : List History) → AllSound family
+    → List (List ℕ) → Setting
+setting_of dig size are anchors family sound texts = record {
+  dig = dig;
+  size = size;
+  bytes = are;
+  anchors = anchors;
+  family = family;
+  sound = sound;
+  texts = family_texts dig family ++ texts;
+  has_texts = λ t a. Among-left t (family_texts dig family) texts a;
+}
+
 module _ (s : Setting) where
   -- it is so, or two of the texts clash
   abbrev pub OrTheyClash : Type 0 → Type 0
@@ -108,12 +123,12 @@ module _ (s : Setting) where
 
   -- ---- anchors
 
-  record Anchored (key : Key) : Type 0 where
-    anchor : Thread
-    is : anchor_at s.anchors key ≡ Some anchor
-    has : HasThread s.dig s.family (record { from = key.from; step = key.step; auth = anchor.auth })
+  pub record Anchored (key : Key) : Type 0 where
+    pub anchor : Thread
+    pub is : anchor_at s.anchors key ≡ Some anchor
+    pub has : HasThread s.dig s.family (record { from = key.from; step = key.step; auth = anchor.auth })
 
-  anchored : (key : Key) → Checked (NeedsAnchor key) → Anchored key
+  pub anchored : (key : Key) → Checked (NeedsAnchor key) → Anchored key
   anchored key held = by (anchor_at s.anchors key) refl held.passes held.has
     where
       by : (o : Option Thread) → anchor_at s.anchors key ≡ o → IsSome o → HasThreads s.dig s.family (option_to_list o)

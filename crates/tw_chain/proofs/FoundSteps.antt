@@ -5,12 +5,14 @@ use Rattle.std.specs.Bool.{Decides}
 use Rattle.std.specs.Option.{option_map}
 use Rattle.std.proofs.lemmas.Bool.Decides.{same_from_decides}
 use Rattle.tw_base.specs.declared.history.report.Reason.{Reason}
-use Rattle.tw_base.specs.declared.history.report.Reason.TheVariants.{NotHeld}
+use Rattle.tw_base.specs.declared.history.report.Reason.TheVariants.{BadPath, NotHeld}
 use Rattle.tw_base.specs.declared.history.thread.Key.{Key}
 use Rattle.tw_base.specs.declared.history.thread.Thread.{Thread}
 use Rattle.tw_chain.specs.Finding.{found_in, lower_of, passes, reason_with}
-use Rattle.tw_chain.specs.Checks.{Check}
-use Rattle.tw_chain.specs.Checks.Check.{NeedsAnchor}
+use Rattle.tw_skipproof.specs.declared.existence.Part.{Part}
+use Rattle.tw_skipproof.specs.Acceptance.{Reaches}
+use Rattle.tw_chain.specs.Checks.{Check, top_of, under_anchor}
+use Rattle.tw_chain.specs.Checks.Check.{InOrder, NeedsAnchor, PathOf}
 use Rattle.tw_chain.specs.Checks.Upper.{AtAnchor}
 use Rattle.tw_chain.specs.Passing.{Passes, anchor_at, reason_of, upper_auth}
 use Rattle.tw_chain.proofs.LowerSteps.{lower-assoc}
@@ -79,6 +81,23 @@ module _ (dig : List ℕ → List ℕ) (anchors : List Thread) where
         ∙ ap (lower_of before) (sym (lower-none (if passes dig anchors path then None else Some (reason_of path))))
         ∙ rw some refl in
         here ∙ onto
+
+  -- a step under an anchor, of which this was found before the anchor
+  module _ (part : ℕ) (at : Part) (before : Option Reason)
+      (was : before ≡ reason_with dig anchors None (InOrder at.step at.top ∷ [])) where
+    abbrev path_under : Check
+    path_under = PathOf part at (AtAnchor (top_of at))
+
+    pub under-not_held : anchor_at anchors (top_of at) ≡ None
+        → lower_of before (Some (NotHeld at.service at.top)) ≡ found_in dig anchors (under_anchor part at)
+    under-not_held = found-not_held None before (InOrder at.step at.top) (top_of at) path_under (Reaches dig at)
+        (passes-is dig anchors path_under) was
+
+    pub under-held : (anchor : Thread) (b : Bool) → anchor_at anchors (top_of at) ≡ Some anchor
+        → Decides b (Reaches dig at anchor.auth)
+        → lower_of before (if b then None else Some (BadPath part)) ≡ found_in dig anchors (under_anchor part at)
+    under-held = found-held None before (InOrder at.step at.top) (top_of at) path_under (Reaches dig at)
+        (passes-is dig anchors path_under) was
 
   -- three checks, one after another
   pub found-three : (found one two : Option Reason) (a b c : Check) → one ≡ reason_with dig anchors found (a ∷ [])

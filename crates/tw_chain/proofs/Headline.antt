@@ -8,7 +8,7 @@ use Rattle.tw_base.specs.kinds.Digests.{AllDigests}
 use Rattle.tw_base.specs.history.Facts.{Facts, Precedence, SeenStands, TimesRise, WasNotReceived, WasReceived}
 use Rattle.tw_base.specs.history.Family.{HasThread, family_texts}
 use Rattle.tw_base.specs.format.Formats.{Spells}
-use Rattle.tw_base.proofs.lemmas.kinds.Clashes.{Among-left, Among-right, and_then}
+use Rattle.tw_base.proofs.lemmas.kinds.Clashes.{Among-right, and_then}
 use Rattle.tw_base.proofs.lemmas.format.CodecLaws.{spelled-fits, unambiguous}
 use Rattle.tw_base.proofs.lemmas.history.Families.{sound_of}
 use Rattle.tw_skipproof.specs.declared.existence.ExistenceProof.{ExistenceProof}
@@ -33,7 +33,7 @@ use Rattle.tw_chain.specs.Reasons.{IsVerdict}
 use Rattle.tw_chain.proofs.ArchiveAnswers.{has-received, lacks-received}
 use Rattle.tw_chain.proofs.ChainBinds.{FitsOpening, chain-binds}
 use Rattle.tw_chain.proofs.CheckBinds.{AreChecked, Opened, OrTheyClash, Setting, anchored-part, answer-step}
-use Rattle.tw_chain.proofs.CheckBinds.{each-checked, event-step, link-step, parted, part-step}
+use Rattle.tw_chain.proofs.CheckBinds.{each-checked, event-step, link-step, part-step, parted, setting_of}
 use Rattle.tw_chain.proofs.PieceSizes.{PartSizes, event-sizes, gap-sizes, opening-sizes, part-sizes, path-sizes}
 use Rattle.tw_chain.proofs.PieceSizes.{present-sizes}
 use Rattle.tw_chain.proofs.ProofCodec.{proof-lawful}
@@ -180,16 +180,7 @@ module _ (dig : List ℕ → List ℕ) (size : (text : List ℕ) → length (dig
   headline bytes p spells accepted family sound has =
       let of_family : List (List ℕ) = family_texts dig family in
       let own : List (List ℕ) = proof_texts dig p in
-      let s : Setting = record {
-        dig = dig;
-        size = size;
-        bytes = are;
-        anchors = anchors;
-        family = family;
-        sound = sound;
-        texts = of_family ++ own;
-        has_texts = λ t a. Among-left t of_family own a;
-      } in
+      let s : Setting = setting_of dig size are anchors family sound own in
       claim-binds s p (spelled-fits proof_codec proof-lawful bytes p spells)
       (each-checked s (checks p) accepted has (λ t a. Among-right t of_family own a))
 

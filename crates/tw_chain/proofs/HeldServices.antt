@@ -22,7 +22,7 @@ use Rattle.tw_chain.specs.Accepting.{IsAccepted, claim_of, hop_from, hops_of, ho
 use Rattle.tw_chain.specs.Checks.{Check, bind_checks, bind_of, checks, end_of_order, head_checks, hop_checks}
 use Rattle.tw_chain.specs.Checks.{hops_checks, last_hop_thread, link_checks, link_top, opening_checks, opening_root}
 use Rattle.tw_chain.specs.Checks.{start_of, tail_checks, top_of, under_anchor}
-use Rattle.tw_chain.specs.Checks.Check.{InOrder, NeedsAnchor, CarriesThread, PathOf, LinkOf, OpeningOf, EventOf}
+use Rattle.tw_chain.specs.Checks.Check.{InOrder, NeedsAnchor, CarriesThread, PathOf, LinkOf, EventOf}
 use Rattle.tw_chain.specs.Checks.Check.{AnswerOf}
 use Rattle.tw_chain.specs.Checks.Upper.{AtAnchor}
 use Rattle.tw_chain.specs.Passing.{Passes, anchor_at, carried_by, held_by}
@@ -101,12 +101,7 @@ module _ (anchors : List Thread) where
       Each-append _ (option_to_list (anchor_at anchors key)) (held_for cs)
       (found-only (carried_in cs) (anchor_at anchors key) key refl) (rest-only (NeedsAnchor key) cs (held-only cs))
   held-only (CarriesThread t ∷ cs) = (inr (inl refl), rest-only (CarriesThread t) cs (held-only cs))
-  held-only (InOrder lower upper ∷ cs) = held-only cs
-  held-only (PathOf part at upper ∷ cs) = held-only cs
-  held-only (LinkOf part l ∷ cs) = held-only cs
-  held-only (OpeningOf part t o ∷ cs) = held-only cs
-  held-only (EventOf part o e ∷ cs) = held-only cs
-  held-only (AnswerOf part root asked proof ∷ cs) = held-only cs
+  held-only (c ∷ cs) = held-only cs
 
   carried-held : (cs : List Check) → Each (λ (t : Thread). In t (held_for cs)) (carried_in cs)
   carried-held [] = tt
@@ -114,12 +109,7 @@ module _ (anchors : List Thread) where
       Each-map _ _ (carried_in cs) (λ t is. In-right t (option_to_list (anchor_at anchors key)) (held_for cs) is)
       (carried-held cs)
   carried-held (CarriesThread t ∷ cs) = (inl refl, Each-map _ _ (carried_in cs) (λ s is. inr is) (carried-held cs))
-  carried-held (InOrder lower upper ∷ cs) = carried-held cs
-  carried-held (PathOf part at upper ∷ cs) = carried-held cs
-  carried-held (LinkOf part l ∷ cs) = carried-held cs
-  carried-held (OpeningOf part t o ∷ cs) = carried-held cs
-  carried-held (EventOf part o e ∷ cs) = carried-held cs
-  carried-held (AnswerOf part root asked proof ∷ cs) = carried-held cs
+  carried-held (c ∷ cs) = carried-held cs
 
   -- a claim and hops whose threads are held
   record Speaks (p : Proof) : Type 0 where

@@ -2,6 +2,7 @@ pub mod PieceSizes
 pub mod CheckBinds
 pub mod ChainBinds
 pub mod TimesRise
+pub mod EachCheck
 pub mod ProofTextBytes
 pub mod Headline
 pub mod ArchiveAnswers

@@ -1,17 +1,14 @@
 -- A history has proofs of its own: of each event, received thread, key not received, and step, under each top from
 -- there on.
-use Rattle.std.proofs.Common.{◌≡◌, ◌≢◌, ℕ, suc, zero, ◌-◌, ◌<◌, ◌≤◌, ◌^◌, List, [], ◌∷◌, length, drop, Bool, true}
-use Rattle.std.proofs.Common.{false, refl, subst, lit<, arith}
-use Rattle.std.specs.Prelude.{Some, nat_le, remove}
-use Rattle.std.proofs.Math.Nat.{one-le-pow}
-use Rattle.std.proofs.lemmas.Bool.{leb-false, leb-true}
+use Rattle.std.proofs.Common.{◌≡◌, ◌≢◌, ℕ, ◌-◌, ◌<◌, ◌≤◌, List, length, drop, refl, subst}
+use Rattle.std.specs.Prelude.{Some}
 use Rattle.tw_base.specs.declared.kinds.limits.TheConstants.{LAST_STEP}
 use Rattle.tw_base.specs.declared.history.thread.Entry.{Entry}
 use Rattle.tw_base.specs.declared.history.thread.Key.{Key}
 use Rattle.tw_base.specs.declared.history.tree_proof.Ask.TheVariants as ask
 use Rattle.tw_base.specs.events.EventParts.{event_part}
 use Rattle.tw_base.specs.events.EventTree.{event_root}
-use Rattle.tw_base.specs.history.Auth.{auth, datum_text_at, tree_label}
+use Rattle.tw_base.specs.history.Auth.{auth, tree_label}
 use Rattle.tw_base.specs.history.Entries.{key_of}
 use Rattle.tw_base.specs.history.History.{History, entry_at, events_at, received, time_at}
 use Rattle.tw_base.specs.history.Tree.{tree}
@@ -20,15 +17,13 @@ use Rattle.tw_base.specs.kinds.Names.{IsName}
 use Rattle.tw_base.proofs.lemmas.history.Trees.{entry_at-parts}
 use Rattle.tw_skipproof.specs.declared.existence.Part.{Part}
 use Rattle.tw_skipproof.specs.declared.opening.Opening.{Opening}
-use Rattle.tw_skipproof.specs.declared.path.Link.{Link}
-use Rattle.tw_skipproof.specs.HistoryProofs.{IsOpeningOf, IsPartOfHistory, IsPathOf, labels_at}
-use Rattle.tw_skipproof.specs.Paths.{hop, hop_level}
-use Rattle.tw_skipproof.proofs.Hops.{hop-below}
+use Rattle.tw_skipproof.specs.HistoryProofs.{IsOpeningOf, IsPartOfHistory, labels_at}
+use Rattle.tw_skipproof.proofs.OwnPaths.{path-made}
 use Rattle.tw_treeproof.specs.Making.{proof_of}
 use Rattle.tw_chain.specs.OwnProofs.{HasOwnAbsence, HasOwnEvent, HasOwnLink, HasOwnThread}
 
 module _ (dig : List ℕ → List ℕ) (h : History) where
-  -- ---- an opening, a path, a part
+  -- ---- an opening, a part
 
   abbrev opening_of : ℕ → Opening
   opening_of step = record {
@@ -47,33 +42,9 @@ module _ (dig : List ℕ → List ℕ) (h : History) where
         others = refl;
       }
 
-  abbrev HasPath : (from to : ℕ) → Type 0
-  HasPath from to = (links : List Link) × IsPathOf dig h links from to
-
-  -- each link leads a step or more down, and not below the lower step
-  path-within : (most from to : ℕ) → from ≤ most → to ≤ from → HasPath from to
-  path-within zero from to few order = ([], omega (arith, few))
-  path-within (suc most) from to few order =
-      let some : 1 ≤ 2 ^ hop_level from to = one-le-pow (hop_level from to) 2 (lit< tt) in
-      by (nat_le from to) refl (λ below. path-within most (hop from to) to (omega (arith, few, below, some))
-      (hop-below from to below))
-    where
-      by : (end : Bool) → nat_le from to ≡ end → (to < from → HasPath (hop from to) to) → HasPath from to
-      by true is onward = ([], leb-true from to is)
-      by false is onward =
-          let below : to < from = leb-false from to is in
-          let rest = onward below in
-          let link : Link =
-          record { datum = dig (datum_text_at dig h from); others = remove (labels_at dig h from) (hop_level from to) }
-          in
-          (link ∷ rest.0, (below, refl, refl, rest.1))
-
-  path-made : (from to : ℕ) → to ≤ from → HasPath from to
-  path-made from to order = path-within from from to (omega arith) order
-
   part-made : (step top : ℕ) → step ≤ top → (p : Part) × IsPartOfHistory dig h step top p
   part-made step top order =
-      let path = path-made top step order in (
+      let path = path-made dig h top step order in (
         record {
           service = h.name;
           step = step;
@@ -121,7 +92,7 @@ module _ (dig : List ℕ → List ℕ) (h : History) where
 
   pub link-made : (step top : ℕ) → step ≤ top → HasOwnLink dig h step top
   link-made step top order =
-      let path = path-made top step order in (
+      let path = path-made dig h top step order in (
         record { service = h.name; step = step; top = top; auth = auth dig h step; path = record { links = path.0 } },
         record { service = refl; at_step = refl; at_top = refl; given = refl; path = path.1 },
       )

@@ -9,7 +9,7 @@ use Rattle.tw_base.specs.declared.history.tree_proof.Ask.{Ask}
 use Rattle.tw_base.specs.declared.history.tree_proof.Ask.TheVariants as ask
 use Rattle.tw_base.specs.declared.history.tree_proof.TreeProof.{TreeProof}
 use Rattle.tw_base.specs.declared.history.tree_proof.TreeProof.TheVariants.{Present, Gap}
-use Rattle.tw_base.specs.format.Codecs.{by_kind, bytes_codec, counted, many, number_codec, pair, seen, variant}
+use Rattle.tw_base.specs.format.Codecs.{Codec, by_kind, bytes_codec, counted, many, number_codec, pair, seen, variant}
 use Rattle.tw_base.specs.history.EntryCodec.{entry_codec}
 use Rattle.tw_base.specs.history.Tree.{Tree, IsRising, entries}
 use Rattle.tw_base.specs.history.Tree.Tree.{Empty, Branch}
@@ -78,18 +78,23 @@ module _ (dig : List ℕ → List ℕ) (size : (text : List ℕ) → length (dig
   gap-at key Empty up at few all = (refl, ((omega arith, few), (refl, all)))
   gap-at key (Branch l f r) up at few all = absurd at
 
+  -- what fits at the place of an answer fits of the whole tree
+  own-fits : (c : Codec TreeProof) (most : ℕ) (asked : Ask)
+      → ((place : Tree) (up : List Ancestor) → IsAt asked place → length (ancestors_of (proof_at dig place up)) ≤ most
+      → Fit up → c.Fits (proof_at dig place up))
+      → (t : Tree) → IsRising (entries t) → IsSo (entries t) asked → Each entry_codec.Fits (entries t)
+      → length (ancestors_of (proof_of dig t asked)) ≤ most → c.Fits (proof_of dig t asked)
+  own-fits c most asked here t rising so all few =
+      here (place_of_ask asked t) (way_up dig asked t) (at-place t asked rising so) few (way-fits asked t all)
+
   pub own-present-fits : (t : Tree) (e : Entry) → IsRising (entries t) → IsSo (entries t) (ask.Present e)
       → Each entry_codec.Fits (entries t)
       → length (ancestors_of (proof_of dig t (ask.Present e))) ≤ MOST_ABOVE_ENTRY
       → present_codec.Fits (proof_of dig t (ask.Present e))
-  own-present-fits t e rising so all few =
-      present-at e (place_of_ask (ask.Present e) t) (way_up dig (ask.Present e) t)
-      (at-place t (ask.Present e) rising so) few (way-fits (ask.Present e) t all)
+  own-present-fits t e = own-fits present_codec MOST_ABOVE_ENTRY (ask.Present e) (present-at e) t
 
   pub own-gap-fits : (t : Tree) (key : Key) → IsRising (entries t) → IsSo (entries t) (ask.Absent key)
       → Each entry_codec.Fits (entries t)
       → length (ancestors_of (proof_of dig t (ask.Absent key))) ≤ MOST_ABOVE_PLACE
       → gap_codec.Fits (proof_of dig t (ask.Absent key))
-  own-gap-fits t key rising so all few =
-      gap-at key (place_of_ask (ask.Absent key) t) (way_up dig (ask.Absent key) t)
-      (at-place t (ask.Absent key) rising so) few (way-fits (ask.Absent key) t all)
+  own-gap-fits t key = own-fits gap_codec MOST_ABOVE_PLACE (ask.Absent key) (gap-at key) t
