@@ -30,7 +30,8 @@ use Rattle.tw_chain.specs.declared.proof.ThreadProof.{ThreadProof}
 use Rattle.tw_chain.specs.Checks.{Check, Upper, bind_checks, bind_of, checks, end_of_order, head_checks, hop_checks}
 use Rattle.tw_chain.specs.Checks.{hops_checks, last_hop_thread, link_checks, opening_checks, opening_root, start_of}
 use Rattle.tw_chain.specs.Checks.{tail_at, tail_checks, under_anchor}
-use Rattle.tw_chain.specs.Checks.Check.{AnswerOf, CarriesThread, EventOf, InOrder, LinkOf, NeedsAnchor, OpeningOf, PathOf}
+use Rattle.tw_chain.specs.Checks.Check.{AnswerOf, CarriesThread, EventOf, InOrder, LinkOf, NeedsAnchor, OpeningOf}
+use Rattle.tw_chain.specs.Checks.Check.{PathOf}
 use Rattle.tw_chain.specs.Proofs.{absence_body, behind_codec, following, hop_bytes, hop_codec, hops_codec, kinds_codec}
 use Rattle.tw_chain.specs.Proofs.{last_step, link_body, precedence_body, proof_codec, tail_codec, thread_body}
 use Rattle.tw_chain.proofs.ChainShapes.{last_step-all}

@@ -98,29 +98,6 @@ fn step_behind(step: u64, hops: &HopParts) -> u64
     }
 }
 
-/// What stands behind the second event: the opening of the step before, the hops, the first event.
-type Behind = (Option<Opening>, (HopParts, Tail));
-
-/// Takes what stands behind the second event.
-fn take_behind(
-    alloc: Global,
-    bytes: &[u8],
-    at: &mut u64,
-    count: u64,
-    step: u64,
-) -> Result<Behind, ReadFault>
-    requires within { at.old ≤ length bytes.now }
-    requires some { 1 ≤ step }
-    requires step { step ≤ LAST_STEP }
-    ensures { Takes (behind_codec count step) (λ behind. behind) bytes.now at.old at.new result }
-{
-    let before = take_optional(alloc, bytes, at, count > 0, step - 1)?;
-    let hops = take_hops(alloc, bytes, at, count)?;
-    let upper = step_behind(step - 1, &hops);
-    let tail = take_tail(alloc, bytes, at, upper)?;
-    Ok((before, (hops, tail)))
-}
-
 /// Takes a proof from event to event with so many hops, behind the number of them.
 fn take_with_hops(
     alloc: Global,
@@ -133,7 +110,11 @@ fn take_with_hops(
 {
     let head = take_part(alloc, bytes, at, 1)?;
     let event = take_event(alloc, bytes, at, head.opening.count)?;
-    let (before, (hops, tail)) = take_behind(alloc, bytes, at, count, head.step)?;
+    let start = head.step - 1;
+    let before = take_optional(alloc, bytes, at, count > 0, start)?;
+    let hops = take_hops(alloc, bytes, at, count)?;
+    let upper = step_behind(start, &hops);
+    let tail = take_tail(alloc, bytes, at, upper)?;
     Ok(PrecedenceProof {
         head,
         event,

@@ -12,7 +12,8 @@ returns g c = record {
   claim = λ h step index top p event is there.
       claim_of-made g.H.Hasher.dig h step index top p is event there;
   spelled = λ h step index top p anchors anchor sound order has is held reached.
-      spelled-accepted g.H.Hasher.dig h step index top p is g.met.H.Hasher.size g.met.H.Hasher.bytes anchors anchor sound
+      spelled-accepted g.H.Hasher.dig h step index top p is g.met.H.Hasher.size g.met.H.Hasher.bytes anchors anchor
+      sound
       order has held reached;
   has_event = event-made g.H.Hasher.dig;
   has_thread = thread-made g.H.Hasher.dig;
