@@ -2,9 +2,10 @@
 use Rattle.std.proofs.Common.{◌≡◌, ◌≢◌, ℕ, ◌+◌, ◌<◌, ◌≤◌, Bool, true, false, Option, Some, refl, sym, ap, ◌∙◌, ◌⊎◌, inl}
 use Rattle.std.proofs.Common.{inr, arith}
 use Rattle.std.specs.Prelude.{◌==◌, nat_lt}
+use Rattle.std.proofs.Math.Nat.{le-max_left, le-max_right}
 use Rattle.std.proofs.lemmas.Option.{same_Some}
 use Rattle.tw_rbnode.specs.declared.links.Link.{Link}
-use Rattle.tw_rbnode.specs.Shape.{Shape, Empty, Node, size}
+use Rattle.tw_rbnode.specs.Shape.{Shape, Empty, Node, depth, size}
 use Rattle.tw_rbnode.specs.Slots.{slot_of, link, At, IsTree, below_at}
 use Rattle.tw_rbnode.proofs.Places.{seen, left_tree, right_tree}
 
@@ -14,7 +15,10 @@ pub record Parts (f : ℕ → Option Link) (low : ℕ) (t : Shape) (at : ℕ) (n
   pub left : Shape
   pub right : Shape
   pub is : t ≡ Node red left right
+  pub sized : size t ≡ size left + 1 + size right
   pub at_is : at ≡ low + size left + 1
+  pub left_deep : depth left < depth t
+  pub right_deep : depth right < depth t
   pub left_tree : IsTree f low left node.left
   pub right_tree : IsTree f at right node.right
 
@@ -26,7 +30,10 @@ parts f low (Node red l r) at node tree some e = record {
   left = l;
   right = r;
   is = refl;
+  sized = refl;
   at_is = (seen f low red l r at node tree e).at_is;
+  left_deep = omega (arith, le-max_left (depth l) (depth r));
+  right_deep = omega (arith, le-max_right (depth l) (depth r));
   left_tree = left_tree f low red l r at node tree e;
   right_tree = right_tree f low red l r at node tree e;
 }

@@ -1,15 +1,14 @@
 -- Labels, sides and ways of a tree in slots, from its root down.
-use Rattle.std.proofs.Common.{◌≡◌, ◌≢◌, ℕ, suc, zero, ◌+◌, ◌-◌, ◌*◌, ◌<◌, ◌≤◌, List, [], ◌∷◌, ◌++◌, length, Option}
+use Rattle.std.proofs.Common.{◌≡◌, ◌≢◌, ℕ, suc, zero, ◌+◌, ◌-◌, ◌*◌, ◌<◌, List, [], ◌∷◌, ◌++◌, length, Option}
 use Rattle.std.proofs.Common.{Some, refl, sym, ap, ◌∙◌, subst, arith, slice_get, append_assoc}
 use Rattle.std.specs.Prelude.{slice_index_or}
-use Rattle.std.proofs.Math.Nat.{le-max_left, le-max_right}
 use Rattle.tw_base.specs.declared.history.thread.Entry.{Entry}
 use Rattle.tw_base.specs.declared.history.tree_proof.Ancestor.{Ancestor}
 use Rattle.tw_base.specs.history.Entries.{entry_text}
 use Rattle.tw_base.specs.kinds.Texts.{empty_tree_text}
 use Rattle.tw_rbnode.specs.declared.child.Child.{Child}
 use Rattle.tw_rbnode.specs.declared.links.Link.{Link}
-use Rattle.tw_rbnode.specs.Shape.{Shape, Empty, Node, depth, size}
+use Rattle.tw_rbnode.specs.Shape.{Shape, Empty, Node, size}
 use Rattle.tw_rbnode.specs.Slots.{IsTree}
 use Rattle.tw_rbnode.specs.Trees.{above_at, label_at, label_over, labels_of, node_above, sides_at}
 use Rattle.tw_rbnode.proofs.Descents.{Parts, before, not_before, other, same}
@@ -104,19 +103,13 @@ pub above-none : (dig : List ℕ → List ℕ) (es : List Entry) (ls : List (Lis
 unfolding above_at
 above-none dig es ls mark low t none = ap (above_at dig es ls mark low) (sym none)
 
-pub depth-left : (f : ℕ → Option Link) (low : ℕ) (t : Shape) (at : ℕ) (node : Link) (p : Parts f low t at node)
-    → suc (depth p.left) ≤ depth t
-depth-left f low t at node p = omega (arith, ap depth p.is, le-max_left (depth p.left) (depth p.right))
-
-pub depth-right : (f : ℕ → Option Link) (low : ℕ) (t : Shape) (at : ℕ) (node : Link) (p : Parts f low t at node)
-    → suc (depth p.right) ≤ depth t
-depth-right f low t at node p = omega (arith, ap depth p.is, le-max_right (depth p.left) (depth p.right))
-
 -- one node more on a way
-pub longer : (old new more : List Ancestor) (way all : List Ancestor) (one : Ancestor) → new ≡ old ++ way
-    → more ≡ new ++ one ∷ [] → way ++ one ∷ [] ≡ all → more ≡ old ++ all
-longer old new more way all one e f is = f ∙ ap (λ xs. xs ++ one ∷ []) e ∙ append_assoc old way (one ∷ [])
-    ∙ ap (λ xs. old ++ xs) is
+pub longer : (old new more way all : List Ancestor) (e : Entry) (label own : List ℕ) → new ≡ old ++ way
+    → more ≡ new ++ record { entry = e; other = label } ∷ [] → label ≡ own
+    → way ++ record { entry = e; other = own } ∷ [] ≡ all → more ≡ old ++ all
+longer old new more way all e label own up put same is =
+    put ∙ (λ i. up i ++ record { entry = e; other = same i } ∷ []) ∙ append_assoc old way
+    (record { entry = e; other = own } ∷ []) ∙ ap (λ xs. old ++ xs) is
 
 -- at the mark of the root there is nothing above
 pub above-root : (dig : List ℕ → List ℕ) (es : List Entry) (ls : List (List ℕ)) (f : ℕ → Option Link) (mark low : ℕ)

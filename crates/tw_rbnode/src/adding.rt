@@ -1,6 +1,6 @@
 // Pages with one entry more, of one key, and with another child; `tw_rbtree` adds an entry to a tree of pages by them.
 
-ghost use Rattle.std.specs.Prelude.{◌≡◌, ◌+◌, ◌<◌, ◌≤◌, ◌++◌, ◌∷◌, [], ◌≢◌, ℕ, List, length, slice_get, take, drop};
+ghost use Rattle.std.specs.Prelude.{◌≡◌, ◌+◌, ◌<◌, ◌≤◌, ◌++◌, ◌∷◌, [], ◌≢◌, ℕ, List, length, replicate, slice_get, take, drop};
 ghost use Rattle.arrayvec.specs.ArrayVec.{array_vec_len};
 ghost use Rattle.tw_base.specs.history.Entries.{key_of};
 ghost use Rattle.tw_base.specs.kinds.Lists.{Each};
@@ -14,7 +14,7 @@ ghost use Rattle.tw_rbnode.specs.declared.limits.TheConstants.{TOP_LEVEL};
 use crate::child::Child;
 use crate::kept::{Kept, entry_of};
 use crate::limits::TOP_LEVEL;
-use crate::links::{BLANK, Link, with_node};
+use crate::links::{BLANK, LEAF, Link, with_node};
 use crate::node::{Added, RbNode};
 use arrayvec::ArrayVec;
 use tw_base::{Entry, Hasher, put};
@@ -64,34 +64,22 @@ fn other_child(children: &[Child], place: usize, child: Child) -> ArrayVec<Child
     out
 }
 
-/// The links of a page of 12 entries, of which a split makes two: the root is slot 7, and the nodes of depth 3 are red.
-const BALANCED: [Link; 26] = [
+/// The links of a page of 12 entries, of which a split makes two, behind the blank one: the root is slot 7, and nodes of depth 3 are red.
+const BALANCED: [Link; 13] = [
     BLANK,
-    Link {
-        red: true,
-        left: 0,
-        right: 0,
-    },
+    LEAF,
     Link {
         red: false,
         left: 1,
         right: 3,
     },
-    Link {
-        red: true,
-        left: 0,
-        right: 0,
-    },
+    LEAF,
     Link {
         red: false,
         left: 2,
         right: 6,
     },
-    Link {
-        red: true,
-        left: 0,
-        right: 0,
-    },
+    LEAF,
     Link {
         red: false,
         left: 5,
@@ -102,11 +90,7 @@ const BALANCED: [Link; 26] = [
         left: 4,
         right: 10,
     },
-    Link {
-        red: true,
-        left: 0,
-        right: 0,
-    },
+    LEAF,
     Link {
         red: false,
         left: 8,
@@ -117,30 +101,22 @@ const BALANCED: [Link; 26] = [
         left: 9,
         right: 12,
     },
-    Link {
-        red: true,
-        left: 0,
-        right: 0,
-    },
+    LEAF,
     Link {
         red: false,
         left: 11,
         right: 0,
     },
-    BLANK,
-    BLANK,
-    BLANK,
-    BLANK,
-    BLANK,
-    BLANK,
-    BLANK,
-    BLANK,
-    BLANK,
-    BLANK,
-    BLANK,
-    BLANK,
-    BLANK,
 ];
+
+/// These links, and blank ones behind them.
+fn balanced_links() -> [Link; 26]
+    ensures { result ≡ BALANCED ++ replicate 13 BLANK }
+{
+    let mut links = [BLANK; 26];
+    links[..13].copy_from_slice(&BALANCED);
+    links
+}
 
 /// A page of 12 entries, whose tree is the balanced one.
 fn balanced(level: u8, entries: &[Kept], children: &[Child]) -> RbNode
@@ -160,7 +136,7 @@ fn balanced(level: u8, entries: &[Kept], children: &[Child]) -> RbNode
     RbNode {
         level,
         top: 7,
-        links: BALANCED,
+        links: balanced_links(),
         entries: kept,
         children: sides,
     }

@@ -191,15 +191,7 @@ fn grow(links: &mut [Link; 26], low: u8, high: u8, at: u8, place: u8) -> u8
         IsTree (slice_get links.new) low (grown_shape (place - low) t) result × SameOutside (slice_get links.old) (slice_get links.new) low (high + 1) }
 {
     if at == 0 {
-        put(
-            links,
-            place + 1,
-            Link {
-                red: true,
-                left: 0,
-                right: 0,
-            },
-        );
+        put(links, place + 1, LEAF);
         return place + 1;
     }
     let node = link_at(links, at);
@@ -254,6 +246,13 @@ fn link_beside(link: Link, place: u8) -> Link
 /// A link that leads nowhere.
 pub(crate) const BLANK: Link = Link {
     red: false,
+    left: 0,
+    right: 0,
+};
+
+/// A red node without children.
+pub(crate) const LEAF: Link = Link {
+    red: true,
     left: 0,
     right: 0,
 };

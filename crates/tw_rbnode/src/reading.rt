@@ -4,6 +4,7 @@
 ghost use Rattle.std.specs.Prelude.{◌≡◌, ◌≢◌, ◌↔◌, ◌+◌, ◌≤◌, ◌<◌, ℕ, suc, length, map, false, IfErr, IsTrue, MatchOption, slice_get, Some};
 ghost use Rattle.tw_base.specs.kinds.Lists.{Each};
 ghost use Rattle.tw_base.specs.format.Codecs.{many};
+ghost use Rattle.tw_base.proofs.lemmas.format.CodecLaws.{Lawful};
 ghost use Rattle.tw_base.specs.format.Taking.{Takes};
 ghost use Rattle.tw_base.specs.kinds.Texts.{empty_tree_text};
 ghost use Rattle.tw_base.specs.history.Tree.{IsRising};
@@ -51,62 +52,64 @@ fn take_colour(bytes: &[u8], at: &mut u64) -> Result<bool, ReadFault>
     Ok(colour == 1)
 }
 
-/// Takes a slot.
-#[tactic(auto, unfolding(crate::specs::NodeBytes::slot_codec, tw_base::specs::format::Seen::records))]
-fn take_slot(bytes: &[u8], at: &mut u64) -> Result<Slot, ReadFault>
-    requires { at.old ≤ length bytes.now }
-    ensures takes { Takes slot_codec (λ s. s) bytes.now at.old at.new result }
-    ensures memory { IfErr result (λ fault. fault ≢ ReadFault.NoMemory) }
-{
-    let red = take_colour(bytes, at)?;
-    let left = take_number(bytes, at, 1, 0, 255)? as u8;
-    let right = take_number(bytes, at, 1, 0, 255)? as u8;
-    let entry = take_entry(bytes, at)?;
-    Ok(Slot {
-        link: Link { red, left, right },
-        entry: Kept { entry },
-    })
+/// What a page has many of.
+trait Taken: Copy + Default + Drop {
+    ghost use Rattle.tw_base.specs.format.Codecs.{Codec};
+
+    /// How one is spelled.
+    ghost codec: { Codec Self };
+
+    /// Takes one.
+    fn take(bytes: &[u8], at: &mut u64) -> Result<Self, ReadFault>
+        requires { at.old ≤ length bytes.now }
+        ensures takes { Takes codec (λ x. x) bytes.now at.old at.new result }
+        ensures memory { IfErr result (λ fault. fault ≢ ReadFault.NoMemory) };
 }
 
-/// Takes so many slots.
-#[tactic(auto)]
-fn take_slots(bytes: &[u8], at: &mut u64, count: u8) -> Result<ArrayVec<Slot, 24>, ReadFault>
-    requires within { at.old ≤ length bytes.now }
-    requires few { count ≤ 24 }
-    ensures takes { Takes (many count slot_codec) (λ slots. slots.items) bytes.now at.old at.new result }
-    ensures memory { IfErr result (λ fault. fault ≢ ReadFault.NoMemory) }
-{
-    let mut slots: ArrayVec<Slot, 24> = ArrayVec::new();
-    for _i in 0..count {
-        slots.push(take_slot(bytes, at)?);
+impl Taken for Slot {
+    ghost codec = { slot_codec };
+
+    #[tactic(auto, unfolding(crate::specs::NodeBytes::slot_codec, tw_base::specs::format::Seen::records))]
+    fn take(bytes: &[u8], at: &mut u64) -> Result<Self, ReadFault> {
+        let red = take_colour(bytes, at)?;
+        let left = take_number(bytes, at, 1, 0, 255)? as u8;
+        let right = take_number(bytes, at, 1, 0, 255)? as u8;
+        let entry = take_entry(bytes, at)?;
+        Ok(Slot {
+            link: Link { red, left, right },
+            entry: Kept { entry },
+        })
     }
-    Ok(slots)
 }
 
-/// Takes a child.
-fn take_child(bytes: &[u8], at: &mut u64) -> Result<Child, ReadFault>
-    requires { at.old ≤ length bytes.now }
-    ensures takes { Takes child_codec (λ c. c) bytes.now at.old at.new result }
-    ensures memory { IfErr result (λ fault. fault ≢ ReadFault.NoMemory) }
-{
-    let page = take_number(bytes, at, 8, 0, u64::MAX)?;
-    let label = take_digest(bytes, at)?;
-    Ok(Child { page, label })
-}
+impl Taken for Child {
+    ghost codec = { child_codec };
 
-/// Takes so many children.
-#[tactic(auto)]
-fn take_children(bytes: &[u8], at: &mut u64, count: u8) -> Result<ArrayVec<Child, 25>, ReadFault>
-    requires within { at.old ≤ length bytes.now }
-    requires few { count ≤ 25 }
-    ensures takes { Takes (many count child_codec) (λ children. children.items) bytes.now at.old at.new result }
-    ensures memory { IfErr result (λ fault. fault ≢ ReadFault.NoMemory) }
-{
-    let mut children: ArrayVec<Child, 25> = ArrayVec::new();
-    for _i in 0..count {
-        children.push(take_child(bytes, at)?);
+    fn take(bytes: &[u8], at: &mut u64) -> Result<Self, ReadFault> {
+        let page = take_number(bytes, at, 8, 0, u64::MAX)?;
+        let label = take_digest(bytes, at)?;
+        Ok(Child { page, label })
     }
-    Ok(children)
+}
+
+/// Takes so many.
+#[tactic(auto)]
+fn take_many<T: Taken, const N: usize>(
+    bytes: &[u8],
+    at: &mut u64,
+    count: u8,
+) -> Result<ArrayVec<T, N>, ReadFault>
+    requires within { at.old ≤ length bytes.now }
+    requires few { count ≤ N }
+    requires lawful { Lawful T.codec }
+    ensures takes { Takes (many count T.codec) (λ all. all.items) bytes.now at.old at.new result }
+    ensures memory { IfErr result (λ fault. fault ≢ ReadFault.NoMemory) }
+{
+    let mut all: ArrayVec<T, N> = ArrayVec::new();
+    for _i in 0..count {
+        all.push(T::take(bytes, at)?);
+    }
+    Ok(all)
 }
 
 /// Takes the root slot, so many slots, and one child more.
@@ -119,8 +122,8 @@ fn take_held(bytes: &[u8], at: &mut u64, count: u8) -> Result<Held, ReadFault>
     ensures memory { IfErr result (λ fault. fault ≢ ReadFault.NoMemory) }
 {
     let top = take_number(bytes, at, 1, 1, count as u64)? as u8;
-    let slots = take_slots(bytes, at, count)?;
-    let children = take_children(bytes, at, count + 1)?;
+    let slots = take_many(bytes, at, count)?;
+    let children = take_many(bytes, at, count + 1)?;
     Ok(Held {
         top,
         slots,

@@ -1,50 +1,46 @@
 use Rattle.std.proofs.Common.{◌≡◌, ◌++◌, ◌∷◌, [], length, sym, ap, ◌∙◌, arith, length-take, length-drop}
 use Rattle.tw_base.specs.declared.history.thread.Entry.{Entry}
-use Rattle.tw_rbnode.specs.Answers.{more_children, more_entries}
 use Rattle.tw_base.specs.history.Limits.{IsEntryInRange}
+use Rattle.tw_base.specs.history.Tree.{IsRising}
+use Rattle.tw_rbnode.specs.Answers.{more_children, more_entries}
 use Rattle.tw_rbnode.specs.Page.{TreePage}
 use Rattle.tw_rbnode.proofs.Pages.{rest_taken, with_size, joined_children, joined_entries, more_rising, more_ranges}
 use Rattle.tw_rbnode.proofs.Rising.{Each-drop, Each-take, Rising-drop, Rising-take, get-read}
+use Rattle.tw_rbnode.proofs.adding.split.Goals.{After-as_slice-sides}
 use Rattle.tw_rbnode.proofs.adding.split.Goals as goal
 
+-- all entries, the new one among them
+all_are : (c : After-as_slice-sides) → c.as_slice-all.result.now ≡ more_entries c.args.node.now.entries c.args.place
+    c.args.entry
+all_are c =
+    let entries = ap (λ (p : TreePage). p.entries) c.node.view_is in
+    c.as_slice-all.ensures.value ∙ c.more_entries-entries.ensures ∙ ap (λ xs. more_entries xs c.args.place c.args.entry)
+    (c.as_slice.ensures.value ∙ entries)
+
+rising : (c : After-as_slice-sides) → IsRising c.as_slice-all.result.now
+rising c = more_rising _ _ _ c.args.place c.args.entry (ap (λ (p : TreePage). p.entries) c.node.view_is) (all_are c)
+    c.node.invariant.1.rising c.requires.between
+
 pub balanced-requires-clause-rising : goal.balanced-requires-clause-rising
-balanced-requires-clause-rising c =
-    let n = c.node.inside in
-    let entries : n.entries.items ≡ c.args.node.now.entries = ap (λ (p : TreePage). p.entries) c.node.view_is in
-    let all = c.as_slice-all.ensures.value ∙ c.more_entries-entries.ensures
-    ∙ ap (λ xs. more_entries xs c.args.place c.args.entry) (c.as_slice.ensures.value ∙ entries) in
-    let node = c.node.invariant.1 in
-    Rising-take 12 _ (more_rising _ _ _ c.args.place c.args.entry entries all node.rising c.requires.between)
+balanced-requires-clause-rising c = Rising-take 12 _ (rising (goal.at.balanced-requires-clause-rising
+    c).After-as_slice-sides)
 
 pub balanced-requires-2-clause-rising : goal.balanced-requires-2-clause-rising
-balanced-requires-2-clause-rising c =
-    let n = c.node.inside in
-    let entries : n.entries.items ≡ c.args.node.now.entries = ap (λ (p : TreePage). p.entries) c.node.view_is in
-    let all = c.as_slice-all.ensures.value ∙ c.more_entries-entries.ensures
-    ∙ ap (λ xs. more_entries xs c.args.place c.args.entry) (c.as_slice.ensures.value ∙ entries) in
-    let node = c.node.invariant.1 in
-    Rising-take _ _ (Rising-drop 13 _ (more_rising _ _ _ c.args.place c.args.entry entries all node.rising
-    c.requires.between))
+balanced-requires-2-clause-rising c = Rising-take _ _ (Rising-drop 13 _
+    (rising (goal.at.balanced-requires-2-clause-rising c).After-as_slice-sides))
 
 pub balanced-requires-2-clause-ranges : goal.balanced-requires-2-clause-ranges
 balanced-requires-2-clause-ranges c =
-    let n = c.node.inside in
-    let entries : n.entries.items ≡ c.args.node.now.entries = ap (λ (p : TreePage). p.entries) c.node.view_is in
-    let all = c.as_slice-all.ensures.value ∙ c.more_entries-entries.ensures
-    ∙ ap (λ xs. more_entries xs c.args.place c.args.entry) (c.as_slice.ensures.value ∙ entries) in
-    let node = c.node.invariant.1 in
-    Each-take IsEntryInRange _ _ (Each-drop IsEntryInRange 13 _ (more_ranges _ _ _ c.args.place c.args.entry entries all
-    node.ranges c.requires.range))
+    let all = all_are (goal.at.balanced-requires-2-clause-ranges c).After-as_slice-sides in
+    Each-take IsEntryInRange _ _ (Each-drop IsEntryInRange 13 _ (more_ranges _ _ _ c.args.place c.args.entry
+    (ap (λ (p : TreePage). p.entries) c.node.view_is) all c.node.invariant.1.ranges c.requires.range))
 
 pub returns : goal.returns
 returns c =
     let n = c.node.inside in
-    let entries : n.entries.items ≡ c.args.node.now.entries = ap (λ (p : TreePage). p.entries) c.node.view_is in
+    let all = all_are (goal.at.returns c).After-as_slice-sides in
     let children : n.children.items ≡ c.args.node.now.children = ap (λ (p : TreePage). p.children) c.node.view_is in
     let level : n.level ≡ c.args.node.now.level = ap (λ (p : TreePage). p.level) c.node.view_is in
-    let all : c.as_slice-all.result.now ≡ more_entries c.args.node.now.entries c.args.place c.args.entry =
-    c.as_slice-all.ensures.value ∙ c.more_entries-entries.ensures ∙ ap (λ xs. more_entries xs c.args.place c.args.entry)
-    (c.as_slice.ensures.value ∙ entries) in
     let sides : c.as_slice-sides.result.now ≡ more_children c.args.node.now.children c.args.place c.args.left
     c.args.right =
     c.as_slice-sides.ensures.value ∙ c.more_children-children.ensures

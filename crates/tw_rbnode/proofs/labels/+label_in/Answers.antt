@@ -1,4 +1,4 @@
-use Rattle.std.proofs.Common.{◌≡◌, ◌+◌, ◌<◌, length, ap, ◌∙◌, arith}
+use Rattle.std.proofs.Common.{◌≡◌, ◌+◌, ◌<◌, length, slice_get, ◌∙◌, arith}
 use Rattle.tw_base.specs.history.Entries.{entry_text}
 use Rattle.tw_rbnode.specs.Shape.{size}
 use Rattle.tw_rbnode.specs.Trees.{labels_of}
@@ -21,19 +21,17 @@ link_at-link-requires g t c =
 pub label_in-right-requires : goal.label_in-right-requires
 label_in-right-requires g t c κs within =
     let held = c.requires.tree in
-    let p = parts _ c.args.low held.0 c.args.at c.link_at-link.result held.1 c.if-at-eq0.false c.link_at-link.ensures in
-    let sized : size held.0 ≡ size p.left + 1 + size p.right = ap size p.is in
-    let whole : c.args.high ≡ c.args.low + size held.0 = held.2 in
-    let at_is : c.args.at ≡ c.args.low + size p.left + 1 = p.at_is in (
+    let p = parts (slice_get c.args.links.now) c.args.low held.0 c.args.at c.link_at-link.result held.1
+    c.if-at-eq0.false c.link_at-link.ensures in
+    let whole : c.args.high ≡ c.args.low + size held.0 = held.2 in (
       omega (arith, c.decreases),
       (within, (c.requires.entries, (c.requires.children, (p.right, p.right_tree, omega arith)))),
     )
 
 pub returns : goal.returns
 returns g t c = λ s tree whole.
-    let p = parts _ c.args.low s c.args.at c.link_at-link.result tree c.if-at-eq0.false c.link_at-link.ensures in
-    let sized : size s ≡ size p.left + 1 + size p.right = ap size p.is in
-    let at_is : c.args.at ≡ c.args.low + size p.left + 1 = p.at_is in
+    let p = parts (slice_get c.args.links.now) c.args.low s c.args.at c.link_at-link.result tree
+    c.if-at-eq0.false c.link_at-link.ensures in
     let left = c.label_in-left.ensures p.left p.left_tree (omega arith) in
     let right = c.label_in-right.ensures p.right p.right_tree (omega (arith, whole)) in
     c.tree_node.ensures.label

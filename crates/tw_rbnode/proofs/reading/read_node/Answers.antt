@@ -35,35 +35,12 @@ returns-then-not-are_children g c = λ p stand is.
     let no = c.if-not-are_children.true in
     grind arith
 
-pub node_of-requires-clause-level : goal.node_of-requires-clause-level
-node_of-requires-clause-level g c =
+pub node_of-requires : goal.node_of-requires
+node_of-requires g c =
     let found = takes-page page_node_codec node-lawful fields c.args.bytes.now _ _ _ c.take_fields-read.ensures.takes
     c.take_fields-read.ensures.memory c.in-Some.ensures in
-    (node-fitting _ _ found.fits).low
-
-pub node_of-requires-clause-some : goal.node_of-requires-clause-some
-node_of-requires-clause-some g c =
-    let found = takes-page page_node_codec node-lawful fields c.args.bytes.now _ _ _ c.take_fields-read.ensures.takes
-    c.take_fields-read.ensures.memory c.in-Some.ensures in
-    (node-fitting _ _ found.fits).some
-
-pub node_of-requires-clause-top : goal.node_of-requires-clause-top
-node_of-requires-clause-top g c =
-    let found = takes-page page_node_codec node-lawful fields c.args.bytes.now _ _ _ c.take_fields-read.ensures.takes
-    c.take_fields-read.ensures.memory c.in-Some.ensures in
-    (node-fitting _ _ found.fits).top
-
-pub node_of-requires-clause-places : goal.node_of-requires-clause-places
-node_of-requires-clause-places g c =
-    let found = takes-page page_node_codec node-lawful fields c.args.bytes.now _ _ _ c.take_fields-read.ensures.takes
-    c.take_fields-read.ensures.memory c.in-Some.ensures in
-    (node-fitting _ _ found.fits).places
-
-pub node_of-requires-clause-ranges : goal.node_of-requires-clause-ranges
-node_of-requires-clause-ranges g c =
-    let found = takes-page page_node_codec node-lawful fields c.args.bytes.now _ _ _ c.take_fields-read.ensures.takes
-    c.take_fields-read.ensures.memory c.in-Some.ensures in
-    (node-fitting _ _ found.fits).ranges
+    let f = node-fitting _ _ found.fits in
+    record { level = f.low; some = f.some; few = f.few; top = f.top; places = f.places; ranges = f.ranges }
 
 pub returns : goal.returns
 returns g c =
