@@ -28,8 +28,15 @@ pub fn print_usage(alloc: Global, number: u64) -> Result<Bytes, NoMemory>
     // The line of a bad word is exactly the text of the definitions.
     ensures { IfOk result (λ text. text ≡ usage_text number) }
 {
+    print_numbered(alloc, b"usage", number)
+}
+
+/// The line of a head and a number.
+pub(crate) fn print_numbered(alloc: Global, head: &[u8], number: u64) -> Result<Bytes, NoMemory>
+    ensures { IfOk result (λ text. text ≡ line head.now (Number number ∷ [])) }
+{
     let mut text = Bytes::new(alloc);
-    text.extend_from_slice(b"usage")?;
+    text.extend_from_slice(head)?;
     put_number(&mut text, number)?;
     text.extend_from_slice(b"\n")?;
     Ok(text)

@@ -5,11 +5,11 @@ ghost use Rattle.std.specs.Prelude.{◌≡◌, [], ◌∷◌, ◌++◌, OnOk, If
 ghost use Rattle.tw_text.specs.Lines.{fields_text};
 ghost use Rattle.tw_text.specs.declared.field.Field.TheVariants.{Hex, Named, Number};
 ghost use Rattle.std.specs.List.{flat_map};
-ghost use Rattle.tw_text.specs.Reports.{absent_line, carried_line, claim_lines, claim_text, event_line, event_lines, gap_text, hop_line, link_line, reason_fields, report_text, rejected_text, stands_text, thread_line, time_line};
+ghost use Rattle.tw_text.specs.Reports.{absent_line, carried_line, claim_lines, event_line, event_lines, gap_text, hop_line, link_line, reason_fields, report_text, rejected_text, stands_text, thread_line, time_line};
 ghost use Rattle.tw_text.specs.Reports.{accepted_line as accepted_line_of};
 ghost use Rattle.tw_text.specs.Reports.{reason_name as reason_name_of};
 
-use crate::line::{put_hex, put_name, put_number, put_word};
+use crate::line::{print_numbered, put_hex, put_name, put_number, put_word};
 use std::alloc::Global;
 use tw_base::{
     Bytes, Claim, Digest, Entry, Hop, HopList, Key, Name, NoMemory, Reason, Report, Seen, Thread,
@@ -22,11 +22,7 @@ pub fn print_report(alloc: Global, report: &Report) -> Result<Bytes, NoMemory>
     // The report of a claim is exactly the text of the definitions.
     ensures { IfOk result (λ text. text ≡ report_text report.now) }
 {
-    let mut text = Bytes::new(alloc);
-    put_claim(alloc, &mut text, &report.claim)?;
-    put_hops(&mut text, &report.hops)?;
-    put_carried(alloc, &mut text, &report.carried)?;
-    Ok(text)
+    print_told(alloc, accepted_line(&report.claim).as_bytes(), report)
 }
 
 /// What is told of a proof that stands when it is held against histories: `stands`, and the lines of
@@ -35,8 +31,15 @@ pub fn print_stands(alloc: Global, report: &Report) -> Result<Bytes, NoMemory>
     // What is told of a proof that stands is exactly the text of the definitions.
     ensures { IfOk result (λ text. text ≡ stands_text report.now) }
 {
+    print_told(alloc, b"stands\n", report)
+}
+
+/// The first line, and behind it the lines of what the report claims, of its hops and of its carried threads.
+fn print_told(alloc: Global, first: &[u8], report: &Report) -> Result<Bytes, NoMemory>
+    ensures { IfOk result (λ text. text ≡ first.now ++ (claim_lines report.now.claim ++ (flat_map hop_line report.now.hops ++ flat_map carried_line report.now.carried))) }
+{
     let mut text = Bytes::new(alloc);
-    text.extend_from_slice(b"stands\n")?;
+    text.extend_from_slice(first)?;
     put_claim_lines(alloc, &mut text, &report.claim)?;
     put_hops(&mut text, &report.hops)?;
     put_carried(alloc, &mut text, &report.carried)?;
@@ -64,20 +67,7 @@ pub fn print_gap(alloc: Global, place: u64) -> Result<Bytes, NoMemory>
     // The line of a part that doesn't fit is exactly the text of the definitions.
     ensures { IfOk result (λ text. text ≡ gap_text place) }
 {
-    let mut text = Bytes::new(alloc);
-    text.extend_from_slice(b"rejected")?;
-    put_word(&mut text, b"Gap")?;
-    put_number(&mut text, place)?;
-    text.extend_from_slice(b"\n")?;
-    Ok(text)
-}
-
-/// Puts what is claimed at the text's end.
-fn put_claim(alloc: Global, text: &mut Bytes, claim: &Claim) -> Result<(), NoMemory>
-    ensures { OnOk result (text.new ≡ text.old ++ claim_text claim.now) }
-{
-    text.extend_from_slice(accepted_line(claim).as_bytes())?;
-    put_claim_lines(alloc, text, claim)
+    print_numbered(alloc, b"rejected Gap", place)
 }
 
 /// The first line of the report of an accepted claim.
