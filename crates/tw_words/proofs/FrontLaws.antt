@@ -210,28 +210,19 @@ of_either (Err first) (Err second) ok = absurd (cc)
 pub exact-either : (one other : Form) → IsExact one → IsExact other → IsExact (either one other)
 exact-either one other exact exact-other = record { sample = exact.sample; had = from_one _ _ exact.had; stops = stops }
   where
-    -- the form that has the longer front
-    stops-by : (words : List (List ℕ)) (left : ℕ) (first : Stops one words left ⊎ Stops other words left)
+    -- of the form that has the longer front
+    stops-by : (words : List (List ℕ)) (left : ℕ) (form : Form)
+        → ((ws : List (List ℕ)) → IsOk (form ws) → IsOk (either one other ws)) → Stops form words left
         → ((n : ℕ) (rest : List (List ℕ)) → n ≤ length words → IsOk (one (take n words ++ rest))
         → n + left ≤ length words)
         → ((n : ℕ) (rest : List (List ℕ)) → n ≤ length words → IsOk (other (take n words ++ rest))
         → n + left ≤ length words)
         → Stops (either one other) words left
-    stops-by words left (inl s) no-longer no-longer-other = record {
+    stops-by words left form of-form s no-longer no-longer-other = record {
       front = s.front;
       size = s.size;
       rest = s.rest;
-      good = from_one _ _ s.good;
-      longest = λ n rest within ok. elim (of_either _ _ ok) [
-        | inl of-one ↦ omega (arith, no-longer n rest within of-one, s.size)
-        | inr of-other ↦ omega (arith, no-longer-other n rest within of-other, s.size)
-      ];
-    }
-    stops-by words left (inr s) no-longer no-longer-other = record {
-      front = s.front;
-      size = s.size;
-      rest = s.rest;
-      good = from_other _ _ s.good;
+      good = of-form _ s.good;
       longest = λ n rest within ok. elim (of_either _ _ ok) [
         | inl of-one ↦ omega (arith, no-longer n rest within of-one, s.size)
         | inr of-other ↦ omega (arith, no-longer-other n rest within of-other, s.size)
@@ -243,12 +234,17 @@ exact-either one other exact exact-other = record { sample = exact.sample; had =
         let parts = are_left (one words) (other words) left e in
         let s = exact.stops words parts.first parts.is_first in
         let t = exact-other.stops words parts.second parts.is_second in
-        stops-by words left (elim (cases_lt parts.second parts.first) [
-          | inl below ↦ inr (subst (Stops other words) (omega (arith, below, parts.least)) t)
-          | inr above ↦ inl (subst (Stops one words) (omega (arith, above, parts.least)) s)
-        ])
+        let by : (form : Form) → ((ws : List (List ℕ)) → IsOk (form ws) → IsOk (either one other ws)) → Stops form words left
+        → Stops (either one other) words left = λ form of-form own.
+        stops-by words left form of-form own
         (λ n rest within ok. omega (arith, s.longest n rest within ok, s.size, parts.least))
-        (λ n rest within ok. omega (arith, t.longest n rest within ok, t.size, parts.least))
+        (λ n rest within ok. omega (arith, t.longest n rest within ok, t.size, parts.least)) in
+        elim (cases_lt parts.second parts.first) [
+          | inl below ↦ by other (λ ws. from_other (one ws) (other ws))
+              (subst (Stops other words) (omega (arith, below, parts.least)) t)
+          | inr above ↦ by one (λ ws. from_one (one ws) (other ws))
+              (subst (Stops one words) (omega (arith, above, parts.least)) s)
+        ]
 
 -- ---- the last word may be left out
 

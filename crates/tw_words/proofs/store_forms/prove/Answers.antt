@@ -1,15 +1,11 @@
-use Rattle.std.proofs.Common.{map}
 use Rattle.std.specs.String.{string_bytes}
-use Rattle.std.proofs.lemmas.List.{length-map}
 use Rattle.tw_words.specs.CommandLine.{proofs}
 use Rattle.tw_words.specs.CommandLine as forms
-use Rattle.tw_words.proofs.FormLaws.{none_chosen}
+use Rattle.tw_words.proofs.FormLaws.{none_goes_on}
 use Rattle.tw_words.proofs.store_forms.prove.Goals as goal
 
 pub returns-in_default-as_str : goal.returns-in_default-as_str
 unfolding forms.prove
 returns-in_default-as_str c =
-    let none = none_chosen proofs (map string_bytes c.path.new.self.left.now) c.as_str.result.now
-    (map string_bytes c.in-Some.left.now)
-    (simp (c.in-Some.ensures.cases.0, c.as_str.ensures.value)) (assumption c.in_default-as_str) in
-    rw c.stop-in_default-as_str.ensures (rw (c.in_ok-path.ensures, forms.prove) (simp length-map at none))
+    rw (c.stop-in_default-as_str.ensures, c.in_ok-path.ensures, forms.prove)
+    (none_goes_on string_bytes c.in-Some.ensures.cases.0 c.as_str.ensures.value proofs (assumption c.in_default-as_str))
