@@ -10,6 +10,28 @@ HERE = Path(__file__).resolve().parent
 BEGINNING = "fcntl(0, F_DUPFD_CLOEXEC"
 
 
+def named(name):
+    """How a call is told by its name and its numbers."""
+    return lambda *numbers: " ".join([name, *filter(None, numbers)])
+
+
+# The calls on files as strace writes them, each with how it is told to same_calls.c.
+CALLS = (
+    (r'openat\(AT_FDCWD, "(.*)", (\S+?)[,)].*= (\d+)$', lambda path, flags, number: f"open {number} {'w' if 'O_RDWR' in flags else 'r'} {path}"),
+    (r"fcntl\((\d+), F_DUPFD_CLOEXEC, 3\) += (\d+)$", lambda number, copy: f"copy {copy} {number}"),
+    (r"flock\((\d+), LOCK_(SH|EX)\)", lambda number, kind: f"lock {number} {'x' if kind == 'EX' else 's'}"),
+    (r'(?:lstat|newfstatat|statx)\((?:AT_FDCWD, )?"(.+?)",', lambda path: f"look 0 {path}"),
+    (r"lseek\((\d+), (\d+), SEEK_SET\)", named("seek")),
+    (r"read\((\d+), .*, (\d+)\) += \d+$", named("read")),
+    (r"write\((\d+), .*, (\d+)\) += \d+$", named("write")),
+    (r"pread64\((\d+), .*, (\d+), (\d+)\) += \d+$", named("get")),
+    (r"pwrite64\((\d+), .*, (\d+), (\d+)\) += \d+$", named("put")),
+    (r"(?:fstat|newfstatat|statx)\((\d+)", named("stat")),
+    (r"(?:fsync|fdatasync)\((\d+)\)", named("sync")),
+    (r"close\((\d+)\)", named("close")),
+)
+
+
 def built(folder):
     """The compiled program of the calls."""
     program = f"{folder}/same_calls"
@@ -27,31 +49,10 @@ def traced(words, folder):
 
 def word(line):
     """The word of a line of strace, or None for a call that isn't on a file."""
-    opened = re.match(r'openat\(AT_FDCWD, "(.*)", (\S+?)[,)].*= (\d+)$', line)
-    if opened:
-        return f"open {opened[3]} {'w' if 'O_RDWR' in opened[2] else 'r'} {opened[1]}"
-    copied = re.match(r"fcntl\((\d+), F_DUPFD_CLOEXEC, 3\) += (\d+)$", line)
-    if copied:
-        return f"copy {copied[2]} {copied[1]}"
-    locked = re.match(r"flock\((\d+), LOCK_(SH|EX)\)", line)
-    if locked:
-        return f"lock {locked[1]} {'x' if locked[2] == 'EX' else 's'}"
-    looked = re.match(r'(?:lstat|newfstatat|statx)\((?:AT_FDCWD, )?"(.+?)",', line)
-    if looked:
-        return f"look 0 {looked[1]}"
-    for pattern, name in (
-        (r"lseek\((\d+), (\d+), SEEK_SET\)", "seek"),
-        (r"read\((\d+), .*, (\d+)\) += \d+$", "read"),
-        (r"write\((\d+), .*, (\d+)\) += \d+$", "write"),
-        (r"pread64\((\d+), .*, (\d+), (\d+)\) += \d+$", "get"),
-        (r"pwrite64\((\d+), .*, (\d+), (\d+)\) += \d+$", "put"),
-        (r"(?:fstat|newfstatat|statx)\((\d+)", "stat"),
-        (r"(?:fsync|fdatasync)\((\d+)\)", "sync"),
-        (r"close\((\d+)\)", "close"),
-    ):
+    for pattern, told in CALLS:
         found = re.match(pattern, line)
         if found:
-            return " ".join([name, *filter(None, found.groups())])
+            return told(*found.groups())
     return None
 
 
