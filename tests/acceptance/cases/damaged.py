@@ -2,12 +2,10 @@
 follower's store, given to `append` and `receive`, stays as it is."""
 
 import os
-import random
 
 from harness.entangled import both
-from harness.faults import Run as FaultyRun, killed as at_any_call, with_errors
+from harness.faults import Run as FaultyRun, failing, killed_at, lost_power
 from harness.making import message_bytes
-from harness.power import BY_CHANCE_IN_THE_GATE, Device
 from harness.rooms import Wrong, case, changed_page, expect
 from harness.tracing import calls_of
 from timeweave_reference.events_files import events_to_bytes
@@ -19,12 +17,16 @@ from timeweave_reference.tree_pages import PAGE
 # The page that is damaged in each store, its first one, and how.
 DAMAGED, PLACE, BYTE = 4, 4095, b"\x01"
 
-# The images of lost power that are tried of each command.
-IMAGES = 150
-
 LINE = Timeline("seen", [[b"a"], [b"b"], [b"c"], [b"d"], [b"e"]])
 
 COMMANDS = ("append", "receive", "offer")
+
+# What they keep where they fail, are killed or lose power.
+KEPT = (
+    (failing, "{} over a store with a damaged page, each of whose calls on its files fails once, keeps the old record or the next one"),
+    (killed_at, "{} over a store with a damaged page, killed at any of its calls on the store, keeps the old record or the next one"),
+    (lost_power, "what a loss of power in {} over a store with a damaged page may leave has the old record or the next one"),
+)
 
 
 def kept_in(data):
@@ -119,39 +121,6 @@ def unread(command):
     return work
 
 
-def failing(command):
-    def work(room):
-        wrong = list(with_errors(Run(room, command)))
-        if wrong:
-            raise Wrong("\n".join(wrong[:5]))
-
-    work.__doc__ = f"`{command}` over a store with a damaged page, each of whose calls on its files fails once, keeps the old record or the next one"
-    return work
-
-
-def killed(command):
-    def work(room):
-        at_any_call(Run(room, command))
-
-    work.__doc__ = f"`{command}` over a store with a damaged page, killed at any of its calls on the store, keeps the old record or the next one"
-    return work
-
-
-def lost_power(command):
-    def work(room):
-        run = Run(room, command)
-        status, found, calls = calls_of(room.program, run.words.split(), room.folder)
-        expect((status, found), (0, run.output), f"timeweave {run.words}")
-        device = Device(run.kept, calls, os.path.realpath(run.path))
-        images = list(device.images(random.Random(command), BY_CHANCE_IN_THE_GATE))
-        for image, is_told in random.Random("some").sample(images, min(len(images), IMAGES)):
-            run.path.write_bytes(image)
-            run.histories.go_on(room, is_told)
-
-    work.__doc__ = f"what a loss of power in `{command}` over a store with a damaged page may leave has the old record or the next one"
-    return work
-
-
 # ---- stores of another kind
 
 
@@ -193,7 +162,8 @@ def follower_given(command):
 
 def cases():
     works = [
-        *(make(command) for make in (unread, failing, killed, lost_power) for command in COMMANDS),
+        *(unread(command) for command in COMMANDS),
+        *(make(command, Run, told) for make, told in KEPT for command in COMMANDS),
         *(follower_given(command) for command in ("append", "receive")),
     ]
     return [case(work, "damaged") for work in works]

@@ -1,12 +1,10 @@
 """Acceptance cases of followers over real folders: `watch`, `offer` and `heads`, each with its output and the bytes of the store."""
 
 import os
-import random
 
-from harness.faults import Run as FaultyRun, failing, killed as at_any_call
+from harness.faults import Run as FaultyRun, failing, killed_at, lost_power, stays_told
 from harness.limits import closed, growing_to, plain_rights
 from harness.making import message_bytes, pathless_message
-from harness.power import Device
 from harness.rooms import Wrong, case, changed_page, ended, expect, locked, run_apart, some_steps, started, waits
 from harness.tracing import calls_of, under_read_only
 from timeweave_reference.events_files import events_to_bytes
@@ -21,6 +19,10 @@ from timeweave_reference.tree_pages import PAGE
 # The history that is watched, and another one of the name, which parts from it at step 3.
 LINE = Timeline("seen", [[b"a"], [b"b"], [b"c"], [b"d"], [b"e"], [b"f"]])
 OTHER = Timeline("seen", [[b"a"], [b"b"], [b"C"], [b"d"], [b"e"], [b"f"]])
+
+# What the commands that write keep.
+LOST = "what a loss of power in {} may leave keeps each head that was told, and goes on"
+KILLED = "{} that is killed at any of its calls on the store keeps each head that was told, and goes on"
 
 
 class Seen(Follower):
@@ -348,47 +350,11 @@ class Run(FaultyRun):
         self.kept = path.read_bytes() if path.exists() else None
 
 
-def lost_power(command):
-    def work(room):
-        run = Run(room, command)
-        path = room.folder / "d/timeline.tw"
-        status, output, calls = calls_of(room.program, run.words.split(), room.folder)
-        expect((status, output), (0, run.output), f"timeweave {run.words}")
-        device = Device(run.kept, calls, os.path.realpath(path))
-        images = list(device.images(random.Random(command), 20))
-        for image, is_whole in images if len(images) < 200 else random.Random(1).sample(images, 200):
-            path.unlink(missing_ok=True)
-            if image is not None:
-                path.write_bytes(image)
-            run.histories.go_on(room, is_whole)
-
-    work.__doc__ = f"what a loss of power in `{command}` may leave keeps each head that was told, and goes on"
-    return work
-
-
-def killed(command):
-    def work(room):
-        at_any_call(Run(room, command))
-
-    work.__doc__ = f"`{command}` that is killed at any of its calls on the store keeps each head that was told, and goes on"
-    return work
-
-
 def told_stays(room):
     """a head that `heads` told, of an offer that was killed before its last sync, stays, whatever a loss of power takes"""
     follower = followed(room, (1, 2))
     room.put("m", message_bytes(LINE, 4, 2))
-    path, before = room.folder / "d/timeline.tw", room.store()
-    _, _, calls = calls_of(room.program, ["offer", "d", "m"], room.folder)
-    path.write_bytes(before)
-    last = sum(call.name == "fsync" for call in calls)
-    _, _, calls = calls_of(room.program, ["offer", "d", "m"], room.folder, inject=[f"fsync:retval=0:signal=KILL:when={last}"])
-    told, heads, more = calls_of(room.program, ["heads", "d"], room.folder)
-    expect((told, heads), (0, follower.moved(4).lines()), "timeweave heads d behind the killed offer")
-    device = Device(before, [*calls, *more], os.path.realpath(path))
-    for image in device.images_after(len(device.calls), random.Random("told"), 20):
-        path.write_bytes(image)
-        room.expect("heads d", 0, heads)
+    expect(stays_told(room, "offer d m", "heads d"), follower.moved(4).lines(), "timeweave heads d behind the killed offer")
 
 
 def read_only_mount(room):
@@ -405,6 +371,6 @@ def cases():
     works = (
         each_head, beside_a_service, refusals, folders, last_step, bad_pages, root_records, failing_disks, races, waiting, syncs, told_stays,
         read_only_mount, *(failing(command, Run) for command in ("watch", "offer", "heads")),
-        *(make(command) for make in (lost_power, killed) for command in ("watch", "offer")),
+        *(lost_power(command, Run, LOST, 200) for command in ("watch", "offer")), *(killed_at(command, Run, KILLED) for command in ("watch", "offer")),
     )
     return [case(work, "followers") for work in works]

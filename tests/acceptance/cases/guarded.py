@@ -8,10 +8,11 @@ import shutil
 import socket
 import subprocess
 
+from harness.faults import stays_told
 from harness.limits import TELLING, in_memory
 from harness.making import LEAST, proof_bytes
 from harness.places import LONGEST
-from harness.power import EARLIER, Device
+from harness.power import EARLIER
 from harness.rooms import Skipped, Wrong, case, ended, expect, locked, started, waits
 from harness.tracing import calls_of
 from timeweave_reference.events_files import events_to_bytes
@@ -126,21 +127,8 @@ def full_step_calls(room):
 def shown_stays(room):
     """what `prove` shows of an append that was killed before its last sync stays, whatever a loss of power takes"""
     room.made("power", EARLIER)
-    path = room.folder / "d/timeline.tw"
     room.put("e", events_to_bytes([b"killed"]))
-    before, where = path.read_bytes(), os.path.realpath(path)
-    _, _, calls = calls_of(room.program, ["append", "d", "e"], room.folder)
-    path.write_bytes(before)
-    last = sum(call.name == "fsync" for call in calls)
-    status, output, calls = calls_of(room.program, ["append", "d", "e"], room.folder, inject=[f"fsync:retval=0:signal=KILL:when={last}"])
-    expect((status < 0, output), (True, b""), "whether append was killed at its last sync, and its output")
-    last_step = len(EARLIER) + 1
-    proved, proof, more = calls_of(room.program, ["prove", "d", "event", str(last_step), "0"], room.folder)
-    expect(proved, 0, "the status of prove behind the killed append")
-    device = Device(before, [*calls, *more], where)
-    for image in device.images_after(len(device.calls), random.Random("shown"), 20):
-        path.write_bytes(image)
-        room.expect(f"prove d event {last_step} 0", 0, proof)
+    stays_told(room, "append d e", f"prove d event {len(EARLIER) + 1} 0")
 
 
 # ---- memory

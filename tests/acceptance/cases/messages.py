@@ -2,10 +2,10 @@
 of it has an authenticator."""
 
 import os
-import random
 
+from harness.faults import stays_told
 from harness.making import link_bytes, link_proof, message_bytes, pathless_message
-from harness.power import EARLIER, Device
+from harness.power import EARLIER
 from harness.rooms import Wrong, case, changed_page, expect, four_steps, some_steps
 from harness.tracing import calls_of
 from timeweave_reference.events_files import events_to_bytes
@@ -144,20 +144,9 @@ def synced_first(room):
 def told_stays(room):
     """a step that `thread` told, of an append that was killed before its last sync, stays, whatever a loss of power takes"""
     room.made("power", EARLIER)
-    path = room.folder / "d/timeline.tw"
     room.put("e", events_to_bytes([b"killed"]))
-    before, where = path.read_bytes(), os.path.realpath(path)
-    _, _, calls = calls_of(room.program, ["append", "d", "e"], room.folder)
-    path.write_bytes(before)
-    last = sum(call.name == "fsync" for call in calls)
-    _, _, calls = calls_of(room.program, ["append", "d", "e"], room.folder, inject=[f"fsync:retval=0:signal=KILL:when={last}"])
-    told, message, more = calls_of(room.program, ["thread", "d", "0"], room.folder)
     wanted = message_bytes(service_of("power", [*EARLIER, [b"killed"]]).line, len(EARLIER) + 1, 0)
-    expect((told, message), (0, wanted), "timeweave thread d 0 behind the killed append")
-    device = Device(before, [*calls, *more], where)
-    for image in device.images_after(len(device.calls), random.Random("told"), 20):
-        path.write_bytes(image)
-        room.expect("thread d 0", 0, message)
+    expect(stays_told(room, "append d e", "thread d 0"), wanted, "timeweave thread d 0 behind the killed append")
 
 
 def cases():

@@ -8,9 +8,8 @@ from time import sleep
 
 from harness import seen
 from harness.entangled import Entangled, both, words
-from harness.faults import Run as FaultyRun, failing, killed as at_any_call, short
+from harness.faults import Run as FaultyRun, failing, killed_at, lost_power, short
 from harness.making import forged, message_bytes
-from harness.power import BY_CHANCE_IN_THE_GATE, Device
 from harness.rooms import Room, Wrong, case, changed_page, expect, some_steps
 from harness.tracing import calls_of
 from timeweave_reference.events_files import events_to_bytes
@@ -24,6 +23,10 @@ from timeweave_reference.tree_pages import PAGE
 # The commands that receive, with their times, and those that ask a service that has received.
 MAKING = {"receive": None, "receive at a time": 9}
 ASKING = ("prove thread", "prove absent", "map low", "map high", "export")
+
+# What the first keep.
+LOST = "what a loss of power in {} may leave keeps each thread whose receipt was written, and goes on"
+KILLED = "{} that is killed at any of its calls on the store keeps each thread whose receipt was written, and goes on"
 
 # How many pages each of the two commands of `few_reads` reads, those of the store's front among them: two gates and two bodies.
 RECEIVING_READS, PROVING_READS = 6, 18
@@ -279,30 +282,6 @@ class Run(FaultyRun):
             self.output = room.run(*self.words.split())[1]
 
 
-def lost_power(command):
-    def work(room):
-        run = Run(room, command)
-        path = room.folder / "beta/timeline.tw"
-        status, found, calls = calls_of(room.program, run.words.split(), room.folder)
-        expect((status, found), (0, run.output), f"timeweave {run.words}")
-        device = Device(run.kept, calls, os.path.realpath(path))
-        images = list(device.images(random.Random(command), BY_CHANCE_IN_THE_GATE))
-        for image, is_told in random.Random("some").sample(images, min(len(images), 150)):
-            path.write_bytes(image)
-            run.histories.go_on(room, is_told)
-
-    work.__doc__ = f"what a loss of power in `{command}` may leave keeps each thread whose receipt was written, and goes on"
-    return work
-
-
-def killed_at(command):
-    def work(room):
-        at_any_call(Run(room, command))
-
-    work.__doc__ = f"`{command}` that is killed at any of its calls on the store keeps each thread whose receipt was written, and goes on"
-    return work
-
-
 def synced_first(room):
     """`prove DIR thread` and `absent` sync the store before they read it, and write nothing to it"""
     pair = both(room)
@@ -358,7 +337,7 @@ def races(room):
 def cases():
     works = (
         each_receipt, repeated, refused_messages, bad_messages, many_threads, refused_proofs, bad_pages, killed, synced_first, few_reads, races,
-        *(make(command) for make in (lost_power, killed_at) for command in MAKING),
+        *(lost_power(command, Run, LOST) for command in MAKING), *(killed_at(command, Run, KILLED) for command in MAKING),
         *(make(command, Run) for make in (failing, short) for command in (*MAKING, *ASKING)),
     )
     return [case(work, "receiving") for work in works]

@@ -2,12 +2,13 @@
 finds each step that was told. A short count is made by short_count.c, since strace can't take a part of the bytes."""
 
 import os
+import random
 import subprocess
 
 from harness.making import HEX, LEAST, LEAST_TEXT, link_proof, message_bytes, proof_bytes
 from harness.places import HARNESS, LONGEST
-from harness.power import EARLIER, EARLIER_TIMES, prepared
-from harness.rooms import Wrong, needs
+from harness.power import BY_CHANCE_IN_THE_GATE, EARLIER, EARLIER_TIMES, Device, prepared
+from harness.rooms import Wrong, expect, needs
 from harness.tracing import calls_of, own_calls
 from timeweave_reference.histories import Step, history_to_bytes
 from timeweave_reference.services import service_of
@@ -49,10 +50,14 @@ class Run:
 
     def again(self):
         """Puts the store back as it was."""
+        self.leave(self.kept)
+
+    def leave(self, image):
+        """Makes the store these bytes; None is no file."""
         path = self.room.folder / self.folder / "timeline.tw"
         path.unlink(missing_ok=True)
-        if self.kept is not None:
-            path.write_bytes(self.kept)
+        if image is not None:
+            path.write_bytes(image)
 
     def calls(self):
         """The calls on the command's own files: name, number among those of that name, and kind of file."""
@@ -104,6 +109,24 @@ def killed(run):
             run.histories.go_on(run.room, found[0] == 0)
 
 
+def stays_told(room, words, asked):
+    """What a command that asks the service or follower `d` tells behind one that was killed at its last sync; no loss of power takes it back."""
+    path = room.folder / "d/timeline.tw"
+    before = path.read_bytes()
+    _, _, calls = calls_of(room.program, words.split(), room.folder)
+    path.write_bytes(before)
+    last = sum(call.name == "fsync" for call in calls)
+    status, output, calls = calls_of(room.program, words.split(), room.folder, inject=[f"fsync:retval=0:signal=KILL:when={last}"])
+    expect((status < 0, output), (True, b""), f"whether timeweave {words} was killed at its last sync, and its output")
+    status, told, more = calls_of(room.program, asked.split(), room.folder)
+    expect(status, 0, f"the status of timeweave {asked} behind the killed run")
+    device = Device(before, [*calls, *more], os.path.realpath(path))
+    for image in device.images_after(len(device.calls), random.Random("told"), 20):
+        path.write_bytes(image)
+        room.expect(asked, 0, told)
+    return told
+
+
 def with_short_counts(run, shim):
     """Runs the command once for each of its calls that take or give bytes, of which that call does a half."""
     counts = {}
@@ -118,27 +141,55 @@ def with_short_counts(run, shim):
                 yield from run.judge(done[:2], [(0, run.output)], f"whose {call} of its {kind} is short, the {counts[name]}th call of that name")
 
 
-def failing(command, run_of):
-    """The case of a command, whose run in a room is made so."""
+def without_power(run, most):
+    """Runs the command once, and goes on from at most so many of the images that a loss of power may leave amid."""
+    status, output, calls = calls_of(run.room.program, run.words.split(), run.room.folder)
+    expect((status, output), (0, run.output), f"timeweave {run.words}")
+    store = os.path.realpath(run.room.folder / run.folder / "timeline.tw")
+    images = list(Device(run.kept, calls, store).images(random.Random(run.words), BY_CHANCE_IN_THE_GATE))
+    for image, is_told in random.Random("some").sample(images, min(len(images), most)):
+        run.leave(image)
+        run.histories.go_on(run.room, is_told)
+
+
+def expect_right(wrong):
+    """Raises Wrong where anything was wrong."""
+    wrong = list(wrong)
+    if wrong:
+        raise Wrong("\n".join(wrong[:5]))
+
+
+def over_run(run_of, command, tried, told):
+    """The case of a command, whose run in a room is made and tried so; of `told` it tells what is kept, with `{}` for the command."""
 
     def work(room):
-        wrong = list(with_errors(run_of(room, command)))
-        if wrong:
-            raise Wrong("\n".join(wrong[:5]))
+        tried(run_of(room, command))
 
-    work.__doc__ = f"`{command}`, each of whose calls on its files fails once"
+    work.__doc__ = told.format(f"`{command}`")
     return work
+
+
+def failing(command, run_of, told="{}, each of whose calls on its files fails once"):
+    """The case of a command, whose run in a room is made so."""
+    return over_run(run_of, command, lambda run: expect_right(with_errors(run)), told)
+
+
+def killed_at(command, run_of, told):
+    """The same, killed at each of its calls on the store."""
+    return over_run(run_of, command, killed, told)
+
+
+def lost_power(command, run_of, told, most=150):
+    """The same, and what a loss of power leaves of it."""
+    return over_run(run_of, command, lambda run: without_power(run, most), told)
 
 
 def short(command, run_of):
     """The same, whose reads and writes are short."""
 
-    def work(room):
-        compiler, shim = needs("cc", "gcc"), str(room.folder / "short_count.so")
+    def with_shim(run):
+        compiler, shim = needs("cc", "gcc"), str(run.room.folder / "short_count.so")
         subprocess.run([compiler, "-shared", "-fPIC", "-O1", "-o", shim, HARNESS / "short_count.c"], check=True, timeout=LONGEST)
-        wrong = list(with_short_counts(run_of(room, command), shim))
-        if wrong:
-            raise Wrong("\n".join(wrong[:5]))
+        expect_right(with_short_counts(run, shim))
 
-    work.__doc__ = f"`{command}`, each of whose reads and writes is short once"
-    return work
+    return over_run(run_of, command, with_shim, "{}, each of whose reads and writes is short once")
