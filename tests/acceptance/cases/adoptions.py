@@ -117,8 +117,5 @@ def by_chance():
 
 
 def cases():
-    yield from least()
-    yield from several()
-    yield from other_kinds()
-    yield from bad_bytes()
-    yield from by_chance()
+    for some in (least, several, other_kinds, bad_bytes, by_chance):
+        yield from some()

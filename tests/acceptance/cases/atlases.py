@@ -83,7 +83,5 @@ def shapes():
 
 
 def cases():
-    yield from worked()
-    yield from by_chance()
-    yield from bad_files()
-    yield from shapes()
+    for some in (worked, by_chance, bad_files, shapes):
+        yield from some()

@@ -163,10 +163,5 @@ def without_events():
 
 
 def cases():
-    yield from least()
-    yield from chains()
-    yield from kinds()
-    yield from bad_histories()
-    yield from by_chance()
-    yield from limits()
-    yield from without_events()
+    for some in (least, chains, kinds, bad_histories, by_chance, limits, without_events):
+        yield from some()

@@ -5,6 +5,7 @@ import re
 from declared import crates
 
 from harness.places import TOP
+from harness.rooms import checked
 
 DOCUMENTS = [TOP / "README.md", TOP / "reference/README.md", TOP / "web/README.md", TOP / "vectors/README.md", *sorted((TOP / "docs").glob("*.md")), *sorted((TOP / "bench").glob("*.md"))]
 SOURCES = ("crates/*/src/**/*.rt", "crates/*/specs/**/*.antt", "crates/*/proofs/**/*.antt", "tests/acceptance/**/*.py", "reference/**/*.py", "weft/**/*.py", "web/tests/*.*", "tools/*.*", "bench/*.py", "docs/*.txt")
@@ -109,8 +110,11 @@ def paths(program):
 
 
 def cases():
-    yield {"name": "cited: members", "check": of_owners}
-    yield {"name": "cited: names of sections", "check": in_sections}
-    yield {"name": "cited: theorems", "check": theorems}
-    yield {"name": "cited: code names", "check": code_names}
-    yield {"name": "cited: paths", "check": paths}
+    checks = {
+        "members": of_owners,
+        "names of sections": in_sections,
+        "theorems": theorems,
+        "code names": code_names,
+        "paths": paths,
+    }
+    yield from checked("cited", checks)

@@ -11,6 +11,7 @@ import claims
 import declared
 import definitions
 from harness.places import LONGEST, TOP
+from harness.rooms import checked
 
 DOCUMENTS = [TOP / "README.md", TOP / "reference/README.md", TOP / "web/README.md", TOP / "vectors/README.md", *sorted((TOP / "docs").glob("*.md")), *sorted((TOP / "bench").glob("*.md"))]
 
@@ -144,14 +145,17 @@ def words(program):
 
 def without_program():
     """The cases that need no built program."""
-    yield {"name": "documents: links", "check": links}
-    yield {"name": "documents: pictures and forms", "check": made}
-    yield {"name": "documents: pages of clauses and definitions", "check": of_sources}
-    yield {"name": "documents: times", "check": times}
-    yield {"name": "documents: version", "check": version}
-    yield {"name": "documents: length of the README", "check": length}
-    yield {"name": "documents: words", "check": words}
-    yield {"name": "documents: one word for one thing", "check": glossary}
+    checks = {
+        "links": links,
+        "pictures and forms": made,
+        "pages of clauses and definitions": of_sources,
+        "times": times,
+        "version": version,
+        "length of the README": length,
+        "words": words,
+        "one word for one thing": glossary,
+    }
+    yield from checked("documents", checks)
 
 
 def cases():

@@ -16,7 +16,7 @@ import forms
 from harness import library, seen
 from harness.making import LEAST
 from harness.places import LONGEST, TOP
-from harness.rooms import Skipped, Wrong, case, needs
+from harness.rooms import Skipped, Wrong, case, checked, needs
 
 COMPLETION = "share/bash-completion/completions/timeweave"
 NOBODY = 65534
@@ -289,7 +289,6 @@ def old_processors(room):
 
 
 def cases():
-    yield {"name": "installed: completion", "check": completion}
-    yield {"name": "installed: manual page", "check": manual}
+    yield from checked("installed", {"completion": completion, "manual page": manual})
     for work in (install, install_elsewhere, same_packages, good_packages, stamps, source_sums, compared, old_processors):
         yield case(work, "installed")

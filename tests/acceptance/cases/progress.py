@@ -6,6 +6,7 @@ from pathlib import Path
 
 import progress
 import times
+from harness.rooms import checked
 
 RECORDED = Path(__file__).with_name("gate.log").read_text()
 
@@ -100,8 +101,11 @@ def spans(program):
 
 
 def cases():
-    yield {"name": "progress: how far a gate is", "check": fronts}
-    yield {"name": "progress: what is shown of it", "check": shown}
-    yield {"name": "progress: what waits for what", "check": chain}
-    yield {"name": "progress: what was proved before", "check": kept}
-    yield {"name": "progress: how long each crate took", "check": spans}
+    checks = {
+        "how far a gate is": fronts,
+        "what is shown of it": shown,
+        "what waits for what": chain,
+        "what was proved before": kept,
+        "how long each crate took": spans,
+    }
+    yield from checked("progress", checks)

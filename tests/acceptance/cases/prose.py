@@ -5,6 +5,7 @@ import re
 
 from cases.documents import DOCUMENTS
 from harness.places import MANUAL, TOP
+from harness.rooms import checked
 
 WIDTH, MOST_WORDS = 120, 40
 
@@ -75,5 +76,4 @@ def wide_lines(program):
 
 
 def cases():
-    yield {"name": "prose: sentences", "check": long_sentences}
-    yield {"name": "prose: lines", "check": wide_lines}
+    yield from checked("prose", {"sentences": long_sentences, "lines": wide_lines})

@@ -106,9 +106,5 @@ def mapped_files():
 
 
 def cases():
-    yield from evidence_files()
-    yield from changed_parts()
-    yield from receipt_files()
-    yield from audited_files()
-    yield from adopted_files()
-    yield from mapped_files()
+    for some in (evidence_files, changed_parts, receipt_files, audited_files, adopted_files, mapped_files):
+        yield from some()

@@ -11,6 +11,7 @@ import twins
 from pictures import crates, height
 
 from harness.places import TOP
+from harness.rooms import checked
 
 LONGEST = 40
 
@@ -278,14 +279,17 @@ def what_stands_twice(program):
 
 
 def cases():
-    yield {"name": "sources: long functions", "check": long_functions}
-    yield {"name": "sources: attributes", "check": wide_attributes}
-    yield {"name": "sources: files of lemmas", "check": lemma_files}
-    yield {"name": "sources: tests", "check": tests_elsewhere}
-    yield {"name": "sources: lines and functions of crates", "check": crate_sizes}
-    yield {"name": "sources: what is handed out", "check": handed_out}
-    yield {"name": "sources: the header for C", "check": header}
-    yield {"name": "sources: where memory is wanted", "check": memory}
-    yield {"name": "sources: heights", "check": heights}
-    yield {"name": "sources: names of definitions", "check": names_twice}
-    yield {"name": "sources: what stands twice", "check": what_stands_twice}
+    checks = {
+        "long functions": long_functions,
+        "attributes": wide_attributes,
+        "files of lemmas": lemma_files,
+        "tests": tests_elsewhere,
+        "lines and functions of crates": crate_sizes,
+        "what is handed out": handed_out,
+        "the header for C": header,
+        "where memory is wanted": memory,
+        "heights": heights,
+        "names of definitions": names_twice,
+        "what stands twice": what_stands_twice,
+    }
+    yield from checked("sources", checks)

@@ -9,7 +9,7 @@ import sys
 
 from harness import seen
 from harness.places import LONGEST, TOP
-from harness.rooms import Skipped, Wrong, case, needs
+from harness.rooms import Skipped, Wrong, case, checked, needs
 from timeweave_reference.histories import history_to_bytes, read_history
 from timeweave_reference.paths import greedy_steps
 
@@ -158,10 +158,13 @@ def in_perl(room):
 
 def without_program():
     """The cases that need no built program."""
-    yield {"name": "vectors: as they are made", "check": as_made}
-    yield {"name": "vectors: what they have", "check": told}
-    yield {"name": "vectors: the grammar of texts", "check": in_grammar}
-    yield {"name": "vectors: greedy paths", "check": paths}
+    checks = {
+        "as they are made": as_made,
+        "what they have": told,
+        "the grammar of texts": in_grammar,
+        "greedy paths": paths,
+    }
+    yield from checked("vectors", checks)
     yield case(in_schema, "vectors")
     yield case(in_perl, "vectors")
 

@@ -74,6 +74,15 @@ def pair(room, **more):
     return Net(room, {"shop": ["bank"], "bank": ["shop"]}, **more).begun()
 
 
+def with_message(room):
+    """Two services, of which one was carried the other's message of a new step."""
+    net = pair(room)
+    net.loom.append("bank", b"new")
+    net.turn("bank", 0)
+    net.carry("bank", "shop")
+    return net
+
+
 def two_services(room):
     """two services exchange: a store without steps gets a first one, messages are recorded, receipts and lines go back, and each night connects anew"""
     net = Net(room, {"shop": ["bank"], "bank": ["shop"]})
@@ -457,12 +466,9 @@ def with_faults(room):
     what is put out is whole"""
     from weft import formats, signatures
 
-    net = pair(room)
+    net = with_message(room)
     loom = net.loom
     loom.append("shop", b"new")
-    loom.append("bank", b"new")
-    net.turn("bank", 0)
-    net.carry("bank", "shop")
     step = net.last("bank")
     loom.put("box-shop/bank/in/requests", "link 1 2\nthread 2 bank 1 2\n")
     threads = received(loom, "shop")
@@ -490,12 +496,9 @@ def received(loom, name):
 
 def two_at_once(room):
     """of turns at once one waits for the other; beside them the log goes on; nothing is recorded twice"""
-    net = pair(room)
+    net = with_message(room)
     loom = net.loom
     loom.put("src/a", b"x")
-    loom.append("bank", b"new")
-    net.turn("bank", 0)
-    net.carry("bank", "shop")
     env = loom.env | {"PYTHONPATH": str(TOP)}
     turns = [["exchange", "shop", "box-shop"]] * 3 + [["log", "src", "shop"]] * 2
     running = [subprocess.Popen(["python3", "-m", "weft", *words], cwd=loom.folder, env=env, stdout=subprocess.PIPE, stderr=subprocess.PIPE) for words in turns]

@@ -31,15 +31,12 @@ def two_services(room):
         loom.timeweave("receive", name, "message")
     paid = loom.append("bank", b"paid")
     last = loom.append("maker", b"more")
-    made = {
+    loom.make({
         "paid": "prove bank event 3 0", "thread": "prove bank thread 2 maker 1", "absent": "prove bank absent 3 maker 2", "link": "prove maker link 1",
         "bread": "prove maker event 1 0 1", "bread3": "prove maker event 1 0 3", "low": "map bank low 3 maker", "high": "map maker high 2 bank",
         "low2": "map maker low 3 bank", "high2": "map bank high 3 maker", "bank.history": "export bank",
-    }  # fmt: skip
-    for name, words in made.items():
-        loom.put(name, loom.timeweave(*words.split()))
-    loom.put("chain", loom.timeweave("join", "paid", "thread", "link", "bread"))
-    loom.put("loose", loom.timeweave("join", "paid", "thread", "bread"))
+        "chain": "join paid thread link bread", "loose": "join paid thread bread",
+    })  # fmt: skip
     loom.put("lines", paid + last)
     loom.expect(["keep", "lines", "--by", "by mail"], 0)
     return loom

@@ -187,14 +187,11 @@ def told(room):
     loom.append("town", b"later")
     loom.append("shop", b"late")
     loom.put("t-events", events_file(*[b"e%d" % k for k in range(30)]))
-    made = {
+    loom.make({
         "event": "prove shop event 1 0", "raw": "prove shop event 1 1", "red": "prove shop event 2 0", "thread": "prove town thread 2 shop 2",
         "absent": "prove town absent 2 shop 1", "link": "prove shop link 2", "low": "map town low 3 shop", "high": "map town high 2 shop",
-        "history": "export town", "under2": "prove shop event 1 0 2", "second": "prove town event 3 0",
-    }  # fmt: skip
-    for name, words in made.items():
-        loom.put(name, loom.timeweave(*words.split()))
-    loom.put("chain", loom.timeweave("join", "second", "thread", "link", "under2"))
+        "history": "export town", "under2": "prove shop event 1 0 2", "second": "prove town event 3 0", "chain": "join second thread link under2",
+    })  # fmt: skip
     expected = {
         "event": ("proof of an event, unjudged", 'step 1, as event 0 of 2: "bread"', "line of step 3 of shop"),
         "raw": ("ff00",), "red": ("1b5b33316d726564",), "thread": ("town had received step 2 of shop", "at its step 2"),

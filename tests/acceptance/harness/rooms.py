@@ -112,6 +112,11 @@ def some_steps(seed, count):
     return [[rand.randbytes(rand.choice(sizes)) for _ in range(rand.choice((0, 1, 2, 5, 30)))] for _ in range(count)]
 
 
+def checked(group, checks):
+    """The cases of checks that need no room, each with its name."""
+    return [{"name": f"{group}: {name}", "check": check} for name, check in checks.items()]
+
+
 def expect(found, wanted, what):
     if found != wanted:
         raise Wrong(f"  {what}\n  wanted {wanted}\n  got    {found}")

@@ -74,6 +74,11 @@ class Loom:
             raise Wrong(f"  timeweave {' '.join(words)}: {done.returncode} {done.stdout[:200]}")
         return done.stdout
 
+    def make(self, outputs):
+        """Makes files of what the program tells: of each name with the words that tell it."""
+        for name, words in outputs.items():
+            self.put(name, self.timeweave(*words.split()))
+
     def service(self, name, *steps, folder=None):
         """Makes a service with a step of each of these lists of events."""
         (self.folder / (folder or name)).mkdir()
