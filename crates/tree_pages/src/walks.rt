@@ -4,38 +4,38 @@ use crate::entries::{SERVICES, key};
 use crate::stop::Stop;
 use crate::versions::Versions;
 use std::alloc::Global;
-use tw_base::{Entries, Entry, Sha, entry_key};
+use tw_base::{Entries, Entry, Key, Sha, entry_key};
 use tw_disk::MemPages;
 use tw_rbtree::{after, before, get};
 
 /// The entries from the least one up, each found behind the one before; no entry has a step of 0, so the first is found, too.
 pub fn from_least(alloc: Global, versions: &mut Versions) -> Result<Entries, Stop> {
-    let mut entries = Entries::new(alloc);
-    let mut last = key(0, 0).ok_or(Stop::BadLine)?;
-    for _ in 0..u64::MAX {
-        match after::<MemPages, Sha>(&mut versions.pages, &versions.now.root, &last)? {
-            None => break,
-            Some(entry) => {
-                entries.push(entry)?;
-                last = entry_key(&entry);
-            }
-        }
-    }
-    Ok(entries)
+    walk(alloc, versions, key(0, 0), true)
 }
 
 /// The entries from the greatest one down, each found before the one behind.
 pub fn from_greatest(alloc: Global, versions: &mut Versions) -> Result<Entries, Stop> {
+    walk(alloc, versions, key(SERVICES - 1, u64::MAX), false)
+}
+
+/// The entries above this key upwards, or those below it downwards.
+fn walk(
+    alloc: Global,
+    versions: &mut Versions,
+    start: Option<Key>,
+    is_upwards: bool,
+) -> Result<Entries, Stop> {
     let mut entries = Entries::new(alloc);
-    let mut last = key(SERVICES - 1, u64::MAX).ok_or(Stop::BadLine)?;
+    let mut last = start.ok_or(Stop::BadLine)?;
     for _ in 0..u64::MAX {
-        match before::<MemPages, Sha>(&mut versions.pages, &versions.now.root, &last)? {
-            None => break,
-            Some(entry) => {
-                entries.push(entry)?;
-                last = entry_key(&entry);
-            }
-        }
+        let found = if is_upwards {
+            after::<MemPages, Sha>(&mut versions.pages, &versions.now.root, &last)?
+        } else {
+            before::<MemPages, Sha>(&mut versions.pages, &versions.now.root, &last)?
+        };
+        let Some(entry) = found else { break };
+        entries.push(entry)?;
+        last = entry_key(&entry);
     }
     Ok(entries)
 }
