@@ -9,8 +9,8 @@ use Rattle.tw_msg.specs.AnchorsFile.{AllGood, IsFirstBadLine, anchor_on, lines}
 use Rattle.tw_text.specs.declared.fault.CommandFault.{CommandFault}
 use Rattle.tw_text.specs.declared.fault.CommandFault.TheVariants.{NoMemory, Unreadable}
 use Rattle.tw_text.specs.declared.refusal.BadInput.TheVariants.{BadLine}
-use Rattle.tw_text.specs.Faults.{fault_status, fault_text}
 use Rattle.tw_text.specs.Reports.{rejected_text, report_text}
+use Rattle.tw_judge.specs.Telling.{TellsJudged, TellsWhy}
 
 abbrev pub verdict_status : Verdict → ℕ
 verdict_status (Yes report) = 0
@@ -32,20 +32,8 @@ IsUnjudged file anchors (Unreadable (BadLine named number)) = (named ≡ file) �
 IsUnjudged file anchors NoMemory = Unit {0}
 IsUnjudged file anchors _ = ⊥
 
--- the status and the text of the verdict
-pub record TellsVerdict (strict : Bool) (proof anchors : List ℕ) (status : ℕ) (text : List ℕ) : Type 0 where
-  pub verdict : Verdict
-  pub judged : IsJudged strict proof anchors verdict
-  pub status_is : status ≡ verdict_status verdict
-  pub text_is : text ≡ verdict_text verdict
-
--- those of why there is none
-pub record TellsFault (file anchors : List ℕ) (status : ℕ) (text : List ℕ) : Type 0 where
-  pub fault : CommandFault
-  pub unjudged : IsUnjudged file anchors fault
-  pub status_is : status ≡ fault_status fault
-  pub text_is : text ≡ fault_text fault
-
--- what is told of a proof under the anchors of a file of that name, in the form that allows carried threads, or in the strict one
+-- what is told of a proof under the anchors of a file of that name, in the form that allows carried threads, or in the strict one: the
+-- verdict, or why there is none
 abbrev pub IsTold : (file : List ℕ) (strict : Bool) (proof anchors : List ℕ) → (status : ℕ) (text : List ℕ) → Type 0
-IsTold file strict proof anchors status text = TellsVerdict strict proof anchors status text ⊎ TellsFault file anchors status text
+IsTold file strict proof anchors status text =
+    TellsJudged (IsJudged strict proof anchors) verdict_status verdict_text status text ⊎ TellsWhy (IsUnjudged file anchors) status text

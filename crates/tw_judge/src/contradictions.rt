@@ -1,9 +1,10 @@
 // What the library tells of two files that may contradict each other. The program has no command for it.
 
-ghost use Rattle.std.specs.Prelude.{◌≡◌, ◌++◌, IfOk, codes};
+ghost use Rattle.std.specs.Prelude.{◌≡◌, [], ◌∷◌, ◌++◌, IfOk, codes};
 // (The check has to know the type of a reason within a verdict.)
 ghost use Rattle.tw_base.specs.declared.history.report.Reason.{Reason as AnyReason};
 ghost use Rattle.tw_base.specs.history.Entries.{key_of};
+ghost use Rattle.tw_text.specs.declared.field.Field.TheVariants.{Named, Number};
 ghost use Rattle.tw_text.specs.Reports.{absent_line as absent_line_of, thread_line as thread_line_of};
 ghost use Rattle.tw_judge.specs.Contradictions.{AreFilesTold, broken_line as broken_line_of, conflict_lines as conflict_lines_of, contradict_status, contradict_text, refusal_text};
 ghost use Rattle.tw_judge.specs.Telling.{TellsJudged};
@@ -142,13 +143,9 @@ fn print_broken(alloc: Global, conflict: &Conflict, is_joined: bool) -> Result<B
 fn print_thread(alloc: Global, conflict: &Conflict) -> Result<Bytes, NoMemory>
     ensures { IfOk result (λ text. text ≡ thread_line_of conflict.now.service conflict.now.step conflict.now.entry) }
 {
-    let thread = &conflict.entry.thread;
-    let mut fields = FieldList::new(alloc);
-    fields.push(Field::Named(conflict.service))?;
-    fields.push(Field::Number(conflict.step))?;
-    fields.push(Field::Named(thread.from))?;
-    fields.push(Field::Number(thread.step))?;
-    fields.push(Field::Hex(Bytes::from_slice(alloc, &thread.auth.0)?))?;
+    let mut fields = key_fields(alloc, conflict, conflict.step)?;
+    let auth = Bytes::from_slice(alloc, &conflict.entry.thread.auth.0)?;
+    fields.push(Field::Hex(auth))?;
     fields.push(Field::Number(conflict.entry.archived))?;
     print_line(alloc, b"thread", &fields)
 }
@@ -157,11 +154,20 @@ fn print_thread(alloc: Global, conflict: &Conflict) -> Result<Bytes, NoMemory>
 fn print_absent(alloc: Global, conflict: &Conflict) -> Result<Bytes, NoMemory>
     ensures { IfOk result (λ text. text ≡ absent_line_of conflict.now.service conflict.now.upto (key_of conflict.now.entry)) }
 {
+    let fields = key_fields(alloc, conflict, conflict.upto)?;
+    print_line(alloc, b"absent", &fields)
+}
+
+/// The fields of the service, of this step of it, and of the service and step of the thread.
+fn key_fields(alloc: Global, conflict: &Conflict, step: u64) -> Result<FieldList, NoMemory>
+    ensures { IfOk result (λ fields. fields ≡ Named conflict.now.service ∷ Number step ∷ Named conflict.now.entry.thread.from
+        ∷ Number conflict.now.entry.thread.step ∷ []) }
+{
     let thread = &conflict.entry.thread;
     let mut fields = FieldList::new(alloc);
     fields.push(Field::Named(conflict.service))?;
-    fields.push(Field::Number(conflict.upto))?;
+    fields.push(Field::Number(step))?;
     fields.push(Field::Named(thread.from))?;
     fields.push(Field::Number(thread.step))?;
-    print_line(alloc, b"absent", &fields)
+    Ok(fields)
 }

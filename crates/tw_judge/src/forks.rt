@@ -39,20 +39,15 @@ fn judge_under(alloc: Global, evidence: &[u8], anchors: &[Thread]) -> Result<Tol
     ensures { IfOk result (λ told. TellsJudged (IsForkVerdictUnder anchors.now evidence.now) fork_status fork_text told.status told.text) }
 {
     match check_evidence::<Sha>(alloc, evidence, anchors) {
-        Ok(verdict) => Ok(tell_verdict(alloc, &verdict)?),
+        Ok(verdict) => {
+            let text = print_fork(alloc, &verdict)?;
+            Ok(Told {
+                status: status_of(&verdict),
+                text,
+            })
+        }
         Err(NoMemory) => Err(NoMemory),
     }
-}
-
-/// What is told of a verdict.
-fn tell_verdict(alloc: Global, verdict: &ForkVerdict) -> Result<Told, NoMemory>
-    ensures status { IfOk result (λ told. told.status ≡ fork_status verdict.now) }
-    ensures text { IfOk result (λ told. told.text ≡ fork_text verdict.now) }
-{
-    Ok(Told {
-        status: status_of(verdict),
-        text: print_fork(alloc, verdict)?,
-    })
 }
 
 /// The status of a verdict, as `answer_status` of tw_reachcmd has it.
