@@ -1,7 +1,7 @@
 -- What accepted map files say of the histories of a family.
-use Rattle.std.proofs.Common.{◌≡◌, ℕ, ◌-◌, ◌^◌, ◌≤◌, List, [], ◌∷◌, ◌++◌, length, refl, sym, ap, ◌∙◌, subst, arith, inl}
-use Rattle.std.specs.Prelude.{true, Option, Some, None, IsSome, ◌==◌, ◌&&◌}
-use Rattle.std.specs.Option.{option_map_or, option_to_list}
+use Rattle.std.proofs.Common.{◌≡◌, ℕ, ◌-◌, ◌^◌, ◌≤◌, List, [], ◌∷◌, length, sym, ap, ◌∙◌, subst, arith, inl}
+use Rattle.std.specs.Prelude.{true, Option, Some, None, ◌==◌, ◌&&◌}
+use Rattle.std.specs.Option.{option_map_or}
 use Rattle.std.specs.Str.{bytes_eq}
 use Rattle.std.proofs.lemmas.Bool.{and_parts, eqb-true}
 use Rattle.std.proofs.lemmas.Slice.Eq.{bytes_eq-Decides}
@@ -12,17 +12,16 @@ use Rattle.tw_base.specs.declared.history.tree_proof.Ask.TheVariants as ask
 use Rattle.tw_base.specs.declared.history.tree_proof.TreeProof.{TreeProof}
 use Rattle.tw_base.specs.declared.history.tree_proof.TreeProof.TheVariants as trees
 use Rattle.tw_base.specs.declared.kinds.limits.TheConstants.{LAST_STEP}
-use Rattle.tw_base.specs.history.Family.{HasHistory, HasThread, HasThreads, family_texts}
+use Rattle.tw_base.specs.history.Family.{HasHistory, family_texts}
 use Rattle.tw_base.specs.history.History.{History, received}
 use Rattle.tw_base.specs.history.Sound.{IsSound}
 use Rattle.tw_base.specs.history.Tree.{entries, tree}
 use Rattle.tw_base.specs.kinds.Bytes.{AreBytes}
 use Rattle.tw_base.specs.kinds.Lists.{In}
-use Rattle.tw_base.proofs.lemmas.history.Anchoring.{anchor_of-is}
 use Rattle.tw_base.proofs.lemmas.history.Archives.{tree-has_received}
 use Rattle.tw_base.proofs.lemmas.history.Families.{sound_of}
 use Rattle.tw_base.proofs.lemmas.history.Trees.{IsArchived, entry_at-parts, received-sound, tree-archived}
-use Rattle.tw_base.proofs.lemmas.kinds.Clashes.{Among-left, Among-right, and_then}
+use Rattle.tw_base.proofs.lemmas.kinds.Clashes.{Among-right, and_then}
 use Rattle.tw_base.proofs.lemmas.kinds.ListLemmas.{Each-in}
 use Rattle.tw_skipproof.specs.declared.existence.Part.{Part}
 use Rattle.tw_treeproof.specs.Answers.{ancestors_of}
@@ -31,9 +30,8 @@ use Rattle.tw_treeproof.specs.Sizes.{HasProofSizes}
 use Rattle.tw_treeproof.specs.Ways.{is_left, nearest_left, nearest_right}
 use Rattle.tw_chain.specs.Checks.{top_of, under_anchor}
 use Rattle.tw_chain.specs.Checks.Check.{AnswerOf, InOrder, NeedsAnchor}
-use Rattle.tw_chain.specs.Passing.{anchor_at}
-use Rattle.tw_chain.proofs.CheckBinds.{AreChecked, Checked, Opened, OrTheyClash, Setting, anchored-part, answer-step}
-use Rattle.tw_chain.proofs.CheckBinds.{each-checked, parted}
+use Rattle.tw_chain.proofs.CheckBinds.{Anchored, AreChecked, Opened, OrTheyClash, Setting, anchored, anchored-part}
+use Rattle.tw_chain.proofs.CheckBinds.{answer-step, each-checked, parted, setting_of}
 use Rattle.tw_chain.proofs.PieceSizes.{PartSizes, gap-sizes, opening-sizes, path-sizes}
 use Rattle.tw_tmap.specs.declared.map_file.HighFile.{HighFile}
 use Rattle.tw_tmap.specs.declared.map_file.LowFile.{LowFile}
@@ -62,36 +60,15 @@ received-small h sound i within e there =
     (received-sound h sound archived.0 e.thread (entry_at-parts h archived.0 e archived.2).1).0.2
 
 -- the tree proofs of empty places, for whatever is asked of keys
-below-sizes : (asked : Key) (proof : TreeProof) → gap_codec.Fits proof → HasProofSizes (ask.Below asked) proof
+pub below-sizes : (asked : Key) (proof : TreeProof) → gap_codec.Fits proof → HasProofSizes (ask.Below asked) proof
 below-sizes asked (trees.Present left right up) fits = gap-sizes asked (trees.Present left right up) fits
 below-sizes asked (trees.Gap up) fits = gap-sizes asked (trees.Gap up) fits
 
-above-sizes : (asked : Key) (proof : TreeProof) → gap_codec.Fits proof → HasProofSizes (ask.Above asked) proof
+pub above-sizes : (asked : Key) (proof : TreeProof) → gap_codec.Fits proof → HasProofSizes (ask.Above asked) proof
 above-sizes asked (trees.Present left right up) fits = gap-sizes asked (trees.Present left right up) fits
 above-sizes asked (trees.Gap up) fits = gap-sizes asked (trees.Gap up) fits
 
 module _ (s : Setting) where
-  -- the family has the step of an anchor that is held
-  record HasStep (key : Key) : Type 0 where
-    history : History
-    has : HasHistory s.family key.from history
-    within : key.step ≤ length history.steps
-
-  step-held : (key : Key) → Checked s (NeedsAnchor key) → HasStep key
-  step-held key held = by (anchor_at s.anchors key) refl held.passes held.has
-    where
-      by : (o : Option Thread) → anchor_at s.anchors key ≡ o → IsSome o → HasThreads s.dig s.family (option_to_list o)
-          → HasStep key
-      by None is some has = cc
-      by (Some t) is some has =
-          let names = anchor_of-is s.anchors key.from key.step t is in
-          let thread : HasThread s.dig s.family t = has.0 in
-          record {
-            history = thread.0;
-            has = subst (λ (from : List ℕ). HasHistory s.family from thread.0) names.0 thread.1;
-            within = subst (λ (step : ℕ). step ≤ length thread.0.steps) names.1 thread.2;
-          }
-
   -- ---- the low file
 
   record LowBound (f : LowFile) (low : ℕ) : Type 0 where
@@ -100,14 +77,14 @@ module _ (s : Setting) where
     within : f.step ≤ length own.steps
     is : low ≡ low_bound own f.step f.peer
 
-  low-first : (f : LowFile) → f.step ≡ 1 → HasStep (record { from = f.service; step = f.top }) → f.step ≤ f.top
+  low-first : (f : LowFile) → f.step ≡ 1 → Anchored s (record { from = f.service; step = f.top }) → f.step ≤ f.top
       → LowBound f 0
   unfolding received
   low-first f first held order = record {
-    own = held.history;
-    has_own = held.has;
-    within = omega (arith, order, held.within);
-    is = ap (λ (step : ℕ). low_bound held.history step f.peer) (sym first);
+    own = held.has.0;
+    has_own = held.has.1;
+    within = omega (arith, order, held.has.2);
+    is = ap (λ (step : ℕ). low_bound held.has.0 step f.peer) (sym first);
   }
 
   low-later : (f : LowFile) (p : LowPart) → LowPartFits f.top (f.step - 1) p → f.step ≤ f.top
@@ -120,7 +97,7 @@ module _ (s : Setting) where
         opening = opening-sizes 0 (f.step - 1) p.opening fits.opening;
       } in
       let parts = parted s (under_anchor 0 at) (AnswerOf 0 p.opening.archive_root (low_ask f) p.shown ∷ []) checked in
-      let held : HasStep (top_of at) = step-held (top_of at) parts.0.1.0 in
+      let held = (anchored s (top_of at) parts.0.1.0).has in
       and_then s.dig s.texts _ _ (anchored-part s 0 at sizes parts.0)
       (λ (opened : Opened s f.service (f.step - 1) p.opening). and_then s.dig s.texts _ _
       (answer-step s 0 f.service (f.step - 1) p.opening (low_ask f) p.shown
@@ -130,8 +107,8 @@ module _ (s : Setting) where
       inl (record {
         own = opened.history;
         has_own = opened.has;
-        within = (let same = same_history s.family f.service held.history opened.history held.has opened.has in
-            subst (λ (h : History). f.step ≤ length h.steps) same (omega (arith, order, held.within)));
+        within = (let same = same_history s.family f.service held.0 opened.history held.1 opened.has in
+            subst (λ (h : History). f.step ≤ length h.steps) same (omega (arith, order, held.2)));
         is = low-is opened.history sound (f.step - 1) opened.within f.peer
             (nearest_right (is_left (low_ask f)) (ancestors_of p.shown))
             (received-small opened.history sound (f.step - 1) opened.within) answer;
@@ -145,8 +122,8 @@ module _ (s : Setting) where
           (NeedsAnchor (record { from = f.service; step = f.top }) ∷ []))
           → OrTheyClash s (LowBound f (option_map_or (before_told f) o 0))
       by None first checked =
-          let some = fits.some in
-          inl (low-first f (omega (arith, first, some)) (step-held (record { from = f.service; step = f.top })
+          let some = fits.steps.some in
+          inl (low-first f (omega (arith, first, some)) (anchored s (record { from = f.service; step = f.top })
           checked.1.0) checked.0.passes)
       by (Some p) later checked = low-later f p later.1 checked.0.passes checked.1
 
@@ -174,7 +151,7 @@ module _ (s : Setting) where
         has_other = opened.has;
         within = opened.within;
         is = high-is opened.history sound f.top opened.within f.peer f.step
-            (nearest_left (is_left (high_ask f)) (ancestors_of f.shown)) fits.some answer;
+            (nearest_left (is_left (high_ask f)) (ancestors_of f.shown)) fits.steps.some answer;
       }))))
 
   -- ---- both
@@ -213,16 +190,7 @@ module _ (dig : List ℕ → List ℕ) (size : (text : List ℕ) → length (dig
   accepted-binds accepted family sound has =
       let of_family : List (List ℕ) = family_texts dig family in
       let own : List (List ℕ) = map_texts dig low high in
-      let s : Setting = record {
-        dig = dig;
-        size = size;
-        bytes = are;
-        anchors = anchors;
-        family = family;
-        sound = sound;
-        texts = of_family ++ own;
-        has_texts = λ t a. Among-left t of_family own a;
-      } in
+      let s : Setting = setting_of dig size are anchors family sound own in
       both-bind s low high low_fits high_fits accepted.0 (each-checked s (map_checks low high) accepted.1 has
       (λ t a. Among-right t of_family own a))
 

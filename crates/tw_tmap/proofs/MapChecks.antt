@@ -95,18 +95,19 @@ module _ (dig : List ℕ → List ℕ) (anchors : List Thread) where
     module _ (fits : fit low high ≡ true) (one other : Option Reason) (l : ℕ) (h : Option ℕ)
         (of_low : one ≡ found_in dig anchors (low_checks low))
         (of_high : other ≡ found_in dig anchors (high_checks high)) where
-      pub judged-no : (reason : Reason) → lower_of one other ≡ Some reason → No reason ≡ map_verdict dig anchors low
-          high
-      judged-no reason is =
-          ap (told_with true) (sym is ∙ found-behind one other (low_checks low) (high_checks high) of_low of_high)
-          ∙ ap (λ b. told_with b (found_in dig anchors (map_checks low high))) (sym fits)
-
-      pub judged-yes : (one ≡ None → l ≡ low_told low) → (other ≡ None → h ≡ high_told high) → lower_of one other ≡ None
-          → Yes l h high.top ≡ map_verdict dig anchors low high
-      judged-yes lows highs is =
-          (λ k. Yes (lows (lower-none_left one other is) k) (highs (lower-none_right one other is) k) high.top)
+      pub judged : (one ≡ None → l ≡ low_told low) → (other ≡ None → h ≡ high_told high) → (found : Option Reason)
+          → lower_of one other ≡ found
+          → option_map_or (λ reason. No reason) found (Yes l h high.top) ≡ map_verdict dig anchors low high
+      judged lows highs found is =
+          bounds found is
           ∙ ap (told_with true) (sym is ∙ found-behind one other (low_checks low) (high_checks high) of_low of_high)
           ∙ ap (λ b. told_with b (found_in dig anchors (map_checks low high))) (sym fits)
+        where
+          bounds : (found : Option Reason) → lower_of one other ≡ found
+              → option_map_or (λ reason. No reason) found (Yes l h high.top) ≡ told_with true found
+          bounds (Some reason) is = refl
+          bounds None is = λ k. Yes (lows (lower-none_left one other is) k) (highs (lower-none_right one other is) k)
+              high.top
 
     pub judged-gap : fit low high ≡ false → Gap ≡ map_verdict dig anchors low high
     judged-gap never = ap (λ b. told_with b (found_in dig anchors (map_checks low high))) (sym never)

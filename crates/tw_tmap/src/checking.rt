@@ -1,6 +1,8 @@
 // Checking two map files together: whether they speak of one step of one service and of one peer, and what both tell.
 
 ghost use Rattle.std.specs.Prelude.{◌≡◌};
+ghost use Rattle.std.specs.Option.{option_map_or};
+ghost use Rattle.tw_tmap.specs.declared.map_verdict.MapVerdict.TheVariants.{No, Yes};
 ghost use Rattle.tw_tmap.specs.Binding.{BindsMap};
 ghost use Rattle.tw_tmap.specs.Checking.{fit as fit_of, map_verdict};
 ghost use Rattle.tw_tmap.specs.MapFiles.{high_codec, low_codec};
@@ -9,13 +11,23 @@ use crate::finding::lower_found;
 use crate::map_file::{HighFile, LowFile};
 use crate::map_verdict::MapVerdict;
 use crate::showing::{high_judged, low_judged};
-use tw_base::{Hasher, Thread};
+use tw_base::{Hasher, Reason, Thread};
 
 /// Whether both files speak of one step of one service and of one peer.
 fn fit(low: &LowFile, high: &HighFile) -> bool
     ensures { result ≡ fit_of low.now high.now }
 {
     low.service == high.peer && low.step == high.step && low.peer == high.service
+}
+
+/// What is told where this was found: the reason, or the bounds where there is none.
+fn told(found: Option<Reason>, low: u64, high: Option<u64>, upto: u64) -> MapVerdict
+    ensures { result ≡ option_map_or (λ reason. No reason) found (Yes low high upto) }
+{
+    match found {
+        Some(reason) => MapVerdict::No(reason),
+        None => MapVerdict::Yes { low, high, upto },
+    }
 }
 
 /// What both files tell under the anchors.
@@ -29,14 +41,8 @@ fn verdict<H: Hasher>(low: &LowFile, high: &HighFile, anchors: &[Thread]) -> Map
     }
     let of_low = low_judged::<H>(low, anchors);
     let of_high = high_judged::<H>(high, anchors);
-    match lower_found(of_low.found, of_high.found) {
-        Some(reason) => MapVerdict::No(reason),
-        None => MapVerdict::Yes {
-            low: of_low.bound,
-            high: of_high.bound,
-            upto: high.top,
-        },
-    }
+    let found = lower_found(of_low.found, of_high.found);
+    told(found, of_low.bound, of_high.bound, high.top)
 }
 
 /// What both files tell under the anchors, each of which has a spelling, as those that are read have: `Gap`

@@ -33,31 +33,8 @@ pub(crate) const HIGH_MAGIC: [u8; 5] = [
     7,
 ];
 
-/// Takes what a low file shows of the step before its own: the path down to it, its opening, and the tree proof.
-fn take_low_part(
-    alloc: Global,
-    bytes: &[u8],
-    at: &mut u64,
-    top: u64,
-    step: u64,
-) -> Result<LowPart, ReadFault>
-    requires within { at.old ≤ length bytes.now }
-    requires top { top ≤ LAST_STEP }
-    requires step { step ≤ LAST_STEP }
-    ensures { Takes (low_part_codec top step) (λ p. p) bytes.now at.old at.new result }
-{
-    let path = take_path(alloc, bytes, at, top, step)?;
-    let opening = take_opening(alloc, bytes, at, 0, step)?;
-    let shown = take_gap(alloc, bytes, at)?;
-    Ok(LowPart {
-        path,
-        opening,
-        shown,
-    })
-}
-
-/// Takes the step before, from step 2 on.
-#[tactic(auto, unfolding(tw_base::specs::format::Codecs::nothing, tw_base::specs::format::Codecs::present))]
+/// Takes what a low file shows of the step before its own, from step 2 on: the path down to it, its opening, and the tree proof.
+#[tactic(auto, unfolding(crate::specs::Seen::map_reading, tw_base::specs::format::Seen::choices))]
 fn take_before(
     alloc: Global,
     bytes: &[u8],
@@ -73,7 +50,14 @@ fn take_before(
     if step <= 1 {
         return Ok(None);
     }
-    Ok(Some(take_low_part(alloc, bytes, at, top, step - 1)?))
+    let path = take_path(alloc, bytes, at, top, step - 1)?;
+    let opening = take_opening(alloc, bytes, at, 0, step - 1)?;
+    let shown = take_gap(alloc, bytes, at)?;
+    Ok(Some(LowPart {
+        path,
+        opening,
+        shown,
+    }))
 }
 
 /// Takes a low file.

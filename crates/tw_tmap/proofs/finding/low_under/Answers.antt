@@ -1,33 +1,19 @@
 use Rattle.std.proofs.Common.{sym, ◌∙◌}
-use Rattle.std.specs.Prelude.{None}
-use Rattle.tw_skipproof.specs.declared.existence.Part.{Part}
-use Rattle.tw_skipproof.specs.Acceptance.{Reaches}
-use Rattle.tw_chain.specs.Checks.{Check, top_of}
-use Rattle.tw_chain.specs.Checks.Check.{InOrder, PathOf}
-use Rattle.tw_chain.specs.Checks.Upper.{AtAnchor}
-use Rattle.tw_chain.proofs.FoundSteps.{found-held, found-not_held}
-use Rattle.tw_chain.proofs.PassesLaws.{passes-is}
+use Rattle.tw_chain.proofs.FoundSteps.{under-held, under-not_held}
 use Rattle.tw_tmap.specs.Checking.{low_file_part}
 use Rattle.tw_tmap.proofs.finding.low_under.Goals as goal
 
 pub returns-in-None : goal.returns-in-None
 returns-in-None g c =
-    let at : Part = low_file_part c.args.low.now c.args.part.now in
-    let path : Check = PathOf 0 at (AtAnchor (top_of at)) in
     c.lower.ensures
-    ∙ found-not_held g.H.Hasher.dig c.args.anchors.now None c.with_order-found.result (InOrder at.step at.top)
-    (top_of at) path
-    (Reaches g.H.Hasher.dig at) (passes-is g.H.Hasher.dig c.args.anchors.now path)
-    (c.with_order-found.ensures g.H.Hasher.dig c.args.anchors.now)
-    (sym c.find_anchor.ensures ∙ c.in-None.is)
+    ∙ under-not_held g.H.Hasher.dig c.args.anchors.now 0 (low_file_part c.args.low.now c.args.part.now)
+    c.with_order-found.result
+    (c.with_order-found.ensures g.H.Hasher.dig c.args.anchors.now) (sym c.find_anchor.ensures ∙ c.in-None.is)
 
 pub returns-in-Some : goal.returns-in-Some
 returns-in-Some g c =
-    let at : Part = low_file_part c.args.low.now c.args.part.now in
-    let path : Check = PathOf 0 at (AtAnchor (top_of at)) in
     c.unless.ensures
-    ∙ found-held g.H.Hasher.dig c.args.anchors.now None c.with_order-found.result (InOrder at.step at.top) (top_of at)
-    path
-    (Reaches g.H.Hasher.dig at) (passes-is g.H.Hasher.dig c.args.anchors.now path)
-    (c.with_order-found.ensures g.H.Hasher.dig c.args.anchors.now)
-    c.in-Some.anchor c.low_reaches.result (sym c.find_anchor.ensures ∙ c.in-Some.is) c.low_reaches.ensures
+    ∙ under-held g.H.Hasher.dig c.args.anchors.now 0 (low_file_part c.args.low.now c.args.part.now)
+    c.with_order-found.result
+    (c.with_order-found.ensures g.H.Hasher.dig c.args.anchors.now) c.in-Some.anchor c.low_reaches.result
+    (sym c.find_anchor.ensures ∙ c.in-Some.is) c.low_reaches.ensures

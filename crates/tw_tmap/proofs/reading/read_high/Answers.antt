@@ -1,6 +1,6 @@
-use Rattle.tw_base.proofs.lemmas.format.TakeLaws.{if_read, takes-whole}
+use Rattle.tw_base.proofs.lemmas.format.TakeLaws.{takes-whole}
 use Rattle.tw_tmap.specs.MapFiles.{high_codec}
-use Rattle.tw_tmap.proofs.MapCodec.{high-lawful}
+use Rattle.tw_tmap.proofs.MapCodec.{fits-read, high-lawful}
 use Rattle.tw_tmap.proofs.reading.read_high.Goals as goal
 
 pub returns-clause-read : goal.returns-clause-read
@@ -8,5 +8,4 @@ returns-clause-read c = takes-whole high_codec high-lawful (λ f. f) c.args.byte
     c.whole_to.ensures
 
 pub returns-clause-fits : goal.returns-clause-fits
-returns-clause-fits c = if_read high_codec high-lawful (λ f. f) high_codec.Fits c.args.bytes.now c.whole_to.result
-    (λ f fits. fits) (returns-clause-read c)
+returns-clause-fits c = fits-read high_codec high-lawful c.args.bytes.now c.whole_to.result (returns-clause-read c)
