@@ -7,12 +7,12 @@ use Rattle.std.proofs.lemmas.Bool.{and_parts, leb-true, ltb-true}
 use Rattle.std.proofs.lemmas.Slice.Eq.{bytes_eq-Decides}
 use Rattle.tw_base.specs.declared.history.thread.Entry.{Entry}
 use Rattle.tw_base.specs.declared.history.thread.Thread.{Thread}
-use Rattle.tw_base.specs.history.Family.{AllSound, HasHistory, family_texts}
+use Rattle.tw_base.specs.history.Family.{HasHistory, family_texts}
 use Rattle.tw_base.specs.history.History.{History, entry_at}
 use Rattle.tw_base.specs.kinds.Bytes.{AreBytes}
 use Rattle.tw_base.proofs.lemmas.history.Archives.{received-has}
 use Rattle.tw_base.proofs.lemmas.kinds.Clashes.{Among-left, Among-right, and_then}
-use Rattle.tw_chain.proofs.CheckBinds.{Setting}
+use Rattle.tw_chain.proofs.CheckBinds.{setting_of}
 use Rattle.tw_evidence.specs.ArchiveFiles.{archive_texts}
 use Rattle.tw_evidence.specs.Facts.{conflict_between, conflict_of, conflict_with, lacks_entry}
 use Rattle.tw_evidence.specs.Verdicts.{NoneHas, Says}
@@ -81,19 +81,6 @@ module _ (family : List History) where
 
 module _ (dig : List ℕ → List ℕ) (size : (text : List ℕ) → length (dig text) ≡ 32) (are : (text : List ℕ)
     → AreBytes (dig text)) where
-  abbrev setting_of : (anchors : List Thread) (family : List History) → AllSound family → (texts : List (List ℕ))
-      → Setting
-  setting_of anchors family sound texts = record {
-    dig = dig;
-    size = size;
-    bytes = are;
-    anchors = anchors;
-    family = family;
-    sound = sound;
-    texts = family_texts dig family ++ texts;
-    has_texts = λ t a. Among-left t (family_texts dig family) texts a;
-  }
-
   -- no sound histories have both lines of files that contradict each other, whatever more texts there are
   pub both-none : (anchors others : List Thread) (first second : List ℕ) (one other : Facts) (c : Conflict)
       (more : List (List ℕ))
@@ -106,10 +93,10 @@ module _ (dig : List ℕ → List ℕ) (size : (text : List ℕ) → length (dig
       let texts : List (List ℕ) = of_one ++ (of_other ++ more) in
       let all : List (List ℕ) = family_texts dig family ++ texts in
       and_then dig all _ _
-      (says-stands (setting_of anchors family sound texts) first one said has.0
+      (says-stands (setting_of dig size are anchors family sound texts) first one said has.0
       (λ t a. Among-right t (family_texts dig family) texts (Among-left t of_one (of_other ++ more) a)))
       (λ says. and_then dig all _ _
-      (says-stands (setting_of others family sound texts) second other also has.1.0
+      (says-stands (setting_of dig size are others family sound texts) second other also has.1.0
       (λ t a. Among-right t (family_texts dig family) texts (Among-right t of_one (of_other ++ more)
       (Among-left t of_other more a))))
       (λ denies. absurd (conflict-none family one other c says denies is)))

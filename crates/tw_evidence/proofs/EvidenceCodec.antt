@@ -1,7 +1,7 @@
 -- The codecs of evidence and of its proofs are lawful, and what a value that fits them has.
 use Rattle.std.proofs.Common.{◌≡◌, ℕ, ◌≤◌, List, refl, sym, ◌∙◌, subst, lit≤}
 use Rattle.tw_base.specs.declared.kinds.limits.TheConstants.{LAST_STEP}
-use Rattle.tw_base.specs.format.Codecs.{behind, by_kind, digest_codec, number_codec, pair, seen, variant}
+use Rattle.tw_base.specs.format.Codecs.{Codec, behind, by_kind, digest_codec, number_codec, pair, seen, variant}
 use Rattle.tw_base.specs.format.Fields.{number_bytes}
 use Rattle.tw_base.specs.format.Formats.{Spells}
 use Rattle.tw_base.specs.history.EntryCodec.{entry_codec}
@@ -71,59 +71,51 @@ evidence-of_parts e parts = (parts.first, (parts.second, (parts.bottom, parts.li
 
 -- ---- a proof that stands by itself is a proof of its kind
 
-thread-written : (t : ThreadProof) → thread_proof_codec.write t ≡ proof_codec.write (Archived t)
+-- a value is written by one codec as another value is by another one, and fits the one where that fits the other
+record IsAs {X Y : Type 0} (c : Codec X) (d : Codec Y) (x : X) (y : Y) : Type 0 where
+  written : c.write x ≡ d.write y
+  to : c.Fits x → d.Fits y
+  from : d.Fits y → c.Fits x
+
+-- so what spells the one spells the other
+spelled-as : {X Y : Type 0} (c : Codec X) (d : Codec Y) → Lawful c → Lawful d → (x : X) (y : Y)
+    → c.write x ≡ d.write y → (c.Fits x → d.Fits y) → (bytes : List ℕ) → Spells c.format bytes x
+    → Spells d.format bytes y
+spelled-as c d l m x y written fits bytes s =
+    subst (λ w. Spells d.format w y) (sym (written-as c l bytes x s ∙ written))
+    (m.spells y (fits (spelled-fits c l bytes x s)))
+
+thread-as : (t : ThreadProof) → IsAs thread_proof_codec proof_codec t (Archived t)
 unfolding proof_codec kinds_codec thread_proof_codec behind by_kind variant number_codec number_bytes
-thread-written t = refl
+thread-as t = record { written = refl; to = λ fits. ((lit≤ tt, lit≤ tt), (refl, fits)); from = λ fits. fits.1.1 }
 
-thread-to : (t : ThreadProof) → thread_proof_codec.Fits t → proof_codec.Fits (Archived t)
-unfolding proof_codec kinds_codec thread_proof_codec behind by_kind variant number_codec
-thread-to t fits = ((lit≤ tt, lit≤ tt), (refl, fits))
-
-thread-from : (t : ThreadProof) → proof_codec.Fits (Archived t) → thread_proof_codec.Fits t
-unfolding proof_codec kinds_codec thread_proof_codec behind by_kind variant number_codec
-thread-from t fits = fits.1.1
+link-as : (l : LinkProof) → IsAs link_proof_codec proof_codec l (Linked l)
+unfolding proof_codec kinds_codec link_proof_codec behind by_kind variant number_codec number_bytes
+link-as l = record { written = refl; to = λ fits. ((lit≤ tt, lit≤ tt), (refl, fits)); from = λ fits. fits.1.1 }
 
 -- what is written of it is a proof
 pub thread-spells : (t : ThreadProof) → thread_proof_codec.Fits t → Spells proof_layout (proof_codec.write (Archived t))
     (Archived t)
-thread-spells t fits = proof-lawful.spells (Archived t) (thread-to t fits)
+thread-spells t fits = proof-lawful.spells (Archived t) ((thread-as t).to fits)
 
 pub thread-is-proof : (bytes : List ℕ) (t : ThreadProof) → Spells thread_proof_layout bytes t
     → Spells proof_layout bytes (Archived t)
-thread-is-proof bytes t s =
-    let P : List ℕ → Type 0 = λ w. Spells proof_layout w (Archived t) in
-    subst P (sym (written-as thread_proof_codec thread_proof-lawful bytes t s ∙ thread-written t))
-    (thread-spells t (spelled-fits thread_proof_codec thread_proof-lawful bytes t s))
+thread-is-proof bytes t =
+    let is = thread-as t in spelled-as _ _ thread_proof-lawful proof-lawful t (Archived t) is.written is.to bytes
 
 pub proof-is-thread : (bytes : List ℕ) (t : ThreadProof) → Spells proof_layout bytes (Archived t)
     → Spells thread_proof_layout bytes t
-proof-is-thread bytes t s =
-    let P : List ℕ → Type 0 = λ w. Spells thread_proof_layout w t in
-    subst P (thread-written t ∙ sym (written-as proof_codec proof-lawful bytes (Archived t) s))
-    (thread_proof-lawful.spells t (thread-from t (spelled-fits proof_codec proof-lawful bytes (Archived t) s)))
-
-link-written : (l : LinkProof) → link_proof_codec.write l ≡ proof_codec.write (Linked l)
-unfolding proof_codec kinds_codec link_proof_codec behind by_kind variant number_codec number_bytes
-link-written l = refl
-
-link-to : (l : LinkProof) → link_proof_codec.Fits l → proof_codec.Fits (Linked l)
-unfolding proof_codec kinds_codec link_proof_codec behind by_kind variant number_codec
-link-to l fits = ((lit≤ tt, lit≤ tt), (refl, fits))
-
-link-from : (l : LinkProof) → proof_codec.Fits (Linked l) → link_proof_codec.Fits l
-unfolding proof_codec kinds_codec link_proof_codec behind by_kind variant number_codec
-link-from l fits = fits.1.1
+proof-is-thread bytes t =
+    let is = thread-as t in
+    spelled-as _ _ proof-lawful thread_proof-lawful (Archived t) t (sym is.written) is.from bytes
 
 pub link-is-proof : (bytes : List ℕ) (l : LinkProof) → Spells link_proof_layout bytes l → Spells proof_layout bytes
     (Linked l)
-link-is-proof bytes l s =
-    let P : List ℕ → Type 0 = λ w. Spells proof_layout w (Linked l) in
-    subst P (sym (written-as link_proof_codec link_proof-lawful bytes l s ∙ link-written l))
-    (proof-lawful.spells (Linked l) (link-to l (spelled-fits link_proof_codec link_proof-lawful bytes l s)))
+link-is-proof bytes l =
+    let is = link-as l in spelled-as _ _ link_proof-lawful proof-lawful l (Linked l) is.written is.to bytes
 
 pub proof-is-link : (bytes : List ℕ) (l : LinkProof) → Spells proof_layout bytes (Linked l) → Spells link_proof_layout
     bytes l
-proof-is-link bytes l s =
-    let P : List ℕ → Type 0 = λ w. Spells link_proof_layout w l in
-    subst P (link-written l ∙ sym (written-as proof_codec proof-lawful bytes (Linked l) s))
-    (link_proof-lawful.spells l (link-from l (spelled-fits proof_codec proof-lawful bytes (Linked l) s)))
+proof-is-link bytes l =
+    let is = link-as l in
+    spelled-as _ _ proof-lawful link_proof-lawful (Linked l) l (sym is.written) is.from bytes

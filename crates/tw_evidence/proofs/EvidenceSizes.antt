@@ -1,16 +1,15 @@
 -- How many bytes evidence has at most.
-use Rattle.std.proofs.Common.{ℕ, ◌≤◌, List, ◌++◌, length, arith}
-use Rattle.std.proofs.lemmas.List.{length-append}
+use Rattle.std.proofs.Common.{ℕ, ◌≤◌, List, length, arith}
 use Rattle.tw_base.specs.declared.kinds.limits.TheConstants.{LAST_STEP}
-use Rattle.tw_base.specs.format.Codecs.{Codec, number_codec}
+use Rattle.tw_base.specs.format.Codecs.{number_codec}
 use Rattle.tw_base.specs.format.Formats.{IsFront}
-use Rattle.tw_base.proofs.lemmas.format.CodecLaws.{Lawful}
 use Rattle.tw_base.proofs.lemmas.format.CodecSizes.{AtMost, at_most-behind, at_most-bytes, at_most-name, at_most-number}
-use Rattle.tw_base.proofs.lemmas.format.CodecSizes.{at_most-pair, at_most-seen, word-size}
+use Rattle.tw_base.proofs.lemmas.format.CodecSizes.{at_most-pair, at_most-seen}
 use Rattle.tw_base.proofs.lemmas.history.EntryCodecLaws.{entry-most}
 use Rattle.tw_skipproof.proofs.Shapes.{part-most, path-most}
 use Rattle.tw_treeproof.proofs.LawfulCodecs.{present-most}
 use Rattle.tw_chain.specs.Proofs.{link_body, thread_body}
+use Rattle.tw_tmap.proofs.MapSizes.{front-size}
 use Rattle.tw_evidence.specs.Evidence.{evidence_codec, evidence_layout, link_proof_codec, link_proof_layout}
 use Rattle.tw_evidence.specs.Evidence.{thread_proof_codec, thread_proof_layout}
 use Rattle.tw_evidence.proofs.EvidenceCodec.{evidence-lawful, link_proof-lawful, steps-in-range, thread_proof-lawful}
@@ -28,13 +27,6 @@ evidence-most =
     (λ first _. at_most-pair _ _ 67474 53792 thread_proof-most (λ second fits.
     at_most-pair _ _ 32 53760 (at_most-bytes 32) (λ _ _. path-most second.entry.thread.step first.entry.thread.step
     (let in_range = (steps-in-range second fits).thread in omega (arith, in_range)))))))
-
--- a front of a word has no more bytes than the word
-front-size : {X : Type 0} (c : Codec X) → Lawful c → (n : ℕ) → AtMost c n → (bytes : List ℕ) → IsFront c.format bytes
-    → length bytes ≤ n
-front-size c l n most bytes front =
-    let whole = word-size c l n most (bytes ++ front.0) front.1 front.2 in
-    omega (arith, whole, length-append bytes front.0)
 
 pub evidence-size : (bytes : List ℕ) → IsFront evidence_layout bytes → length bytes ≤ 188744
 evidence-size = front-size evidence_codec evidence-lawful 188744 evidence-most

@@ -2,7 +2,6 @@
 use Rattle.std.proofs.Common.{◌≡◌, ◌⊎◌, ℕ, List, refl, sym, ap, ◌∙◌, subst, arith, inl, inr}
 use Rattle.std.specs.Prelude.{Bool, true, false, Option, Some, None, ◌==◌, not, nat_le, if◌then◌else◌}
 use Rattle.std.specs.Bool.{Decides}
-use Rattle.std.specs.Option.{option_map_or}
 use Rattle.std.specs.Str.{bytes_eq}
 use Rattle.std.proofs.lemmas.Bool.{and_cases, false_from_ne_true, leb-false, not-false, true_from_ne_false}
 use Rattle.std.proofs.lemmas.Bool.Decides.{not_from_Decides}
@@ -26,16 +25,16 @@ use Rattle.tw_chain.specs.Proofs.{proof_bytes, proof_layout}
 use Rattle.tw_chain.specs.Reasons.{Fails, IsVerdict, StandsAgainst}
 use Rattle.tw_chain.proofs.Lowest.{IsLeast, first-fails, found-lowest, found-none, passing-fails}
 use Rattle.tw_chain.proofs.PassesLaws.{climbs-is}
+use Rattle.tw_tmap.proofs.MapChecks.{passing-found}
 use Rattle.tw_evidence.specs.declared.evidence.Evidence.{Evidence}
 use Rattle.tw_evidence.specs.declared.fork.ForkReason.{ForkReason}
 use Rattle.tw_evidence.specs.declared.fork.ForkReason.TheVariants.{Malformed as NoWord, Part, NoConflict, BadLink}
-use Rattle.tw_evidence.specs.declared.fork.ForkVerdict.{ForkVerdict}
-use Rattle.tw_evidence.specs.declared.fork.ForkVerdict.TheVariants.{Yes, No}
+use Rattle.tw_evidence.specs.declared.fork.ForkVerdict.TheVariants.{No}
 use Rattle.tw_evidence.specs.Evidence.{thread_proof_codec}
 use Rattle.tw_evidence.specs.Forks.{HasNoConflict, IsEvidenceAccepted, IsReasonTold, are_in_order, conflict_verdict}
-use Rattle.tw_evidence.specs.Forks.{conflicts, fork_of, fork_verdict, link_climbs, lower, upper}
+use Rattle.tw_evidence.specs.Forks.{conflicts, fork_verdict, link_climbs, lower, upper}
 use Rattle.tw_evidence.proofs.EvidenceCodec.{thread-spells}
-use Rattle.tw_evidence.proofs.Verdicts.{conflicts-is, passing-found}
+use Rattle.tw_evidence.proofs.Verdicts.{conflicts-is, one, two, verdict_with}
 
 module _ (dig : List ℕ → List ℕ) (anchors : List Thread) (t : ThreadProof) where
   abbrev FailsFor : Reason → Type 0
@@ -160,18 +159,7 @@ module _ (dig : List ℕ → List ℕ) (anchors : List Thread) (t : ThreadProof)
 
 module _ (dig : List ℕ → List ℕ) (anchors : List Thread) (e : Evidence) (first_fits : thread_proof_codec.Fits e.first)
     (second_fits : thread_proof_codec.Fits e.second) where
-  abbrev one : Option Reason
-  one = found_in dig anchors (checks (Archived e.first))
-
-  abbrev two : Option Reason
-  two = found_in dig anchors (checks (Archived e.second))
-
-  abbrev with_found : (first second : Option Reason) (conflict climbs : Bool) → ForkVerdict
-  with_found first second conflict climbs =
-      option_map_or (λ reason. No (Part 1 reason)) first (option_map_or (λ reason. No (Part 2 reason)) second
-      (if not conflict then No NoConflict else (if climbs then Yes (fork_of e) else No BadLink)))
-
-  accepted : one ≡ None → two ≡ None → IsEvidenceAccepted dig anchors e
+  accepted : one dig anchors e ≡ None → two dig anchors e ≡ None → IsEvidenceAccepted dig anchors e
   accepted a b = (
     found-none dig anchors false (checks (Archived e.first)) a,
     found-none dig anchors false (checks (Archived e.second)) b,
@@ -204,9 +192,10 @@ module _ (dig : List ℕ → List ℕ) (anchors : List Thread) (e : Evidence) (f
   climbs_as : Decides (link_climbs dig e) PathClimbs
   climbs_as = climbs-is dig e.link.links (upper e).step (lower e).step e.bottom (Some (upper e).auth)
 
-  told : (reason : ForkReason) (first second : Option Reason) (conflict climbs : Bool) → one ≡ first → two ≡ second
+  told : (reason : ForkReason) (first second : Option Reason) (conflict climbs : Bool)
+      → one dig anchors e ≡ first → two dig anchors e ≡ second
       → conflicts e ≡ conflict → link_climbs dig e ≡ climbs
-      → with_found first second conflict climbs ≡ No reason → IsReasonTold dig anchors e reason
+      → verdict_with dig anchors e first second conflict climbs ≡ No reason → IsReasonTold dig anchors e reason
   told reason (Some r) second conflict climbs a b c d is =
       let same : Part 1 r ≡ reason = cc in
       subst (IsReasonTold dig anchors e) same (inl (refl, found-verdict dig anchors e.first first_fits r a))
@@ -228,34 +217,35 @@ module _ (dig : List ℕ → List ℕ) (anchors : List Thread) (e : Evidence) (f
   told reason None None true true a b c d is = absurd (cc)
 
   pub no-told : (reason : ForkReason) → fork_verdict dig anchors e ≡ No reason → IsReasonTold dig anchors e reason
-  no-told reason is = told reason one two (conflicts e) (link_climbs dig e) refl refl refl refl is
+  no-told reason is = told reason (one dig anchors e) (two dig anchors e) (conflicts e) (link_climbs dig e) refl refl
+      refl refl is
 
   -- the verdict where both proofs are accepted
   both_none : IsEvidenceAccepted dig anchors e → fork_verdict dig anchors e ≡ conflict_verdict dig e
   both_none are =
-      ap (λ (o : Option Reason). with_found o two (conflicts e) (link_climbs dig e))
+      ap (λ (o : Option Reason). verdict_with dig anchors e o (two dig anchors e) (conflicts e) (link_climbs dig e))
       (passing-found dig anchors (checks (Archived e.first)) are.0)
-      ∙ ap (λ (o : Option Reason). with_found None o (conflicts e) (link_climbs dig e))
+      ∙ ap (λ (o : Option Reason). verdict_with dig anchors e None o (conflicts e) (link_climbs dig e))
       (passing-found dig anchors (checks (Archived e.second)) are.1)
 
   pub told-no : (reason : ForkReason) → IsReasonTold dig anchors e reason → fork_verdict dig anchors e ≡ No reason
   told-no (NoWord place) is = absurd is
   told-no (Part number reason) (inl is) =
-      ap (λ (o : Option Reason). with_found o two (conflicts e) (link_climbs dig e))
+      ap (λ (o : Option Reason). verdict_with dig anchors e o (two dig anchors e) (conflicts e) (link_climbs dig e))
       (verdict-found dig anchors e.first first_fits reason is.1)
       ∙ ap (λ (n : ℕ). No (Part n reason)) (sym is.0)
   told-no (Part number reason) (inr is) =
-      ap (λ (o : Option Reason). with_found o two (conflicts e) (link_climbs dig e))
+      ap (λ (o : Option Reason). verdict_with dig anchors e o (two dig anchors e) (conflicts e) (link_climbs dig e))
       (passing-found dig anchors (checks (Archived e.first)) is.1)
-      ∙ ap (λ (o : Option Reason). with_found None o (conflicts e) (link_climbs dig e))
+      ∙ ap (λ (o : Option Reason). verdict_with dig anchors e None o (conflicts e) (link_climbs dig e))
       (verdict-found dig anchors e.second second_fits reason is.2)
       ∙ ap (λ (n : ℕ). No (Part n reason)) (sym is.0)
   told-no NoConflict is =
       let none : conflicts e ≡ false = false_from_ne_true (conflicts e) (λ conflict. conflict_none conflict is.1) in
-      both_none is.0 ∙ ap (λ (b : Bool). with_found None None b (link_climbs dig e)) none
+      both_none is.0 ∙ ap (λ (b : Bool). verdict_with dig anchors e None None b (link_climbs dig e)) none
   told-no BadLink is =
       let conflict : conflicts e ≡ true = true_from_ne_false (conflicts e) (λ none. is.1 (no_conflict none)) in
       let falls : link_climbs dig e ≡ false = false_from_ne_true (link_climbs dig e)
       (λ climbs. is.2 (climbs_as.0 climbs)) in
-      both_none is.0 ∙ ap (λ (b : Bool). with_found None None b (link_climbs dig e)) conflict
-      ∙ ap (λ (b : Bool). with_found None None true b) falls
+      both_none is.0 ∙ ap (λ (b : Bool). verdict_with dig anchors e None None b (link_climbs dig e)) conflict
+      ∙ ap (λ (b : Bool). verdict_with dig anchors e None None true b) falls

@@ -1,6 +1,6 @@
 -- What the answer of a sound history's archive says of what the history received.
 use Rattle.std.proofs.Common.{◌≡◌, ℕ, suc, zero, ◌-◌, ◌<◌, ◌≤◌, List, [], ◌∷◌, ◌++◌, length, refl, sym, ap, ◌∙◌, subst}
-use Rattle.std.proofs.Common.{arith, inl, inr}
+use Rattle.std.proofs.Common.{◌⊎◌, arith, inl, inr}
 use Rattle.std.specs.Prelude.{Bool, true, false, Option, Some, None, IfSome, if◌then◌else◌}
 use Rattle.std.specs.Option.{option_to_list}
 use Rattle.std.specs.Str.{bytes_eq}
@@ -55,6 +55,16 @@ rises-before (x ∷ xs) e f rises (inl here) same =
     (In-right e xs (e ∷ []) (inl refl))
     (sym same ∙ ap (λ (g : Entry). g.thread.from) here))
 rises-before (x ∷ xs) e f rises (inr there) same = rises-before xs e f rises.1 there same
+
+-- of two entries of one service whose keys are in order the first has no greater step
+not-above : {Same : Type 0} (from : List ℕ) (a b : Entry) → a.thread.from ≡ from → b.thread.from ≡ from
+    → (Same → a.thread.step ≡ b.thread.step) → Same ⊎ KeyBelow (key_of a) (key_of b) → a.thread.step ≤ b.thread.step
+not-above from a b one other same (inl is) = let equal = same is in omega (arith, equal)
+not-above from a b one other same (inr below) =
+    let less = below-step from a.thread.step b.thread.step
+    (subst (λ (n : List ℕ). KeyBelow (key n a.thread.step) (key from b.thread.step)) one
+    (subst (λ (n : List ℕ). KeyBelow (key_of a) (key n b.thread.step)) other below)) in
+    omega (arith, less)
 
 module _ (h : History) (sound : IsSound h) where
   before-lower : (n : ℕ) (e f : Entry) → entry_at h n ≡ Some e → In f (received h (n - 1))
@@ -117,16 +127,10 @@ module _ (h : History) (sound : IsSound h) where
           with_name true test =
               let same : e.thread.from ≡ from = (bytes_eq-Decides e.thread.from from).0 test in (
                 in-received e greatest.has,
-                λ f there name above last. elim (greatest.greatest f (held f there)
-                    (under f name (omega (arith, above, last)))) [
-                      | inl is ↦ (let equal : f.thread.step ≡ e.thread.step = ap (λ (g : Entry). g.thread.step) is in
-                          absurd (omega (arith, above, equal)))
-                      | inr below ↦ (
-                          let less = below-step from f.thread.step e.thread.step
-                          (subst (λ (n : List ℕ). KeyBelow (key n f.thread.step) (key from e.thread.step)) name
-                          (subst (λ (n : List ℕ). KeyBelow (key_of f) (key n e.thread.step)) same below)) in
-                          absurd (omega (arith, above, less)))
-                    ],
+                λ f there name above last. (
+                    let order = not-above from f e name same (λ (is : f ≡ e). ap (λ (g : Entry). g.thread.step) is)
+                    (greatest.greatest f (held f there) (under f name (omega (arith, above, last)))) in
+                    absurd (omega (arith, above, order))),
               )
           with_name false test = (
             tt,
@@ -168,15 +172,10 @@ module _ (h : History) (sound : IsSound h) where
                 λ f there name above last. (
                     let lower = before-lower e.archived e f (in-received e least.has) there (name ∙ sym same) in
                     let known = earlier-in (e.archived - 1) (omega (arith, own, at.1)) f there in
-                    elim (least.least f (held f known) (over f name above)) [
-                      | inl is ↦ (let equal : f.thread.step ≡ e.thread.step = ap (λ (g : Entry). g.thread.step) is in
-                          absurd (omega (arith, lower, equal)))
-                      | inr below ↦ (
-                          let less = below-step from e.thread.step f.thread.step
-                          (subst (λ (n : List ℕ). KeyBelow (key n e.thread.step) (key from f.thread.step)) same
-                          (subst (λ (n : List ℕ). KeyBelow (key_of e) (key n f.thread.step)) name below)) in
-                          absurd (omega (arith, lower, less)))
-                    ]),
+                    let order = not-above from e f same name (λ (is : f ≡ e). ap (λ (g : Entry). g.thread.step)
+                    (sym is))
+                    (least.least f (held f known) (over f name above)) in
+                    absurd (omega (arith, lower, order))),
               )
           with_name false test = (
             tt,

@@ -2,15 +2,15 @@
 use Rattle.std.proofs.Common.{◌≡◌, ℕ, ◌-◌, ◌^◌, List, refl, subst, arith, inl, inr}
 use Rattle.std.specs.Prelude.{Option, Some, None, IfSome}
 use Rattle.std.specs.Option.{option_map}
-use Rattle.tw_base.specs.declared.history.thread.Key.{Key}
+use Rattle.tw_base.specs.declared.history.tree_proof.Ask.{Ask}
 use Rattle.tw_base.specs.declared.history.tree_proof.Ask.TheVariants as ask
 use Rattle.tw_base.specs.declared.history.tree_proof.TreeProof.{TreeProof}
-use Rattle.tw_base.specs.declared.history.tree_proof.TreeProof.TheVariants as trees
 use Rattle.tw_base.specs.format.Codecs.{behind, by_kind, pair, seen, variant}
 use Rattle.tw_base.specs.format.Formats.{Spells}
 use Rattle.tw_base.proofs.lemmas.format.CodecLaws.{spelled-fits}
+use Rattle.tw_skipproof.specs.declared.existence.Part.{Part}
+use Rattle.tw_skipproof.specs.Codecs.{part_codec}
 use Rattle.tw_skipproof.proofs.Shapes.{part-shape}
-use Rattle.tw_treeproof.specs.Codecs.{gap_codec}
 use Rattle.tw_treeproof.specs.Sizes.{HasProofSizes}
 use Rattle.tw_chain.specs.declared.proof.AbsenceProof.{AbsenceProof}
 use Rattle.tw_chain.specs.declared.proof.Proof.{Proof}
@@ -24,6 +24,7 @@ use Rattle.tw_tmap.specs.declared.map_file.LowFile.{LowFile}
 use Rattle.tw_tmap.specs.declared.map_file.LowPart.{LowPart}
 use Rattle.tw_tmap.specs.Checking.{low_ask, low_file_part}
 use Rattle.tw_tmap.specs.MapFiles.{high_codec, high_layout, low_codec, low_layout}
+use Rattle.tw_tmap.proofs.MapBinds.{above-sizes, below-sizes}
 use Rattle.tw_tmap.proofs.MapCodec.{BeforeFits, HighFits, LowFits, high-fields, high-lawful, low-fields, low-lawful}
 use Rattle.tw_evidence.specs.ArchiveFiles.{IsFileOf, of_high, of_low, of_proof}
 use Rattle.tw_evidence.specs.Fitting.{IsSmall}
@@ -34,35 +35,22 @@ pub record ArchiveSizes (a : ArchiveProof) : Type 0 where
   pub shown : HasProofSizes a.ask a.shown
   pub small : IsSmall a
 
-below-sizes : (asked : Key) (proof : TreeProof) → gap_codec.Fits proof → HasProofSizes (ask.Below asked) proof
-below-sizes asked (trees.Present left right up) fits = gap-sizes asked (trees.Present left right up) fits
-below-sizes asked (trees.Gap up) fits = gap-sizes asked (trees.Gap up) fits
-
-above-sizes : (asked : Key) (proof : TreeProof) → gap_codec.Fits proof → HasProofSizes (ask.Above asked) proof
-above-sizes asked (trees.Present left right up) fits = gap-sizes asked (trees.Present left right up) fits
-above-sizes asked (trees.Gap up) fits = gap-sizes asked (trees.Gap up) fits
+-- of a step under a top, and an answer of its archive
+answer-sizes : (at : Part) (asked : Ask) (shown : TreeProof) → (part_codec 0).Fits at → HasProofSizes asked shown
+    → ArchiveSizes (record { at = at; ask = asked; shown = shown })
+answer-sizes at asked shown fits sizes =
+    let steps = (part-shape 0 at fits).1 in
+    record { part = part-sizes 0 at fits; shown = sizes; small = record { step = steps.step; top = steps.top } }
 
 thread-sizes : (p : ThreadProof) → thread_body.Fits p
     → ArchiveSizes (record { at = p.at; ask = ask.Present p.entry; shown = p.shown })
 unfolding thread_body pair seen
-thread-sizes p fits =
-    let at = (part-shape 0 p.at fits.0).1 in
-    record {
-      part = part-sizes 0 p.at fits.0;
-      shown = present-sizes p.entry p.shown fits.1.0 fits.1.1;
-      small = record { step = at.step; top = at.top };
-    }
+thread-sizes p fits = answer-sizes p.at _ p.shown fits.0 (present-sizes p.entry p.shown fits.1.0 fits.1.1)
 
 absence-sizes : (p : AbsenceProof) → absence_body.Fits p
     → ArchiveSizes (record { at = p.at; ask = ask.Absent p.key; shown = p.shown })
 unfolding absence_body pair seen
-absence-sizes p fits =
-    let at = (part-shape 0 p.at fits.0).1 in
-    record {
-      part = part-sizes 0 p.at fits.0;
-      shown = gap-sizes p.key p.shown fits.1.1;
-      small = record { step = at.step; top = at.top };
-    }
+absence-sizes p fits = answer-sizes p.at _ p.shown fits.0 (gap-sizes p.key p.shown fits.1.1)
 
 of_some : {X : Type 0} (P : X → Type 0) (x y : X) → Some x ≡ Some y → P x → P y
 of_some P x y same p = let is : x ≡ y = cc in subst P is p
@@ -92,14 +80,14 @@ low-sizes f a fits is = by f.shown fits.before is
         opening = opening-sizes 0 (f.step - 1) p.opening before.1.opening;
       };
       shown = below-sizes (record { from = f.peer; step = 2 ^ 40 }) p.shown before.1.tree;
-      small = record { step = (let most = fits.step in omega (arith, most)); top = fits.top };
+      small = record { step = (let most = fits.steps.step_within in omega (arith, most)); top = fits.steps.top_within };
     })
 
 high-sizes : (f : HighFile) → HighFits f → ArchiveSizes (of_high f)
 high-sizes f fits = record {
   part = record { links = tt; opening = opening-sizes 0 f.top f.opening fits.opening };
   shown = above-sizes (record { from = f.peer; step = f.step - 1 }) f.shown fits.tree;
-  small = record { step = fits.top; top = fits.top };
+  small = record { step = fits.steps.top_within; top = fits.steps.top_within };
 }
 
 pub file-sizes : (bytes : List ℕ) (a : ArchiveProof) → IsFileOf bytes a → ArchiveSizes a

@@ -9,13 +9,12 @@ use Rattle.std.proofs.lemmas.Bool.Decides.{Decides-and, Decides-not}
 use Rattle.std.proofs.lemmas.Slice.Eq.{bytes_eq-Decides}
 use Rattle.tw_base.specs.declared.history.report.Reason.{Reason}
 use Rattle.tw_base.specs.declared.history.thread.Thread.{Thread}
-use Rattle.tw_base.specs.kinds.Lists.{Each}
 use Rattle.tw_chain.specs.declared.proof.Proof.TheVariants.{Archived}
-use Rattle.tw_chain.specs.Checks.{Check, checks}
+use Rattle.tw_chain.specs.Checks.{checks}
 use Rattle.tw_chain.specs.Finding.{found_in}
-use Rattle.tw_chain.specs.Passing.{Passes}
-use Rattle.tw_chain.proofs.Lowest.{found-lowest, found-none, passing-fails}
+use Rattle.tw_chain.proofs.Lowest.{found-none}
 use Rattle.tw_chain.proofs.PassesLaws.{climbs-is}
+use Rattle.tw_tmap.proofs.MapChecks.{passing-found}
 use Rattle.tw_evidence.specs.declared.evidence.Evidence.{Evidence}
 use Rattle.tw_evidence.specs.declared.fork.Fork.{Fork}
 use Rattle.tw_evidence.specs.declared.fork.ForkReason.TheVariants.{Part, NoConflict, BadLink}
@@ -39,26 +38,15 @@ conflicts-is e =
     (Decides-not same (bytes_eq-Decides e.bottom (lower e).auth))
 
 module _ (dig : List ℕ → List ℕ) (anchors : List Thread) where
-  -- where each check passes nothing is found
-  pub passing-found : (cs : List Check) → Each (Passes dig anchors) cs → found_in dig anchors cs ≡ None
-  passing-found cs all =
-      let cases : (found : Option Reason) → found_in dig anchors cs ≡ found → found ≡ None =
-      elim [
-        | None ↦ λ none. refl
-        | Some reason ↦ λ some. absurd (passing-fails dig anchors false cs reason all
-            (found-lowest dig anchors false cs reason some).fails)
-      ]
-      in cases (found_in dig anchors cs) refl
-
   module _ (e : Evidence) where
-    abbrev one : Option Reason
+    abbrev pub one : Option Reason
     one = found_in dig anchors (checks (Archived e.first))
 
-    abbrev two : Option Reason
+    abbrev pub two : Option Reason
     two = found_in dig anchors (checks (Archived e.second))
 
     -- the verdict of what is found of both proofs, whether the threads conflict, and whether the path climbs
-    abbrev verdict_with : (first second : Option Reason) (conflict climbs : Bool) → ForkVerdict
+    abbrev pub verdict_with : (first second : Option Reason) (conflict climbs : Bool) → ForkVerdict
     verdict_with first second conflict climbs =
         option_map_or (λ reason. No (Part 1 reason)) first (option_map_or (λ reason. No (Part 2 reason)) second
         (if not conflict then No NoConflict else (if climbs then Yes (fork_of e) else No BadLink)))
@@ -93,8 +81,8 @@ module _ (dig : List ℕ → List ℕ) (anchors : List Thread) where
     -- and where it shows a fork, the verdict is Yes
     pub shows-yes : ShowsFork dig anchors e → fork_verdict dig anchors e ≡ Yes (fork_of e)
     shows-yes is =
-        let first : one ≡ None = passing-found (checks (Archived e.first)) is.first in
-        let second : two ≡ None = passing-found (checks (Archived e.second)) is.second in
+        let first : one ≡ None = passing-found dig anchors (checks (Archived e.first)) is.first in
+        let second : two ≡ None = passing-found dig anchors (checks (Archived e.second)) is.second in
         let conflict : conflicts e ≡ true = (conflicts-is e).1 ((is.service, is.order), is.differs) in
         let climbs : link_climbs dig e ≡ true = (climbs-is dig e.link.links (upper e).step (lower e).step e.bottom
         (Some (upper e).auth)).1 is.climbs in

@@ -1,5 +1,5 @@
 // Writing evidence of a fork, for whoever accuses; proofs by themselves are written in tw_chain.
-#![tactic(auto, unfolding(crate::specs::Seen::evidence_writing))]
+#![tactic(auto, unfolding(crate::specs::Evidence::evidence_codec, crate::specs::Evidence::thread_proof_codec, tw_skipproof::specs::Seen::parts))]
 
 ghost use Rattle.std.specs.Prelude.{◌≡◌, ◌++◌, IfOk, OnOk};
 ghost use Rattle.tw_base.specs.format.Formats.{Spells};

@@ -3,10 +3,11 @@ use Rattle.tw_evidence.proofs.Sizes.{file-sizes, high-some, low-some, small-if}
 use Rattle.tw_evidence.proofs.archive_reading.read_file.Goals as goal
 
 pub of_low-requires : goal.of_low-requires
-of_low-requires c = (low-some c.args.bytes.now c.in-Ok-read_low.file c.in-Ok-read_low.ensures.read).some
+of_low-requires c = (low-some c.args.bytes.now c.in-Ok-read_low.file c.in-Ok-read_low.ensures.read).steps.some
 
 pub of_high-requires-clause-some : goal.of_high-requires-clause-some
-of_high-requires-clause-some c = (high-some c.args.bytes.now c.in-Ok-read_high.file c.in-Ok-read_high.ensures.read).some
+of_high-requires-clause-some c =
+    (high-some c.args.bytes.now c.in-Ok-read_high.file c.in-Ok-read_high.ensures.read).steps.some
 
 pub returns-in-Ok-clause-small : goal.returns-in-Ok-clause-small
 returns-in-Ok-clause-small c = small-if c.args.bytes.now c.of_proof.result
