@@ -1,15 +1,14 @@
 -- A store that has its first record and no page yet.
-use Rattle.std.proofs.Common.{◌≡◌, ℕ, List, [], length, refl, ap, sym, ◌∙◌, subst, inl, inr, ⊎_elim, ◌⊎◌}
+use Rattle.std.proofs.Common.{◌≡◌, ℕ, List, [], refl, inl, inr, ⊎_elim, ◌⊎◌}
 use Rattle.tw_disk.specs.Image.{Image}
 use Rattle.tw_disk.specs.Disk.{DiskView, IsAtRest, LeavesOnly, Reads}
 use Rattle.tw_disk.proofs.Moments.{leaves_weaker}
-use Rattle.tw_pages.specs.Init.{first_opening, second_opening}
-use Rattle.tw_pages.specs.Init.{IsBlankOrRoot}
+use Rattle.tw_pages.specs.Init.{IsBlankOrRoot, first_opening, second_opening}
 use Rattle.tw_pages.specs.StoreValue.{IsKept, opening_of, store_disk}
-use Rattle.tw_pages.specs.Store.{Opening, OpensAs, used_of}
 use Rattle.tw_pages.specs.declared.store.Store.{Store}
-use Rattle.tw_pages.specs.Records.{HasRoot, IsBlankOrNew, IsWritten, RecordKind, Written, written_record}
-use Rattle.tw_pages.specs.Rests.{HasPages, RestsWith}
+use Rattle.tw_pages.specs.Records.{HasRoot, IsBlankOrNew, RecordKind, written_record}
+use Rattle.tw_pages.specs.Rests.{RestsWith}
+use Rattle.tw_pages.proofs.Written.{rests_with}
 
 module _ {R : Type 0} (kind : RecordKind R) (r : R) (first : kind.May 4 1 r) (second : kind.May 4 0 r) (root : List ℕ)
     (root_is : root ≡ kind.bytes r) where
@@ -22,18 +21,7 @@ module _ {R : Type 0} (kind : RecordKind R) (r : R) (first : kind.May 4 1 r) (se
   pub rests_new : {D : Type 0} {g : _} (view : D → DiskView) (store : Store D g) → IsAtRest (view (store_disk store))
       (λ i. IsKept store i × (opening_of store i ≡ first_opening root))
       → RestsWith view kind store (written_record r [])
-  rests_new view store rest =
-      let o = sym rest.has.1 in
-      record {
-        image = rest.image;
-        told = rest.told;
-        only = rest.only;
-        has = record {
-          kept = rest.has.0;
-          has = subst (λ (p : Opening). HasRoot kind p r) o one_root;
-          pages_are = ap (λ (p : Opening). p.pages) rest.has.1;
-        };
-      }
+  rests_new view store rest = rests_with view kind store (first_opening root) (written_record r []) rest one_root refl
 
   -- what is left of a store in the making
   begun : (i : Image) → IsBlankOrRoot root i → IsBlankOrNew kind r i

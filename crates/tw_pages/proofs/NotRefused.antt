@@ -1,5 +1,5 @@
 -- An image that opens isn't refused, and one that is refused is refused for one reason.
-use Rattle.std.proofs.Common.{Bool, true, false, ◌≡◌, inl, inr, ⊎_elim, ℕ, ◌+◌, ◌<◌, length, get_or, sym, ◌∙◌, ap}
+use Rattle.std.proofs.Common.{Bool, true, false, ◌≡◌, inl, inr, ⊎_elim, ℕ, ◌+◌, ◌<◌, List, length, get_or, sym, ◌∙◌, ap}
 use Rattle.std.proofs.Common.{subst, refl, arith}
 use Rattle.std.proofs.lemmas.Bool.{cases_eq}
 use Rattle.tw_disk.specs.Image.{Image, page_at}
@@ -30,29 +30,25 @@ module _ (o : Opening) (c : Image) (opens : OpensAs o c) where
         older.root in broken.no_body _ _ _ (subst P (sym s) older.body)) opens.counts
   ]
 
+  -- two open gates over bodies of one generation
+  at_odds : (slot spare generation used used' : ℕ) (root root' : List ℕ) → o.slot ≡ slot → spare_of o ≡ spare
+      → IsOpen spare c → IsBody (length c) (page_at c (2 + slot)) generation used root
+      → IsBody (length c) (page_at c (2 + spare)) generation used' root' → ⊥
+  at_odds slot spare generation used used' root root' is s gate first second =
+      ⊎_elim
+      (λ closed. closed (ap (λ (k : ℕ). get_or (page_at c k) 0 0) s ∙ gate))
+      (λ older.
+      let P : ℕ → Type 0 = λ k. IsBody (length c) (page_at c (2 + k)) o.generation (used_of o) o.root in
+      let Q : ℕ → Type 0 = λ k. IsBody (length c) (page_at c (2 + k)) older.generation older.used older.root in
+      let here = same_generation _ _ _ _ _ _ _ _ (subst P is opens.stands.body) first in
+      let there = same_generation _ _ _ _ _ _ _ _ (subst Q s older.body) second in
+      omega (arith, here, there, older.lower)) opens.counts
+
   both_open : HasOneGeneration c → ⊥
   both_open one = elim (cases_eq o.slot 0) [
-    | inl is ↦
-        let s : spare_of o ≡ 1 = omega (arith, is) in
-        ⊎_elim
-        (λ closed. closed (ap (λ (k : ℕ). get_or (page_at c k) 0 0) s ∙ one.gate_second))
-        (λ older.
-        let P : ℕ → Type 0 = λ k. IsBody (length c) (page_at c (2 + k)) o.generation (used_of o) o.root in
-        let Q : ℕ → Type 0 = λ k. IsBody (length c) (page_at c (2 + k)) older.generation older.used older.root in
-        let here = same_generation _ _ _ _ _ _ _ _ (subst P is opens.stands.body) one.first in
-        let there = same_generation _ _ _ _ _ _ _ _ (subst Q s older.body) one.second in
-        omega (arith, here, there, older.lower)) opens.counts
-    | inr ne ↦
-        let s : spare_of o ≡ 0 = omega (arith, low, ne) in
-        let at : o.slot ≡ 1 = omega (arith, low, ne) in
-        ⊎_elim
-        (λ closed. closed (ap (λ (k : ℕ). get_or (page_at c k) 0 0) s ∙ one.gate_first))
-        (λ older.
-        let P : ℕ → Type 0 = λ k. IsBody (length c) (page_at c (2 + k)) o.generation (used_of o) o.root in
-        let Q : ℕ → Type 0 = λ k. IsBody (length c) (page_at c (2 + k)) older.generation older.used older.root in
-        let here = same_generation _ _ _ _ _ _ _ _ (subst P at opens.stands.body) one.second in
-        let there = same_generation _ _ _ _ _ _ _ _ (subst Q s older.body) one.first in
-        omega (arith, here, there, older.lower)) opens.counts
+    | inl is ↦ at_odds 0 1 _ _ _ _ _ is (omega (arith, is)) one.gate_second one.first one.second
+    | inr ne ↦ at_odds 1 0 _ _ _ _ _ (omega (arith, low, ne)) (omega (arith, low, ne)) one.gate_first one.second
+        one.first
   ]
 
   not_blank : IsBlank c → ⊥

@@ -56,6 +56,12 @@ module _ (o : Opening) (page : ℕ) (d c : Image) (torn : Torn page d c) where
     lower = older.lower;
   }
 
+  alone_elsewhere : IsElsewhere o page → page ≢ spare_of o → OpensAlone o d → OpensAlone o c
+  alone_elsewhere elsewhere ne opens = let low : o.slot < 2 = opens.stands.which in record {
+    stands = stands_elsewhere elsewhere opens.stands;
+    closed = closed_elsewhere (spare_of o) (omega (arith, opens.stands.room)) (λ e. ne (sym e)) opens.closed;
+  }
+
   -- a torn write of the spare gate
   pub torn_gate : page ≡ spare_of o → OpensAboveOlder o d → OpensAboveOlder o c
   torn_gate is opens = let low : o.slot < 2 = opens.stands.which in record {
@@ -70,24 +76,15 @@ module _ (o : Opening) (page : ℕ) (d c : Image) (torn : Torn page d c) where
 
   -- a torn write of the spare body
   pub torn_body : page ≡ 2 + spare_of o → OpensAlone o d → OpensAlone o c
-  torn_body is opens = let low : o.slot < 2 = opens.stands.which in record {
-    stands = stands_elsewhere
-        (record {
-          no_gate = λ e. absurd (omega arith);
-          no_body = λ e. absurd (omega arith);
-          no_page = inl (omega arith);
-        }) opens.stands;
-    closed = closed_elsewhere (spare_of o) (omega (arith, opens.stands.room)) (λ e. absurd (omega arith)) opens.closed;
-  }
+  torn_body is opens = let low : o.slot < 2 = opens.stands.which in alone_elsewhere
+      (record { no_gate = λ e. absurd (omega arith); no_body = λ e. absurd (omega arith); no_page = inl (omega arith) })
+      (λ e. absurd (omega arith)) opens
 
   -- a torn write of a page behind the committed ones
   pub torn_page : used_of o ≤ page → OpensAlone o d → OpensAlone o c
-  torn_page behind opens = let low : o.slot < 2 = opens.stands.which in record {
-    stands = stands_elsewhere
-        (record { no_gate = λ e. absurd (omega arith); no_body = λ e. absurd (omega arith); no_page = inr behind })
-        opens.stands;
-    closed = closed_elsewhere (spare_of o) (omega (arith, opens.stands.room)) (λ e. absurd (omega arith)) opens.closed;
-  }
+  torn_page behind opens = let low : o.slot < 2 = opens.stands.which in alone_elsewhere
+      (record { no_gate = λ e. absurd (omega arith); no_body = λ e. absurd (omega arith); no_page = inr behind })
+      (λ e. absurd (omega arith)) opens
 
 -- the spare gate closed
 pub closed : (o : Opening) (gate : ℕ) (c : Image) → gate ≡ spare_of o → StandsInImage o c

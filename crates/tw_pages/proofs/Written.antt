@@ -1,5 +1,5 @@
 -- From what a store says of its images to the record and the pages that they open with.
-use Rattle.std.proofs.Common.{◌≡◌, ℕ, ◌+◌, List, [], ◌++◌, length, refl, ap, sym, ◌∙◌, subst, inl, inr, ◌⊎◌, ⊎_elim}
+use Rattle.std.proofs.Common.{◌≡◌, ℕ, ◌+◌, List, [], ◌++◌, length, ap, sym, ◌∙◌, subst, inl, inr, ◌⊎◌, ⊎_elim}
 use Rattle.std.proofs.Common.{Bool}
 use Rattle.std.specs.Prelude.{Option, Some}
 use Rattle.std.specs.Option.{option_map}
@@ -88,6 +88,23 @@ module _ {D R : Type 0} {g : _} (view : D → DiskView) (kind : RecordKind R) wh
   only_same only_now old mid w P same rest own = store_leaves view only_now old mid P same
       (λ c left. own c (rest_written old w rest c left))
 
+  -- at rest over what opens as this opening, which has the record and its pages
+  pub rests_with : (store : Store D g) (o : Opening) (w : Written R)
+      → IsAtRest (view (store_disk store)) (λ c. IsKept store c × (opening_of store c ≡ o)) → HasRoot kind o w.root
+      → o.pages ≡ w.pages → RestsWith view kind store w
+  rests_with store o w rest root pages =
+      let is = rest.has.1 in
+      record {
+        image = rest.image;
+        told = rest.told;
+        only = rest.only;
+        has = record {
+          kept = rest.has.0;
+          has = subst (λ (p : Opening). HasRoot kind p w.root) (sym is) root;
+          pages_are = ap (λ (p : Opening). p.pages) is ∙ pages;
+        };
+      }
+
   -- ---- a commit
 
   module _ (store : Store D g) (ps all : Image) (root next : R)
@@ -136,16 +153,4 @@ module _ {D R : Type 0} {g : _} (view : D → DiskView) (kind : RecordKind R) wh
         → IsAtRest (view (store_disk new)) (λ c. IsKept new c × (opening_of new c ≡ next_opening store bytes q.image)))
         → RestsWith view kind new (written_record next all)
     unfolding kept_rest
-    commit_rests new done =
-        let at_rest = done kept_rest in
-        let is : opening ≡ opening_of new at_rest.image = sym at_rest.has.1 in
-        record {
-          image = at_rest.image;
-          told = at_rest.told;
-          only = at_rest.only;
-          has = record {
-            kept = at_rest.has.0;
-            has = subst (λ (o : Opening). HasRoot kind o next) is next_root;
-            pages_are = sym (ap (λ (o : Opening). o.pages) is) ∙ all_pages;
-          };
-        }
+    commit_rests new done = rests_with new opening (written_record next all) (done kept_rest) next_root all_pages
