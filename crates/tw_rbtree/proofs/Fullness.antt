@@ -20,6 +20,7 @@ use Rattle.tw_rbtree.specs.Growing.{all_full, is_full}
 use Rattle.tw_rbtree.specs.Reading.{node_in}
 use Rattle.tw_rbtree.specs.Standing.{IsRootTree, IsTreeBelow, IsTreePage, StandsForTree, any_page}
 use Rattle.tw_rbtree.specs.Ways.{Stop, end_of_way, nowhere, way, way_from}
+use Rattle.tw_rbtree.proofs.Keeping.{tree_page-as}
 use Rattle.tw_rbtree.proofs.PageLaws.{root-is}
 use Rattle.tw_rbtree.proofs.RootWays.{root-way}
 use Rattle.tw_rbtree.proofs.SizeLaws.{page-count, below-count}
@@ -31,16 +32,7 @@ module _ (dig : List ℕ → List ℕ) (ps : Image) where
       1 page t) → length is.node.entries ≡ 24 → 25 * 13 ^ level ≤ length (entries t) + 1
   full-count level page t is full =
       page-count dig ps (IsTreeBelow dig any_page ps level) (13 ^ level) level 24 page t (below-count dig ps level)
-      (record {
-        node = is.node;
-        at = is.at;
-        level_is = is.level_is;
-        least_keys = omega (arith, full);
-        trees = is.trees;
-        are_trees = is.are_trees;
-        tree_is = is.tree_is;
-        has = is.has;
-      })
+      (tree_page-as is (omega (arith, full)) is.at is.are_trees is.has)
 
   -- a way that overflows begins in a full page of the greatest level
   first-full : (root : Root) (ask : Ask) (p : TreePage) (stops : List Stop) → way dig ps ask root ≡ Is stops

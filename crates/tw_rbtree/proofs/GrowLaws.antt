@@ -42,7 +42,7 @@ use Rattle.tw_rbtree.specs.Growing.{SidesList, is_full, is_two, leaf_of}
 use Rattle.tw_rbtree.specs.Reading.{child_in, fits, is_above, is_below, lie_between, node_in}
 use Rattle.tw_rbtree.specs.Standing.{AreTrees, IsTreeBelow, IsTreePage, OfPage}
 use Rattle.tw_rbtree.specs.Ways.{child_page, down_at, down_in, seek}
-use Rattle.tw_rbtree.proofs.Keeping.{below-kept, trees-map}
+use Rattle.tw_rbtree.proofs.Keeping.{below-kept, tree_page-as, trees-map}
 use Rattle.tw_rbtree.proofs.WayLaws.{child_page-get}
 use Rattle.tw_rbtree.proofs.Adding.{Goes, all-lie, entry-lies, goes-between}
 use Rattle.tw_rbtree.proofs.PageLaws.{root-is}
@@ -114,19 +114,8 @@ rises-at (suc k) (c ∷ cs) (e ∷ es) count rising = rises-at k cs es (omega (a
 pub less-keys : (dig : List ℕ → List ℕ) (Has : OfPage) (ps : Image) (level least : ℕ) (c : Link) (t : Tree) → 12 ≤ least
     → IsChildTree dig Has ps level least c t → IsTreeBelow dig Has ps (suc level) c t
 unfolding IsTreeBelow
-less-keys dig Has ps level least c t enough is = (
-  is.0,
-  record {
-    node = is.1.node;
-    at = is.1.at;
-    level_is = is.1.level_is;
-    least_keys = omega (arith, enough, is.1.least_keys);
-    trees = is.1.trees;
-    are_trees = is.1.are_trees;
-    tree_is = is.1.tree_is;
-    has = is.1.has;
-  },
-)
+less-keys dig Has ps level least c t enough is =
+    (is.0, tree_page-as is.1 (omega (arith, enough, is.1.least_keys)) is.1.at is.1.are_trees is.1.has)
 
 pub sides-of : (dig : List ℕ → List ℕ) (Has : OfPage) (ps : Image) (level least : ℕ) (es : List Entry) (g : Grown)
     → 12 ≤ least → GrownLists dig Has ps level least es g → SidesList (IsTreeBelow dig Has ps (suc level)) es g

@@ -1,6 +1,6 @@
 -- Pages that stand for a tree: others behind them, and that there is one tree.
-use Rattle.std.proofs.Common.{◌≡◌, ℕ, suc, zero, ◌-◌, ◌<◌, List, [], ◌∷◌, ◌++◌, refl, ap, sym, ◌∙◌, subst, arith, inl}
-use Rattle.std.proofs.Common.{inr, length-append}
+use Rattle.std.proofs.Common.{◌≡◌, ℕ, suc, zero, ◌-◌, ◌<◌, ◌≤◌, List, [], ◌∷◌, ◌++◌, refl, ap, sym, ◌∙◌, subst, arith}
+use Rattle.std.proofs.Common.{inl, inr, length, length-append}
 use Rattle.std.proofs.lemmas.List.{get_or_append_left}
 use Rattle.tw_base.specs.declared.history.root.Root.{Root}
 use Rattle.tw_base.specs.format.PageBytes.{IsPageOf}
@@ -31,6 +31,22 @@ trees-same R one (c ∷ cs) [] ts a b = absurd a
 trees-same R one (c ∷ cs) (s ∷ ss) [] a b = absurd b
 trees-same R one (c ∷ cs) (s ∷ ss) (t ∷ ts) a b = λ i. one c s t a.0 b.0 i ∷ trees-same R one cs ss ts a.1 b.1 i
 
+-- a page of a tree, in other pages, with fewer keys asked for, and with other things said of its children and of it
+pub tree_page-as : {dig : List ℕ → List ℕ} {Has Other : OfPage} {ps now : Image} {R S : Child → Tree → Type 0}
+    {level least fewer page : ℕ} {t : Tree} (is : IsTreePage dig Has ps R level least page t)
+    → fewer ≤ length is.node.entries → IsPageAt dig now page is.node → AreTrees S is.node.children is.trees
+    → Other page t → IsTreePage dig Other now S level fewer page t
+tree_page-as is keys at are has = record {
+  node = is.node;
+  at = at;
+  level_is = is.level_is;
+  least_keys = keys;
+  trees = is.trees;
+  are_trees = are;
+  tree_is = is.tree_is;
+  has = has;
+}
+
 module _ (dig : List ℕ → List ℕ) (Has : OfPage) (ps more : Image) where
   pub page-kept : (page : ℕ) (p : TreePage) → IsPageAt dig ps page p → IsPageAt dig (ps ++ more) page p
   page-kept page p is =
@@ -45,16 +61,8 @@ module _ (dig : List ℕ → List ℕ) (Has : OfPage) (ps more : Image) where
 
   pub tree_page-kept : (R S : Child → Tree → Type 0) → ((c : Child) (t : Tree) → R c t → S c t) → (level least page : ℕ)
       (t : Tree) → IsTreePage dig Has ps R level least page t → IsTreePage dig Has (ps ++ more) S level least page t
-  tree_page-kept R S f level least page t is = record {
-    node = is.node;
-    at = page-kept page is.node is.at;
-    level_is = is.level_is;
-    least_keys = is.least_keys;
-    trees = is.trees;
-    are_trees = trees-map R S f is.node.children is.trees is.are_trees;
-    tree_is = is.tree_is;
-    has = is.has;
-  }
+  tree_page-kept R S f level least page t is = tree_page-as is is.least_keys (page-kept page is.node is.at)
+      (trees-map R S f is.node.children is.trees is.are_trees) is.has
 
   pub below-kept : (level : ℕ) (c : Child) (t : Tree) → IsTreeBelow dig Has ps level c t
       → IsTreeBelow dig Has (ps ++ more) level c t
@@ -114,16 +122,8 @@ module _ (dig : List ℕ → List ℕ) (Has Other : OfPage) (ps : Image) (turn :
     → Other page t) where
   tree_page-turned : (R S : Child → Tree → Type 0) → ((c : Child) (t : Tree) → R c t → S c t) → (level least page : ℕ)
       (t : Tree) → IsTreePage dig Has ps R level least page t → IsTreePage dig Other ps S level least page t
-  tree_page-turned R S f level least page t is = record {
-    node = is.node;
-    at = is.at;
-    level_is = is.level_is;
-    least_keys = is.least_keys;
-    trees = is.trees;
-    are_trees = trees-map R S f is.node.children is.trees is.are_trees;
-    tree_is = is.tree_is;
-    has = turn page t is.has;
-  }
+  tree_page-turned R S f level least page t is = tree_page-as is is.least_keys is.at
+      (trees-map R S f is.node.children is.trees is.are_trees) (turn page t is.has)
 
   pub below-turned : (level : ℕ) (c : Child) (t : Tree) → IsTreeBelow dig Has ps level c t → IsTreeBelow dig Other ps
       level c t

@@ -7,7 +7,7 @@ use Rattle.tw_disk.specs.Image.{Image}
 use Rattle.tw_disk.proofs.FoundLaws.{same_found}
 use Rattle.tw_rbnode.specs.Page.{TreePage}
 use Rattle.tw_rbtree.specs.Reading.{levels_in, node_in}
-use Rattle.tw_rbtree.proofs.Markings.{from_both}
+use Rattle.tw_rbtree.proofs.ListLaws.{from_both}
 use Rattle.tw_rbtree.proofs.PageLaws.{is-root}
 
 module _ (dig : List ℕ → List ℕ) (ps : Image) where

@@ -24,9 +24,15 @@ use Rattle.tw_rbtree.specs.Listing.{IsPartAt, IsSplit, Listed, ListsAt, child_li
 use Rattle.tw_rbtree.specs.Listing.{node_behind, part_listed, part_of_shape}
 use Rattle.tw_rbtree.specs.Reading.{child_in, node_in}
 use Rattle.tw_rbtree.specs.Ways.{child_page}
-use Rattle.tw_disk.proofs.FoundLaws.{bad_ends}
+use Rattle.tw_disk.proofs.FoundLaws.{bad_ends, same_found}
 use Rattle.tw_rbtree.proofs.Downs.{child-level}
 use Rattle.tw_rbtree.proofs.WayLaws.{on_each}
+
+-- what comes of two readings comes of both
+pub from_both : {X Y : Type 0} (one : Found X) (f : X → Found Y) (y : Y) → (one >>= f) ≡ Is y → (x : X) × (one ≡ Is x)
+    × (f x ≡ Is y)
+from_both (Is x) f y e = (x, refl, e)
+from_both (Bad page) f y e = cc
 
 -- ---- parts of a page's tree
 
@@ -160,6 +166,33 @@ module _ (child : ListsAt) (es : List Entry) (page : ℕ) (low high : Option Ent
         (base + size l + 1) r left.nodes >>= (λ right. Is (node_behind o page left.side right)))) here
         ∙ ap (λ (n : ℕ). listed_at child es 0 low (Some e) base l nodes >>= (λ left. listed_at child es 0 (Some e) high
         n r left.nodes >>= (λ right. Is (node_behind (Some e) page left.side right)))) (sym at)
+
+  -- what is listed on both sides of an entry, and behind them its node
+  pub record SidesListed (l r : Shape) (e : Entry) (all : Listed) : Type 0 where
+    pub left : Listed
+    pub left_is : listed_at child es 0 low (Some e) base l nodes ≡ Is left
+    pub right : Listed
+    pub right_is : listed_at child es 0 (Some e) high (base + size l + 1) r left.nodes ≡ Is right
+    pub all_is : node_behind (Some e) page left.side right ≡ all
+
+  pub sides-listed : (red : Bool) (l r : Shape) (e : Entry) (all : Listed) → slice_get es (base + size l) ≡ Some e
+      → listed_at child es page low high base (Node red l r) nodes ≡ Is all → SidesListed l r e all
+  sides-listed red l r e all is found =
+      let there : slice_get es (base + size l + 1 - 1) ≡ Some e =
+      ap (slice_get es) (let n : base + size l + 1 - 1 ≡ base + size l = omega arith in n) ∙ is in
+      let left = from_both (listed_at child es 0 low (Some e) base l nodes) (λ (left : Listed). listed_at child es 0
+      (Some e) high (base + size l + 1) r left.nodes
+      >>= (λ (right : Listed). Is (node_behind (Some e) page left.side right))) all
+      (sym (listed-node red l r (base + size l + 1) e refl there (Node red l r) refl) ∙ found) in
+      let right = from_both (listed_at child es 0 (Some e) high (base + size l + 1) r left.0.nodes)
+      (λ (right : Listed). Is (node_behind (Some e) page left.0.side right)) all left.2 in
+      record {
+        left = left.0;
+        left_is = left.1;
+        right = right.0;
+        right_is = right.1;
+        all_is = same_found (node_behind (Some e) page left.0.side right.0) all right.2;
+      }
 
 -- a page is old or not
 pub is-old : (page since : ℕ) → FIRST_PAGE ≤ page → page < since → is_old page since ≡ true

@@ -10,8 +10,8 @@ use Rattle.tw_base.specs.kinds.Lists.{Each, In}
 use Rattle.tw_base.specs.history.Tree.{Tree}
 use Rattle.tw_base.specs.history.Tree.Tree.{Empty as NoEntry}
 use Rattle.tw_base.proofs.lemmas.kinds.ListLemmas.{Each-map, In-left, In-right}
-use Rattle.tw_disk.specs.Found.{Found, when, ◌>>=◌}
-use Rattle.tw_disk.specs.Found.Found.{Is, Bad}
+use Rattle.tw_disk.specs.Found.{when, ◌>>=◌}
+use Rattle.tw_disk.specs.Found.Found.{Is}
 use Rattle.tw_disk.specs.Image.{Image}
 use Rattle.tw_disk.proofs.FoundLaws.{is_on, same_found}
 use Rattle.tw_rbnode.specs.declared.child.Child.{Child}
@@ -21,22 +21,17 @@ use Rattle.tw_rbnode.specs.Shape.{Shape, Empty, Node, size}
 use Rattle.tw_rbnode.proofs.TreeLists.{get-some}
 use Rattle.tw_rbtree.specs.declared.new_node.NewNode.{NewNode}
 use Rattle.tw_rbtree.specs.declared.new_node.Side.TheVariants.{Empty as NoTree, Old}
-use Rattle.tw_rbtree.specs.Listing.{Listed, ListsAt, child_listed, is_old, listed, listed_at, node_behind}
+use Rattle.tw_rbtree.specs.Listing.{Listed, ListsAt, child_listed, is_old, listed, listed_at}
 use Rattle.tw_rbtree.specs.Planting.{IsMarked}
 use Rattle.tw_rbtree.specs.Reading.{IsPageAt, child_in, fits, node_in}
 use Rattle.tw_rbtree.specs.Standing.{AreTrees, IsRootTree, IsTreeBelow, IsTreePage, StandsForTree, StandsWith, any_page}
 use Rattle.tw_rbtree.specs.Ways.{child_page}
-use Rattle.tw_rbtree.proofs.Keeping.{below-turned}
-use Rattle.tw_rbtree.proofs.ListLaws.{below_found, is-new, is-old, listed-empty, listed-leaf, listed-node, listed-old}
-use Rattle.tw_rbtree.proofs.ListLaws.{listed-on, listed-root}
+use Rattle.tw_rbtree.proofs.Keeping.{below-turned, tree_page-as}
+use Rattle.tw_rbtree.proofs.ListLaws.{below_found, from_both, is-new, is-old, listed-empty, listed-leaf, listed-old}
+use Rattle.tw_rbtree.proofs.ListLaws.{listed-on, listed-root, sides-listed}
 use Rattle.tw_rbtree.proofs.PageLaws.{child-tried, root-is}
 use Rattle.tw_rbtree.proofs.Standings.{tree-at}
 use Rattle.tw_rbtree.proofs.WayLaws.{child_page-get}
-
-pub from_both : {X Y : Type 0} (one : Found X) (f : X → Found Y) (y : Y) → (one >>= f) ≡ Is y → (x : X) × (one ≡ Is x)
-    × (f x ≡ Is y)
-from_both (Is x) f y e = (x, refl, e)
-from_both (Bad page) f y e = cc
 
 pub when-same : {X : Type 0} (b : Bool) (page : ℕ) (x y : X) → when b page x ≡ Is y → x ≡ y
 when-same true page x y e = same_found x y e
@@ -62,14 +57,14 @@ trees-from R S (c ∷ cs) (t ∷ ts) are f = (
   trees-from R S cs ts are.1 (λ place x less there. f (suc place) x (omega (arith, less)) there),
 )
 
-trees-each : (R S : Child → Tree → Type 0) (Q : Child → Type 0) → ((c : Child) (t : Tree) → Q c → R c t → S c t)
+pub trees-each : (R S : Child → Tree → Type 0) (Q : Child → Type 0) → ((c : Child) (t : Tree) → Q c → R c t → S c t)
     → (cs : List Child) (ts : List Tree) → Each Q cs → AreTrees R cs ts → AreTrees S cs ts
 trees-each R S Q f [] [] all are = tt
 trees-each R S Q f [] (t ∷ ts) all are = absurd are
 trees-each R S Q f (c ∷ cs) [] all are = absurd are
 trees-each R S Q f (c ∷ cs) (t ∷ ts) all are = (f c t all.0 are.0, trees-each R S Q f cs ts all.1 are.1)
 
-lower : (page since level : ℕ) → page < since → (c : Child) → LiesBelow page level c → LiesBelow since level c
+pub lower : (page since level : ℕ) → page < since → (c : Child) → LiesBelow page level c → LiesBelow since level c
 lower page since zero less c lies = tt
 lower page since (suc level) less c lies = omega (arith, less, lies)
 
@@ -99,32 +94,26 @@ module _ (child : ListsAt) (es : List Entry) (P : ℕ → List NewNode → Type 
   shape-marks page low high base (Node red l r) nodes all room found =
       let here = get-some es [] es (base + size l) (omega (arith, room)) in
       let e : Entry = here.0 in
-      let there : slice_get es (base + size l + 1 - 1) ≡ Some e =
-      ap (slice_get es) (let n : base + size l + 1 - 1 ≡ base + size l = omega arith in n) ∙ here.1 in
-      let whole = sym (listed-node child es page low high base nodes red l r (base + size l + 1) e refl there
-      (Node red l r) refl) ∙ found in
-      let left = from_both (listed_at child es 0 low (Some e) base l nodes) (λ (left : Listed). listed_at child es 0
-      (Some e) high (base + size l + 1) r left.nodes
-      >>= (λ (right : Listed). Is (node_behind (Some e) page left.side right))) all whole in
-      let right = from_both (listed_at child es 0 (Some e) high (base + size l + 1) r left.0.nodes)
-      (λ (right : Listed). Is (node_behind (Some e) page left.0.side right)) all left.2 in
-      let n : NewNode = record { left = left.0.side; entry = e; right = right.0.side; page = page } in
-      let end : right.0.nodes ++ n ∷ [] ≡ all.nodes = ap (λ (x : Listed). x.nodes)
-      (same_found (node_behind (Some e) page left.0.side right.0) all right.2) in
-      let one = shape-marks 0 low (Some e) base l nodes left.0 (omega (arith, room)) left.1 in
-      let two = shape-marks 0 (Some e) high (base + size l + 1) r left.0.nodes right.0 (omega (arith, room)) right.1 in
-      let last : More right.0.nodes all.nodes = (n ∷ [], sym end) in
-      let rest : More left.0.nodes all.nodes = more-then left.0.nodes right.0.nodes all.nodes two.more last in
+      let sides = sides-listed child es page low high base nodes red l r e all here.1 found in
+      let left = sides.left in
+      let right = sides.right in
+      let n : NewNode = record { left = left.side; entry = e; right = right.side; page = page } in
+      let end : right.nodes ++ n ∷ [] ≡ all.nodes = ap (λ (x : Listed). x.nodes) sides.all_is in
+      let one = shape-marks 0 low (Some e) base l nodes left (omega (arith, room)) sides.left_is in
+      let two = shape-marks 0 (Some e) high (base + size l + 1) r left.nodes right (omega (arith, room)) sides.right_is
+      in
+      let last : More right.nodes all.nodes = (n ∷ [], sym end) in
+      let rest : More left.nodes all.nodes = more-then left.nodes right.nodes all.nodes two.more last in
       record {
-        more = more-then nodes left.0.nodes all.nodes one.more rest;
+        more = more-then nodes left.nodes all.nodes one.more rest;
         places = λ place from to.
             let cases : (place ≤ base + size l) ⊎ (base + size l + 1 ≤ place) = grind arith in
             elim cases [
-              | inl near ↦ mono place left.0.nodes all.nodes rest (one.places place from near)
-              | inr far ↦ mono place right.0.nodes all.nodes last (two.places place far (omega (arith, to)))
+              | inl near ↦ mono place left.nodes all.nodes rest (one.places place from near)
+              | inr far ↦ mono place right.nodes all.nodes last (two.places place far (omega (arith, to)))
             ];
         own = λ some.
-            (n, subst (λ (xs : List NewNode). In n xs) end (In-right n right.0.nodes (n ∷ []) (inl refl)), refl);
+            (n, subst (λ (xs : List NewNode). In n xs) end (In-right n right.nodes (n ∷ []) (inl refl)), refl);
       }
 
 -- ---- level by level
@@ -147,18 +136,11 @@ module _ (dig : List ℕ → List ℕ) (ps : Image) (since : ℕ) where
       let b = is.1 in
       let under = subst (λ (n : ℕ). Each (LiesBelow c.page n) b.node.children) b.level_is b.at.may_stand.below in (
         is.0,
-        record {
-          node = b.node;
-          at = b.at;
-          level_is = b.level_is;
-          least_keys = b.least_keys;
-          trees = b.trees;
-          are_trees = trees-each (IsTreeBelow dig any_page ps level) (Below ns level) (LiesBelow since level)
-              (old-below ns level) b.node.children b.trees (Each-map (LiesBelow c.page level) (LiesBelow since level)
-              b.node.children (lower c.page since level lies) under) b.are_trees;
-          tree_is = b.tree_is;
-          has = λ (new : since ≤ c.page). absurd (omega (arith, new, lies));
-        },
+        tree_page-as b b.least_keys b.at
+            (trees-each (IsTreeBelow dig any_page ps level) (Below ns level) (LiesBelow since level)
+            (old-below ns level) b.node.children b.trees (Each-map (LiesBelow c.page level) (LiesBelow since level)
+            b.node.children (lower c.page since level lies) under) b.are_trees)
+            (λ (new : since ≤ c.page). absurd (omega (arith, new, lies))),
       )
 
   abbrev Placed : (level : ℕ) → TreePage → List Tree → ℕ → List NewNode → Type 0
@@ -171,19 +153,11 @@ module _ (dig : List ℕ → List ℕ) (ps : Image) (since : ℕ) where
       (Below now level) level least page t
   page-marks level least page t b page_ nodes now same shaped =
       let node = b.at.may_stand.node in
-      record {
-        node = b.node;
-        at = b.at;
-        level_is = b.level_is;
-        least_keys = b.least_keys;
-        trees = b.trees;
-        are_trees = trees-from (IsTreeBelow dig any_page ps level) (Below now level) b.node.children b.trees b.are_trees
-            (λ place c less there. shaped.places place (omega arith) (omega (arith, less, node.sized, node.places)) c
-            there);
-        tree_is = b.tree_is;
-        has = λ (new : since ≤ page). let own = shaped.own (omega (arith, node.sized, node.some)) in
-            (own.0, own.1, own.2 ∙ same);
-      }
+      tree_page-as b b.least_keys b.at
+      (trees-from (IsTreeBelow dig any_page ps level) (Below now level) b.node.children b.trees b.are_trees
+      (λ place c less there. shaped.places place (omega arith) (omega (arith, less, node.sized, node.places)) c there))
+      (λ (new : since ≤ page). let own = shaped.own (omega (arith, node.sized, node.some)) in
+      (own.0, own.1, own.2 ∙ same))
 
   level-marks : (level page : ℕ) (p : TreePage) (us : List Tree) → IsPageAt dig ps page p → p.level ≡ level
       → AreTrees (IsTreeBelow dig any_page ps level) p.children us

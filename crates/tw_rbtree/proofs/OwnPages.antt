@@ -1,6 +1,6 @@
 -- The pages that listed nodes name are pages of the tree, and their entries stand in those of them that are new.
 use Rattle.std.proofs.Common.{◌≡◌, ℕ, suc, zero, ◌+◌, ◌-◌, ◌<◌, ◌≤◌, List, [], ◌∷◌, length, Bool, true, false, refl, ap}
-use Rattle.std.proofs.Common.{sym, ◌∙◌, subst, arith, ◌⊎◌, inl, inr, slice_get, true≢false}
+use Rattle.std.proofs.Common.{sym, ◌∙◌, subst, arith, inl, inr, slice_get, true≢false}
 use Rattle.std.specs.Prelude.{◌==◌, ◌||◌, Option, Some, None}
 use Rattle.std.proofs.lemmas.Bool.{cases_Bool, cases_lt, or_parts}
 use Rattle.tw_base.specs.declared.history.root.Root.{Root}
@@ -16,13 +16,13 @@ use Rattle.tw_rbnode.specs.Page.{TreePage}
 use Rattle.tw_rbnode.specs.Shape.{Shape, Empty, Node, size}
 use Rattle.tw_rbtree.specs.declared.new_node.NewNode.{NewNode}
 use Rattle.tw_rbtree.specs.declared.new_node.Side.TheVariants.{Empty as NoTree, Old}
-use Rattle.tw_rbtree.specs.Listing.{Listed, ListsAt, child_listed, is_old, listed, listed_at, node_behind}
+use Rattle.tw_rbtree.specs.Listing.{Listed, ListsAt, child_listed, is_old, listed, listed_at}
 use Rattle.tw_rbtree.specs.OwnPages.{IsEntryOfNew, IsOwnMark, IsOwnSide, IsPageIn, IsPageUnder, NamesOwn}
 use Rattle.tw_rbtree.specs.Reading.{child_in, fits, node_in}
 use Rattle.tw_rbtree.specs.Ways.{child_page}
-use Rattle.tw_rbtree.proofs.ListLaws.{below_found, is-old, listed-empty, listed-leaf, listed-node, listed-none}
-use Rattle.tw_rbtree.proofs.ListLaws.{listed-old, listed-on, listed-root}
-use Rattle.tw_rbtree.proofs.Markings.{from_both, when-same}
+use Rattle.tw_rbtree.proofs.ListLaws.{below_found, from_both, is-old, listed-empty, listed-leaf, listed-none}
+use Rattle.tw_rbtree.proofs.ListLaws.{listed-old, listed-on, listed-root, sides-listed}
+use Rattle.tw_rbtree.proofs.Markings.{when-same}
 use Rattle.tw_rbtree.proofs.PageLaws.{is-root}
 
 -- an entry of a list, from its place
@@ -56,21 +56,15 @@ module _ (child : ListsAt) (es : List Entry) (P : ℕ → Type 0) (Q : Entry →
   shape-own page mark low high base (Node red l r) nodes all room found before =
       let here = get-in es (base + size l) (omega (arith, room)) in
       let e : Entry = here.0 in
-      let there : slice_get es (base + size l + 1 - 1) ≡ Some e =
-      ap (slice_get es) (let n : base + size l + 1 - 1 ≡ base + size l = omega arith in n) ∙ here.1 in
-      let whole = sym (listed-node child es page low high base nodes red l r (base + size l + 1) e refl there
-      (Node red l r) refl) ∙ found in
-      let left = from_both (listed_at child es 0 low (Some e) base l nodes) (λ (left : Listed). listed_at child es 0
-      (Some e) high (base + size l + 1) r left.nodes
-      >>= (λ (right : Listed). Is (node_behind (Some e) page left.side right))) all whole in
-      let right = from_both (listed_at child es 0 (Some e) high (base + size l + 1) r left.0.nodes)
-      (λ (right : Listed). Is (node_behind (Some e) page left.0.side right)) all left.2 in
-      let one = shape-own 0 (inl refl) low (Some e) base l nodes left.0 (omega (arith, room)) left.1 before in
-      let two = shape-own 0 (inl refl) (Some e) high (base + size l + 1) r left.0.nodes right.0 (omega (arith, room))
-      right.1 one.0 in
-      let n : NewNode = record { left = left.0.side; entry = e; right = right.0.side; page = page } in
-      subst (Names P Q) (same_found (node_behind (Some e) page left.0.side right.0) all right.2)
-      (Each-append (Fits P Q) right.0.nodes (n ∷ []) two.0 (((one.1, two.1, mark), has e here.2), tt), tt)
+      let sides = sides-listed child es page low high base nodes red l r e all here.1 found in
+      let left = sides.left in
+      let right = sides.right in
+      let one = shape-own 0 (inl refl) low (Some e) base l nodes left (omega (arith, room)) sides.left_is before in
+      let two = shape-own 0 (inl refl) (Some e) high (base + size l + 1) r left.nodes right (omega (arith, room))
+      sides.right_is one.0 in
+      let n : NewNode = record { left = left.side; entry = e; right = right.side; page = page } in
+      subst (Names P Q) sides.all_is
+      (Each-append (Fits P Q) right.nodes (n ∷ []) two.0 (((one.1, two.1, mark), has e here.2), tt), tt)
 
 module _ (dig : List ℕ → List ℕ) (ps : Image) where
   page-own : (level page : ℕ) → IsPageIn dig ps level page page

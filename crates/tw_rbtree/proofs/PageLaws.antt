@@ -125,8 +125,12 @@ drop-here [] i x e = absurd (none-some x e)
 drop-here (y ∷ xs) zero x e = ap (λ (z : _). z ∷ xs) (same_Some _ _ e)
 drop-here (y ∷ xs) (suc i) x e = drop-here xs i x e
 
-pub drop-at : {X : Type 0} (xs : List X) (i : ℕ) (x : X) → slice_get xs i ≡ Some x → drop i xs ≡ x ∷ drop (i + 1) xs
-drop-at xs i x e = drop-here xs i x e ∙ ap (λ (n : ℕ). x ∷ drop n xs) (let s : suc i ≡ i + 1 = omega arith in s)
+-- the entry of the slot behind a place
+drop-at : {X : Type 0} (xs : List X) (i : ℕ) (x : X) → slice_get xs (i + 1 - 1) ≡ Some x
+    → drop i xs ≡ x ∷ drop (i + 1) xs
+drop-at xs i x e =
+    drop-here xs i x (ap (slice_get xs) (let s : i ≡ i + 1 - 1 = omega arith in s) ∙ e)
+    ∙ ap (λ (n : ℕ). x ∷ drop n xs) (let s : suc i ≡ i + 1 = omega arith in s)
 
 pub drop-past : {X : Type 0} (xs : List X) (i : ℕ) → length xs ≤ i → drop i xs ≡ []
 drop-past [] zero h = refl
@@ -135,15 +139,15 @@ drop-past (x ∷ xs) zero h = absurd (omega (arith, h))
 drop-past (x ∷ xs) (suc i) h = drop-past xs i (omega (arith, h))
 
 -- an entry more lies between
-pub between-on : (low high : Option Entry) (es : List Entry) (i : ℕ) (e : Entry) → slice_get es i ≡ Some e → (b : Bool)
-    → (is_above low e && is_below high e) ≡ b
+pub between-on : (low high : Option Entry) (es : List Entry) (i : ℕ) (e : Entry) → slice_get es (i + 1 - 1) ≡ Some e
+    → (b : Bool) → (is_above low e && is_below high e) ≡ b
     → lie_between low high (drop i es) ≡ (b && lie_between low high (drop (i + 1) es))
 between-on low high es i e is b test = ap (lie_between low high) (drop-at es i e is)
     ∙ ap (λ (c : Bool). c && lie_between low high (drop (i + 1) es)) test
 
 -- the way in a page goes on to the right, stops at an entry, or meets the asked one
 module _ (ask : Ask) (low high : Option Entry) (es : List Entry) (i : ℕ) (e : Entry)
-    (is : slice_get es i ≡ Some e) where
+    (is : slice_get es (i + 1 - 1) ≡ Some e) where
   seek-here : seek ask i low high (drop i es) ≡ seek ask i low high (e ∷ drop (i + 1) es)
   seek-here = ap (seek ask i low high) (drop-at es i e is)
 

@@ -31,7 +31,7 @@ use Rattle.tw_rbtree.specs.Listing.{Listed, ListsAt, child_listed, is_old, liste
 use Rattle.tw_rbtree.specs.Planting.{AreNodeTrees, IsMarkOf, IsSideTree}
 use Rattle.tw_rbtree.specs.Reading.{IsPageAt, child_in, node_in}
 use Rattle.tw_rbtree.specs.Standing.{AreTrees, IsRootTree, IsTreeBelow, IsTreePage, OfPage, StandsWith, any_page}
-use Rattle.tw_rbtree.proofs.Keeping.{below-any, below-once, tree_page-once, trees-map}
+use Rattle.tw_rbtree.proofs.Keeping.{below-any, below-once, tree_page-as, tree_page-once, trees-map}
 use Rattle.tw_rbtree.specs.Ways.{child_page}
 use Rattle.tw_rbtree.proofs.ListLaws.{below_found, is-new, is-old, listed-empty, listed-leaf, listed-node, listed-old}
 use Rattle.tw_rbtree.proofs.ListLaws.{listed-on, listed-root}
@@ -488,16 +488,7 @@ module _ (dig : List ℕ → List ℕ) (Has : OfPage) (ps : Image) (since : ℕ)
 
   no-least : (level least page : ℕ) (t : Tree) → IsTreePage dig Has ps (IsTreeBelow dig Has ps level) level least page t
       → IsTreePage dig Has ps (IsTreeBelow dig Has ps level) level 0 page t
-  no-least level least page t is = record {
-    node = is.node;
-    at = is.at;
-    level_is = is.level_is;
-    least_keys = omega arith;
-    trees = is.trees;
-    are_trees = is.are_trees;
-    tree_is = is.tree_is;
-    has = is.has;
-  }
+  no-least level least page t is = tree_page-as is (omega arith) is.at is.are_trees is.has
 
   tree-once : (page : ℕ) (s t : Tree) → page ≢ 0 → IsMarkOf dig Has ps since page s → IsMarkOf dig Has ps since page t
       → s ≡ t

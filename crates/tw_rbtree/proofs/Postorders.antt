@@ -1,6 +1,6 @@
 -- Listed nodes stand in postorder.
 use Rattle.std.proofs.Common.{◌≡◌, ℕ, suc, zero, ◌+◌, ◌-◌, ◌≤◌, List, [], ◌∷◌, ◌++◌, length, Bool, true, false, refl}
-use Rattle.std.proofs.Common.{ap, sym, ◌∙◌, subst, arith, slice_get, append_assoc, append-nil, length-append}
+use Rattle.std.proofs.Common.{ap, sym, ◌∙◌, subst, arith, append_assoc, append-nil, length-append}
 use Rattle.std.specs.Prelude.{Option, Some, None, if◌then◌else◌}
 use Rattle.tw_base.specs.declared.history.root.Root.{Root}
 use Rattle.tw_base.specs.declared.history.thread.Entry.{Entry}
@@ -18,8 +18,7 @@ use Rattle.tw_rbtree.specs.Postorder.{ListedTree, NamesSides, postorder, side_of
 use Rattle.tw_rbtree.specs.Postorder.ListedTree.{NoTree, OldTree, Between}
 use Rattle.tw_rbtree.specs.Ways.{child_page}
 use Rattle.tw_rbtree.specs.Reading.{child_in, node_in}
-use Rattle.tw_rbtree.proofs.ListLaws.{below_found, listed-empty, listed-node}
-use Rattle.tw_rbtree.proofs.Markings.{from_both}
+use Rattle.tw_rbtree.proofs.ListLaws.{below_found, from_both, listed-empty, sides-listed}
 use Rattle.tw_rbtree.proofs.OwnPages.{child-page}
 use Rattle.tw_rbtree.proofs.PageLaws.{is-root}
 
@@ -76,21 +75,14 @@ module _ (child : ListsAt) (es : List Entry)
   shape-grows page low high base (Node red l r) nodes before all room count found =
       let here = get-some es [] es (base + size l) (omega (arith, room)) in
       let e : Entry = here.0 in
-      let there : slice_get es (base + size l + 1 - 1) ≡ Some e =
-      ap (slice_get es) (let n : base + size l + 1 - 1 ≡ base + size l = omega arith in n) ∙ here.1 in
-      let whole = sym (listed-node child es page low high base nodes red l r (base + size l + 1) e refl there
-      (Node red l r) refl) ∙ found in
-      let left = from_both (listed_at child es 0 low (Some e) base l nodes) (λ (left : Listed). listed_at child es 0
-      (Some e) high (base + size l + 1) r left.nodes
-      >>= (λ (right : Listed). Is (node_behind (Some e) page left.side right))) all whole in
-      let right = from_both (listed_at child es 0 (Some e) high (base + size l + 1) r left.0.nodes)
-      (λ (right : Listed). Is (node_behind (Some e) page left.0.side right)) all left.2 in
-      let one = shape-grows 0 low (Some e) base l nodes before left.0 (omega (arith, room)) count left.1 in
-      let two = shape-grows 0 (Some e) high (base + size l + 1) r left.0.nodes (before + length (postorder one.tree))
-      right.0 (omega (arith, room)) (after nodes before left.0 count one) right.1 in
-      turned nodes before (node_behind (Some e) page left.0.side right.0) all
-      (same_found (node_behind (Some e) page left.0.side right.0) all right.2)
-      (between nodes before page e left.0 right.0 count one two)
+      let sides = sides-listed child es page low high base nodes red l r e all here.1 found in
+      let left = sides.left in
+      let right = sides.right in
+      let one = shape-grows 0 low (Some e) base l nodes before left (omega (arith, room)) count sides.left_is in
+      let two = shape-grows 0 (Some e) high (base + size l + 1) r left.nodes (before + length (postorder one.tree))
+      right (omega (arith, room)) (after nodes before left count one) sides.right_is in
+      turned nodes before (node_behind (Some e) page left.side right) all sides.all_is
+      (between nodes before page e left right count one two)
 
 module _ (dig : List ℕ → List ℕ) (ps : Image) (since : ℕ) where
   -- an older page is named, and the nodes of another one are listed

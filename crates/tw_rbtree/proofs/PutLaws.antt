@@ -161,10 +161,10 @@ module _ (dig : List ℕ → List ℕ) (ps : Image) (root : Root) (e : Entry) (n
       (there : node_in dig ps root.page ≡ Is p)
       (found : way_from dig ps (Absent (key_of e)) p.level None None p ≡ Is stops) (first : number ≡ 4 + length ps)
       (on : AreRegrown dig number e stops lower grown) where
-    pub put-one : (c : Link) → grown ≡ One c → now ≡ Some (ps ++ lower) → new.page ≡ c.page → new.label ≡ c.label
-        → Put dig ps root e now new
-    put-one c is told page label = (
-      lower,
+    put-with : (top more : Image) → now ≡ Some (ps ++ more) → more ≡ lower ++ top
+        → IsTop dig (4 + length ps + length lower) (levels_on stops) grown top new → Put dig ps root e now new
+    put-with top more told are is_top = (
+      more,
       told,
       record {
         stops = stops;
@@ -172,12 +172,17 @@ module _ (dig : List ℕ → List ℕ) (ps : Image) (root : Root) (e : Entry) (n
         grown = grown;
         lower = lower;
         regrown = subst (λ (n : ℕ). AreRegrown dig n e stops lower grown) first on;
-        top = [];
-        is_top = subst (λ (g : Grown). IsTop dig (4 + length ps + length lower) (levels_on stops) g [] new) (sym is)
-            (refl, root-is_of new c.page c.label page label);
-        are = sym (append-nil lower);
+        top = top;
+        is_top = is_top;
+        are = are;
       },
     )
+
+    pub put-one : (c : Link) → grown ≡ One c → now ≡ Some (ps ++ lower) → new.page ≡ c.page → new.label ≡ c.label
+        → Put dig ps root e now new
+    put-one c is told page label = put-with [] lower told (sym (append-nil lower))
+        (subst (λ (g : Grown). IsTop dig (4 + length ps + length lower) (levels_on stops) g [] new) (sym is)
+        (refl, root-is_of new c.page c.label page label))
 
     pub put-two : (left : Link) (middle : Entry) (right : Link) (top : Image) (last level : ℕ) → grown ≡ Two left middle
         right → last ≡ 4 + length ps + length lower → level ≡ p.level
@@ -185,20 +190,8 @@ module _ (dig : List ℕ → List ℕ) (ps : Image) (root : Root) (e : Entry) (n
         → Put dig ps root e now new
     put-two left middle right top last level is ends level_is told is_top =
         let own = way-levels dig ps (Absent (key_of e)) None None p stops found in
-        let levels : level + 1 ≡ levels_on stops = omega (arith, level_is, own) in (
-          lower ++ top,
-          told ∙ ap (λ (xs : Image). Some xs) (append_assoc ps lower top),
-          record {
-            stops = stops;
-            found = way-from_root dig ps (Absent (key_of e)) root p stops some there found;
-            grown = grown;
-            lower = lower;
-            regrown = subst (λ (n : ℕ). AreRegrown dig n e stops lower grown) first on;
-            top = top;
-            is_top = subst (λ (g : Grown). IsTop dig (4 + length ps + length lower) (levels_on stops) g top new)
-                (sym is)
-                (subst (λ (n : ℕ). IsTop dig n (levels_on stops) (Two left middle right) top new) ends
-                (subst (λ (n : ℕ). IsTop dig last n (Two left middle right) top new) levels is_top));
-            are = refl;
-          },
-        )
+        let levels : level + 1 ≡ levels_on stops = omega (arith, level_is, own) in
+        put-with top (lower ++ top) (told ∙ ap (λ (xs : Image). Some xs) (append_assoc ps lower top)) refl
+        (subst (λ (g : Grown). IsTop dig (4 + length ps + length lower) (levels_on stops) g top new) (sym is)
+        (subst (λ (n : ℕ). IsTop dig n (levels_on stops) (Two left middle right) top new) ends
+        (subst (λ (n : ℕ). IsTop dig last n (Two left middle right) top new) levels is_top)))

@@ -1,5 +1,5 @@
 -- A page's children with others in place of one, and what the page then lists.
-use Rattle.std.proofs.Common.{◌≡◌, ℕ, suc, zero, ◌+◌, List, [], ◌∷◌, ◌++◌, length, take, drop, refl, ap, sym, ◌∙◌}
+use Rattle.std.proofs.Common.{◌≡◌, ℕ, suc, zero, ◌+◌, ◌≤◌, List, [], ◌∷◌, ◌++◌, length, take, drop, refl, ap, sym, ◌∙◌}
 use Rattle.std.proofs.Common.{subst, arith, length-append, length-take, length-drop}
 use Rattle.std.specs.Prelude.{map, slice_index_or}
 use Rattle.tw_base.specs.declared.history.thread.Entry.{Entry}
@@ -89,6 +89,13 @@ lists-replaced k j ts us =
     lists-append (take k ts ++ us) (drop j ts)
     ∙ (λ i. (lists-append (take k ts) us ∙ ap (λ (xs : List (List Entry)). xs ++ map entries us) (lists-take k ts)) i
     ++ lists-drop j ts i)
+
+-- a page lists what it weaves of its children's trees
+over-all : (dig : List ℕ → List ℕ) (Has : OfPage) (now : Image) (level : ℕ) (p : TreePage) (ts : List Tree)
+    → p.level ≡ level → 12 ≤ length p.entries → AreTrees (IsTreeBelow dig Has now level) p.children ts
+    → IsOverLevel dig Has now level 12 p (woven (map entries ts) p.entries)
+over-all dig Has now level p ts is keys are =
+    record { level_is = is; least_keys = keys; trees = ts; are_trees = are; lists = refl }
 
 module _ (dig : List ℕ → List ℕ) (Has : OfPage) (now : Image) (level : ℕ) (p : TreePage) (node : IsNode p)
     (level_is : p.level ≡ level) (ts : List Tree) (are : AreTrees (IsTreeBelow dig Has now level) p.children ts)
@@ -184,20 +191,10 @@ module _ (dig : List ℕ → List ℕ) (Has : OfPage) (now : Image) (level : ℕ
         (is.entries i)) ∙ all_lists in (
           woven (map entries parts.first) first.entries,
           woven (map entries parts.second) second.entries,
-          record {
-            level_is = is.levels.0 ∙ level_is;
-            least_keys = omega (arith, is.counts.0);
-            trees = parts.first;
-            are_trees = parts.are_first;
-            lists = refl;
-          },
-          record {
-            level_is = is.levels.1 ∙ level_is;
-            least_keys = omega (arith, is.counts.1);
-            trees = parts.second;
-            are_trees = parts.are_second;
-            lists = refl;
-          },
+          over-all dig Has now level first parts.first (is.levels.0 ∙ level_is) (omega (arith, is.counts.0))
+              parts.are_first,
+          over-all dig Has now level second parts.second (is.levels.1 ∙ level_is) (omega (arith, is.counts.1))
+              parts.are_second,
           whole,
         )
 

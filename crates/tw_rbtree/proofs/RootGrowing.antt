@@ -21,11 +21,13 @@ use Rattle.tw_base.specs.history.WithLeaf.{with_leaf}
 use Rattle.tw_base.proofs.lemmas.history.Leaves.{has-leaf}
 use Rattle.tw_rbtree.specs.declared.fault.TreeFault.{TreeFault}
 use Rattle.tw_rbtree.specs.declared.fault.TreeFault.TheVariants.{Present}
-use Rattle.tw_rbtree.specs.Growing.{IsChildTree, all_full, grows_from, grows_if, grows_of}
+use Rattle.tw_rbtree.specs.declared.inserting.Grown.{Grown}
+use Rattle.tw_rbtree.specs.Growing.{GrownLists, IsChildTree, all_full, grows_from, grows_if, grows_of}
 use Rattle.tw_rbtree.specs.Reading.{lie_between, node_in}
-use Rattle.tw_rbtree.specs.Standing.{AreTrees, IsRootTree, IsTreeBelow, IsTreePage, OfPage, StandsWith}
+use Rattle.tw_rbtree.specs.Standing.{AreTrees, HasNamed, IsRootTree, IsTreeBelow, IsTreePage, Named, OfPage}
+use Rattle.tw_rbtree.specs.Standing.{StandsForTree, StandsWith, any_page}
 use Rattle.tw_rbtree.specs.Ways.{end_of_way, nowhere, way_from}
-use Rattle.tw_rbtree.proofs.Keeping.{stands-any}
+use Rattle.tw_rbtree.proofs.Keeping.{stands-any, stands-unnamed, tree_page-as}
 use Rattle.tw_rbtree.proofs.PageLaws.{root-is}
 use Rattle.tw_rbtree.proofs.RootWays.{all_between, root-way}
 use Rattle.tw_rbtree.proofs.Standings.{trees-count}
@@ -98,6 +100,48 @@ module _ (dig : List ℕ → List ℕ) (Has : OfPage) (ps : Image) (root : Root)
       none None full is = refl
       none (Some e) full is = absurd (let wrong : ◌≡◌ {A = Result Bool TreeFault} (Err Present) (Ok two) = is in cc)
 
+  -- what the root's page has become, where it lists of its children's trees what they do with the entry
+  pub record RootGrown (entry : Entry) (p : TreePage) (told : Option Image) (g : Grown) : Type 0 where
+    pub now : Image
+    pub told_now : told ≡ Some now
+    pub lists : GrownLists dig Has now p.level (length p.entries) (with_entry (entries t) entry) g
+    pub rising : IsRising (with_entry (entries t) entry)
+    pub keys : 1 ≤ length p.entries
+
+  pub root-grown : (entry : Entry) (p : TreePage) (two : Bool) (told : Option Image) (g h : Grown) → root.page ≢ 0
+      → node_in dig ps root.page ≡ Is p → grows_from dig ps (key_of entry) p.level None None p ≡ Is (Ok two)
+      → ((ts : List Tree) → AreTrees (IsTreeBelow dig Has ps p.level) p.children ts
+      → IsRising (woven (map entries ts) p.entries) → (now : Image) × (told ≡ Some now) × GrownLists dig Has now p.level
+      (length p.entries) (with_entry (woven (map entries ts) p.entries) entry) g) → g ≡ h → RootGrown entry p told h
+  root-grown entry p two told g h some found grows lists is =
+      let own = own-trees p some found in
+      let all = lists own.trees own.are own.rising in
+      record {
+        now = all.0;
+        told_now = all.1;
+        lists = subst (GrownLists dig Has all.0 p.level (length p.entries) (with_entry (entries t) entry)) is
+            (subst (λ (es : List Entry). GrownLists dig Has all.0 p.level (length p.entries) (with_entry es entry) g)
+            own.lists all.2);
+        rising = rises-with entry p two some found grows;
+        keys = own.keys;
+      }
+
+abbrev Inserted : (List ℕ → List ℕ) → OfPage → (told : Option Image) → Root → List Entry → Type 0
+Inserted dig Has told new es =
+    (now : Image) × (grown : Tree) × (told ≡ Some now) × StandsWith dig Has now new grown × (entries grown ≡ es)
+
+abbrev unnamed : Named
+unnamed = record { below = 0; tree = λ page. Empty }
+
+-- where an entry goes into a tree whatever is named, it goes into one of which nothing is
+pub inserted-plain : (dig : List ℕ → List ℕ) (ps : Image) (root new : Root) (entry : Entry) (told : Option Image)
+    (used : ℕ) → ((named : Named) → named.below ≤ used → (t : Tree) → StandsWith dig (HasNamed named) ps root t
+    → Inserted dig (HasNamed named) told new (with_entry (entries t) entry))
+    → (t : Tree) → StandsForTree dig ps root t → Inserted dig any_page told new (with_entry (entries t) entry)
+inserted-plain dig ps root new entry told used inserted t stands =
+    let all = inserted unnamed (omega arith) t (stands-unnamed dig unnamed ps refl root t stands) in
+    (all.0, all.1, all.2, stands-any dig (HasNamed unnamed) all.0 new all.1 all.3, all.4)
+
 -- a child that is a tree, as a root
 pub root-stands : (dig : List ℕ → List ℕ) (Has : OfPage) (now : Image) (level least : ℕ) (c : Child) (t : Tree)
     (new : Root) → 1 ≤ least → IsChildTree dig Has now level least c t → IsRising (entries t) → new.page ≡ c.page
@@ -107,15 +151,7 @@ root-stands dig Has now level least c t new some is rising page label = record {
   label = label ∙ is.0;
   tree = inr (
     level,
-    subst (λ (n : ℕ). IsTreePage dig Has now (IsTreeBelow dig Has now level) level 1 n t) (sym page) (record {
-      node = is.1.node;
-      at = is.1.at;
-      level_is = is.1.level_is;
-      least_keys = omega (arith, some, is.1.least_keys);
-      trees = is.1.trees;
-      are_trees = is.1.are_trees;
-      tree_is = is.1.tree_is;
-      has = is.1.has;
-    }),
+    subst (λ (n : ℕ). IsTreePage dig Has now (IsTreeBelow dig Has now level) level 1 n t) (sym page)
+        (tree_page-as is.1 (omega (arith, some, is.1.least_keys)) is.1.at is.1.are_trees is.1.has),
   );
 }

@@ -125,37 +125,31 @@ module _ (dig : List ℕ → List ℕ) (ps : Image) (ask : Ask) (root : Root) wh
       by (inr (level, is)) = page_way t stands.rising level is
 
 module _ (dig : List ℕ → List ℕ) (ps : Image) (root : Root) (t : Tree) where
-  abbrev Last : List Stop → Found Sought
-  Last stops = Is (end_of_way nowhere stops)
-
-  end-is : (ask : Ask) (stops : List Stop) → way dig ps ask root ≡ Is stops → way_end dig ps ask root ≡ Is
-      (end_of_way nowhere stops)
+  -- what is taken of the way's end, of which the way tells it
+  end-found : (ask : Ask) (take : Sought → Option Entry) (o : Option Entry) → StandsForTree dig ps root t
+      → ((end : Sought) → Tells ask (entries t) None None end → o ≡ take end)
+      → (way_end dig ps ask root >>= (λ end. Is (take end))) ≡ Is o
   unfolding way_end
-  end-is ask stops found = is_on (way dig ps ask root) Last stops found
+  end-found ask take o stands tells =
+      let w = root-way dig ps ask root t stands in
+      ap (λ (f : Found (List Stop)). (f >>= (λ stops. Is (end_of_way nowhere stops))) >>= (λ end. Is (take end)))
+      w.found
+      ∙ ap (λ (x : Option Entry). Is x) (sym (tells (end_of_way nowhere w.stops) w.tells))
 
   module _ (key : Key) (stands : StandsForTree dig ps root t) where
     pub with-found : found_with dig ps root key ≡ Is (entry_with (entries t) key)
     unfolding found_with
-    with-found =
-        let w = root-way dig ps (Absent key) root t stands in
-        is_on (way_end dig ps (Absent key) root) (λ end. Is end.met) (end_of_way nowhere w.stops)
-        (end-is (Absent key) w.stops w.found) ∙ ap (λ (o : Option Entry). Is o) (sym w.tells)
+    with-found = end-found (Absent key) (λ end. end.met) (entry_with (entries t) key) stands (λ end tells. tells)
 
     pub before-found : found_before dig ps root key ≡ Is (last_below (entries t) key)
     unfolding found_before
-    before-found =
-        let w = root-way dig ps (Below key) root t stands in
-        is_on (way_end dig ps (Below key) root) (λ end. Is end.low) (end_of_way nowhere w.stops)
-        (end-is (Below key) w.stops w.found)
-        ∙ ap (λ (o : Option Entry). Is o) (sym w.tells ∙ or-none (last_below (entries t) key))
+    before-found = end-found (Below key) (λ end. end.low) (last_below (entries t) key) stands
+        (λ end tells. sym (or-none (last_below (entries t) key)) ∙ tells)
 
     pub after-found : found_after dig ps root key ≡ Is (first_above (entries t) key)
     unfolding found_after
-    after-found =
-        let w = root-way dig ps (Above key) root t stands in
-        is_on (way_end dig ps (Above key) root) (λ end. Is end.high) (end_of_way nowhere w.stops)
-        (end-is (Above key) w.stops w.found)
-        ∙ ap (λ (o : Option Entry). Is o) (sym w.tells ∙ or-none (first_above (entries t) key))
+    after-found = end-found (Above key) (λ end. end.high) (first_above (entries t) key) stands
+        (λ end tells. sym (or-none (first_above (entries t) key)) ∙ tells)
 
   pub so-found : (ask : Ask) (end : Sought) → Tells ask (entries t) None None end
       → (IsSo (entries t) ask → IsSoAt ask end.met) × (IsSoAt ask end.met → IsSo (entries t) ask)

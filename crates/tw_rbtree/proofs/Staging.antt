@@ -9,6 +9,8 @@ use Rattle.tw_base.specs.kinds.Lists.{Each}
 use Rattle.tw_base.specs.format.PageBytes.{IsPageOf}
 use Rattle.tw_base.specs.history.Tree.{Tree, entries}
 use Rattle.tw_disk.specs.Image.{Image, page_at}
+use Rattle.tw_disk.specs.Pages.{OnlyAdds, OnlyReads, PagesView}
+use Rattle.tw_disk.proofs.ReadingLaws.{adds_none, only_adds_on}
 use Rattle.tw_rbnode.specs.declared.child.Child.{Child}
 use Rattle.tw_rbnode.specs.Children.{HasChildren}
 use Rattle.tw_rbnode.specs.NodeBytes.{LiesBelow, fields_of, page_node_codec}
@@ -107,3 +109,20 @@ module _ (dig : List ℕ → List ℕ) (Has : OfPage) where
 pub put_behind : (o : Option Image) (ps : Image) (bytes : List ℕ) (new : Option Image) → o ≡ Some ps
     → new ≡ option_map (λ xs. xs ++ bytes ∷ []) o → new ≡ Some (ps ++ bytes ∷ [])
 put_behind o ps bytes new told put = put ∙ ap (option_map (λ xs. xs ++ bytes ∷ [])) told
+
+-- ---- calls that add pages behind what was read
+
+module _ {P : Type 0} (view : P → PagesView) (same : P → P → Type 0)
+    (same_on : (x y z : P) → same x y → same y z → same x z) where
+  pub read-adds : (a b c : P) (well all : Type 0) → OnlyReads view same a b well → OnlyAdds view same b c (Unit {0})
+      → well → OnlyAdds view same a c all
+  read-adds a b c well all reads adds is = only_adds_on view same a b c well (Unit {0}) all same_on (λ _. is) (λ _. tt)
+      (adds_none view same a b well reads) adds
+
+  pub read-adds_more : (a b c d : P) (well more all : Type 0) → OnlyReads view same a b well
+      → OnlyAdds view same b c more → OnlyAdds view same c d (Unit {0}) → well → more → OnlyAdds view same a d all
+  read-adds_more a b c d well more all reads adds last is on = only_adds_on view same a c d (Unit {0}) (Unit {0}) all
+      same_on (λ _. tt) (λ _. tt) (only_adds_on view same a b c well more (Unit {0}) same_on (λ _. is) (λ _. on)
+      (adds_none view same a b well reads) adds) last
+
+pub ruleset added_behind = (read-adds)

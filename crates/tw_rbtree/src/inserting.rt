@@ -179,7 +179,7 @@ fn leaf<H: Hasher>(entry: &Entry) -> Grown
 
 /// Puts the entry below this page, whose keys lie between these two entries as the entry does, and answers what the page has
 /// become. Calls itself once a level.
-#[tactic(auto, using(crate::proofs::Downs::grows_down))]
+#[tactic(auto, using(crate::proofs::Downs::grows_down, crate::proofs::Staging::added_behind))]
 fn grow_below<P: Pages, H: Hasher>(
     pages: &mut P,
     node: &RbNode,

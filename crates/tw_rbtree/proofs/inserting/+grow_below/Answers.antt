@@ -5,13 +5,13 @@ use Rattle.tw_base.specs.declared.history.tree_proof.Ask.TheVariants.{Absent}
 use Rattle.tw_base.specs.history.Asking.{with_entry}
 use Rattle.tw_base.specs.history.Entries.{key_of}
 use Rattle.tw_base.specs.history.Tree.{entries}
-use Rattle.tw_disk.proofs.ReadingLaws.{adds_none, only_adds_on}
 use Rattle.tw_rbtree.specs.Growing.{MayGoInto, SidesList}
 use Rattle.tw_rbtree.specs.Standing.{HasNamed, IsTreeBelow}
 use Rattle.tw_rbtree.proofs.Downs.{grows-down}
 use Rattle.tw_rbtree.proofs.GrowLaws.{are-kept, down-node, entry-between, goes-into, leaf-goes, leaf-sides, lies-below}
 use Rattle.tw_rbtree.proofs.GrowLaws.{own-below, place-room, same-down, sides-up}
 use Rattle.tw_rbtree.proofs.PutLaws.{put-child, put-leaf}
+use Rattle.tw_rbtree.proofs.Staging.{read-adds, read-adds_more}
 use Rattle.tw_rbtree.proofs.inserting.+grow_below.Goals as goal
 
 pub returns-in_err-descend-clause-adds : goal.returns-in_err-descend-clause-adds
@@ -41,23 +41,12 @@ regrow-requires-clause-goes g t c =
     (leaf-goes g.H.Hasher.dig c.args.low.now c.args.high.now c.args.node.now entry _ d.0 c.requires.lie c.in-Leaf.place
     d.1 c.requires.above c.requires.below d.2 c.requires.range).0
 
-pub returns-in_err-regrow-in-Leaf-clause-adds : goal.returns-in_err-regrow-in-Leaf-clause-adds
-returns-in_err-regrow-in-Leaf-clause-adds g t c = record {
-  answer = λ ps told. grind (arith, grows-down);
-  own = search rules;
-  kept = only_adds_on g.P.Pages.view g.P.Pages.same _ _ _ _ _ _ g.met.P.Pages.same_on (λ good. refl) (λ good. tt)
-      (adds_none g.P.Pages.view g.P.Pages.same _ _ _ c.in_ok-descend.ensures.reads.kept)
-      c.in_err-regrow-in-Leaf.ensures.kept;
-  faults = search rules;
-}
-
 pub returns-in_ok-regrow-in-Leaf-clause-adds : goal.returns-in_ok-regrow-in-Leaf-clause-adds
 returns-in_ok-regrow-in-Leaf-clause-adds g t c = record {
   answer = λ ps told. grind (arith, grows-down);
   own = search rules;
-  kept = only_adds_on g.P.Pages.view g.P.Pages.same _ _ _ _ _ _ g.met.P.Pages.same_on (λ good. refl) (λ good. tt)
-      (adds_none g.P.Pages.view g.P.Pages.same _ _ _ c.in_ok-descend.ensures.reads.kept)
-      c.in_ok-regrow-in-Leaf.ensures.kept;
+  kept = read-adds g.P.Pages.view g.P.Pages.same g.met.P.Pages.same_on _ _ _ _ _ c.in_ok-descend.ensures.reads.kept
+      c.in_ok-regrow-in-Leaf.ensures.kept refl;
   faults = search rules;
 }
 
@@ -111,10 +100,9 @@ pub returns-in_ok-regrow-in-Child-clause-adds : goal.returns-in_ok-regrow-in-Chi
 returns-in_ok-regrow-in-Child-clause-adds g t c = record {
   answer = λ ps told. grind (arith, grows-down);
   own = search rules;
-  kept = only_adds_on g.P.Pages.view g.P.Pages.same _ _ _ _ _ _ g.met.P.Pages.same_on (λ good. tt) (λ good. tt)
-      (only_adds_on g.P.Pages.view g.P.Pages.same _ _ _ _ _ (Unit {0}) g.met.P.Pages.same_on (λ good. refl)
-      (λ good. refl) (adds_none g.P.Pages.view g.P.Pages.same _ _ _ c.in_ok-descend.ensures.reads.kept)
-      c.in_ok-below-in-Child.ensures.adds.kept) c.in_ok-regrow-in-Child.ensures.kept;
+  kept = read-adds_more g.P.Pages.view g.P.Pages.same g.met.P.Pages.same_on _ _ _ _ _ _ _
+      c.in_ok-descend.ensures.reads.kept c.in_ok-below-in-Child.ensures.adds.kept c.in_ok-regrow-in-Child.ensures.kept
+      refl refl;
   faults = search rules;
 }
 

@@ -1,19 +1,16 @@
-use Rattle.std.proofs.Common.{◌≡◌, ℕ, suc, ◌+◌, List, [], ◌∷◌, ◌++◌, length, length-append, ap, refl, sym, ◌∙◌, subst}
+use Rattle.std.proofs.Common.{◌≡◌, ℕ, suc, ◌+◌, [], ◌∷◌, ◌++◌, length, length-append, ap, refl, sym, ◌∙◌, subst}
 use Rattle.std.proofs.Common.{arith, rules}
-use Rattle.std.specs.Prelude.{map}
-use Rattle.tw_base.specs.declared.history.thread.Entry.{Entry}
 use Rattle.tw_base.specs.history.Asking.{with_entry}
 use Rattle.tw_base.specs.history.Tree.{IsRising, Tree, entries}
 use Rattle.tw_base.specs.history.Tree.Tree.{Empty}
-use Rattle.tw_rbnode.specs.Trees.{woven}
-use Rattle.tw_disk.proofs.ReadingLaws.{adds_none, only_adds_on}
-use Rattle.tw_rbtree.specs.Growing.{GrownLists}
-use Rattle.tw_rbtree.specs.Standing.{IsTreeBelow, HasNamed, Named}
+use Rattle.tw_rbnode.specs.declared.child.Child.{Child as Link}
+use Rattle.tw_rbtree.specs.Growing.{IsChildTree}
+use Rattle.tw_rbtree.specs.Standing.{IsTreeBelow, HasNamed}
 use Rattle.tw_rbtree.proofs.GrowLaws.{leaf-below, less-keys}
 use Rattle.tw_rbtree.proofs.Inserts.{insert-root}
-use Rattle.tw_rbtree.proofs.Keeping.{stands-any, stands-unnamed}
 use Rattle.tw_rbtree.proofs.PutLaws.{put-empty, put-one, put-two}
-use Rattle.tw_rbtree.proofs.RootGrowing.{all-lie_between, empty-tree, own-trees, rises-with, root-stands}
+use Rattle.tw_rbtree.proofs.RootGrowing.{all-lie_between, empty-tree, inserted-plain, root-grown, root-stands}
+use Rattle.tw_rbtree.proofs.Staging.{read-adds_more}
 use Rattle.tw_rbtree.proofs.inserting.insert.Goals as goal
 
 pub returns-in_err-first-clause-adds : goal.returns-in_err-first-clause-adds
@@ -29,10 +26,9 @@ pub returns-in_err-stage_single-in-Two-clause-adds : goal.returns-in_err-stage_s
 returns-in_err-stage_single-in-Two-clause-adds g c = record {
   answer = λ ps told. grind (arith, insert-root);
   own = search rules;
-  kept = only_adds_on g.P.Pages.view g.P.Pages.same _ _ _ _ _ _ g.met.P.Pages.same_on (λ good. tt) (λ good. tt)
-      (only_adds_on g.P.Pages.view g.P.Pages.same _ _ _ _ _ (Unit {0}) g.met.P.Pages.same_on (λ good. refl)
-      (λ good. refl) (adds_none g.P.Pages.view g.P.Pages.same _ _ _ c.in_ok-first.ensures.reads.kept)
-      c.in_ok-child.ensures.adds.kept) c.in_err-stage_single-in-Two.ensures.kept;
+  kept = read-adds_more g.P.Pages.view g.P.Pages.same g.met.P.Pages.same_on _ _ _ _ _ _ _
+      c.in_ok-first.ensures.reads.kept c.in_ok-child.ensures.adds.kept c.in_err-stage_single-in-Two.ensures.kept refl
+      refl;
   faults = search rules;
 }
 
@@ -40,10 +36,9 @@ pub returns-in_ok-stage_single-in-Two-clause-adds : goal.returns-in_ok-stage_sin
 returns-in_ok-stage_single-in-Two-clause-adds g c = record {
   answer = λ ps told. grind (arith, insert-root);
   own = search rules;
-  kept = only_adds_on g.P.Pages.view g.P.Pages.same _ _ _ _ _ _ g.met.P.Pages.same_on (λ good. tt) (λ good. tt)
-      (only_adds_on g.P.Pages.view g.P.Pages.same _ _ _ _ _ (Unit {0}) g.met.P.Pages.same_on (λ good. refl)
-      (λ good. refl) (adds_none g.P.Pages.view g.P.Pages.same _ _ _ c.in_ok-first.ensures.reads.kept)
-      c.in_ok-child.ensures.adds.kept) c.in_ok-stage_single-in-Two.ensures.kept;
+  kept = read-adds_more g.P.Pages.view g.P.Pages.same g.met.P.Pages.same_on _ _ _ _ _ _ _
+      c.in_ok-first.ensures.reads.kept c.in_ok-child.ensures.adds.kept c.in_ok-stage_single-in-Two.ensures.kept refl
+      refl;
   faults = search rules;
 }
 
@@ -62,78 +57,55 @@ grow_below-requires-clause-lie g c = all-lie_between c.in_ok-first.first.entries
 pub returns-in-One-clause-inserted : goal.returns-in-One-clause-inserted
 returns-in-One-clause-inserted g c = λ ps told named under t stands.
     let dig = g.H.Hasher.dig in
-    let root = c.args.root.now in
-    let entry = c.args.entry in
+    let reads = c.in_ok-first.ensures.reads in
     let p = c.in_ok-first.first in
-    let told_then = c.in_ok-first.ensures.reads.kept.list_kept ∙ told in
-    let found = c.in_ok-first.ensures.reads.answer ps told in
-    let own = own-trees dig (HasNamed named) ps root t stands p c.if-root-eq0.false found in
-    let lists = c.in_ok-child.ensures.lists ps told_then named
-    (omega (arith, under, c.in_ok-first.ensures.reads.kept.used_kept)) own.trees own.are own.rising in
-    let grown = subst (GrownLists dig (HasNamed named) lists.0 p.level (length p.entries)
-    (with_entry (woven (map entries own.trees) p.entries) entry)) c.in-One.is lists.2 in
-    let target : entries grown.0 ≡ with_entry (entries t) entry =
-    grown.2 ∙ ap (λ (es : List Entry). with_entry es entry) own.lists in
-    let rising = subst IsRising (sym target) (rises-with dig (HasNamed named) ps root t stands entry p _
-    c.if-root-eq0.false found (c.in_ok-child.ensures.adds.answer ps told_then)) in (
-      lists.0,
-      grown.0,
-      lists.1,
-      root-stands dig (HasNamed named) lists.0 p.level (length p.entries) c.in-One.child grown.0 c.root_of.result
-          own.keys grown.1 rising c.root_of.ensures.page c.root_of.ensures.label,
-      target,
+    let told_then = reads.kept.list_kept ∙ told in
+    let top = root-grown dig (HasNamed named) ps c.args.root.now t stands c.args.entry p _ _ _ _ c.if-root-eq0.false
+    (reads.answer ps told) (c.in_ok-child.ensures.adds.answer ps told_then)
+    (c.in_ok-child.ensures.lists ps told_then named (omega (arith, under, reads.kept.used_kept))) c.in-One.is in (
+      top.now,
+      top.lists.0,
+      top.told_now,
+      root-stands dig (HasNamed named) top.now p.level (length p.entries) c.in-One.child top.lists.0 c.root_of.result
+          top.keys top.lists.1 (subst IsRising (sym top.lists.2) top.rising) c.root_of.ensures.page
+          c.root_of.ensures.label,
+      top.lists.2,
     )
 
 pub returns-in_ok-stage_single-in-Two-clause-inserted : goal.returns-in_ok-stage_single-in-Two-clause-inserted
 returns-in_ok-stage_single-in-Two-clause-inserted g c = λ ps told named under t stands.
     let dig = g.H.Hasher.dig in
-    let root = c.args.root.now in
-    let entry = c.args.entry in
+    let reads = c.in_ok-first.ensures.reads in
     let p = c.in_ok-first.first in
-    let told_then = c.in_ok-first.ensures.reads.kept.list_kept ∙ told in
-    let found = c.in_ok-first.ensures.reads.answer ps told in
-    let own = own-trees dig (HasNamed named) ps root t stands p c.if-root-eq0.false found in
-    let lists = c.in_ok-child.ensures.lists ps told_then named
-    (omega (arith, under, c.in_ok-first.ensures.reads.kept.used_kept)) own.trees own.are own.rising in
-    let grown = subst (GrownLists dig (HasNamed named) lists.0 p.level (length p.entries)
-    (with_entry (woven (map entries own.trees) p.entries) entry)) c.in-Two.is lists.2 in
-    let target : entries grown.0 ++ c.in-Two.middle ∷ entries grown.1 ≡ with_entry (entries t) entry =
-    grown.4 ∙ ap (λ (es : List Entry). with_entry es entry) own.lists in
-    let rising = subst IsRising (sym target) (rises-with dig (HasNamed named) ps root t stands entry p _
-    c.if-root-eq0.false found (c.in_ok-child.ensures.adds.answer ps told_then)) in
+    let told_then = reads.kept.list_kept ∙ told in
+    let below = c.in_ok-child.ensures in
+    let top = root-grown dig (HasNamed named) ps c.args.root.now t stands c.args.entry p _ _ _ _ c.if-root-eq0.false
+    (reads.answer ps told) (below.adds.answer ps told_then)
+    (below.lists ps told_then named (omega (arith, under, reads.kept.used_kept))) c.in-Two.is in
+    let l = top.lists.0 in
+    let r = top.lists.1 in
     let up : suc p.level ≡ c.level-in-Two.result + 1 = omega (arith, c.level-in-Two.ensures) in
-    let left = subst (λ (n : ℕ). IsTreeBelow dig (HasNamed named) lists.0 n c.in-Two.left grown.0) up
-    (less-keys dig (HasNamed named) lists.0 p.level 12 c.in-Two.left grown.0 (omega arith) grown.2) in
-    let right = subst (λ (n : ℕ). IsTreeBelow dig (HasNamed named) lists.0 n c.in-Two.right grown.1) up
-    (less-keys dig (HasNamed named) lists.0 p.level 12 c.in-Two.right grown.1 (omega arith) grown.3) in
-    let last = c.in_ok-stage_single-in-Two.ensures.lists lists.0 lists.1 named
-    (omega (arith, under, c.in_ok-first.ensures.reads.kept.used_kept, c.in_ok-child.ensures.adds.kept.used_grows))
-    (grown.0 ∷ grown.1 ∷ []) (left, (right, tt)) rising in
-    (last.0, last.1, last.2, last.3, last.4 ∙ target)
-
-abbrev unnamed : Named
-unnamed = record { below = 0; tree = λ page. Empty }
+    let side = λ (link : Link) (x : Tree) (is : IsChildTree dig (HasNamed named) top.now p.level 12 link x).
+    subst (λ (n : ℕ). IsTreeBelow dig (HasNamed named) top.now n link x) up
+    (less-keys dig (HasNamed named) top.now p.level 12 link x (omega arith) is) in
+    let last = c.in_ok-stage_single-in-Two.ensures.lists top.now top.told_now named
+    (omega (arith, under, reads.kept.used_kept, below.adds.kept.used_grows)) (l ∷ r ∷ [])
+    (side c.in-Two.left l top.lists.2, (side c.in-Two.right r top.lists.3, tt))
+    (subst IsRising (sym top.lists.4) top.rising) in
+    (last.0, last.1, last.2, last.3, last.4 ∙ top.lists.4)
 
 pub returns-then-root-eq0-clause-plain : goal.returns-then-root-eq0-clause-plain
-returns-then-root-eq0-clause-plain g c = λ ps told t stands.
-    let dig = g.H.Hasher.dig in
-    let all = returns-then-root-eq0-clause-inserted g c ps told unnamed (omega arith) t
-    (stands-unnamed dig unnamed ps refl c.args.root.now t stands) in
-    (all.0, all.1, all.2, stands-any dig (HasNamed unnamed) all.0 _ all.1 all.3, all.4)
+returns-then-root-eq0-clause-plain g c = λ ps told.
+    inserted-plain g.H.Hasher.dig ps _ _ c.args.entry _ _ (returns-then-root-eq0-clause-inserted g c ps told)
 
 pub returns-in-One-clause-plain : goal.returns-in-One-clause-plain
-returns-in-One-clause-plain g c = λ ps told t stands.
-    let dig = g.H.Hasher.dig in
-    let all = returns-in-One-clause-inserted g c ps told unnamed (omega arith) t
-    (stands-unnamed dig unnamed ps refl c.args.root.now t stands) in
-    (all.0, all.1, all.2, stands-any dig (HasNamed unnamed) all.0 _ all.1 all.3, all.4)
+returns-in-One-clause-plain g c = λ ps told.
+    inserted-plain g.H.Hasher.dig ps _ _ c.args.entry _ _ (returns-in-One-clause-inserted g c ps told)
 
 pub returns-in_ok-stage_single-in-Two-clause-plain : goal.returns-in_ok-stage_single-in-Two-clause-plain
-returns-in_ok-stage_single-in-Two-clause-plain g c = λ ps told t stands.
-    let dig = g.H.Hasher.dig in
-    let all = returns-in_ok-stage_single-in-Two-clause-inserted g c ps told unnamed (omega arith) t
-    (stands-unnamed dig unnamed ps refl c.args.root.now t stands) in
-    (all.0, all.1, all.2, stands-any dig (HasNamed unnamed) all.0 _ all.1 all.3, all.4)
+returns-in_ok-stage_single-in-Two-clause-plain g c = λ ps told.
+    inserted-plain g.H.Hasher.dig ps _ _ c.args.entry _ _
+    (returns-in_ok-stage_single-in-Two-clause-inserted g c ps told)
 
 pub returns-then-root-eq0-clause-put : goal.returns-then-root-eq0-clause-put
 returns-then-root-eq0-clause-put g c = λ ps told.

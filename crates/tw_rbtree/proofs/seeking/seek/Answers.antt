@@ -1,4 +1,4 @@
-use Rattle.std.proofs.Common.{◌≡◌, ◌+◌, ◌-◌, false, true, ap, sym, ◌∙◌, arith, slice_get, refl}
+use Rattle.std.proofs.Common.{◌≡◌, false, true, sym, ◌∙◌, arith, refl}
 use Rattle.std.specs.Prelude.{Some, None, Option}
 use Rattle.tw_base.specs.declared.history.thread.Entry.{Entry}
 use Rattle.tw_rbnode.specs.declared.node.Found.{Found as Spot}
@@ -15,49 +15,28 @@ made s at met ea em = λ i. record { at = sym ea i; low = s.low; met = sym em i;
 
 pub returns-then-meets : goal.returns-then-meets
 returns-then-meets c =
-    let i = c.loop-place.place in
-    let es = c.args.node.now.entries in
     let e = c.entry_at-entry.result in
-    let there : slice_get es i ≡ Some e = ap (slice_get es) (let s : i ≡ i + 1 - 1 = omega arith in s)
-    ∙ c.entry_at-entry.ensures in
     let meets : has_asked_key c.args.ask.now e ≡ true = grind (arith, c.meets.ensures, c.if-meets.true) in
-    let inv = c.loop-place.invariant in
-    sym (inv.on ∙ seek-meets c.args.ask.now c.loop-place.sought.low c.loop-place.sought.high es i e there meets)
+    sym (c.loop-place.invariant.on ∙ seek-meets _ _ _ _ _ e c.entry_at-entry.ensures meets)
 
 pub returns-then-goes_left : goal.returns-then-goes_left
 returns-then-goes_left c =
-    let i = c.loop-place.place in
-    let es = c.args.node.now.entries in
     let e = c.entry_at-entry.result in
-    let there : slice_get es i ≡ Some e = ap (slice_get es) (let s : i ≡ i + 1 - 1 = omega arith in s)
-    ∙ c.entry_at-entry.ensures in
+    let s = c.loop-place.sought in
     let meets : has_asked_key c.args.ask.now e ≡ false = grind (arith, c.meets.ensures, c.if-meets.false) in
     let left : is_left c.args.ask.now e ≡ true = grind (arith, c.goes_left.ensures, c.if-goes_left.true) in
     let inv = c.loop-place.invariant in
-    let parts : ◌≡◌ {A = Sought}
-    (record {
-      at = c.loop-place.sought.at;
-      low = c.loop-place.sought.low;
-      met = c.loop-place.sought.met;
-      high = Some e;
-    })
-    (record { at = Between i; low = c.loop-place.sought.low; met = None; high = Some e }) =
-    (λ j. record { at = inv.place j; low = c.loop-place.sought.low; met = inv.met j; high = Some e }) in
-    parts ∙ sym (inv.on ∙ seek-stops c.args.ask.now c.loop-place.sought.low c.loop-place.sought.high es i e there meets
-    left)
+    sym (inv.on ∙ seek-stops _ _ _ _ _ e c.entry_at-entry.ensures meets left
+    ∙ made (record s { high = Some e }) (Between c.loop-place.place) None inv.place inv.met)
 
 pub loop-place-preserved : goal.loop-place-preserved
 loop-place-preserved c =
-    let i = c.loop-place.place in
-    let es = c.args.node.now.entries in
     let e = c.entry_at-entry.result in
-    let there : slice_get es i ≡ Some e = ap (slice_get es) (let s : i ≡ i + 1 - 1 = omega arith in s)
-    ∙ c.entry_at-entry.ensures in
     let meets : has_asked_key c.args.ask.now e ≡ false = grind (arith, c.meets.ensures, c.if-meets.false) in
     let left : is_left c.args.ask.now e ≡ false = grind (arith, c.goes_left.ensures, c.if-goes_left.false) in
     let inv = c.loop-place.invariant in
     record {
-      on = inv.on ∙ seek-passes c.args.ask.now c.loop-place.sought.low c.loop-place.sought.high es i e there meets left;
+      on = inv.on ∙ seek-passes _ _ _ _ _ e c.entry_at-entry.ensures meets left;
       place = refl;
       met = inv.met;
     }
