@@ -7,6 +7,7 @@ use Rattle.tw_rbnode.specs.declared.child.Child.{Child}
 use Rattle.tw_rbnode.specs.Page.{TreePage}
 use Rattle.tw_rbtree.specs.Reading.{IsPageAt}
 use Rattle.tw_rbtree.specs.Standing.{AreTrees, IsRootTree, IsTreeBelow, IsTreePage, OfPage, StandsWith, any_page}
+use Rattle.tw_rbtree.proofs.Keeping.{tree_page-as}
 
 trees-both : (R S T : Child → Tree → Type 0) → ((c : Child) (t u : Tree) → R c t → S c u → T c t)
     → (cs : List Child) (ts us : List Tree) → AreTrees R cs ts → AreTrees S cs us → AreTrees T cs ts
@@ -28,19 +29,12 @@ module _ (dig : List ℕ → List ℕ) (ps : Image) (one_page : (page : ℕ) (p 
         u → IsTreeBelow dig C ps level c t)
         → (least page : ℕ) (t u : Tree) → 1 ≤ least → IsPage dig ps A level least page t → IsPage dig ps B level least
         page u → IsPage dig ps C level least page t
-    page-both level below least page t u some a b = record {
-      node = a.node;
-      at = a.at;
-      level_is = a.level_is;
-      least_keys = a.least_keys;
-      trees = a.trees;
-      are_trees = trees-both (IsTreeBelow dig A ps level) (IsTreeBelow dig B ps level) (IsTreeBelow dig C ps level)
-          below a.node.children a.trees b.trees a.are_trees
-          (subst (λ (p : TreePage). AreTrees (IsTreeBelow dig B ps level) p.children b.trees)
-          (one_page page b.node a.node b.at a.at) b.are_trees);
-      tree_is = a.tree_is;
-      has = f level least page t u some a b.has;
-    }
+    page-both level below least page t u some a b =
+        tree_page-as a a.least_keys a.at
+        (trees-both (IsTreeBelow dig A ps level) (IsTreeBelow dig B ps level) (IsTreeBelow dig C ps level) below
+        a.node.children a.trees b.trees a.are_trees
+        (subst (λ (p : TreePage). AreTrees (IsTreeBelow dig B ps level) p.children b.trees)
+        (one_page page b.node a.node b.at a.at) b.are_trees)) (f level least page t u some a b.has)
 
     below-both : (level : ℕ) (c : Child) (t u : Tree) → IsTreeBelow dig A ps level c t → IsTreeBelow dig B ps level c u
         → IsTreeBelow dig C ps level c t
@@ -70,17 +64,7 @@ module _ (dig : List ℕ → List ℕ) (ps : Image) (one_page : (page : ℕ) (p 
   pub as-root : (Has : OfPage) (level least page : ℕ) (t : Tree) (is : IsPage dig ps Has level least page t)
       → 1 ≤ length is.node.entries → IsRootTree dig any_page ps page t
   as-root Has level least page t is some =
-      let one : IsPage dig ps Has level 1 page t =
-      record {
-        node = is.node;
-        at = is.at;
-        level_is = is.level_is;
-        least_keys = some;
-        trees = is.trees;
-        are_trees = is.are_trees;
-        tree_is = is.tree_is;
-        has = is.has;
-      } in
+      let one : IsPage dig ps Has level 1 page t = tree_page-as is some is.at is.are_trees is.has in
       root-both Has Has any_page (λ l m p x y k a b. tt) page t t (inr (level, one)) (inr (level, one))
 
   -- a page is one tree

@@ -18,8 +18,10 @@ use Rattle.tw_rbnode.specs.declared.child.Child.{Child}
 use Rattle.tw_rbnode.specs.NodeBytes.{LiesBelow}
 use Rattle.tw_rbtree.specs.declared.new_node.NewNode.{NewNode}
 use Rattle.tw_rbtree.specs.Listing.{is_old, listed}
+use Rattle.tw_rbtree.proofs.Keeping.{tree_page-as}
 use Rattle.tw_rbtree.proofs.ListLaws.{is-old, listed-none}
-use Rattle.tw_rbtree.specs.Standing.{AreTrees, HasNamed, IsRootTree, IsTreeBelow, Named, OfPage, StandsWith}
+use Rattle.tw_rbtree.proofs.Markings.{lower, trees-each}
+use Rattle.tw_rbtree.specs.Standing.{HasNamed, IsRootTree, IsTreeBelow, Named, OfPage, StandsWith}
 use Rattle.tw_archive.specs.Archives.{Agree, KeepsTree, KeepsTrees, named_at, named_by}
 use Rattle.tw_archive.specs.Numbering.{Numbered, history_node, archive_new_nodes, nodes_in, number_of_page}
 use Rattle.tw_archive.specs.Numbering.{numbered_archive, numbered_on, new_from}
@@ -28,37 +30,19 @@ use Rattle.tw_archive.proofs.Keeping.{keeps-on, kept-named, next-from, numbered-
 
 -- ---- what holds of the pages of a tree, which aren't above the root's
 
-trees-low : (R S : Child → Tree → Type 0) (Q : Child → Type 0) → ((c : Child) (t : Tree) → Q c → R c t → S c t)
-    → (cs : List Child) (ts : List Tree) → Each Q cs → AreTrees R cs ts → AreTrees S cs ts
-trees-low R S Q f [] [] all are = tt
-trees-low R S Q f [] (t ∷ ts) all are = absurd are
-trees-low R S Q f (c ∷ cs) [] all are = absurd are
-trees-low R S Q f (c ∷ cs) (t ∷ ts) all are = (f c t all.0 are.0, trees-low R S Q f cs ts all.1 are.1)
-
-lies-under : (page bound level : ℕ) (c : Child) → page ≤ bound → LiesBelow page level c → LiesBelow bound level c
-lies-under page bound zero c low lies = tt
-lies-under page bound (suc level) c low lies = omega (arith, low, lies)
-
 module _ (dig : List ℕ → List ℕ) (ps : Image) (bound : ℕ) (A C : OfPage) (f : (page : ℕ) (t : Tree) → page < bound
     → A page t → C page t) where
   page-low : (level : ℕ) → ((c : Child) (t : Tree) → LiesBelow bound level c → IsTreeBelow dig A ps level c t
       → IsTreeBelow dig C ps level c t)
       → (least page : ℕ) (t : Tree) → page < bound → IsPage dig ps A level least page t → IsPage dig ps C level least
       page t
-  page-low level below least page t low is = record {
-    node = is.node;
-    at = is.at;
-    level_is = is.level_is;
-    least_keys = is.least_keys;
-    trees = is.trees;
-    are_trees = trees-low (IsTreeBelow dig A ps level) (IsTreeBelow dig C ps level) (LiesBelow bound level) below
-        is.node.children is.trees
-        (Each-map (LiesBelow page level) (LiesBelow bound level) is.node.children
-        (λ c lies. lies-under page bound level c (omega (arith, low)) lies)
-        (subst (λ (l : ℕ). Each (LiesBelow page l) is.node.children) is.level_is is.at.may_stand.below)) is.are_trees;
-    tree_is = is.tree_is;
-    has = f page t low is.has;
-  }
+  page-low level below least page t low is =
+      tree_page-as is is.least_keys is.at
+      (trees-each (IsTreeBelow dig A ps level) (IsTreeBelow dig C ps level) (LiesBelow bound level) below
+      is.node.children is.trees
+      (Each-map (LiesBelow page level) (LiesBelow bound level) is.node.children (lower page bound level low)
+      (subst (λ (l : ℕ). Each (LiesBelow page l) is.node.children) is.level_is is.at.may_stand.below)) is.are_trees)
+      (f page t low is.has)
 
   below-low : (level : ℕ) (c : Child) (t : Tree) → LiesBelow bound level c → IsTreeBelow dig A ps level c t
       → IsTreeBelow dig C ps level c t

@@ -1,7 +1,7 @@
 -- One more sound step keeps a history sound.
 use Rattle.std.proofs.Common.{◌≡◌, ℕ, suc, zero, ◌<◌, ◌≤◌, List, [], ◌∷◌, ◌++◌, length, refl, ap, sym, ◌∙◌, subst}
 use Rattle.std.proofs.Common.{arith, inl, inr}
-use Rattle.std.specs.Prelude.{Option, Some, None, IfSome, IsSome, slice_get, slice_index_or}
+use Rattle.std.specs.Prelude.{Option, Some, None, IfSome, IsSome, slice_get}
 use Rattle.std.proofs.lemmas.Bool.{cases_lt}
 use Rattle.std.proofs.lemmas.List.{length_push}
 use Rattle.std.proofs.lemmas.Option.{slice_get_cases, slice_get_within}
@@ -12,24 +12,10 @@ use Rattle.tw_base.specs.history.Rules.{KeepsRule, NodesFit, Rule}
 use Rattle.tw_base.specs.history.Rules.Rule.{NodesAreKnown, TreesRise, HoldsAllThreads, IsOfAnother, StepsRise}
 use Rattle.tw_base.specs.history.Rules.Rule.{EventsFit, TimesDontFall}
 use Rattle.tw_base.specs.history.Sound.{IsSound, IsSoundStep}
-use Rattle.tw_base.specs.history.Tree.{IsRising, Tree, branch, entries, forest, new_trees, planted, tree}
-use Rattle.tw_base.specs.history.Tree.Tree.{Empty}
+use Rattle.tw_base.specs.history.Tree.{IsRising, Tree, entries, forest, new_trees, planted, tree}
 use Rattle.tw_base.specs.kinds.Lists.{Each}
 use Rattle.tw_base.proofs.lemmas.history.Plus.{entry_to-plus, forest-plus, received-plus, step_at-new, step_at-plus}
 use Rattle.tw_base.proofs.lemmas.history.Plus.{times-plus, tree-plus}
-
-planted-same : (e f : ℕ → Option Entry) → ((k : ℕ) → e k ≡ f k) → (trees : List Tree) (ns : List Node)
-    → planted e trees ns ≡ planted f trees ns
-unfolding planted
-planted-same e f same trees [] = refl
-planted-same e f same trees (n ∷ ns) =
-    ap (λ (o : Option Entry). branch o (slice_index_or trees n.left Empty) (slice_index_or trees n.right Empty)
-    ∷ planted e (trees ++ branch o (slice_index_or trees n.left Empty) (slice_index_or trees n.right Empty) ∷ []) ns)
-    (same n.entry)
-    ∙ ap (λ (ts : List Tree). branch (f n.entry) (slice_index_or trees n.left Empty)
-    (slice_index_or trees n.right Empty) ∷ ts)
-    (planted-same e f same (trees ++ branch (f n.entry) (slice_index_or trees n.left Empty)
-    (slice_index_or trees n.right Empty) ∷ []) ns)
 
 -- in a sound history the archive has as many entries as threads were received
 pub same-length : (h : History) → IsSound h → (i : ℕ) → i ≤ length h.steps → length (entries (tree h i)) ≡ length
@@ -57,8 +43,8 @@ module _ (h : History) (s : Step) where
 
   new_trees-plus : (i : ℕ) → i < length h.steps → new_trees (plus h s) i ≡ new_trees h i
   new_trees-plus i less =
-      planted-same (entry_to (plus h s) (suc i)) (entry_to h (suc i)) (λ k. entry_to-plus h s (suc i) k less)
-      (forest (plus h s) i) (fresh_of (step_at (plus h s) (suc i)))
+      (λ j. planted (λ k. entry_to-plus h s (suc i) k less j) (forest (plus h s) i)
+      (fresh_of (step_at (plus h s) (suc i))))
       ∙ ap (λ (ts : List Tree). planted (entry_to h (suc i)) ts (fresh_of (step_at (plus h s) (suc i))))
       (forest-plus h s i (omega (arith, less)))
       ∙ ap (λ (o : Option Step). planted (entry_to h (suc i)) (forest h i) (fresh_of o)) (step_at-plus h s (suc i) less)
