@@ -1,13 +1,12 @@
 -- The history that has no step yet.
-use Rattle.std.proofs.Common.{◌≡◌, ℕ, ◌<◌, ◌≤◌, List, [], length, refl, ap, sym, ◌∙◌, arith, subst, inl, inr, ⊎_elim}
+use Rattle.std.proofs.Common.{◌≡◌, ℕ, ◌≤◌, List, [], length, refl, ap, sym, ◌∙◌, arith, subst, inl, inr, ⊎_elim}
 use Rattle.std.proofs.Common.{◌⊎◌}
 use Rattle.tw_disk.specs.Image.{Image}
 use Rattle.tw_disk.specs.Disk.{DiskView, LeavesOnly, Reads}
 use Rattle.tw_disk.proofs.Moments.{leaves_weaker}
 use Rattle.tw_base.specs.history.Auth.{auth, auths, tree_label}
-use Rattle.std.specs.Prelude.{IfSome, Option, None}
+use Rattle.std.specs.Prelude.{None}
 use Rattle.tw_base.specs.history.History.{received, times}
-use Rattle.tw_base.specs.history.Limits.{IsTimeWithinLimits}
 use Rattle.tw_base.specs.kinds.Names.{IsName}
 use Rattle.tw_base.specs.history.Sound.{IsSound}
 use Rattle.tw_base.specs.kinds.Texts.{empty_tree_text, genesis_text}
@@ -31,12 +30,24 @@ use Rattle.tw_service.specs.Stands.{IsBlankOrNew, KeepsHistory, KeepsWhole, grea
 pub sound_none : (name : List ℕ) → IsName name → IsSound (no_history name)
 sound_none name is = record { name = is; length = omega arith; steps = λ i s there. cc }
 
-module _ (dig : List ℕ → List ℕ) (size : (text : List ℕ) → IsDigest (dig text)) (r : RootRecord)
-    (is_name : IsName r.name) (first : r.head.step ≡ 0) (no_page : r.head.page ≡ 0)
-    (label : r.head.auth ≡ dig (genesis_text r.name)) (no_archive : r.archive.page ≡ 0)
-    (empty : r.archive.label ≡ dig empty_tree_text) (no_threads : r.threads ≡ 0) (untimed : r.time ≡ None) where
+-- the root record of a history without a step, with the authenticator of its name and the label of the empty archive
+abbrev pub first_record : (name : List ℕ) → (auth : List ℕ) → (label : List ℕ) → RootRecord
+first_record name auth label =
+    record {
+      name = name;
+      head = record { step = 0; auth = auth; page = 0 };
+      archive = record { page = 0; label = label };
+      threads = 0;
+      time = None;
+    }
+
+module _ (dig : List ℕ → List ℕ) (size : (text : List ℕ) → IsDigest (dig text)) (name first empty : List ℕ)
+    (is_name : IsName name) (label : first ≡ dig (genesis_text name)) (no_tree : empty ≡ dig empty_tree_text) where
+  abbrev r : RootRecord
+  r = first_record name first empty
+
   -- the authenticator of a name
-  genesis : r.head.auth ≡ auth dig (no_history r.name) 0
+  genesis : first ≡ auth dig (no_history name) 0
   unfolding auth auths
   genesis = label
 
@@ -44,65 +55,64 @@ module _ (dig : List ℕ → List ℕ) (size : (text : List ℕ) → IsDigest (d
   unfolding tree_label
   empty_label = refl
 
-  received_none : received (no_history r.name) 0 ≡ []
+  received_none : received (no_history name) 0 ≡ []
   unfolding received
   received_none = refl
 
-  same_label : r.archive.label ≡ tree_label dig (tree (no_history r.name) 0)
-  same_label = empty ∙ sym (ap (λ (t : Tree). tree_label dig t) (tree-first (no_history r.name)) ∙ empty_label)
+  same_label : empty ≡ tree_label dig (tree (no_history name) 0)
+  same_label = no_tree ∙ sym (ap (λ (t : Tree). tree_label dig t) (tree-first (no_history name)) ∙ empty_label)
 
-  no_times : times (no_history r.name) 0 ≡ []
+  no_times : times (no_history name) 0 ≡ []
   unfolding times
   no_times = refl
 
-  pub keeps_none : (pages : Image) → KeepsWhole dig pages (no_history r.name) r
+  pub keeps_none : (pages : Image) → KeepsWhole dig pages (no_history name) r
   unfolding Keeps-first
   keeps_none pages = record {
-    steps = Keeps-first dig pages (no_history r.name) r.head refl first genesis no_page;
+    steps = Keeps-first dig pages (no_history name) r.head refl refl genesis refl;
     trees = record { nowhere = refl; trees = λ k l. absurd (omega (arith, l)) };
-    archive = (λ j. record { page = no_archive j; label = same_label j });
-    threads = no_threads ∙ ap length (sym received_none);
-    time = untimed ∙ ap greatest (sym no_times);
+    archive = (λ j. record { page = 0; label = same_label j });
+    threads = ap length (sym received_none);
+    time = ap greatest (sym no_times);
   }
 
   fits_none : (used generation : ℕ) → used ≡ 4 → generation ≤ 1 → FitsStore used generation r
   fits_none used generation few low = record {
-    steps = record { none = λ _. no_page; some = λ some. absurd (omega (arith, some, first)) };
-    threads = record { none = λ _. no_archive; some = λ some. absurd (omega (arith, some, no_threads)) };
-    few_threads = omega (arith, no_threads);
-    few_pages = omega (arith, few, first);
-    few_commits = omega (arith, low, first);
-    timed = subst (λ (o : Option ℕ). IfSome o (λ time. 0 < r.head.step)) (sym untimed) tt;
+    steps = record { none = λ _. refl; some = λ some. absurd (omega (arith, some)) };
+    threads = record { none = λ _. refl; some = λ some. absurd (omega (arith, some)) };
+    few_threads = omega arith;
+    few_pages = omega (arith, few);
+    few_commits = omega (arith, low);
+    timed = tt;
   }
 
   -- the record may stand in a store without a page, at its first generation or before it
   pub may_none : (generation : ℕ) → generation ≤ 1 → IsAllowed 4 generation r
   may_none generation low = record {
-    spelled = root-fits r is_name (omega (arith, first)) (subst IsDigest (sym label) (size (genesis_text r.name)))
-        (omega (arith, no_page)) (omega (arith, no_archive)) (subst IsDigest (sym empty) (size empty_tree_text))
-        (omega (arith, no_threads)) (subst IsTimeWithinLimits (sym untimed) tt);
+    spelled = root-fits r is_name (omega arith) (subst IsDigest (sym label) (size (genesis_text name))) (omega arith)
+        (omega arith) (subst IsDigest (sym no_tree) (size empty_tree_text)) (omega arith) tt;
     fits = fits_none 4 generation refl low;
   }
 
-  pub keeps_first : KeepsHistory dig [] r (no_history r.name)
-  keeps_first = record { sound = sound_none r.name is_name; named = refl; whole = keeps_none [] }
+  pub keeps_first : KeepsHistory dig [] r (no_history name)
+  keeps_first = record { sound = sound_none name is_name; named = refl; whole = keeps_none [] }
 
   -- ---- a store in the making, of the history without a step
 
-  begun : (i : Image) → IsBlankOrFirst root_kind (KeepsHistory dig) (no_history r.name) i → IsBlankOrNew dig r.name i
+  begun : (i : Image) → IsBlankOrFirst root_kind (KeepsHistory dig) (no_history name) i → IsBlankOrNew dig name i
   begun i made = ⊎_elim (λ blank. inl blank) (λ stands. inr (record { named = refl; stands = stands })) made
 
   pub leaves_none : (old new : DiskView) → LeavesOnly old new (λ i. old.may_leave i ⊎ IsBlankOrNewWith root_kind r i)
-      → LeavesOnly old new (λ i. old.may_leave i ⊎ IsBlankOrNew dig r.name i)
+      → LeavesOnly old new (λ i. old.may_leave i ⊎ IsBlankOrNew dig name i)
   leaves_none old new run = leaves_weaker old new (λ i. old.may_leave i ⊎ IsBlankOrFirst root_kind (KeepsHistory dig)
-      (no_history r.name) i) (λ i. old.may_leave i ⊎ IsBlankOrNew dig r.name i)
+      (no_history name) i) (λ i. old.may_leave i ⊎ IsBlankOrNew dig name i)
       (λ i either. ⊎_elim (λ was. inl was) (λ made. inr (begun i made)) either)
-      (leaves_begun root_kind (KeepsHistory dig) r (no_history r.name) keeps_first old new run)
+      (leaves_begun root_kind (KeepsHistory dig) r (no_history name) keeps_first old new run)
 
   pub tells_none : (old new : DiskView) → Reads new (λ i. old.may_leave i ⊎ IsBlankOrNewWith root_kind r i)
-      → Reads new (λ i. old.may_leave i ⊎ IsBlankOrNew dig r.name i)
+      → Reads new (λ i. old.may_leave i ⊎ IsBlankOrNew dig name i)
   tells_none old new tells =
-      let reads = reads_begun root_kind (KeepsHistory dig) r (no_history r.name) keeps_first old new tells in
+      let reads = reads_begun root_kind (KeepsHistory dig) r (no_history name) keeps_first old new tells in
       record {
         image = reads.image;
         told = reads.told;
@@ -110,6 +120,6 @@ module _ (dig : List ℕ → List ℕ) (size : (text : List ℕ) → IsDigest (d
       }
 
   pub serves_none : {D : Type 0} {g : _} (view : D → DiskView) (store : Store D g) (now : RootRecord) → now ≡ r
-      → RestsWith view root_kind store (written_record r []) → StoreServes dig view store now (no_history r.name)
-  serves_none view store now is rests = serves_first root_kind (KeepsHistory dig) r (no_history r.name) keeps_first view
+      → RestsWith view root_kind store (written_record r []) → StoreServes dig view store now (no_history name)
+  serves_none view store now is rests = serves_first root_kind (KeepsHistory dig) r (no_history name) keeps_first view
       store now is rests

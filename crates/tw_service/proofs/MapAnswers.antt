@@ -1,14 +1,17 @@
--- A fault of what is read for a map file, handed on.
-use Rattle.std.proofs.Common.{◌≡◌, ℕ, ◌-◌, ◌<◌, ◌≤◌, List, Bool, ap, sym, ◌∙◌, subst}
+-- What is read for a map file behind a step that was found, and a fault of it, handed on.
+use Rattle.std.proofs.Common.{◌≡◌, ℕ, ◌-◌, ◌<◌, ◌≤◌, List, Bool, false, ap, arith, refl, sym, ◌∙◌, subst}
 use Rattle.std.specs.Prelude.{Option, Some, None, Result, Ok, Err, IfErr, IsErrAnd, if◌then◌else◌}
 use Rattle.std.proofs.lemmas.Bool.{le-leb, lt-leb}
 use Rattle.tw_base.specs.declared.history.tree_proof.Ask.{Ask}
-use Rattle.tw_disk.specs.Answers.{AnswersAs, AnswersOr, FaultSort, RefusesAs, SaysOf, is_failed, is_of_disk}
+use Rattle.tw_disk.specs.Answers.{AnswersAs, AnswersOr, FaultSort, FaultsRise, ReadsBy, RefusesAs, SaysOf, is_failed}
+use Rattle.tw_disk.specs.Answers.{is_of_disk}
 use Rattle.tw_disk.specs.Answers.FaultSort.{OfPage}
 use Rattle.tw_disk.specs.Found.{Found, ◌>>=◌}
 use Rattle.tw_disk.specs.Found.Found.{Is}
 use Rattle.tw_disk.specs.Image.{Image}
+use Rattle.tw_disk.specs.Pages.{OnlyReads, PagesView}
 use Rattle.tw_disk.proofs.FoundLaws.{is_on}
+use Rattle.tw_disk.proofs.ReadingLaws.{only_reads_on}
 use Rattle.tw_skiplist.specs.declared.head.Head.{Head}
 use Rattle.tw_skiplist.specs.declared.info.StepProof.{StepProof}
 use Rattle.tw_skiplist.specs.declared.info.StepInfo.{StepInfo}
@@ -21,6 +24,30 @@ use Rattle.tw_answers.specs.Finds.{tree_shown}
 use Rattle.tw_answers.specs.Refusals.{IsFault, service_refusals}
 use Rattle.tw_tmap.specs.Checking.{first_after, last_before}
 use Rattle.tw_service.specs.Mapping.{high_file, high_with, low_before, mapped_low_part}
+
+abbrev fails : (T : Type 0) → Refusal → Result T Refusal
+fails T why = Err why
+
+-- a call that reads, behind one that answered
+pub both_read : {P T U Y : Type 0} (view : P → PagesView) (same : P → P → Type 0)
+    (same_on : (x y z : P) → same x y → same y z → same x z) (start here new : P) (second : Result T Refusal)
+    (result : Result U Refusal) (Own : Type 0) (Answers : Result U Refusal → Found Y → Type 0) (found : Image → Found Y)
+    → OnlyReads view same start here (◌≡◌ {A = Bool} false false) → (view start).faults ≤ (view here).faults
+    → OnlyReads view same here new (is_failed service_refusals second ≡ false)
+    → FaultsRise service_refusals view same here new second
+    → is_failed service_refusals result ≡ is_failed service_refusals second
+    → ((ps : Image) → (view start).list ≡ Some ps → Answers result (found ps)) → Own
+    → ReadsBy service_refusals view same start new result Own Answers found
+both_read view same same_on start here new second result Own Answers found before later kept faults alike answer own =
+    record {
+      answer = answer;
+      own = own;
+      kept = only_reads_on view same start here new _ _ _ same_on (λ good. refl) (λ good. sym alike ∙ good) before kept;
+      faults = record {
+        later = omega (arith, later, faults.later);
+        rose = λ failed. let rose = faults.rose (sym alike ∙ failed) in omega (arith, later, rose);
+      };
+    }
 
 module _ {X Y T : Type 0} (next : X → Found Y) (value : T → Y) where
   stays : (sort : FaultSort) (found : Found X) → SaysOf service_refusals sort found → SaysOf service_refusals sort
@@ -104,3 +131,17 @@ high-told dig ps head step peer top name info asked is asks =
     >>= (λ tree. Is (Ok (high_bytes (high_with name step peer top info tree))))) info is
     ∙ ap (λ (a : Ask). tree_shown dig ps info.archive a
     >>= (λ tree. Is (Ok (high_bytes (high_with name step peer top info tree))))) (sym asks)
+
+-- a fault of what is read behind a step, handed on
+pub stopped_behind : {P U Y T : Type 0} (view : P → PagesView) (same : P → P → Type 0)
+    (same_on : (x y z : P) → same x y → same y z → same x z) (start here new : P) (fault : Refusal)
+    (result : Result U Refusal) (Answers : Result U Refusal → Found Y → Type 0) (found : Image → Found Y)
+    → IsErrAnd result (λ e. e ≡ fault) → IsFault fault → OnlyReads view same start here (◌≡◌ {A = Bool} false false)
+    → (view start).faults ≤ (view here).faults
+    → OnlyReads view same here new (is_of_disk (service_refusals fault) ≡ false)
+    → FaultsRise service_refusals view same here new (fails T fault)
+    → ((ps : Image) → (view start).list ≡ Some ps → Answers result (found ps))
+    → ReadsBy service_refusals view same start new result (IfErr result IsFault) Answers found
+stopped_behind {T = T} view same same_on start here new fault result Answers found handed own before later kept faults
+    answer = both_read view same same_on start here new (fails T fault) result (IfErr result IsFault) Answers found
+    before later kept faults (handed-tells result fault handed) answer (handed-fault result fault handed own)

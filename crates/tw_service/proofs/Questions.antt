@@ -34,6 +34,12 @@ use Rattle.tw_base.specs.declared.history.refusal.Refusal.{Refusal}
 use Rattle.tw_base.specs.declared.history.refusal.Refusal.TheVariants.{BadPage, DiskFault, HasThread, NoEvent, NoMemory}
 use Rattle.tw_base.specs.declared.history.refusal.Refusal.TheVariants.{NoThread, TooLong}
 use Rattle.tw_answers.specs.declared.root.RootRecord.{RootRecord}
+use Rattle.tw_answers.specs.Roots.{root_kind}
+use Rattle.tw_pages.specs.Records.{written_record}
+use Rattle.tw_pages.proofs.Written.{told_list}
+use Rattle.tw_disk.specs.Disk.{DiskView}
+use Rattle.tw_service.specs.declared.service.Service.{Service}
+use Rattle.tw_service.specs.Serves.{Serves, pages_of}
 use Rattle.tw_answers.specs.Finds.{IsRefusalFound, link_proof, path_down, written_found}
 use Rattle.tw_answers.specs.Limits.{broken_refusal, has_thread, no_thread, or_else, thread_refusal}
 use Rattle.tw_answers.specs.Refusals.{IsBadPageRefusal, IsFault}
@@ -452,3 +458,57 @@ pub thread_whole : (h : History) (since : ℕ) (o : Option Refusal) → o ≡ th
     → o ≡ history_refusal h (ask.ThreadOut since)
 unfolding question_refusal pages_refusal
 thread_whole h since o is = is ∙ none_after (thread_refusal false (length h.steps) since)
+
+-- ---- of a value that serves the history
+
+module _ {D H : Type 0} {g : _} {k : _} (dig : List ℕ → List ℕ) (view : D → DiskView)
+    (size : (text : List ℕ) → IsDigest (dig text)) (s : Service D H g k) (h : History) (served : Serves dig view s h) where
+  pages_told : pages_of view s ≡ Some served.pages
+  pages_told = told_list view root_kind s.recorded.kept.store (written_record s.recorded.kept.root served.pages)
+      served.rests s.recorded.clean
+
+  module _ (q : Question) (may : MayAsk q) (names : HasNames q) (order : AreInOrder s.recorded.kept.root.head.step q) where
+    abbrev finds : Image → Found (Result (List ℕ) Refusal)
+    finds ps = found_bytes dig ps s.recorded.kept.root.name s.recorded.kept.root.head q
+
+    is_held : IsHeld (finds served.pages) (Makes dig h q) (pages_refusal h q)
+    is_held = held dig size served.pages h s.recorded.kept.root served.keeps.whole served.keeps.sound
+        s.recorded.kept.root.name served.keeps.named q may names order
+
+    -- bytes that are found are right, and the table of the history's pages lets them through
+    pub served_ok : (bytes : List ℕ) → ((ps : Image) → pages_of view s ≡ Some ps → finds ps ≡ Is (Ok bytes))
+        → (pages_refusal h q ≡ None) × Makes dig h q bytes × IsAcceptedFor dig h q bytes × HasFewFor h q bytes
+    served_ok bytes found =
+        let own = held_ok (finds served.pages) (Makes dig h q) (pages_refusal h q) is_held bytes
+        (found served.pages pages_told) in (
+          own.0,
+          own.1,
+          accepted_for dig size served.pages h s.recorded.kept.root served.keeps.whole served.keeps.sound
+              s.recorded.kept.root.name served.keeps.named q order own.0 bytes own.1,
+          few_for dig size served.pages h s.recorded.kept.root served.keeps.whole served.keeps.sound
+              s.recorded.kept.root.name served.keeps.named q order bytes own.1,
+        )
+
+    module _ (why : Refusal) (found : (ps : Image) → pages_of view s ≡ Some ps → IsRefusalFound why (finds ps)) where
+      pub served_own : (IsFault why → ⊥) → pages_refusal h q ≡ Some why
+      served_own told = held_own (finds served.pages) (Makes dig h q) (pages_refusal h q) is_held why told
+          (found served.pages pages_told)
+
+      pub served_good : IsBadPageRefusal why → ⊥
+      served_good = held_good (finds served.pages) (Makes dig h q) (pages_refusal h q) is_held why
+          (found served.pages pages_told)
+
+  module _ (since : ℕ) (order : AreInOrder s.recorded.kept.root.head.step (ask.ThreadOut since)) where
+    abbrev tells : Image → Found (Result Message Refusal)
+    tells ps = message_told dig ps s.recorded.kept.root.name s.recorded.kept.root.head since
+
+    -- a message that is found is the history's own
+    pub message_own : (m : Message) → ((ps : Image) → pages_of view s ≡ Some ps → tells ps ≡ Is (Ok m))
+        → IsMessageOf dig h since m
+    message_own m found = told_own dig size served.pages h s.recorded.kept.root served.keeps.whole served.keeps.sound
+        s.recorded.kept.root.name served.keeps.named since order m (found served.pages pages_told)
+
+    pub message_good : (why : Refusal)
+        → ((ps : Image) → pages_of view s ≡ Some ps → IsRefusalFound why (tells ps)) → IsBadPageRefusal why → ⊥
+    message_good why found = told_good dig size served.pages h s.recorded.kept.root served.keeps.whole
+        served.keeps.sound s.recorded.kept.root.name served.keeps.named since order why (found served.pages pages_told)

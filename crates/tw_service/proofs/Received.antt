@@ -3,11 +3,12 @@ use Rattle.std.proofs.Common.{◌≡◌, ◌≢◌, ◌⊎◌, ℕ, ◌+◌, ◌
 use Rattle.std.proofs.Common.{⊎_elim, Bool, true, false}
 use Rattle.std.specs.Prelude.{◌↔◌, IsTrue, MatchOption, Option, Some, None, Result, Ok, Err, IfErr, IfOk}
 use Rattle.std.specs.Str.{bytes_eq}
+use Rattle.std.proofs.lemmas.Result.{IfErr-weaker, IfOk-weaker}
 use Rattle.tw_base.specs.history.History.{History}
 use Rattle.tw_base.specs.history.Limits.{IsStep}
 use Rattle.tw_base.specs.history.Tree.{entries, tree}
 use Rattle.tw_base.specs.kinds.Faults.{Rose}
-use Rattle.tw_disk.specs.Disk.{DiskView}
+use Rattle.tw_disk.specs.Disk.{DiskView, LeavesOnly}
 use Rattle.tw_disk.specs.Image.{Image}
 use Rattle.tw_msg.specs.declared.message.Message.{Message}
 use Rattle.tw_msg.specs.declared.receipt.Receipt.{Receipt}
@@ -28,13 +29,13 @@ use Rattle.tw_service.specs.Adding.{CallSteps, Receives}
 use Rattle.tw_service.specs.Archiving.{ReceivesAs}
 use Rattle.tw_service.specs.Finds.{found_reception, receipt_at}
 use Rattle.tw_service.specs.Keeps.{StoreServes}
-use Rattle.tw_service.specs.Machine.{IsStepOf, RepliesTo}
+use Rattle.tw_service.specs.Machine.{AnswersByMachine, IsStepOf, RepliesTo}
 use Rattle.tw_service.specs.Machine.Call.{Receive}
 use Rattle.tw_service.specs.Machine.Reply.{OfReceipt, Refused}
 use Rattle.tw_service.specs.NextRecords.{next_record}
 use Rattle.tw_service.specs.Receiving.{TellsOfMessage, reception, refuse_or}
-use Rattle.tw_service.specs.Serves.{HasSameDisk, Serves, head_of, head_thread, name_of, record_of, steps_of}
-use Rattle.tw_service.specs.Stands.{greatest_time}
+use Rattle.tw_service.specs.Serves.{HasSameDisk, Serves, disk_of, head_of, head_thread, name_of, record_of, steps_of}
+use Rattle.tw_service.specs.Stands.{StandsFor, greatest_time}
 use Rattle.tw_service.specs.TakingIn.{StepsIn, TakesIn}
 use Rattle.tw_service.specs.Writing.{ArchivesTo, IsReceiptOfRecord}
 use Rattle.tw_service.proofs.Answering.{answers_fault, answers_refusal, is_disk_fault}
@@ -93,39 +94,39 @@ module _ {D H : Type 0} {g : _} {k : _} (view : D → DiskView) (only_now : (d :
     Stepped result = StepsIn dig view m time s.recorded.kept.store t.recorded.kept.store s.recorded.kept.root
         t.recorded.kept.root result h
 
+    -- what a refusal leaves, and makes of the machine
+    left_on : (result : Result Receipt Refusal) → Taken s t result → Stepped result → IfErr result (λ r. (r ≡ DiskFault)
+        ⊎ (Serves dig view t h × LeavesOnly (view (disk_of s)) (view (disk_of t)) (λ i. StandsFor dig i (name_of s) h)))
+    left_on (Ok receipt) taken x = tt
+    left_on (Err r) taken x = ⊎_elim (λ fault. inl fault) (λ rest. ⊎_elim (λ fault. inl fault)
+        (λ same. inr (
+          rest,
+          read_leaves view only_now dig s.recorded.kept.store t.recorded.kept.store s.recorded.kept.root h same served,
+        )) taken.same) x.kept
+
+    machine_on : (result : Result Receipt Refusal) → Taken s t result → Stepped result → IfErr result
+        (λ r. AnswersByMachine dig h (Receive m time) (λ (x : Receipt). OfReceipt x) (Err r) (Serves dig view t))
+    machine_on (Ok receipt) taken x = tt
+    machine_on (Err r) taken x = ⊎_elim
+        (λ fault. answers_fault dig h (Receive m time) (λ (y : Receipt). OfReceipt y) (Serves dig view t) r fault
+        x.good x.kept)
+        (λ tells.
+        let told = tells_told dig s.recorded.kept.root.head.step s.recorded.kept.root.time time m r tells in
+        answers_refusal dig h (Receive m time) (λ (y : Receipt). OfReceipt y) (Serves dig view t) r told
+        (x.refused told.0)
+        (⊎_elim (λ fault. absurd (told.0 (subst IsFault (sym fault) tt))) (λ rest. rest) x.kept))
+        taken.tells
+
     steps_on : (result : Result Receipt Refusal) → Taken s t result → Stepped result
         → CallSteps dig view (Receive m time) (λ (x : Receipt). OfReceipt x) s t result h
-    steps_on (Ok receipt) taken x =
-        record {
-          next = x.next;
-          is_next = x.is_next;
-          any_moment = x.any_moment;
-          told = x.told;
-          done = x.done;
-          refused = tt;
-          machine = λ whole. tt;
-        }
-    steps_on (Err r) taken x = record {
+    steps_on result taken x = record {
       next = x.next;
       is_next = x.is_next;
       any_moment = x.any_moment;
       told = x.told;
-      done = tt;
-      refused = ⊎_elim (λ fault. inl fault) (λ rest. ⊎_elim (λ fault. inl fault)
-          (λ same. inr (
-            rest,
-            read_leaves view only_now dig s.recorded.kept.store t.recorded.kept.store s.recorded.kept.root h same
-                served,
-          )) taken.same) x.kept;
-      machine = λ whole. ⊎_elim
-          (λ fault. answers_fault dig h (Receive m time) (λ (y : Receipt). OfReceipt y) (Serves dig view t) r fault
-          x.good x.kept)
-          (λ tells.
-          let told = tells_told dig s.recorded.kept.root.head.step s.recorded.kept.root.time time m r tells in
-          answers_refusal dig h (Receive m time) (λ (y : Receipt). OfReceipt y) (Serves dig view t) r told
-          (x.refused told.0)
-          (⊎_elim (λ fault. absurd (told.0 (subst IsFault (sym fault) tt))) (λ rest. rest) x.kept))
-          taken.tells;
+      done = x.done;
+      refused = left_on result taken x;
+      machine = λ whole. machine_on result taken x;
     }
 
   -- the record after a step
@@ -227,6 +228,22 @@ module _ {D : Type 0} {g : _} (view : D → DiskView) (only_now : (d : D) (c : I
   finds_as result = (ps : Image) → store_list view old ≡ Some ps → ReceivesAs dig ps root m time root.head root.archive
       result (found_reception dig ps root.name root.head root.archive root.time m time)
 
+  -- of a history that was kept, the same is the next one
+  steps_in : (result : Result Receipt Refusal) (h : History) → StoreServes dig view old root h
+      → IfOk result (λ receipt. IsStepOf dig h (Receive m time) (OfReceipt receipt) h)
+      → IfErr result (λ r. ((IsFault r → ⊥) → IsStepOf dig h (Receive m time) (Refused r) h)
+      × (IsBadPageRefusal r → ⊥)) → StepsIn dig view m time old new root root result h
+  steps_in result h rest made refused = record {
+    next = h;
+    is_next = inl refl;
+    any_moment = same_leaves view only_now dig old new root h h same rest;
+    told = same_tells view only_now dig old new root h h same rest;
+    done = IfOk-weaker result _ _ (λ receipt step. (step, read_serves view only_now dig old new root h same rest)) made;
+    kept = IfErr-weaker result _ _ (λ r so. inr (read_serves view only_now dig old new root h same rest)) refused;
+    refused = IfErr-weaker result _ _ (λ r so. so.0) refused;
+    good = IfErr-weaker result _ _ (λ r so. so.1) refused;
+  }
+
   -- it is refused
   pub taken_err : (r : Refusal) → (IsFault r ⊎ TellsOfMessage dig root.head.step root.time time m r) → finds_as (Err r)
       → (r ≡ DiskFault) ⊎ (is_broken new ≡ false)
@@ -238,16 +255,7 @@ module _ {D : Type 0} {g : _} (view : D → DiskView) (only_now : (d : D) (c : I
   taken_err r tells answer whole step rose later = record {
     tells = tells;
     answer = answer;
-    steps = λ h rest other. record {
-      next = h;
-      is_next = inl refl;
-      any_moment = same_leaves view only_now dig old new root h h same rest;
-      told = same_tells view only_now dig old new root h h same rest;
-      done = tt;
-      kept = inr (read_serves view only_now dig old new root h same rest);
-      refused = (step h rest other).0;
-      good = (step h rest other).1;
-    };
+    steps = λ h rest other. steps_in (Err r) h rest tt (step h rest other);
     written = λ ps over. nothing_written view only_now (ArchivesTo dig m time) (IsReceiptOfRecord dig m time) old new
         root root (Err r) ps same over refl tt;
     receipt = tt;
@@ -272,16 +280,7 @@ module _ {D : Type 0} {g : _} (view : D → DiskView) (only_now : (d : D) (c : I
   taken_known receipt answer whole of_thread is_step below step later = record {
     tells = tt;
     answer = answer;
-    steps = λ h rest other. record {
-      next = h;
-      is_next = inl refl;
-      any_moment = same_leaves view only_now dig old new root h h same rest;
-      told = same_tells view only_now dig old new root h h same rest;
-      done = (step h rest other, read_serves view only_now dig old new root h same rest);
-      kept = tt;
-      refused = tt;
-      good = tt;
-    };
+    steps = λ h rest other. steps_in (Ok receipt) h rest (step h rest other) tt;
     written = λ ps over. nothing_written view only_now (ArchivesTo dig m time) (IsReceiptOfRecord dig m time) old new
         root root (Ok receipt) ps same over refl (inl (refl, below));
     receipt = of_thread;

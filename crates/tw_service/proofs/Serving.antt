@@ -2,7 +2,8 @@
 -- histories that they keep.
 use Rattle.std.proofs.Common.{◌≡◌, ℕ, suc, ◌+◌, ◌*◌, ◌^◌, ◌<◌, ◌≤◌, List, ◌++◌, length, refl, ap, sym, ◌∙◌, arith}
 use Rattle.std.proofs.Common.{subst, inl, inr, ◌⊎◌, ⊎_elim, length-append}
-use Rattle.std.specs.Prelude.{Option, Some, None, Result, Ok, Err, IfOk}
+use Rattle.std.specs.Prelude.{Option, Some, None, Result, Err, IfErr, IfOk}
+use Rattle.std.proofs.lemmas.Result.{IfErr-weaker, IfOk-weaker, MatchResult-weaker}
 use Rattle.tw_disk.specs.Image.{Image}
 use Rattle.tw_disk.specs.Disk.{DiskView, IsAtRest, LeavesOnly, Reads}
 use Rattle.tw_disk.proofs.Moments.{leaves_weaker}
@@ -26,9 +27,11 @@ use Rattle.tw_pages.proofs.Written.{content_written, only_same, rest_for_good as
 use Rattle.tw_pages.proofs.Written.{still_rests}
 use Rattle.tw_pages.specs.declared.store.Store.{Store}
 use Rattle.tw_pages.specs.Same.{IsSameStore}
+use Rattle.tw_pages.specs.SameSteps.{is_same_on}
 use Rattle.tw_pages.specs.StoreValue.{store_disk}
 use Rattle.tw_skiplist.specs.declared.head.Head.{Head}
 use Rattle.tw_base.specs.declared.history.refusal.Refusal.{Refusal}
+use Rattle.tw_base.specs.declared.history.refusal.Refusal.TheVariants.{DiskFault}
 use Rattle.tw_answers.specs.declared.limits.TheConstants.{MOST_PAGES_OF_A_STEP}
 use Rattle.tw_answers.specs.declared.root.RootRecord.{RootRecord}
 use Rattle.tw_answers.specs.Limits.{clock_refusal}
@@ -216,7 +219,7 @@ module _ {D : Type 0} {g : _} (view : D → DiskView) (only_now : (d : D) (c : I
         → IsSameStore view old mid → RestsWith view root_kind old (written_record r ps) → after ≡ r
         → IfOk result (λ value. IsAnswer value (written_record r ps) (written_record r ps)) → CommitsRoot view IsNext
         IsAnswer old mid r after result ps
-    nothing_written old mid r after (Ok value) ps same rest stays is = record {
+    nothing_written old mid r after result ps same rest stays is = record {
       next = written_record r ps;
       is_next = inl refl;
       any_moment = only_same view root_kind only_now old mid (written_record r ps)
@@ -227,27 +230,21 @@ module _ {D : Type 0} {g : _} (view : D → DiskView) (only_now : (d : D) (c : I
             told = now.told;
             has = inl (content_written view root_kind mid (written_record r ps) now);
           };
-      done = (is, stays, still_rests view root_kind old mid (written_record r ps) same rest);
-      refused = tt;
-    }
-    nothing_written old mid r after (Err refusal) ps same rest stays is = record {
-      next = written_record r ps;
-      is_next = inl refl;
-      any_moment = only_same view root_kind only_now old mid (written_record r ps)
-          (IsOneOf root_kind (written_record r ps) (written_record r ps)) same rest (λ i was. inl was);
-      told = let now = still_rests view root_kind old mid (written_record r ps) same rest in
-          record {
-            image = now.image;
-            told = now.told;
-            has = inl (content_written view root_kind mid (written_record r ps) now);
-          };
-      done = tt;
-      refused = inr (
+      done = IfOk-weaker result _ _
+          (λ value own. (own, stays, still_rests view root_kind old mid (written_record r ps) same rest)) is;
+      refused = MatchResult-weaker result is (λ value own. tt) (λ refusal _. inr (
         still_rests view root_kind old mid (written_record r ps) same rest,
         only_same view root_kind only_now old mid (written_record r ps) (IsWritten root_kind (written_record r ps)) same
             rest (λ i was. was),
-      );
+      ));
     }
+
+    -- nothing, where pages were staged that were given up
+    pub discarded : (old mid new : Store D g) (r : RootRecord) (refusal : Refusal) (ps : Image) → IsSameStore view old mid
+        → IsSameStore view mid new → RestsWith view root_kind old (written_record r ps) → CommitsRoot view IsNext
+        IsAnswer old new r r (Err refusal) ps
+    discarded old mid new r refusal ps staged given_up rest =
+        nothing_written old new r r (Err refusal) ps (is_same_on view old mid new staged given_up) rest refl tt
 
     -- what was written since before the store was read, with an answer that this one tells
     pub since_read : {Next : (w next : Written RootRecord) → Type 0}
@@ -258,28 +255,38 @@ module _ {D : Type 0} {g : _} (view : D → DiskView) (only_now : (d : D) (c : I
         → ((value : T) (next : Written RootRecord) → IsOther value (written_record r ps) next → IsAnswer value
         (written_record r ps) next) → CommitsRoot view Next IsOther mid new r after result ps → CommitsRoot view IsNext
         IsAnswer old new r after result ps
-    since_read old mid new r after (Ok value) ps same rest goes tells it = record {
+    since_read old mid new r after result ps same rest goes tells it = record {
       next = it.next;
       is_next = ⊎_elim (λ stays. inl stays) (λ to. inr (goes it.next to)) it.is_next;
       any_moment = since_same view root_kind only_now old mid new (written_record r ps)
           (IsOneOf root_kind (written_record r ps) it.next) same rest (λ i was. inl was) it.any_moment;
       told = it.told;
-      done = (tells value it.next it.done.0, it.done.1, it.done.2);
-      refused = tt;
-    }
-    since_read old mid new r after (Err refusal) ps same rest goes tells it = record {
-      next = it.next;
-      is_next = ⊎_elim (λ stays. inl stays) (λ to. inr (goes it.next to)) it.is_next;
-      any_moment = since_same view root_kind only_now old mid new (written_record r ps)
-          (IsOneOf root_kind (written_record r ps) it.next) same rest (λ i was. inl was) it.any_moment;
-      told = it.told;
-      done = tt;
-      refused = ⊎_elim (λ fault. inl fault)
+      done = IfOk-weaker result _ _ (λ value own. (tells value it.next own.0, own.1, own.2)) it.done;
+      refused = IfErr-weaker result _ _ (λ refusal. ⊎_elim (λ fault. inl fault)
           (λ stays. inr (
             stays.0,
             since_same view root_kind only_now old mid new (written_record r ps)
                 (IsWritten root_kind (written_record r ps)) same rest (λ i was. was) stays.1,
-          )) it.refused;
+          ))) it.refused;
+    }
+
+    -- what a call wrote, with an answer of its own in place of the one that was given
+    pub answered_so : {U : Type 0} {IsOther : U → (w next : Written RootRecord) → Type 0} (old new : Store D g)
+        (r after : RootRecord) (given : Result U Refusal) (result : Result T Refusal) (ps : Image)
+        → (it : CommitsRoot view IsNext IsOther old new r after given ps)
+        → IfOk result (λ value. IsAnswer value (written_record r ps) it.next × (after ≡ it.next.root)
+        × RestsWith view root_kind new it.next)
+        → IfErr result (λ refusal. (refusal ≡ DiskFault)
+        ⊎ (RestsWith view root_kind new (written_record r ps) × LeavesOnly (view (store_disk old))
+        (view (store_disk new)) (IsWritten root_kind (written_record r ps)))) → CommitsRoot view IsNext IsAnswer old new
+        r after result ps
+    answered_so old new r after given result _ it done refused = record {
+      next = it.next;
+      is_next = it.is_next;
+      any_moment = it.any_moment;
+      told = it.told;
+      done = done;
+      refused = refused;
     }
 
     -- of a history that was served, with the one that the next record and pages keep

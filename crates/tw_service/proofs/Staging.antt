@@ -94,11 +94,19 @@ module _ (r next : RootRecord) (before generation used commits : ℕ) (may : IsA
 
 -- ---- what was committed
 
+-- so many more pages are staged for the next record, and are right for it
+abbrev pub Stages : {D : Type 0} {g : _} (view : D → DiskView) (IsNext : (w next : Written RootRecord) → Type 0)
+    (old mid : Store D g) (r next : RootRecord) (ps : Image) → Type 0
+Stages view IsNext old mid r next ps = (more : Image) × IsStaged view root_kind old mid r next ps (ps ++ more)
+    × IsNext (written_record r ps) (written_record next (ps ++ more))
+
 module _ {D T : Type 0} {g : _} (view : D → DiskView) (only_now : (d : D) (c : Image)
     → (view d).left_since (view d).moment c → (view d).may_leave c)
     (IsNext : (w next : Written RootRecord) → Type 0) (IsAnswer : T → (w next : Written RootRecord) → Type 0)
-    (old mid new : Store D g) (r next : RootRecord) (ps all : Image) (put : IsStaged view root_kind old mid r next ps
-    all) (is : IsNext (written_record r ps) (written_record next all)) where
+    (old mid new : Store D g) (r next : RootRecord) (ps : Image) (staged : Stages view IsNext old mid r next ps) where
+  abbrev all : Image
+  all = ps ++ staged.0
+
   -- what a clause of the commit says, for these pages
   abbrev pub OfThese : (Image → Image → Type 0) → Type 0
   OfThese P = (qs some : Image) → RestsWith view root_kind mid (written_record r qs) → store_list view mid ≡ Some some
@@ -117,13 +125,13 @@ module _ {D T : Type 0} {g : _} (view : D → DiskView) (only_now : (d : D) (c :
       → CommitsRoot view IsNext IsAnswer old new r after (Ok value) ps
   committed value after answer after_is leaves tells rests = record {
     next = written_record next all;
-    is_next = inr is;
-    any_moment = leaves_since view only_now root_kind old mid r next ps all put new leaves;
-    told = of_these view only_now root_kind old mid r next ps all put Tells tells;
+    is_next = inr staged.2;
+    any_moment = leaves_since view only_now root_kind old mid r next ps all staged.1 new leaves;
+    told = of_these view only_now root_kind old mid r next ps all staged.1 Tells tells;
     done = (
       answer,
       after_is,
-      of_these view only_now root_kind old mid r next ps all put (λ qs some. RestsWith view root_kind new
+      of_these view only_now root_kind old mid r next ps all staged.1 (λ qs some. RestsWith view root_kind new
           (written_record next some)) rests,
     );
     refused = tt;
@@ -133,9 +141,9 @@ module _ {D T : Type 0} {g : _} (view : D → DiskView) (only_now : (d : D) (c :
       after (Err DiskFault) ps
   not_committed after leaves tells = record {
     next = written_record next all;
-    is_next = inr is;
-    any_moment = leaves_since view only_now root_kind old mid r next ps all put new leaves;
-    told = of_these view only_now root_kind old mid r next ps all put Tells tells;
+    is_next = inr staged.2;
+    any_moment = leaves_since view only_now root_kind old mid r next ps all staged.1 new leaves;
+    told = of_these view only_now root_kind old mid r next ps all staged.1 Tells tells;
     done = tt;
     refused = inl refl;
   }
@@ -170,39 +178,44 @@ module _ {D : Type 0} {g : _} (view : D → DiskView) (dig : List ℕ → List �
   all_told : (pages : Image) → store_list view mid ≡ Some pages → pages ≡ ps ++ more
   all_told pages told = let both : Some pages ≡ Some (ps ++ more) = sym told ∙ grown in cc
 
+  -- what the next record is, with this archive of so many threads
+  module _ (archive : Root) (threads : ℕ) (next_is : next ≡ next_record r head archive threads time) where
+    is_staged : HasBytes 32 archive.label → store_count mid ≤ store_count old + 42 → 4 ≤ head.page → HasLastPage
+        (store_count mid) threads archive.page → threads ≤ head.step → IsStaged view root_kind old mid r next ps
+        (ps ++ more)
+    is_staged label few low last received =
+        record {
+          same = same;
+          rest = rest;
+          list = grown;
+          may = subst (λ (x : RootRecord). IsAllowed (store_count mid) (mid.generation + 1) x) (sym next_is)
+              (may_next r (next_record r head archive threads time) (store_count old) old.generation (store_count mid)
+              (mid.generation + 1) may_old time within (record {
+                named = refl;
+                one_more = one_more;
+                short = short;
+                auth = auth;
+                label = label;
+                page = (low, page);
+                archive = last;
+                threads = received;
+                timed = refl;
+                pages = let most = may_old.fits.few_pages in omega (arith, few, most, one_more);
+                generations = omega (arith, commits, same.generation, one_more);
+              }));
+        }
+
   -- for a step of events
   module _ (events : List (List ℕ)) (next_is : next ≡ event_record r head time) (label : HasBytes 32 r.archive.label)
       (few : store_count mid ≤ store_count old + 19) (grows : store_count old ≤ store_count mid)
       (pages : Image) (told : store_list view mid ≡ Some pages) (found : appended dig ps r.head (Events events)
       r.archive time ≡ Is (record { pages = pages; value = head })) where
-    may_events : IsAllowed (store_count mid) (mid.generation + 1) (event_record r head time)
-    may_events = may_next r (event_record r head time) (store_count old) old.generation (store_count mid)
-        (mid.generation + 1) may_old time within (record {
-          named = refl;
-          one_more = one_more;
-          short = short;
-          auth = auth;
-          label = label;
-          page = (
-            let low = behind-page dig ps r.head (Events events) r.archive time (record { pages = pages; value = head })
-                found in omega (arith, low),
-            page,
-          );
-          archive = last_on (store_count old) (store_count mid) r.threads r.archive.page may_old.fits.threads grows;
-          threads = let less = may_old.fits.few_threads in omega (arith, less, one_more);
-          timed = refl;
-          pages = let most = may_old.fits.few_pages in omega (arith, few, most, one_more);
-          generations = omega (arith, commits, same.generation, one_more);
-        })
-
     pub staged_events : IsStaged view root_kind old mid r next ps (ps ++ more)
-    staged_events =
-        record {
-          same = same;
-          rest = rest;
-          list = grown;
-          may = subst (λ (x : RootRecord). IsAllowed (store_count mid) (mid.generation + 1) x) (sym next_is) may_events;
-        }
+    staged_events = is_staged r.archive r.threads next_is label (omega (arith, few))
+        (let low = behind-page dig ps r.head (Events events) r.archive time (record { pages = pages; value = head }) found
+        in omega (arith, low))
+        (last_on (store_count old) (store_count mid) r.threads r.archive.page may_old.fits.threads grows)
+        (let less = may_old.fits.few_threads in omega (arith, less, one_more))
 
     pub appends_events : append_refusal false r.head.step r.time events time ≡ None → AppendsTo dig events time
         (written_record r ps) (written_record next (ps ++ more))
@@ -221,38 +234,15 @@ module _ {D : Type 0} {g : _} (view : D → DiskView) (dig : List ℕ → List �
       (label : HasBytes 32 archive.label) (few : store_count mid ≤ store_count old + 42)
       (tree : (store_count old ≤ archive.page) × (archive.page < store_count mid))
       (staged : IsStagedBehind dig ps r t time (store_list view mid) head archive) where
-    may_thread : IsAllowed (store_count mid) (mid.generation + 1) (next_record r head archive (r.threads + 1) time)
-    may_thread = may_next r (next_record r head archive (r.threads + 1) time) (store_count old) old.generation
-        (store_count mid) (mid.generation + 1) may_old time within (record {
-          named = refl;
-          one_more = one_more;
-          short = short;
-          auth = auth;
-          label = label;
-          page = (
-            let low = behind-page dig (ps ++ staged.tree_pages) r.head (Received t) archive time
-                (record { pages = staged.pages; value = head }) staged.is in omega (arith, low),
-            page,
-          );
-          archive =
-              record {
-                none = λ none. absurd (omega (arith, none));
-                some = λ some. (let low = tree.0 in omega (arith, low, count), tree.1);
-              };
-          threads = let less = may_old.fits.few_threads in omega (arith, less, one_more);
-          timed = refl;
-          pages = let most = may_old.fits.few_pages in omega (arith, few, most, one_more);
-          generations = omega (arith, commits, same.generation, one_more);
-        })
-
     pub staged_thread : IsStaged view root_kind old mid r next ps (ps ++ more)
-    staged_thread =
-        record {
-          same = same;
-          rest = rest;
-          list = grown;
-          may = subst (λ (x : RootRecord). IsAllowed (store_count mid) (mid.generation + 1) x) (sym next_is) may_thread;
-        }
+    staged_thread = is_staged archive (r.threads + 1) next_is label few
+        (let low = behind-page dig (ps ++ staged.tree_pages) r.head (Received t) archive time
+        (record { pages = staged.pages; value = head }) staged.is in omega (arith, low))
+        (record {
+          none = λ none. absurd (omega (arith, none));
+          some = λ some. (let low = tree.0 in omega (arith, low, count), tree.1);
+        })
+        (let less = may_old.fits.few_threads in omega (arith, less, one_more))
 
     pub adds_thread : AddsThread dig t time (written_record r ps) (written_record next (ps ++ more))
     adds_thread =

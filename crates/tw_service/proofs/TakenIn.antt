@@ -90,25 +90,15 @@ module _ (dig : List ℕ → List ℕ) (ps : Image) (root : RootRecord) (m : Mes
   abbrev Answered : Refusal → Found Reception → Type 0
   Answered r found = ReceivesAs dig ps root m time head archive (Err r) found
 
-  of_disk : (found : Found Reception) → Answered DiskFault found
-  of_disk (Bad page) = tt
-  of_disk (Is (Refuse refusal)) = tt
-  of_disk (Is (Known archived)) = tt
-  of_disk (Is Archive) =
-      record { tree_pages = []; grown = root.archive; answer = tt; few = tt; put = tt; tree = tt; step = tt }
-
-  of_memory : (found : Found Reception) → Answered NoMemory found
-  of_memory (Bad page) = tt
-  of_memory (Is (Refuse refusal)) = tt
-  of_memory (Is (Known archived)) = tt
-  of_memory (Is Archive) =
-      record { tree_pages = []; grown = root.archive; answer = tt; few = tt; put = tt; tree = tt; step = tt }
-
   pub fault_answered : (r : Refusal) → IsFault r → (found : Found Reception) → SaysOf service_refusals
       (service_refusals r) found → Answered r found
   fault_answered (BadPage page) fault found is = subst (Answered (BadPage page)) (sym is) refl
-  fault_answered DiskFault fault found is = of_disk found
-  fault_answered NoMemory fault found is = of_memory found
+  fault_answered DiskFault fault (Is Archive) is =
+      record { tree_pages = []; grown = root.archive; answer = tt; few = tt; put = tt; tree = tt; step = tt }
+  fault_answered DiskFault fault _ is = tt
+  fault_answered NoMemory fault (Is Archive) is =
+      record { tree_pages = []; grown = root.archive; answer = tt; few = tt; put = tt; tree = tt; step = tt }
+  fault_answered NoMemory fault _ is = tt
   fault_answered _ fault found is = absurd fault
 
 -- a bad page where something is found

@@ -1,12 +1,12 @@
-use Rattle.std.proofs.Common.{◌≡◌, ◌<◌, ◌++◌, ◌∙◌, ap, arith, refl, sym, subst}
-use Rattle.std.specs.Prelude.{Err}
+use Rattle.std.proofs.Common.{◌≡◌, ◌<◌, ◌∙◌, ap, arith, sym, subst}
 use Rattle.tw_base.specs.declared.history.content.Content.TheVariants.{Events}
 use Rattle.tw_disk.specs.Found.Found.{Is}
 use Rattle.tw_disk.specs.Image.{Image}
 use Rattle.tw_pages.specs.Records.{written_record}
+use Rattle.tw_pages.specs.Rests.{RestsWith}
 use Rattle.tw_pages.proofs.Written.{told_list}
 use Rattle.tw_pages.specs.Same.{store_count}
-use Rattle.tw_pages.specs.SameSteps.{is_same_on, told_pages}
+use Rattle.tw_pages.specs.SameSteps.{told_pages}
 use Rattle.tw_skiplist.specs.Appended.{appended}
 use Rattle.tw_skiplist.specs.declared.head.Head.{Head}
 use Rattle.tw_answers.specs.declared.root.RootRecord.{RootRecord}
@@ -14,22 +14,20 @@ use Rattle.tw_answers.specs.Roots.{root_kind}
 use Rattle.tw_answers.proofs.FoundAnswers.{no_bad_page, page_found}
 use Rattle.tw_service.specs.Writing.{AppendsTo}
 use Rattle.tw_service.proofs.WholePages.{added_whole}
-use Rattle.tw_service.proofs.Serving.{room_written, nothing_written}
-use Rattle.tw_service.proofs.Staging.{appends_events, committed, not_committed, staged_events}
+use Rattle.tw_service.proofs.Serving.{discarded, room_written}
+use Rattle.tw_service.proofs.Staging.{Stages, appends_events, committed, not_committed, staged_events}
+use Rattle.tw_service.proofs.recorded.Unstaged.add_step.Given as given
 use Rattle.tw_service.proofs.recorded.Unstaged.add_step.Goals as goal
+use Rattle.tw_service.proofs.recorded.Unstaged.add_step.Goals.{After-commit}
 
 -- ---- a refused step
 
 pub returns-in-Err-clause-written : goal.returns-in-Err-clause-written
 returns-in-Err-clause-written g c = λ ps rest.
-    let d = g.D.Disk in
     let s = c.args.self.now.kept in
-    let dig = g.H.Hasher.dig in
-    nothing_written d.view g.met.D.Disk.only_now (AppendsTo dig c.args.events.now c.args.time)
-    (λ _ w next. AppendsTo dig c.args.events.now c.args.time w next) s.store c.discard.new.self s.root s.root
-    (Err c.from.result) ps
-    (is_same_on d.view s.store c.append-added.new.pages c.discard.new.self c.in-Err.ensures.adds.kept.same_kept
-    c.discard.ensures.same) rest refl tt
+    discarded g.D.Disk.view g.met.D.Disk.only_now (AppendsTo g.H.Hasher.dig c.args.events.now c.args.time)
+    (λ _ w next. AppendsTo g.H.Hasher.dig c.args.events.now c.args.time w next) s.store c.append-added.new.pages
+    c.discard.new.self s.root c.from.result ps c.in-Err.ensures.adds.kept.same_kept c.discard.ensures.same rest
 
 pub returns-in-Err-clause-good : goal.returns-in-Err-clause-good
 returns-in-Err-clause-good g c = λ bad h serves.
@@ -64,8 +62,12 @@ returns-in-Ok-commit-clause-answer g c = λ ps list.
           ≡ Is (record { pages = own.0; value = n })) (sym head) own.2,
     )
 
-pub returns-in-Ok-commit-clause-written : goal.returns-in-Ok-commit-clause-written
-returns-in-Ok-commit-clause-written g c = λ ps rest.
+-- what was staged for the step
+staged : (g : given.Over) (c : After-commit g) (ps : Image) → RestsWith g.D.Disk.view root_kind
+    c.args.self.now.kept.store (written_record c.args.self.now.kept.root ps)
+    → Stages g.D.Disk.view (AppendsTo g.H.Hasher.dig c.args.events.now c.args.time) c.args.self.now.kept.store
+    c.append-added.new.pages c.args.self.now.kept.root c.next_root-next.result ps
+staged g c ps rest =
     let d = g.D.Disk in
     let s = c.args.self.now.kept in
     let mid = c.append-added.new.pages in
@@ -77,46 +79,30 @@ returns-in-Ok-commit-clause-written g c = λ ps rest.
     let found = step.adds.answer ps list in
     let count = told_pages d.view s.store ((d.view s.store.disk).count) ((d.view s.store.disk).content) ps
     (λ i is. g.met.D.Disk.count_is_told s.store.disk i is) s.store.room s.store.used_from list in
-    let page : c.in-Ok.head.page < store_count mid = omega (arith, step.page) in
-    let put = staged_events d.view dig s.store mid s.root next.result c.in-Ok.head c.args.time ps grown.0
-    step.adds.kept.same_kept rest count grown.1 next.ensures.auth step.step c.requires.step c.args.self.now.few_commits
-    c.requires.time page
-    c.args.events.now next.ensures.next next.ensures.label step.few step.adds.kept.used_grows found.0 found.1 found.2 in
-    let appends = appends_events d.view dig s.store mid s.root next.result c.in-Ok.head c.args.time ps grown.0
-    step.adds.kept.same_kept rest count grown.1 next.ensures.auth step.step c.requires.step c.args.self.now.few_commits
-    c.requires.time page
-    c.args.events.now next.ensures.next next.ensures.label step.few step.adds.kept.used_grows found.0 found.1 found.2
-    c.requires.allowed in
-    committed d.view g.met.D.Disk.only_now (AppendsTo dig c.args.events.now c.args.time) (λ _ w after. AppendsTo dig
-    c.args.events.now c.args.time w after) s.store mid c.commit.new.self.store s.root next.result ps (ps ++ grown.0) put
-    appends
-    tt c.commit.new.self.root appends c.in-Ok-commit.ensures.root.0 c.in-Ok-commit.ensures.any_moment
-    c.in-Ok-commit.ensures.told c.in-Ok-commit.ensures.done
+    let page : c.in-Ok.head.page < store_count mid = omega (arith, step.page) in (
+      grown.0,
+      staged_events d.view dig s.store mid s.root next.result c.in-Ok.head c.args.time ps grown.0
+          step.adds.kept.same_kept rest count grown.1 next.ensures.auth step.step c.requires.step
+          c.args.self.now.few_commits c.requires.time page
+          c.args.events.now next.ensures.next next.ensures.label step.few step.adds.kept.used_grows found.0 found.1
+          found.2,
+      appends_events d.view dig s.store mid s.root next.result c.in-Ok.head c.args.time ps grown.0
+          step.adds.kept.same_kept rest count grown.1 next.ensures.auth step.step c.requires.step
+          c.args.self.now.few_commits c.requires.time page
+          c.args.events.now next.ensures.next next.ensures.label step.few step.adds.kept.used_grows found.0 found.1
+          found.2 c.requires.allowed,
+    )
+
+pub returns-in-Ok-commit-clause-written : goal.returns-in-Ok-commit-clause-written
+returns-in-Ok-commit-clause-written g c = λ ps rest.
+    let own = staged g (goal.at.returns-in-Ok-commit-clause-written g c).After-commit ps rest in
+    committed g.D.Disk.view g.met.D.Disk.only_now _ (λ _ w after. AppendsTo g.H.Hasher.dig c.args.events.now c.args.time
+    w after) _ c.append-added.new.pages _ _ c.next_root-next.result ps own tt c.commit.new.self.root own.2
+    c.in-Ok-commit.ensures.root.0 c.in-Ok-commit.ensures.any_moment c.in-Ok-commit.ensures.told
+    c.in-Ok-commit.ensures.done
 
 pub returns-in-Err-commit-clause-written : goal.returns-in-Err-commit-clause-written
 returns-in-Err-commit-clause-written g c = λ ps rest.
-    let d = g.D.Disk in
-    let s = c.args.self.now.kept in
-    let mid = c.append-added.new.pages in
-    let dig = g.H.Hasher.dig in
-    let next = c.next_root-next in
-    let step = c.in-Ok.ensures in
-    let list = told_list d.view root_kind s.store (written_record s.root ps) rest c.args.self.now.clean in
-    let grown = step.adds.kept.list_grows ps list in
-    let found = step.adds.answer ps list in
-    let count = told_pages d.view s.store ((d.view s.store.disk).count) ((d.view s.store.disk).content) ps
-    (λ i is. g.met.D.Disk.count_is_told s.store.disk i is) s.store.room s.store.used_from list in
-    let page : c.in-Ok.head.page < store_count mid = omega (arith, step.page) in
-    let put = staged_events d.view dig s.store mid s.root next.result c.in-Ok.head c.args.time ps grown.0
-    step.adds.kept.same_kept rest count grown.1 next.ensures.auth step.step c.requires.step c.args.self.now.few_commits
-    c.requires.time page
-    c.args.events.now next.ensures.next next.ensures.label step.few step.adds.kept.used_grows found.0 found.1 found.2 in
-    let appends = appends_events d.view dig s.store mid s.root next.result c.in-Ok.head c.args.time ps grown.0
-    step.adds.kept.same_kept rest count grown.1 next.ensures.auth step.step c.requires.step c.args.self.now.few_commits
-    c.requires.time page
-    c.args.events.now next.ensures.next next.ensures.label step.few step.adds.kept.used_grows found.0 found.1 found.2
-    c.requires.allowed in
-    not_committed d.view g.met.D.Disk.only_now (AppendsTo dig c.args.events.now c.args.time) (λ _ w after. AppendsTo dig
-    c.args.events.now c.args.time w after) s.store mid c.commit.new.self.store s.root next.result ps (ps ++ grown.0) put
-    appends
-    c.commit.new.self.root c.in-Err-commit.ensures.any_moment c.in-Err-commit.ensures.told
+    not_committed g.D.Disk.view g.met.D.Disk.only_now _ _ _ c.append-added.new.pages _ _ c.next_root-next.result ps
+    (staged g (goal.at.returns-in-Err-commit-clause-written g c).After-commit ps rest) c.commit.new.self.root
+    c.in-Err-commit.ensures.any_moment c.in-Err-commit.ensures.told

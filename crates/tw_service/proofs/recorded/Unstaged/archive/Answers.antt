@@ -1,32 +1,32 @@
-use Rattle.std.proofs.Common.{◌≡◌, ◌++◌, ℕ, List, ◌∙◌, ap, refl, subst, sym}
-use Rattle.std.specs.Prelude.{Err, Ok}
+use Rattle.std.proofs.Common.{◌≡◌, ℕ, List, ◌∙◌, ap, subst, sym}
+use Rattle.std.specs.Prelude.{Ok}
 use Rattle.tw_pages.specs.Records.{written_record}
 use Rattle.tw_pages.proofs.Written.{told_list}
 use Rattle.tw_msg.specs.declared.receipt.Receipt.{Receipt}
 use Rattle.tw_pages.specs.Same.{store_list}
-use Rattle.tw_pages.specs.SameSteps.{is_same_on, told_pages}
+use Rattle.tw_disk.specs.Image.{Image}
+use Rattle.tw_pages.specs.Rests.{RestsWith}
+use Rattle.tw_pages.specs.SameSteps.{told_pages}
 use Rattle.tw_answers.specs.declared.root.RootRecord.{RootRecord}
 use Rattle.tw_answers.specs.Roots.{root_kind}
 use Rattle.tw_service.specs.Archiving.{AnswersArchived}
 use Rattle.tw_service.specs.Finds.{receipt_at, receipt_of}
 use Rattle.tw_service.specs.Writing.{AddsThread, IsReceiptOfNext}
 use Rattle.tw_service.proofs.Archived.{archived-fault, archived-refused, archived-staged, none-bad}
-use Rattle.tw_service.proofs.Serving.{nothing_written}
-use Rattle.tw_service.proofs.Staging.{adds_thread, committed, not_committed, staged_thread}
+use Rattle.tw_service.proofs.Serving.{discarded}
+use Rattle.tw_service.proofs.Staging.{Stages, adds_thread, committed, not_committed, staged_thread}
+use Rattle.tw_service.proofs.recorded.Unstaged.archive.Given as given
 use Rattle.tw_service.proofs.recorded.Unstaged.archive.Goals as goal
+use Rattle.tw_service.proofs.recorded.Unstaged.archive.Goals.{After-commit}
 
 -- ---- a refused step
 
 pub returns-in-Err-clause-written : goal.returns-in-Err-clause-written
 returns-in-Err-clause-written g c = λ ps rest.
-    let d = g.D.Disk in
     let s = c.args.self.now.kept in
-    let dig = g.H.Hasher.dig in
-    nothing_written d.view g.met.D.Disk.only_now (AddsThread dig c.args.thread.now c.args.time)
-    (IsReceiptOfNext dig c.args.thread.now c.args.time) s.store c.discard.new.self s.root s.root (Err c.in-Err.refusal)
-    ps
-    (is_same_on d.view s.store c.stage_thread-added.new.pages c.discard.new.self c.in-Err.ensures.kept.same_kept
-    c.discard.ensures.same) rest refl tt
+    discarded g.D.Disk.view g.met.D.Disk.only_now (AddsThread g.H.Hasher.dig c.args.thread.now c.args.time)
+    (IsReceiptOfNext g.H.Hasher.dig c.args.thread.now c.args.time) s.store c.stage_thread-added.new.pages
+    c.discard.new.self s.root c.in-Err.refusal ps c.in-Err.ensures.kept.same_kept c.discard.ensures.same rest
 
 pub returns-in-Err-clause-answer : goal.returns-in-Err-clause-answer
 returns-in-Err-clause-answer g c = λ ps list.
@@ -66,8 +66,12 @@ returns-in-Err-commit-clause-answer g c = λ ps list.
     archived-fault g.H.Hasher.dig ps s.root c.args.thread.now c.args.time c.commit.new.self.root.head
     c.commit.new.self.root.archive
 
-pub returns-in-Ok-commit-clause-written : goal.returns-in-Ok-commit-clause-written
-returns-in-Ok-commit-clause-written g c = λ ps rest.
+-- what was staged for the step
+staged : (g : given.Over) (c : After-commit g) (ps : Image) → RestsWith g.D.Disk.view root_kind
+    c.args.self.now.kept.store (written_record c.args.self.now.kept.root ps)
+    → Stages g.D.Disk.view (AddsThread g.H.Hasher.dig c.args.thread.now c.args.time) c.args.self.now.kept.store
+    c.stage_thread-added.new.pages c.args.self.now.kept.root c.next_root-next.result ps
+staged g c ps rest =
     let d = g.D.Disk in
     let s = c.args.self.now.kept in
     let t = c.args.thread.now in
@@ -80,41 +84,31 @@ returns-in-Ok-commit-clause-written g c = λ ps rest.
     let list = told_list d.view root_kind s.store (written_record s.root ps) rest c.args.self.now.clean in
     let grown = step.kept.list_grows ps list in
     let count = told_pages d.view s.store ((d.view s.store.disk).count) ((d.view s.store.disk).content) ps
-    (λ i is. g.met.D.Disk.count_is_told s.store.disk i is) s.store.room s.store.used_from list in
-    let put = staged_thread d.view dig s.store mid s.root next.result head c.args.time ps grown.0 step.kept.same_kept
-    rest count grown.1 next.ensures.auth step.step c.requires.step c.args.self.now.few_commits c.requires.time step.last
-    t archive next.ensures.next next.ensures.label step.few (step.behind, step.below) (step.staged ps list) in
-    let archives = adds_thread d.view dig s.store mid s.root next.result head c.args.time ps grown.0 step.kept.same_kept
-    rest count grown.1 next.ensures.auth step.step c.requires.step c.args.self.now.few_commits c.requires.time step.last
-    t archive next.ensures.next next.ensures.label step.few (step.behind, step.below) (step.staged ps list) in
+    (λ i is. g.met.D.Disk.count_is_told s.store.disk i is) s.store.room s.store.used_from list in (
+      grown.0,
+      staged_thread d.view dig s.store mid s.root next.result head c.args.time ps grown.0 step.kept.same_kept rest count
+          grown.1 next.ensures.auth step.step c.requires.step c.args.self.now.few_commits c.requires.time step.last
+          t archive next.ensures.next next.ensures.label step.few (step.behind, step.below) (step.staged ps list),
+      adds_thread d.view dig s.store mid s.root next.result head c.args.time ps grown.0 step.kept.same_kept rest count
+          grown.1 next.ensures.auth step.step c.requires.step c.args.self.now.few_commits c.requires.time step.last
+          t archive next.ensures.next next.ensures.label step.few (step.behind, step.below) (step.staged ps list),
+    )
+
+pub returns-in-Ok-commit-clause-written : goal.returns-in-Ok-commit-clause-written
+returns-in-Ok-commit-clause-written g c = λ ps rest.
+    let s = c.args.self.now.kept in
+    let t = c.args.thread.now in
+    let next = c.next_root-next in
+    let own = staged g (goal.at.returns-in-Ok-commit-clause-written g c).After-commit ps rest in
     let answer : c.receipt_by-receipt.result ≡ receipt_at s.root.name next.result.head t = c.receipt_by-receipt.ensures
     ∙ ap (λ (n : List ℕ). receipt_at n next.result.head t) (ap (λ (r : RootRecord). r.name) next.ensures.next) in
-    committed d.view g.met.D.Disk.only_now (AddsThread dig t c.args.time) (IsReceiptOfNext dig t c.args.time) s.store
-    mid c.commit.new.self.store s.root next.result ps (ps ++ grown.0) put archives
-    c.receipt_by-receipt.result c.commit.new.self.root (answer, archives) c.in-Ok-commit.ensures.root.0
+    committed g.D.Disk.view g.met.D.Disk.only_now _ (IsReceiptOfNext g.H.Hasher.dig t c.args.time) _
+    c.stage_thread-added.new.pages _ _ next.result ps own c.receipt_by-receipt.result c.commit.new.self.root
+    (answer, own.2) c.in-Ok-commit.ensures.root.0
     c.in-Ok-commit.ensures.any_moment c.in-Ok-commit.ensures.told c.in-Ok-commit.ensures.done
 
 pub returns-in-Err-commit-clause-written : goal.returns-in-Err-commit-clause-written
 returns-in-Err-commit-clause-written g c = λ ps rest.
-    let d = g.D.Disk in
-    let s = c.args.self.now.kept in
-    let t = c.args.thread.now in
-    let mid = c.stage_thread-added.new.pages in
-    let dig = g.H.Hasher.dig in
-    let next = c.next_root-next in
-    let step = c.in-Ok.ensures in
-    let head = c.in-Ok.staged.head in
-    let archive = c.in-Ok.staged.archive in
-    let list = told_list d.view root_kind s.store (written_record s.root ps) rest c.args.self.now.clean in
-    let grown = step.kept.list_grows ps list in
-    let count = told_pages d.view s.store ((d.view s.store.disk).count) ((d.view s.store.disk).content) ps
-    (λ i is. g.met.D.Disk.count_is_told s.store.disk i is) s.store.room s.store.used_from list in
-    let put = staged_thread d.view dig s.store mid s.root next.result head c.args.time ps grown.0 step.kept.same_kept
-    rest count grown.1 next.ensures.auth step.step c.requires.step c.args.self.now.few_commits c.requires.time step.last
-    t archive next.ensures.next next.ensures.label step.few (step.behind, step.below) (step.staged ps list) in
-    let archives = adds_thread d.view dig s.store mid s.root next.result head c.args.time ps grown.0 step.kept.same_kept
-    rest count grown.1 next.ensures.auth step.step c.requires.step c.args.self.now.few_commits c.requires.time step.last
-    t archive next.ensures.next next.ensures.label step.few (step.behind, step.below) (step.staged ps list) in
-    not_committed d.view g.met.D.Disk.only_now (AddsThread dig t c.args.time) (IsReceiptOfNext dig t c.args.time)
-    s.store mid c.commit.new.self.store s.root next.result ps (ps ++ grown.0) put archives
-    c.commit.new.self.root c.in-Err-commit.ensures.any_moment c.in-Err-commit.ensures.told
+    not_committed g.D.Disk.view g.met.D.Disk.only_now _ _ _ c.stage_thread-added.new.pages _ _ c.next_root-next.result ps
+    (staged g (goal.at.returns-in-Err-commit-clause-written g c).After-commit ps rest) c.commit.new.self.root
+    c.in-Err-commit.ensures.any_moment c.in-Err-commit.ensures.told

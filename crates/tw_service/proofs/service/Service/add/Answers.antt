@@ -9,7 +9,7 @@ use Rattle.tw_disk.specs.Found.{Found, ◌>>=◌}
 use Rattle.tw_disk.specs.Found.Found.{Is}
 use Rattle.tw_disk.specs.Image.{Image}
 use Rattle.tw_disk.proofs.FoundLaws.{is_on}
-use Rattle.tw_pages.specs.Records.{written_record}
+use Rattle.tw_pages.specs.Records.{Written, written_record}
 use Rattle.tw_pages.specs.Same.{IsSameStore}
 use Rattle.tw_pages.specs.SameSteps.{is_same_itself}
 use Rattle.tw_skiplist.specs.Appended.{appended}
@@ -25,14 +25,16 @@ use Rattle.tw_service.specs.Machine.{append_table}
 use Rattle.tw_service.specs.Machine.Call.{Append}
 use Rattle.tw_service.specs.Machine.Reply.{OfThread}
 use Rattle.tw_service.specs.Serves.{Serves}
-use Rattle.tw_service.specs.Stands.{greatest_time}
+use Rattle.tw_service.specs.Stands.{KeepsHistory, greatest_time}
 use Rattle.tw_service.specs.Writing.{AppendsTo, IsThreadOfNext}
 use Rattle.tw_answers.proofs.TableAnswers.{IsTold, NoFault, append_no_fault, append_told, of_some}
 use Rattle.tw_service.proofs.Answering.{answers_fault, answers_refusal, append_done, append_refused, is_disk_fault}
 use Rattle.tw_answers.proofs.FoundAnswers.{fault_page, page_on, table_found}
 use Rattle.tw_service.proofs.Serving.{keeps_events, read_leaves, read_serves, room_written, same_leaves, same_tells}
-use Rattle.tw_service.proofs.Serving.{nothing_written, written_leaves, written_serves, written_tells}
+use Rattle.tw_service.proofs.Serving.{answered_so, nothing_written, written_leaves, written_serves, written_tells}
+use Rattle.tw_service.proofs.service.Service.add.Given as given
 use Rattle.tw_service.proofs.service.Service.add.Goals as goal
+use Rattle.tw_service.proofs.service.Service.add.Goals.{After-add_step}
 
 -- the table of a served history, from that of the value
 to_table : (h : History) (events : List (List ℕ)) (time : Option ℕ) (broken : Bool) (steps : ℕ) (clock : Option ℕ)
@@ -140,6 +142,21 @@ returns-in-Ok-clause-answer g c = λ ps list.
     ∙ ap (λ (n : List ℕ). Is (Ok (thread_at n c.add_step.new.self.kept.root.head)))
     (sym (ap (λ q. q.name) c.in-Ok.ensures.root.0)) ∙ ap (λ (t : Thread). Is (Ok t)) (sym c.head.ensures.value)
 
+-- the record of the step keeps the next history
+next_kept : (g : given.Over) (c : After-add_step g) (h : History)
+    (served : Serves g.H.Hasher.dig g.D.Disk.view c.args.self.now h) (next : Written RootRecord)
+    → AppendsTo g.H.Hasher.dig c.args.events.now c.args.time (written_record c.args.self.now.recorded.kept.root
+    served.pages) next
+    → KeepsHistory g.H.Hasher.dig next.pages next.root (with_events_at h c.args.events.now c.args.time)
+next_kept g c h served next to =
+    let r = c.args.self.now.recorded.kept in
+    let let_through = c.append_refusal.ensures in
+    let passed = ap is_some c.in_default.is in
+    keeps_events g.H.Hasher.dig (λ text. (g.met.H.Hasher.size text, g.met.H.Hasher.bytes text))
+    (written_record r.root served.pages) next h served.keeps c.args.events.now c.args.time to
+    (let_through.room passed) (let_through.within passed) c.requires (let_through.clock passed)
+    (room_written g.D.Disk.view r.store (written_record r.root served.pages) served.rests (let_through.room passed))
+
 pub returns-in-Ok-clause-steps : goal.returns-in-Ok-clause-steps
 returns-in-Ok-clause-steps g c = λ h served.
     let d = g.D.Disk in
@@ -149,15 +166,11 @@ returns-in-Ok-clause-steps g c = λ h served.
     let events = c.args.events.now in
     let time = c.args.time in
     let dig = g.H.Hasher.dig in
-    let let_through = c.append_refusal.ensures in
-    let passed = ap is_some c.in_default.is in
     let none = to_table h events time s.is_broken r.root.head.step r.root.time None (sym c.in_default.is
-    ∙ let_through.answer) (let_through.whole passed) served.keeps.whole.steps.step served.keeps.whole.time in
+    ∙ c.append_refusal.ensures.answer) (c.append_refusal.ensures.whole (ap is_some c.in_default.is))
+    served.keeps.whole.steps.step served.keeps.whole.time in
     let it = c.in-Ok.ensures.written served.pages served.rests in
-    let keeps = keeps_events dig (λ text. (g.met.H.Hasher.size text, g.met.H.Hasher.bytes text))
-    (written_record r.root served.pages) it.next h served.keeps events time it.done.0
-    (let_through.room passed) (let_through.within passed) c.requires (let_through.clock passed)
-    (room_written d.view r.store (written_record r.root served.pages) served.rests (let_through.room passed)) in
+    let keeps = next_kept g (goal.at.returns-in-Ok-clause-steps g c).After-add_step h served it.next it.done.0 in
     let next_served = written_serves d.view g.met.D.Disk.only_now (AppendsTo dig events time) (λ _ w next. AppendsTo dig
     events time w next) dig r.store t.store r.root t.root (Ok tt) h (with_events_at h events time) served it (inr keeps)
     served.keeps.named keeps (it.done.1, it.done.2) in
@@ -180,18 +193,13 @@ returns-in-Ok-clause-steps g c = λ h served.
 pub returns-in-Ok-clause-written : goal.returns-in-Ok-clause-written
 returns-in-Ok-clause-written g c = λ ps over.
     let it = c.in-Ok.ensures.written ps over in
-    record {
-      next = it.next;
-      is_next = it.is_next;
-      any_moment = it.any_moment;
-      told = it.told;
-      done = (
-        (c.head.ensures.value ∙ ap (λ (r : RootRecord). thread_at r.name r.head) it.done.1, it.done.0),
-        it.done.1,
-        it.done.2,
-      );
-      refused = tt;
-    }
+    let r = c.args.self.now.recorded.kept in
+    answered_so g.D.Disk.view g.met.D.Disk.only_now _ (IsThreadOfNext g.H.Hasher.dig c.args.events.now c.args.time)
+    r.store c.add_step.new.self.kept.store r.root c.add_step.new.self.kept.root (Ok tt) (Ok c.head.result) ps it (
+      (c.head.ensures.value ∙ ap (λ (r : RootRecord). thread_at r.name r.head) it.done.1, it.done.0),
+      it.done.1,
+      it.done.2,
+    ) tt
 
 pub returns-in-Err-clause-answer : goal.returns-in-Err-clause-answer
 returns-in-Err-clause-answer g c = λ ps list.
@@ -216,15 +224,9 @@ returns-in-Err-clause-steps g c = λ h served.
     let events = c.args.events.now in
     let time = c.args.time in
     let dig = g.H.Hasher.dig in
-    let let_through = c.append_refusal.ensures in
-    let passed = ap is_some c.in_default.is in
     let it = c.in-Err.ensures.written served.pages served.rests in
     let either = ⊎_elim (λ same. inl same)
-    (λ to. inr (keeps_events dig (λ text. (g.met.H.Hasher.size text, g.met.H.Hasher.bytes text))
-    (written_record r.root served.pages) it.next h served.keeps events time to
-    (let_through.room passed) (let_through.within passed) c.requires (let_through.clock passed)
-    (room_written d.view r.store (written_record r.root served.pages) served.rests (let_through.room passed))))
-    it.is_next in
+    (λ to. inr (next_kept g (goal.at.returns-in-Err-clause-steps g c).After-add_step h served it.next to)) it.is_next in
     let still : IsSameStore d.view r.store t.store → StoreServes dig d.view t.store t.root h =
     λ same. subst (λ q. StoreServes dig d.view t.store q h) (sym c.in-Err.ensures.kept)
     (read_serves d.view g.met.D.Disk.only_now dig r.store t.store r.root h same served) in
@@ -250,14 +252,8 @@ returns-in-Err-clause-steps g c = λ h served.
 pub returns-in-Err-clause-written : goal.returns-in-Err-clause-written
 returns-in-Err-clause-written g c = λ ps over.
     let it = c.in-Err.ensures.written ps over in
-    record {
-      next = it.next;
-      is_next = it.is_next;
-      any_moment = it.any_moment;
-      told = it.told;
-      done = tt;
-      refused = it.refused;
-    }
+    answered_so g.D.Disk.view g.met.D.Disk.only_now _ (IsThreadOfNext g.H.Hasher.dig c.args.events.now c.args.time)
+    _ _ _ _ (Err c.in-Err.refusal) (Err c.in-Err.refusal) ps it tt it.refused
 
 pub returns-in-Some-clause-written : goal.returns-in-Some-clause-written
 returns-in-Some-clause-written g c = λ ps over.
