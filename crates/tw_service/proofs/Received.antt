@@ -95,14 +95,15 @@ module _ {D H : Type 0} {g : _} {k : _} (view : D → DiskView) (only_now : (d :
         t.recorded.kept.root result h
 
     -- what a refusal leaves, and makes of the machine
-    left_on : (result : Result Receipt Refusal) → Taken s t result → Stepped result → IfErr result (λ r. (r ≡ DiskFault)
+    left_on : (result : Result Receipt Refusal) → IfErr result (λ r. (r ≡ DiskFault) ⊎ HasSameDisk view s t)
+        → IfErr result (λ r. (r ≡ DiskFault) ⊎ Serves dig view t h) → IfErr result (λ r. (r ≡ DiskFault)
         ⊎ (Serves dig view t h × LeavesOnly (view (disk_of s)) (view (disk_of t)) (λ i. StandsFor dig i (name_of s) h)))
-    left_on (Ok receipt) taken x = tt
-    left_on (Err r) taken x = ⊎_elim (λ fault. inl fault) (λ rest. ⊎_elim (λ fault. inl fault)
+    left_on (Ok receipt) unwritten kept = tt
+    left_on (Err r) unwritten kept = ⊎_elim (λ fault. inl fault) (λ rest. ⊎_elim (λ fault. inl fault)
         (λ same. inr (
           rest,
           read_leaves view only_now dig s.recorded.kept.store t.recorded.kept.store s.recorded.kept.root h same served,
-        )) taken.same) x.kept
+        )) unwritten) kept
 
     machine_on : (result : Result Receipt Refusal) → Taken s t result → Stepped result → IfErr result
         (λ r. AnswersByMachine dig h (Receive m time) (λ (x : Receipt). OfReceipt x) (Err r) (Serves dig view t))
@@ -125,7 +126,7 @@ module _ {D H : Type 0} {g : _} {k : _} (view : D → DiskView) (only_now : (d :
       any_moment = x.any_moment;
       told = x.told;
       done = x.done;
-      refused = left_on result taken x;
+      refused = left_on result taken.same x.kept;
       machine = λ whole. machine_on result taken x;
     }
 

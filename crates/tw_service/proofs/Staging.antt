@@ -100,6 +100,12 @@ abbrev pub Stages : {D : Type 0} {g : _} (view : D → DiskView) (IsNext : (w ne
 Stages view IsNext old mid r next ps = (more : Image) × IsStaged view root_kind old mid r next ps (ps ++ more)
     × IsNext (written_record r ps) (written_record next (ps ++ more))
 
+-- whatever pages a store was at rest with
+abbrev pub StagesOver : {D : Type 0} {g : _} (view : D → DiskView) (IsNext : (w next : Written RootRecord) → Type 0)
+    (old mid : Store D g) (r next : RootRecord) → Type 0
+StagesOver view IsNext old mid r next = (ps : Image) → RestsWith view root_kind old (written_record r ps)
+    → Stages view IsNext old mid r next ps
+
 module _ {D T : Type 0} {g : _} (view : D → DiskView) (only_now : (d : D) (c : Image)
     → (view d).left_since (view d).moment c → (view d).may_leave c)
     (IsNext : (w next : Written RootRecord) → Type 0) (IsAnswer : T → (w next : Written RootRecord) → Type 0)

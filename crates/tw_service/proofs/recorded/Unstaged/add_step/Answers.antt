@@ -3,7 +3,6 @@ use Rattle.tw_base.specs.declared.history.content.Content.TheVariants.{Events}
 use Rattle.tw_disk.specs.Found.Found.{Is}
 use Rattle.tw_disk.specs.Image.{Image}
 use Rattle.tw_pages.specs.Records.{written_record}
-use Rattle.tw_pages.specs.Rests.{RestsWith}
 use Rattle.tw_pages.proofs.Written.{told_list}
 use Rattle.tw_pages.specs.Same.{store_count}
 use Rattle.tw_pages.specs.SameSteps.{told_pages}
@@ -15,7 +14,7 @@ use Rattle.tw_answers.proofs.FoundAnswers.{no_bad_page, page_found}
 use Rattle.tw_service.specs.Writing.{AppendsTo}
 use Rattle.tw_service.proofs.WholePages.{added_whole}
 use Rattle.tw_service.proofs.Serving.{discarded, room_written}
-use Rattle.tw_service.proofs.Staging.{Stages, appends_events, committed, not_committed, staged_events}
+use Rattle.tw_service.proofs.Staging.{StagesOver, appends_events, committed, not_committed, staged_events}
 use Rattle.tw_service.proofs.recorded.Unstaged.add_step.Given as given
 use Rattle.tw_service.proofs.recorded.Unstaged.add_step.Goals as goal
 use Rattle.tw_service.proofs.recorded.Unstaged.add_step.Goals.{After-commit}
@@ -63,10 +62,8 @@ returns-in-Ok-commit-clause-answer g c = λ ps list.
     )
 
 -- what was staged for the step
-staged : (g : given.Over) (c : After-commit g) (ps : Image) → RestsWith g.D.Disk.view root_kind
-    c.args.self.now.kept.store (written_record c.args.self.now.kept.root ps)
-    → Stages g.D.Disk.view (AppendsTo g.H.Hasher.dig c.args.events.now c.args.time) c.args.self.now.kept.store
-    c.append-added.new.pages c.args.self.now.kept.root c.next_root-next.result ps
+staged : (g : given.Over) (c : After-commit g) → StagesOver g.D.Disk.view (AppendsTo g.H.Hasher.dig c.args.events.now c.args.time)
+    c.args.self.now.kept.store c.append-added.new.pages c.args.self.now.kept.root c.next_root-next.result
 staged g c ps rest =
     let d = g.D.Disk in
     let s = c.args.self.now.kept in

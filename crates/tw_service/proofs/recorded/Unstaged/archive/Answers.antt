@@ -4,8 +4,6 @@ use Rattle.tw_pages.specs.Records.{written_record}
 use Rattle.tw_pages.proofs.Written.{told_list}
 use Rattle.tw_msg.specs.declared.receipt.Receipt.{Receipt}
 use Rattle.tw_pages.specs.Same.{store_list}
-use Rattle.tw_disk.specs.Image.{Image}
-use Rattle.tw_pages.specs.Rests.{RestsWith}
 use Rattle.tw_pages.specs.SameSteps.{told_pages}
 use Rattle.tw_answers.specs.declared.root.RootRecord.{RootRecord}
 use Rattle.tw_answers.specs.Roots.{root_kind}
@@ -14,7 +12,7 @@ use Rattle.tw_service.specs.Finds.{receipt_at, receipt_of}
 use Rattle.tw_service.specs.Writing.{AddsThread, IsReceiptOfNext}
 use Rattle.tw_service.proofs.Archived.{archived-fault, archived-refused, archived-staged, none-bad}
 use Rattle.tw_service.proofs.Serving.{discarded}
-use Rattle.tw_service.proofs.Staging.{Stages, adds_thread, committed, not_committed, staged_thread}
+use Rattle.tw_service.proofs.Staging.{StagesOver, adds_thread, committed, not_committed, staged_thread}
 use Rattle.tw_service.proofs.recorded.Unstaged.archive.Given as given
 use Rattle.tw_service.proofs.recorded.Unstaged.archive.Goals as goal
 use Rattle.tw_service.proofs.recorded.Unstaged.archive.Goals.{After-commit}
@@ -67,10 +65,8 @@ returns-in-Err-commit-clause-answer g c = λ ps list.
     c.commit.new.self.root.archive
 
 -- what was staged for the step
-staged : (g : given.Over) (c : After-commit g) (ps : Image) → RestsWith g.D.Disk.view root_kind
-    c.args.self.now.kept.store (written_record c.args.self.now.kept.root ps)
-    → Stages g.D.Disk.view (AddsThread g.H.Hasher.dig c.args.thread.now c.args.time) c.args.self.now.kept.store
-    c.stage_thread-added.new.pages c.args.self.now.kept.root c.next_root-next.result ps
+staged : (g : given.Over) (c : After-commit g) → StagesOver g.D.Disk.view (AddsThread g.H.Hasher.dig c.args.thread.now c.args.time)
+    c.args.self.now.kept.store c.stage_thread-added.new.pages c.args.self.now.kept.root c.next_root-next.result
 staged g c ps rest =
     let d = g.D.Disk in
     let s = c.args.self.now.kept in
