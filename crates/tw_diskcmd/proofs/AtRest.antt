@@ -1,6 +1,6 @@
 -- Disks that stand for a history, and what a service's call makes of one.
-use Rattle.std.proofs.Common.{◌≡◌, ℕ, List, refl, sym, subst, inl, inr, ⊎_elim}
-use Rattle.std.specs.Prelude.{Result, Ok, Err}
+use Rattle.std.proofs.Common.{◌≡◌, ◌⊎◌, ℕ, List, refl, sym, subst, inl, inr, ⊎_elim}
+use Rattle.std.specs.Prelude.{Ok, Err}
 use Rattle.sha2.specs.Sha256.{sha256}
 use Rattle.tw_base.specs.history.History.{History}
 use Rattle.tw_disk.specs.Disk.{DiskView, IsAtRest, LeavesOnly}
@@ -14,14 +14,15 @@ use Rattle.tw_base.specs.declared.history.refusal.Refusal.TheVariants as service
 use Rattle.tw_pages.specs.Slots.{IsTaken}
 use Rattle.tw_service.specs.Adding.{CallSteps}
 use Rattle.tw_service.specs.Machine.{Call, Reply}
-use Rattle.tw_service.specs.Serves.{Serves, disk_of, name_of, record_of}
+use Rattle.tw_service.specs.Serves.{HasSameDisk, Serves, disk_of, name_of, record_of}
 use Rattle.tw_service.specs.Stands.{StandsFor, StandsForOneOf}
 use Rattle.tw_service.specs.declared.service.Service.{Service}
 use Rattle.tw_service.proofs.Serving.{rest_for_good}
 use Rattle.tw_diskcmd.specs.Steps.{AddsFrom}
-use Rattle.tw_diskcmd.proofs.StoreAtRest.{opens_taken}
+use Rattle.tw_diskcmd.specs.Leaves.{WritesNothing}
+use Rattle.tw_diskcmd.proofs.StoreAtRest.{opens_taken, same_left}
 use Rattle.tw_diskcmd.proofs.StoreAtRest.{left_keeps as keeps_both}
-use Rattle.tw_diskcmd.proofs.StoreSteps.{refused_adds}
+use Rattle.tw_diskcmd.proofs.StoreSteps.{nothing_written, refused_adds}
 use Rattle.tw_text.specs.declared.fault.CommandFault.{CommandFault}
 use Rattle.tw_diskcmd.specs.Disks.{IsImageOfHistory, IsLeft, KeepsServiceDisk, NextBy, RestsAtHistory, StepsBy}
 use Rattle.tw_diskcmd.specs.Faults.{fault_of_service}
@@ -49,38 +50,57 @@ own_rest view d name h rest =
     own_rest_as IsImageOfHistory view d h
     (record { image = rest.image; told = rest.told; only = rest.only; has = own_name name h rest.image rest.has })
 
-module _ {D H X : Type 0} {g : _} {k : _} (view : D → DiskView) (only_now : (d : D) (image : Image)
-    → (view d).left_since (view d).moment image → (view d).may_leave image)
-    (call : Call) (reply : X → Reply) (old new : Service D H g k) (h : History) where
-  abbrev Adds : Result X CommandFault → Type 0
-  Adds came = AddsFrom IsImageOfHistory view (disk_of old) (disk_of new) (NextBy call) (λ x. StepsBy call (reply x)) h
-      came
-
-  rests : (s : History) → Serves sha256 view new s → RestsAtHistory view (disk_of new) s
-  rests s served = own_rest view (disk_of new) (name_of new) s
+module _ {D H : Type 0} {g : _} {k : _} (view : D → DiskView) where
+  rests : (only_now : (d : D) (image : Image) → (view d).left_since (view d).moment image → (view d).may_leave image)
+      (new : Service D H g k) (s : History) → Serves sha256 view new s → RestsAtHistory view (disk_of new) s
+  rests only_now new s served = own_rest view (disk_of new) (name_of new) s
       (rest_for_good view only_now sha256 new.recorded.kept.store (record_of new) s served)
 
-  any_moment : (next : History) → LeavesOnly (view (disk_of old)) (view (disk_of new))
+  any_moment : (old new : Service D H g k) (h next : History) → LeavesOnly (view (disk_of old)) (view (disk_of new))
       (StandsForOneOf sha256 (name_of old) h next)
       → LeavesOnly (view (disk_of old)) (view (disk_of new)) (OneOf IsImageOfHistory h next)
-  any_moment next left =
+  any_moment old new h next left =
       leaves_weaker (view (disk_of old)) (view (disk_of new)) (StandsForOneOf sha256 (name_of old) h next)
       (OneOf IsImageOfHistory h next) (own_names (name_of old) h next) left
 
-  -- an answer, and a refusal
-  pub answered_steps : (x : X) → CallSteps sha256 view call reply old new (Ok x) h → Adds (Ok x)
-  answered_steps x made =
-      (made.next, (made.is_next, made.done.0), rests made.next made.done.1, any_moment made.next made.any_moment)
+module _ {D H X : Type 0} {g : _} {k : _} {view : D → DiskView} (only_now : (d : D) (image : Image)
+    → (view d).left_since (view d).moment image → (view d).may_leave image)
+    {call : Call} {reply : X → Reply} {old new : Service D H g k} {disk : D} where
+  -- an answer, and a refusal, on the disk that the service gives back
+  pub answered_steps : {x : X} {h : History} → CallSteps sha256 view call reply old new (Ok x) h → disk ≡ disk_of new
+      → AddsFrom IsImageOfHistory view (disk_of old) disk (NextBy call) (λ x. StepsBy call (reply x)) h (Ok x)
+  answered_steps {x = x} {h = h} made closed =
+      subst (λ d. AddsFrom IsImageOfHistory view (disk_of old) d (NextBy call) (λ x. StepsBy call (reply x)) h (Ok x))
+      (sym closed) (
+        made.next,
+        (made.is_next, made.done.0),
+        rests view only_now new made.next made.done.1,
+        any_moment view old new h made.next made.any_moment,
+      )
 
-  pub refused_steps : (r : Refusal) (came : CommandFault) → came ≡ fault_of_service r → CallSteps sha256 view call reply
-      old new (Err r) h → Adds (Err came)
-  refused_steps r came is made =
-      refused_adds IsImageOfHistory view (NextBy call) (λ x. StepsBy call (reply x)) service.DiskFault fault_of_service
+  pub refused_steps : {r : Refusal} {came : CommandFault} {h : History} → came ≡ fault_of_service r
+      → CallSteps sha256 view call reply old new (Err r) h → disk ≡ disk_of new
+      → AddsFrom IsImageOfHistory view (disk_of old) disk (NextBy call) (λ x. StepsBy call (reply x)) h (Err came)
+  refused_steps {r = r} {came = came} {h = h} is made closed =
+      subst (λ d. AddsFrom IsImageOfHistory view (disk_of old) d (NextBy call) (λ x. StepsBy call (reply x)) h (Err came))
+      (sym closed)
+      (refused_adds IsImageOfHistory view (NextBy call) (λ x. StepsBy call (reply x)) service.DiskFault fault_of_service
       refl (disk_of old) (disk_of new) h made.next made.is_next
-      (any_moment made.next made.any_moment)
+      (any_moment view old new h made.next made.any_moment)
       (record {
         image = made.told.image;
         told = made.told.told;
         has = own_names (name_of old) h made.next made.told.image made.told.has;
       }) r came is
-      (⊎_elim (λ fault. inl fault) (λ kept. inr (rests h kept.0)) made.refused)
+      (⊎_elim (λ fault. inl fault) (λ kept. inr (rests view only_now new h kept.0)) made.refused))
+
+-- a refusal after which nothing was written, on the disk that the service gives back
+pub refused_unwritten : {D H : Type 0} {g : _} {k : _} (X : Type 0) (view : D → DiskView) (only_now : (d : D)
+    (image : Image) → (view d).left_since (view d).moment image → (view d).may_leave image)
+    (old new : Service D H g k) (disk : D) (r : Refusal) (came : CommandFault) → came ≡ fault_of_service r
+    → (r ≡ service.DiskFault) ⊎ HasSameDisk view old new → disk ≡ disk_of new → WritesNothing {X = X} (Err came)
+    → IsLeft view (disk_of old) disk
+refused_unwritten X view only_now old new disk r came is unwritten closed nothing =
+    subst (λ d. IsLeft view (disk_of old) d) (sym closed) (same_left view only_now old.recorded.kept.store
+    new.recorded.kept.store (nothing_written X service.DiskFault fault_of_service refl r came is
+    (HasSameDisk view old new) unwritten nothing))

@@ -21,12 +21,12 @@ use Rattle.tw_follow.proofs.Answering.{not_both}
 use Rattle.tw_follow.proofs.Standing.{stands_opened}
 use Rattle.tw_text.specs.declared.fault.CommandFault.{CommandFault}
 use Rattle.tw_text.specs.declared.fault.CommandFault.TheVariants as fault
-use Rattle.tw_text.specs.declared.refusal.StoreCause.TheVariants.{BadPage, Blank, NotAStore}
+use Rattle.tw_text.specs.declared.refusal.StoreCause.TheVariants.{BadPage}
 use Rattle.tw_diskcmd.specs.StoreFaults.{fault_of_store}
 use Rattle.tw_diskcmd.specs.FollowerDisks.{ReadsAsHeads, found_disk}
 use Rattle.tw_diskcmd.specs.FollowerFaults.{fault_of_follower}
 use Rattle.tw_diskcmd.specs.Heads.{HeadsComes, IsListed, ListsTo, TableLists, as_lines, head_lines}
-use Rattle.tw_diskcmd.proofs.Offered.{not_opened}
+use Rattle.tw_diskcmd.proofs.Landings.{unopened_tells}
 
 -- a follower that was just opened hasn't to be opened anew
 pub never_reopened : (is_broken : Bool) → is_broken ≡ false → (r : FollowRefusal)
@@ -78,23 +78,13 @@ module _ (found : Option Image) (before after : ℕ) where
     unlisted r answer (inl is) fresh rose = absurd (fresh is)
     unlisted r answer (inr is) fresh rose = absurd is
 
-  unserved_for : (f : StoreFault) (cause : CommandFault) → cause ≡ fault_of_store f → f ≢ store.DiskFault
-      → ((image : Image) → found ≡ Some image → (f ≡ store.DiskFault) ⊎ IsNotOpenedFor sha256 image f)
-      → IsListed found (Err cause)
-  unserved_for f cause is other why = record {
-    answer = λ image told. (Unopened f, not_opened image f other (why image told), ap (λ (x : CommandFault). Err x) is);
-    table = tt;
-    list = λ k reads. absurd (stands_opened sha256 reads.image k f reads.stands
-        (not_opened reads.image f other (why reads.image reads.told)));
-  }
-
   -- where no follower is opened
   pub unserved : (f : StoreFault) → ((image : Image) → found ≡ Some image → (f ≡ store.DiskFault) ⊎ IsNotOpenedFor
       sha256 image f) → (f ≢ store.Taken) × (f ≢ store.NoMemory)
       → (f ≡ store.DiskFault → Rose before after) → HeadsComes (found_disk found before after) (Err (fault_of_store f))
-  unserved store.Taken why never rose = absurd (never.0 refl)
-  unserved store.NoMemory why never rose = absurd (never.1 refl)
-  unserved store.DiskFault why never rose = rose refl
-  unserved store.Blank why never rose = unserved_for store.Blank (fault.Unserved Blank) refl (λ e. cc) why
-  unserved (store.NotAStore slot) why never rose = unserved_for (store.NotAStore slot) (fault.Unserved (NotAStore slot))
-      refl (λ e. cc) why
+  unserved f = unopened_tells (λ why. HeadsComes (found_disk found before after) (Err why)) (IsNotOpenedFor sha256) found
+      f (λ cause is none. record {
+        answer = λ image told. (Unopened f, none image told, ap (λ (x : CommandFault). Err x) (sym is));
+        table = tt;
+        list = λ k reads. absurd (stands_opened sha256 reads.image k f reads.stands (none reads.image reads.told));
+      })

@@ -26,8 +26,8 @@ use Rattle.tw_follow.proofs.Standing.{stands_opened}
 use Rattle.tw_text.specs.declared.fault.CommandFault.{CommandFault}
 use Rattle.tw_text.specs.declared.fault.CommandFault.TheVariants as fault
 use Rattle.tw_text.specs.declared.refusal.StoreCause.{StoreCause}
-use Rattle.tw_text.specs.declared.refusal.StoreCause.TheVariants.{Blank, NotAStore}
 use Rattle.tw_diskcmd.specs.StoreFaults.{fault_of_store}
+use Rattle.tw_diskcmd.proofs.Landings.{unopened_tells}
 use Rattle.tw_diskcmd.specs.FollowerDisks.{ReadsAsHeads, found_disk}
 use Rattle.tw_diskcmd.specs.FollowerFaults.{fault_of_follower}
 use Rattle.tw_diskcmd.specs.Offering.{IsOffered, OfferedMessageComes, TableOffers, list_after, next_list, offer_as_told}
@@ -139,32 +139,15 @@ never_unserved m head why is = by (judged_offer sha256 head m) (of-table sha256 
     by (Err follower.NoMemory) of e = of
     by _ of e = cc
 
--- a store that isn't opened for a reason of its content
-pub not_opened : (image : Image) (f : StoreFault) → f ≢ store.DiskFault → (f ≡ store.DiskFault) ⊎ IsNotOpenedFor sha256
-    image f → IsNotOpenedFor sha256 image f
-not_opened image f other (inl is) = absurd (other is)
-not_opened image f other (inr why) = why
-
-module _ (found : Option Image) (before after : ℕ) (m : Message) where
-  unserved_for : (f : StoreFault) (cause : CommandFault) → cause ≡ fault_of_store f → TableOffers m (Err cause)
-      → f ≢ store.DiskFault
-      → ((image : Image) → found ≡ Some image → (f ≡ store.DiskFault) ⊎ IsNotOpenedFor sha256 image f)
-      → IsOffered found m (Err cause)
-  unserved_for f cause is table other why = record {
-    answer = λ image told. (Unopened f, not_opened image f other (why image told), ap (λ (x : CommandFault). Err x) is);
-    table = table;
-    list = λ k reads. absurd (stands_opened sha256 reads.image k f reads.stands
-        (not_opened reads.image f other (why reads.image reads.told)));
-  }
-
-  -- where no follower is opened
-  pub unserved : (f : StoreFault) → ((image : Image) → found ≡ Some image → (f ≡ store.DiskFault) ⊎ IsNotOpenedFor
-      sha256 image f) → (f ≢ store.Taken) × (f ≢ store.NoMemory)
-      → (f ≡ store.DiskFault → Rose before after) → OfferedMessageComes (found_disk found before after) m
-      (Err (fault_of_store f))
-  unserved store.Taken why never rose = absurd (never.0 refl)
-  unserved store.NoMemory why never rose = absurd (never.1 refl)
-  unserved store.DiskFault why never rose = rose refl
-  unserved store.Blank why never rose = unserved_for store.Blank (fault.Unserved Blank) refl tt (λ e. cc) why
-  unserved (store.NotAStore slot) why never rose = unserved_for (store.NotAStore slot) (fault.Unserved (NotAStore slot))
-      refl tt (λ e. cc) why
+-- where no follower is opened
+pub unserved : (found : Option Image) (before after : ℕ) (m : Message) (f : StoreFault)
+    → ((image : Image) → found ≡ Some image → (f ≡ store.DiskFault) ⊎ IsNotOpenedFor sha256 image f)
+    → (f ≢ store.Taken) × (f ≢ store.NoMemory) → (f ≡ store.DiskFault → Rose before after)
+    → OfferedMessageComes (found_disk found before after) m (Err (fault_of_store f))
+unserved found before after m f =
+    unopened_tells (λ why. OfferedMessageComes (found_disk found before after) m (Err why)) (IsNotOpenedFor sha256) found
+    f (λ cause is none. record {
+      answer = λ image told. (Unopened f, none image told, ap (λ (x : CommandFault). Err x) (sym is));
+      table = tt;
+      list = λ k reads. absurd (stands_opened sha256 reads.image k f reads.stands (none reads.image reads.told));
+    })

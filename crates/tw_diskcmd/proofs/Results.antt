@@ -1,5 +1,5 @@
 -- From what a service answers, or isn't opened for, to what a command comes to; and one answer over a told disk.
-use Rattle.std.proofs.Common.{◌≡◌, ◌∙◌, ℕ, refl, ap, sym, subst, ◌⊎◌, inl, inr, ⊎_elim}
+use Rattle.std.proofs.Common.{◌≡◌, ◌∙◌, ℕ, refl, ap, sym, subst, ◌⊎◌, inl, inr}
 use Rattle.std.specs.Prelude.{Option, Some, None, Result, Ok, Err, IfErr, MatchOption, ◌≢◌}
 use Rattle.sha2.specs.Sha256.{sha256}
 use Rattle.tw_base.specs.kinds.Faults.{Rose}
@@ -20,7 +20,6 @@ use Rattle.tw_answers.specs.declared.root.RootRecord.{RootRecord}
 use Rattle.tw_answers.proofs.TableAnswers.{Of}
 use Rattle.tw_service.proofs.Standing.{served_once, stands_opened}
 use Rattle.tw_text.specs.declared.refusal.StoreCause.{StoreCause}
-use Rattle.tw_text.specs.declared.refusal.StoreCause.TheVariants.{Blank, NotAStore}
 use Rattle.tw_text.specs.declared.fault.CommandFault.{CommandFault}
 use Rattle.tw_text.specs.declared.fault.CommandFault.TheVariants as fault
 use Rattle.tw_diskcmd.specs.Answers.{ComesOver, ComesTo, IsOpened, IsResult, IsResultOver, IsTheAnswer, MachineRefuses}
@@ -28,7 +27,7 @@ use Rattle.tw_diskcmd.specs.Answers.{TableAnswersOr, TableRefuses, answer_over, 
 use Rattle.tw_diskcmd.specs.Disks.{FoundDisk, ReadsAsHistory, found_disk}
 use Rattle.tw_diskcmd.specs.Comes.{TellsContent}
 use Rattle.tw_diskcmd.specs.StoreFaults.{fault_of_store}
-use Rattle.tw_diskcmd.proofs.Landings.{told_result}
+use Rattle.tw_diskcmd.proofs.Landings.{told_result, unopened_tells}
 use Rattle.tw_diskcmd.specs.Faults.{fault_of_service}
 
 -- ---- refusals
@@ -191,53 +190,29 @@ module _ {X : Type 0} (Over : Served → Result X CommandFault → Type 0) (ByTa
         (by_refusal r other rose tells)
 
   -- of a disk that isn't opened
-  module _ (told_so : (g : StoreFault) → Over (Unopened g) (Err (fault_of_store g))) (free : (cause : StoreCause)
-      → ByTable (Err (fault.Unserved cause)))
-      (found : Option Image) (before after : ℕ) (f : StoreFault) (unopened : (image : Image) → found ≡ Some image
-      → (f ≡ store.DiskFault) ⊎ IsNotOpenedFor image f)
-      (answers : (f ≢ store.Taken) × (f ≢ store.NoMemory)) (rose : f ≡ store.DiskFault → Rose before after) where
-    why : (g : StoreFault) → g ≡ f → (g ≡ store.DiskFault → ⊥) → (image : Image) → found ≡ Some image
-        → IsNotOpenedFor image g
-    why g same other image told =
-        ⊎_elim (λ is. absurd (other (same ∙ is))) (λ is. subst (IsNotOpenedFor image) (sym same) is)
-        (unopened image told)
-
-    one_unserved : (g : StoreFault) (cause : StoreCause) → fault_of_store g ≡ fault.Unserved cause
-        → ((image : Image) → found ≡ Some image → IsNotOpenedFor image g) → IsOneOver found (Err (fault.Unserved cause))
-    one_unserved g cause is refuses = record {
-      answer = λ image told.
-          (Unopened g, refuses image told, subst (λ (w : CommandFault). Over (Unopened g) (Err w)) is (told_so g));
-      table = free cause;
-      machine = λ h reads. absurd (stands_opened sha256 reads.image h.name h g reads.stands
-          (refuses reads.image reads.told));
-    }
-
-    pub unopened_comes : (came : CommandFault) → came ≡ fault_of_store f → ComesBy (found_disk found before after)
-        (Err came)
-    unopened_comes came is = subst (λ (w : CommandFault). ComesBy (found_disk found before after) (Err w)) (sym is)
-        (by f refl)
-      where
-        by : (g : StoreFault) → g ≡ f → ComesBy (found_disk found before after) (Err (fault_of_store g))
-        by store.Taken same = absurd (answers.0 (sym same))
-        by store.Blank same = one_unserved store.Blank Blank refl (why store.Blank same (λ is. cc))
-        by (store.NotAStore slot) same = one_unserved (store.NotAStore slot) (NotAStore slot) refl
-            (why (store.NotAStore slot) same (λ is. cc))
-        by store.DiskFault same = rose (sym same)
-        by store.NoMemory same = absurd (answers.1 (sym same))
+  pub unopened_comes : (told_so : (g : StoreFault) → Over (Unopened g) (Err (fault_of_store g)))
+      (free : (cause : StoreCause) → ByTable (Err (fault.Unserved cause))) (found : Option Image) (before after : ℕ)
+      (f : StoreFault) → ((image : Image) → found ≡ Some image → (f ≡ store.DiskFault) ⊎ IsNotOpenedFor image f)
+      → (f ≢ store.Taken) × (f ≢ store.NoMemory) → (f ≡ store.DiskFault → Rose before after) → (came : CommandFault)
+      → came ≡ fault_of_store f → ComesBy (found_disk found before after) (Err came)
+  unopened_comes told_so free found before after f unopened answers rose came is =
+      subst (λ (w : CommandFault). ComesBy (found_disk found before after) (Err w)) (sym is)
+      (unopened_tells (λ w. ComesBy (found_disk found before after) (Err w)) IsNotOpenedFor found f
+      (λ cause same none. record {
+        answer = λ image told.
+            (Unopened f, none image told, subst (λ (w : CommandFault). Over (Unopened f) (Err w)) same (told_so f));
+        table = free cause;
+        machine = λ h reads. absurd (stands_opened sha256 reads.image h.name h f reads.stands
+            (none reads.image reads.told));
+      }) unopened answers rose)
 
 -- the same of a command whose answer is a function of what the disk is served as
 module _ {X : Type 0} (finds : RootRecord → Image → Found (Result X Refusal)) (ByTable : Result X CommandFault → Type 0)
     (ByMachine : History → Result X CommandFault → Type 0) where
-  abbrev pub Comes : FoundDisk → Result X CommandFault → Type 0
-  Comes t result = ComesTo finds ByTable ByMachine t result
-
-  abbrev IsOne : Option Image → Result X CommandFault → Type 0
-  IsOne found result = IsResult finds ByTable ByMachine found result
-
   -- of a service that was opened, and what it found
   module _ (t : FoundDisk) (root : RootRecord) (pages : Option Image) (opens : IsOpened t.found root pages) where
     pub done : (x : X) → ((ps : Image) → pages ≡ Some ps → finds root ps ≡ Is (Ok x)) → ByTable (Ok x)
-        → ((h : History) → ReadsAsHistory t.found h → ByMachine h (Ok x)) → Comes t (Ok x)
+        → ((h : History) → ReadsAsHistory t.found h → ByMachine h (Ok x)) → ComesTo finds ByTable ByMachine t (Ok x)
     done x is table machine = opened_result (IsTheAnswer finds) ByTable ByMachine t root pages opens (Ok x)
         (λ ps told. sym (ap result_of (is ps told))) table machine
 
@@ -246,7 +221,7 @@ module _ {X : Type 0} (finds : RootRecord → Image → Found (Result X Refusal)
         → ((ps : Image) → pages ≡ Some ps → IsRefusalFound r (finds root ps))
         → (TellsOfDisk r → ByTable (Err (fault_of_service r)))
         → (TellsOfDisk r → (h : History) → ReadsAsHistory t.found h → ByMachine h (Err (fault_of_service r)))
-        → Comes t (Err came)
+        → ComesTo finds ByTable ByMachine t (Err came)
     refused r came same other rose is table machine =
         opened_refusal (IsTheAnswer finds) ByTable ByMachine t root pages opens r came same other rose (λ tells.
         opened_result (IsTheAnswer finds) ByTable ByMachine t root pages opens (Err (fault_of_service r))
@@ -256,7 +231,8 @@ module _ {X : Type 0} (finds : RootRecord → Image → Found (Result X Refusal)
       (before after : ℕ) (f : StoreFault)
       → ((image : Image) → found ≡ Some image → (f ≡ store.DiskFault) ⊎ IsNotOpenedFor image f) → (f ≢ store.Taken)
       × (f ≢ store.NoMemory) → (f ≡ store.DiskFault → Rose before after)
-      → (came : CommandFault) → came ≡ fault_of_store f → Comes (found_disk found before after) (Err came)
+      → (came : CommandFault) → came ≡ fault_of_store f
+      → ComesTo finds ByTable ByMachine (found_disk found before after) (Err came)
   unserved free found before after f unopened answers rose came is = unopened_comes (IsTheAnswer finds) ByTable
       ByMachine (λ g. refl) free found before after f unopened answers rose came is
 
@@ -264,11 +240,11 @@ module _ {X : Type 0} (finds : RootRecord → Image → Found (Result X Refusal)
 
   module _ (image : Image) (before after : ℕ) where
     pub one_answer : (one other : Result X CommandFault) → TellsContent one → TellsContent other
-        → Comes (found_disk (Some image) before after) one → Comes (found_disk (Some image) before after) other
+        → ComesTo finds ByTable ByMachine (found_disk (Some image) before after) one
+        → ComesTo finds ByTable ByMachine (found_disk (Some image) before after) other
         → one ≡ other
     one_answer one other tells tells' a b =
-        let x = (told_result (λ found r. IsOne found r) (found_disk (Some image) before after) one tells a).answer image
-        refl in
-        let y = (told_result (λ found r. IsOne found r) (found_disk (Some image) before after) other tells' b).answer
-        image refl in
+        let Is : Option Image → Result X CommandFault → Type 0 = IsResult finds ByTable ByMachine in
+        let x = (told_result Is (found_disk (Some image) before after) one tells a).answer image refl in
+        let y = (told_result Is (found_disk (Some image) before after) other tells' b).answer image refl in
         x.2 ∙ ap (λ (s : Served). answer_over finds s) (served_once image x.0 y.0 x.1 y.1) ∙ sym y.2

@@ -94,25 +94,27 @@ pub rests_as : {D R : Type 0} {g : _} (view : D → DiskView) (kind : RecordKind
 rests_as view kind store w rest = own_rest (IsWritten kind) view (store_disk store) w
     (rest_for_good view kind store w rest)
 
--- of record and pages, by what the store committed
-module _ {D R X E : Type 0} {g : _} (view : D → DiskView) (kind : RecordKind R) (disk_fault : E)
-    (IsNext : (w next : Written R) → Type 0) (IsAnswer : X → (w next : Written R) → Type 0)
-    (old new : Store D g) (before after : R) (ps : Image) where
-  abbrev w : Written R
-  w = written_record before ps
+-- of record and pages, by what the store committed, on the disk that it gives back
+module _ {D R X E : Type 0} {g : _} {view : D → DiskView} {kind : RecordKind R} {disk_fault : E}
+    {IsNext : (w next : Written R) → Type 0} {IsAnswer : X → (w next : Written R) → Type 0}
+    {old new : Store D g} {before after : R} {ps : Image} {disk : D} where
+  pub answered_commits : {x : X} → Commits view kind disk_fault IsNext IsAnswer old new before after (Ok x) ps
+      → disk ≡ store_disk new
+      → AddsFrom (IsWritten kind) view (store_disk old) disk (StaysOr IsNext) IsAnswer (written_record before ps) (Ok x)
+  answered_commits {x = x} c closed =
+      subst (λ d. AddsFrom (IsWritten kind) view (store_disk old) d (StaysOr IsNext) IsAnswer (written_record before ps)
+      (Ok x)) (sym closed) (c.next, c.done.0, rests_as view kind new c.next c.done.2, c.any_moment)
 
-  pub answered_commits : (x : X) → Commits view kind disk_fault IsNext IsAnswer old new before after (Ok x) ps
-      → AddsFrom (IsWritten kind) view (store_disk old) (store_disk new) (StaysOr IsNext) IsAnswer w (Ok x)
-  answered_commits x c = (c.next, c.done.0, rests_as view kind new c.next c.done.2, c.any_moment)
-
-  pub refused_commits : (fault_of : E → CommandFault) → fault_of disk_fault ≡ DiskFault → (e : E) (came : CommandFault)
-      → came ≡ fault_of e
-      → Commits view kind disk_fault IsNext IsAnswer old new before after (Err e) ps → AddsFrom (IsWritten kind) view
-      (store_disk old) (store_disk new) (StaysOr IsNext) IsAnswer w (Err came)
-  refused_commits fault_of told_so e came is c =
-      refused_adds (IsWritten kind) view (StaysOr IsNext) IsAnswer disk_fault fault_of told_so (store_disk old)
-      (store_disk new) w c.next c.is_next c.any_moment c.told e came is
-      (⊎_elim (λ same. inl same) (λ kept. inr (rests_as view kind new w kept.0)) c.refused)
+  pub refused_commits : {e : E} {came : CommandFault} (fault_of : E → CommandFault) → fault_of disk_fault ≡ DiskFault
+      → came ≡ fault_of e → Commits view kind disk_fault IsNext IsAnswer old new before after (Err e) ps
+      → disk ≡ store_disk new
+      → AddsFrom (IsWritten kind) view (store_disk old) disk (StaysOr IsNext) IsAnswer (written_record before ps) (Err came)
+  refused_commits {e = e} {came = came} fault_of told_so is c closed =
+      subst (λ d. AddsFrom (IsWritten kind) view (store_disk old) d (StaysOr IsNext) IsAnswer (written_record before ps)
+      (Err came)) (sym closed)
+      (refused_adds (IsWritten kind) view (StaysOr IsNext) IsAnswer disk_fault fault_of told_so (store_disk old)
+      (store_disk new) (written_record before ps) c.next c.is_next c.any_moment c.told e came is
+      (⊎_elim (λ same. inl same) (λ kept. inr (rests_as view kind new (written_record before ps) kept.0)) c.refused))
 
 -- a refusal that isn't told as a disk fault is none
 pub nothing_written : (X : Type 0) {E : Type 0} (disk_fault : E) (fault_of : E → CommandFault)

@@ -7,6 +7,7 @@ ghost use Rattle.tw_base.specs.history.Limits.{IsThread, IsTimeWithinLimits};
 ghost use Rattle.tw_disk.specs.Image.{Image};
 ghost use Rattle.tw_msg.specs.Messages.{IsLinked};
 ghost use Rattle.tw_outside.specs.Asked.{asked};
+ghost use Rattle.tw_service.specs.Adding.{Receives};
 ghost use Rattle.tw_service.specs.Serves.{IsOver, Serves, disk_of, has_failed, pages_of, record_of};
 ghost use Rattle.tw_service.specs.Machine.Call.{Receive};
 ghost use Rattle.tw_service.specs.Machine.Reply.{OfReceipt};
@@ -23,7 +24,7 @@ use crate::message_files::read_message_file;
 use crate::store_faults::fault_of_store;
 use crate::worked::Worked;
 use std::alloc::Global;
-use tw_base::Sha;
+use tw_base::{Refusal, Sha};
 use tw_disk::Disk;
 use tw_msg::{Message, Receipt};
 use tw_outside::Inputs;
@@ -100,6 +101,19 @@ fn seconds_of(time: Option<ClaimedTime>) -> Option<u64>
     }
 }
 
+/// Archives the thread of the message by the service, at this time or at none.
+fn take<D: Disk>(
+    service: &mut Service<D, Sha>,
+    message: &Message,
+    time: Option<ClaimedTime>,
+) -> Result<Receipt, Refusal>
+    requires linked { IsLinked message.now }
+    requires thread { IsThread message.now.thread }
+    ensures { Receives sha256 D.view message.now time service.old service.new result }
+{
+    service.take(message, seconds_of(time))
+}
+
 /// Archives the thread of the message by the service, and gives its disk back.
 fn receive_by<D: Disk>(
     service: Service<D, Sha>,
@@ -119,7 +133,7 @@ fn receive_by<D: Disk>(
         (StaysOr (ArchivesTo sha256 message.now time)) (IsReceiptOfRecord sha256 message.now time) (written_record (record_of service) ps) result.outcome }
 {
     let mut service = service;
-    match service.take(message, seconds_of(time)) {
+    match take(&mut service, message, time) {
         Ok(receipt) => Worked {
             outcome: Ok(receipt),
             disk: service.close(),

@@ -1,22 +1,13 @@
-use Rattle.std.proofs.Common.{refl, sym, subst, inl, inr, ⊎_elim}
-use Rattle.std.specs.Prelude.{Err, Ok}
+use Rattle.std.proofs.Common.{refl, sym, subst}
 use Rattle.sha2.specs.Sha256.{sha256}
 use Rattle.tw_base.specs.declared.history.thread.Thread.{Thread}
 use Rattle.tw_base.specs.kinds.Faults.{Rose}
-use Rattle.tw_base.specs.declared.history.refusal.Refusal.TheVariants as service
-use Rattle.tw_answers.specs.Roots.{root_kind}
-use Rattle.tw_service.specs.Machine.Call.{Append}
-use Rattle.tw_service.specs.Machine.Reply.{OfThread}
-use Rattle.tw_service.specs.Serves.{Serves, disk_of, pages_of, record_of}
-use Rattle.tw_service.specs.Writing.{AppendsTo, IsThreadOfNext}
-use Rattle.tw_pages.specs.Records.{written_record}
-use Rattle.tw_diskcmd.specs.Leaves.{StaysOr}
-use Rattle.tw_diskcmd.specs.Steps.{AddsFrom}
-use Rattle.tw_diskcmd.proofs.StoreAtRest.{rose_since, same_left}
-use Rattle.tw_diskcmd.proofs.StoreSteps.{answered_commits, nothing_written, refused_commits}
-use Rattle.tw_diskcmd.specs.Disks.{IsImageOfHistory, IsLeft, IsService, NextBy, StepsBy, found_disk}
+use Rattle.tw_service.specs.Serves.{Serves, disk_of, pages_of}
+use Rattle.tw_diskcmd.proofs.StoreAtRest.{rose_since}
+use Rattle.tw_diskcmd.proofs.StoreSteps.{answered_commits, refused_commits}
+use Rattle.tw_diskcmd.specs.Disks.{found_disk}
 use Rattle.tw_diskcmd.specs.Faults.{fault_of_service}
-use Rattle.tw_diskcmd.proofs.AtRest.{answered_steps, refused_steps}
+use Rattle.tw_diskcmd.proofs.AtRest.{answered_steps, refused_steps, refused_unwritten}
 use Rattle.tw_diskcmd.proofs.Steps.{step_done, step_refused}
 use Rattle.tw_diskcmd.proofs.appending.append_to.Goals as goal
 
@@ -44,59 +35,23 @@ returns-in-Err-clause-comes g c = λ found before opens serves le.
 
 pub returns-in-Ok-clause-leaves : goal.returns-in-Ok-clause-leaves
 returns-in-Ok-clause-leaves g c = λ h served.
-    let d = g.D.Disk in
-    let call = Append c.args.events.now c.args.time in
-    subst (λ disk. AddsFrom IsImageOfHistory d.view (disk_of c.args.service) disk (NextBy call)
-    (λ thread. StepsBy call (OfThread thread)) h (Ok c.in-Ok.thread)) (sym c.close.ensures.disk)
-    (answered_steps d.view g.met.D.Disk.only_now call (λ (thread : Thread). OfThread thread) c.args.service
-    c.add.new.service h c.in-Ok.thread (c.in-Ok.ensures.steps h served))
+    answered_steps g.met.D.Disk.only_now (c.in-Ok.ensures.steps h served) c.close.ensures.disk
 
 pub returns-in-Err-clause-leaves : goal.returns-in-Err-clause-leaves
 returns-in-Err-clause-leaves g c = λ h served.
-    let d = g.D.Disk in
-    let call = Append c.args.events.now c.args.time in
-    subst (λ disk. AddsFrom IsImageOfHistory d.view (disk_of c.args.service) disk (NextBy call)
-    (λ thread. StepsBy call (OfThread thread)) h (Err c.fault_of_service.result)) (sym c.close-in-Err.ensures.disk)
-    (refused_steps d.view g.met.D.Disk.only_now call (λ (thread : Thread). OfThread thread) c.args.service
-    c.add.new.service h c.in-Err.refusal c.fault_of_service.result c.fault_of_service.ensures
-    (c.in-Err.ensures.steps h served))
+    refused_steps g.met.D.Disk.only_now c.fault_of_service.ensures (c.in-Err.ensures.steps h served)
+    c.close-in-Err.ensures.disk
 
 pub returns-in-Err-clause-unwritten : goal.returns-in-Err-clause-unwritten
-returns-in-Err-clause-unwritten g c = λ nothing.
-    let d = g.D.Disk in
-    let old = c.args.service in
-    let new = c.add.new.service in
-    subst (λ disk. IsLeft d.view (disk_of old) disk) (sym c.close-in-Err.ensures.disk)
-    (nothing_written Thread service.DiskFault fault_of_service refl c.in-Err.refusal c.fault_of_service.result
-    c.fault_of_service.ensures (IsLeft d.view (disk_of old) (disk_of new))
-    (⊎_elim (λ is. inl is) (λ same. inr (same_left d.view g.met.D.Disk.only_now old.recorded.kept.store
-    new.recorded.kept.store same)) c.in-Err.ensures.unwritten) nothing)
+returns-in-Err-clause-unwritten g c =
+    refused_unwritten Thread g.D.Disk.view g.met.D.Disk.only_now c.args.service c.add.new.service c.close-in-Err.result
+    c.in-Err.refusal c.fault_of_service.result c.fault_of_service.ensures c.in-Err.ensures.unwritten
+    c.close-in-Err.ensures.disk
 
 pub returns-in-Ok-clause-writes : goal.returns-in-Ok-clause-writes
-returns-in-Ok-clause-writes g c = λ ps over.
-    let d = g.D.Disk in
-    let old = c.args.service in
-    let new = c.add.new.service in
-    let events = c.args.events.now in
-    subst (λ disk. AddsFrom IsService d.view (disk_of old) disk (StaysOr (AppendsTo sha256 events c.args.time))
-    (IsThreadOfNext sha256 events c.args.time) (written_record (record_of old) ps) (Ok c.in-Ok.thread))
-    (sym c.close.ensures.disk)
-    (answered_commits d.view root_kind service.DiskFault (AppendsTo sha256 events c.args.time)
-    (IsThreadOfNext sha256 events c.args.time) old.recorded.kept.store new.recorded.kept.store (record_of old)
-    (record_of new) ps
-    c.in-Ok.thread (c.in-Ok.ensures.written ps over))
+returns-in-Ok-clause-writes g c = λ ps over. answered_commits (c.in-Ok.ensures.written ps over) c.close.ensures.disk
 
 pub returns-in-Err-clause-writes : goal.returns-in-Err-clause-writes
 returns-in-Err-clause-writes g c = λ ps over.
-    let d = g.D.Disk in
-    let old = c.args.service in
-    let new = c.add.new.service in
-    let events = c.args.events.now in
-    subst (λ disk. AddsFrom IsService d.view (disk_of old) disk (StaysOr (AppendsTo sha256 events c.args.time))
-    (IsThreadOfNext sha256 events c.args.time) (written_record (record_of old) ps) (Err c.fault_of_service.result))
-    (sym c.close-in-Err.ensures.disk)
-    (refused_commits d.view root_kind service.DiskFault (AppendsTo sha256 events c.args.time)
-    (IsThreadOfNext sha256 events c.args.time) old.recorded.kept.store new.recorded.kept.store (record_of old)
-    (record_of new) ps
-    fault_of_service refl c.in-Err.refusal c.fault_of_service.result c.fault_of_service.ensures
-    (c.in-Err.ensures.written ps over))
+    refused_commits fault_of_service refl c.fault_of_service.ensures (c.in-Err.ensures.written ps over)
+    c.close-in-Err.ensures.disk

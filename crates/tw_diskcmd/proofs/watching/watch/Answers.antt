@@ -1,15 +1,11 @@
-use Rattle.std.proofs.Common.{◌≡◌, ◌∙◌, sym, subst}
-use Rattle.std.specs.Prelude.{Some}
-use Rattle.tw_disk.specs.Disk.{LeavesOnly}
-use Rattle.tw_disk.specs.Image.{Image}
+use Rattle.std.proofs.Common.{◌∙◌}
+use Rattle.tw_follow.specs.Follows.{disk_of}
 use Rattle.tw_follow.specs.HeadLists.{first_thread, no_heads}
 use Rattle.sha2.specs.Sha256.{sha256}
 use Rattle.tw_base.specs.declared.history.thread.Thread.{Thread}
 use Rattle.tw_follow.specs.Stands.{root_kind}
-use Rattle.tw_pages.specs.Disks.{IsOldOrBegun, MayBegin}
-use Rattle.tw_pages.proofs.AtRest.{own_rest, rests_begun}
-use Rattle.tw_diskcmd.proofs.StoreAtRest.{free_keeps, held_keeps}
-use Rattle.tw_diskcmd.proofs.Landings.{unmade, unmade_leaves}
+use Rattle.tw_pages.proofs.AtRest.{own_rest}
+use Rattle.tw_diskcmd.proofs.Landings.{made_leaves, unmade, unmade_leaves}
 use Rattle.tw_diskcmd.specs.FollowerDisks.{IsImageOfHeads, found_disk}
 use Rattle.tw_diskcmd.proofs.FollowerAtRest.{stands_taken}
 use Rattle.tw_diskcmd.proofs.watching.watch.Goals as goal
@@ -20,27 +16,11 @@ returns-in-Ok-clause-comes g c =
 
 pub returns-in-Ok-clause-leaves : goal.returns-in-Ok-clause-leaves
 returns-in-Ok-clause-leaves g c =
-    let d = g.D.Disk in
-    let name = c.args.name in
-    let disk = c.args.disk in
-    let first = no_heads name in
-    let rests = λ (image : Image) (told_image : (d.view disk).content ≡ Some image).
-    own_rest IsImageOfHeads d.view c.close.result first (c.close.ensures.stands first (c.in-Ok.ensures.follows image told_image))
-    in
-    let begins : MayBegin IsImageOfHeads d.view first disk c.close.result = λ image told_image. (
-      subst (λ now. LeavesOnly (d.view disk) (d.view now) (IsOldOrBegun IsImageOfHeads d.view first disk))
-          (sym c.close.ensures.disk)
-          (c.in-Ok.ensures.any_moment image told_image),
-      rests_begun IsImageOfHeads d.view g.met.D.Disk.as_it_reads disk c.close.result first (rests image told_image),
-    ) in (
-      (begins, rests),
-      (
-        begins,
-        free_keeps (root_kind sha256) IsImageOfHeads d.view g.met.D.Disk.as_it_reads stands_taken disk c.close.result
-            c.in-Ok.ensures.exact,
-        λ image told_image taken. absurd (c.in-Ok.ensures.exact image told_image taken),
-      ),
-    )
+    let first = no_heads c.args.name in
+    made_leaves (root_kind sha256) IsImageOfHeads g.D.Disk.view c.args.disk c.close.result g.met.D.Disk.as_it_reads
+    stands_taken first (disk_of c.in-Ok.follower) c.close.ensures.disk
+    (λ image told. own_rest IsImageOfHeads g.D.Disk.view c.close.result first (c.close.ensures.stands first
+    (c.in-Ok.ensures.follows image told))) c.in-Ok.ensures.any_moment c.in-Ok.ensures.exact
 
 pub returns-in-Err-clause-comes : goal.returns-in-Err-clause-comes
 returns-in-Err-clause-comes g c =
@@ -52,12 +32,7 @@ returns-in-Err-clause-comes g c =
 
 pub returns-in-Err-clause-leaves : goal.returns-in-Err-clause-leaves
 returns-in-Err-clause-leaves g c =
-    let d = g.D.Disk in
-    unmade_leaves (root_kind sha256) IsImageOfHeads d.view c.args.disk c.in-Err.disk Thread (no_heads c.args.name) c.in-Err.fault
-    c.fault_of_store.result c.fault_of_store.ensures c.in-Err.ensures.answers c.in-Err.ensures.unchanged (
-      λ image told_image. (c.in-Err.ensures.any_moment_err image told_image, c.in-Err.ensures.told image told_image),
-      held_keeps (root_kind sha256) IsImageOfHeads d.view g.met.D.Disk.as_it_reads stands_taken c.args.disk c.in-Err.disk
-          c.in-Err.ensures.held,
-      λ image told_image taken. let held = c.in-Err.ensures.held image told_image taken in
-          (held.0 ∙ sym told_image, held.1),
-    )
+    unmade_leaves (root_kind sha256) IsImageOfHeads g.D.Disk.view c.args.disk c.in-Err.disk g.met.D.Disk.as_it_reads
+    stands_taken (no_heads c.args.name) Thread c.in-Err.fault c.fault_of_store.result c.fault_of_store.ensures
+    c.in-Err.ensures.answers c.in-Err.ensures.unchanged
+    (λ image told. (c.in-Err.ensures.any_moment_err image told, c.in-Err.ensures.told image told)) c.in-Err.ensures.held
