@@ -18,11 +18,11 @@ use Rattle.tw_filecmd.specs.Feeding.{IsFedFar, IsFedFront}
 use Rattle.tw_filecmd.proofs.ProofFronts.{front-size}
 
 -- the same of inputs that tell the same
-pub fed_told : (before after : Option Files) (file : List ℕ) (anchors : List Thread) (strict : Bool)
-    (old new : Verifier Sha) (at count : ℕ)
-    → before ≡ after → (IsFedFront before file anchors strict old at → IsFedFront before file anchors strict new count)
+pub fed_told : {before after : Option Files} {file : List ℕ} {anchors : List Thread} {strict : Bool}
+    {old new : Verifier Sha} {at count : ℕ} → before ≡ after
+    → (IsFedFront before file anchors strict old at → IsFedFront before file anchors strict new count)
     → IsFedFront after file anchors strict old at → IsFedFront after file anchors strict new count
-fed_told before after file anchors strict old new at count same feeds =
+fed_told {file = file} {anchors = anchors} {strict = strict} {old = old} {new = new} {at = at} {count = count} same feeds =
     subst (λ told. IsFedFront told file anchors strict old at → IsFedFront told file anchors strict new count) same
     feeds
 

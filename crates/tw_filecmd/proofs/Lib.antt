@@ -1,3 +1,4 @@
+pub mod SameNames
 pub mod AnchorFronts
 pub mod FormatFronts
 pub mod ProofFronts

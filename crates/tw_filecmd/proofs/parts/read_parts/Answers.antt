@@ -2,6 +2,7 @@ use Rattle.std.proofs.Common.{◌≡◌, ◌∙◌, ◌+◌, ◌∷◌, [], ◌+
 use Rattle.std.proofs.lemmas.Grind.{common_steps}
 use Rattle.std.proofs.lemmas.List.{take_more}
 use Rattle.tw_outside.specs.Files.{IsReadTo, IsThere}
+use Rattle.tw_filecmd.proofs.SameNames.{still_same}
 use Rattle.tw_filecmd.specs.Parts.{ArePartsRead}
 use Rattle.tw_filecmd.specs.declared.limits.TheConstants.{FILE_READ}
 use Rattle.tw_filecmd.proofs.parts.read_parts.Goals as goal
@@ -25,10 +26,7 @@ loop-file-preserved g c =
     (c.in_ok-add.ensures now (take c.loop-file.file-index c.args.files.now) there read are) in
     record {
       kept = c.in_ok-bytes.ensures.kept ∙ c.loop-file.invariant.kept;
-      same_names = λ other. (
-        λ may. (c.loop-file.invariant.same_names other).0 ((c.in_ok-bytes.ensures.same_names other).0 may),
-        λ may. (c.in_ok-bytes.ensures.same_names other).1 ((c.loop-file.invariant.same_names other).1 may),
-      );
+      same_names = still_same g.I.Inputs.may_ask c.loop-file.invariant.same_names c.in_ok-bytes.ensures.same_names;
       later = omega (arith, c.in_ok-bytes.ensures.later, c.loop-file.invariant.later);
       read =
           subst (λ t. ArePartsRead t (take c.loop-file.file-index c.args.files.now) c.loop-file.parts.proofs
