@@ -1,6 +1,6 @@
 -- Disks that stand for a history, and what a service's call makes of one.
 use Rattle.std.proofs.Common.{◌≡◌, ◌⊎◌, ℕ, List, refl, sym, subst, inl, inr, ⊎_elim}
-use Rattle.std.specs.Prelude.{Ok, Err}
+use Rattle.std.specs.Prelude.{Option, Some, Ok, Err}
 use Rattle.sha2.specs.Sha256.{sha256}
 use Rattle.tw_base.specs.history.History.{History}
 use Rattle.tw_disk.specs.Disk.{DiskView, IsAtRest, LeavesOnly}
@@ -24,7 +24,8 @@ use Rattle.tw_diskcmd.proofs.StoreAtRest.{opens_taken, same_left}
 use Rattle.tw_diskcmd.proofs.StoreAtRest.{left_keeps as keeps_both}
 use Rattle.tw_diskcmd.proofs.StoreSteps.{nothing_written, refused_adds}
 use Rattle.tw_text.specs.declared.fault.CommandFault.{CommandFault}
-use Rattle.tw_diskcmd.specs.Disks.{IsImageOfHistory, IsLeft, KeepsServiceDisk, NextBy, RestsAtHistory, StepsBy}
+use Rattle.tw_diskcmd.specs.Disks.{IsImageOfHistory, IsLeft, KeepsServiceDisk, NextBy, ReadsAsHistory}
+use Rattle.tw_diskcmd.specs.Disks.{RestsAtHistory, StepsBy}
 use Rattle.tw_diskcmd.specs.Faults.{fault_of_service}
 
 -- a history that an image stands for has its own name
@@ -35,6 +36,11 @@ own_names : (name : List ℕ) (h next : History) (image : Image) → StandsForOn
     → OneOf IsImageOfHistory h next image
 own_names name h next image each = ⊎_elim (λ is. inl (own_name name h image is))
     (λ is. inr (own_name name next image is)) each
+
+-- of the history that the content reads as, what is so of one that its image stands for
+pub served_as : {content : Option Image} (Serves : History → Type 0) → ((image : Image) (name : List ℕ) (h : History)
+    → content ≡ Some image → StandsFor sha256 image name h → Serves h) → (h : History) → ReadsAsHistory content h → Serves h
+served_as Serves served h reads = served reads.image h.name h reads.told reads.stands
 
 -- an image that stands for a history has a store
 pub stands_taken : (h : History) (image : Image) → IsImageOfHistory h image → IsTaken image

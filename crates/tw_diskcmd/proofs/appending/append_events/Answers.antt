@@ -12,6 +12,7 @@ use Rattle.tw_service.specs.Machine.Reply.{OfThread}
 use Rattle.tw_service.specs.Serves.{disk_of, record_of}
 use Rattle.tw_service.specs.Writing.{AppendsTo, IsThreadOfNext}
 use Rattle.tw_service.proofs.Standing.{once}
+use Rattle.tw_diskcmd.proofs.AtRest.{served_as}
 use Rattle.tw_diskcmd.specs.Leaves.{StaysOr}
 use Rattle.tw_diskcmd.specs.Steps.{AddsFrom}
 use Rattle.tw_diskcmd.proofs.StoreSteps.{adds_on, unopened_adds}
@@ -22,18 +23,14 @@ use Rattle.tw_diskcmd.proofs.appending.append_events.Goals as goal
 
 pub returns-in-Ok-clause-comes : goal.returns-in-Ok-clause-comes
 returns-in-Ok-clause-comes g c =
-    c.append_to.ensures.comes (g.D.Disk.view c.args.disk).content (g.D.Disk.view c.args.disk).faults
-    c.in-Ok.ensures.opened (λ h reads. c.in-Ok.ensures.served reads.image h.name h reads.told reads.stands)
-    c.in-Ok.ensures.later
+    c.append_to.ensures.comes _ _ c.in-Ok.ensures.opened (served_as _ c.in-Ok.ensures.served) c.in-Ok.ensures.later
 
 pub returns-in-Ok-clause-leaves : goal.returns-in-Ok-clause-leaves
 returns-in-Ok-clause-leaves g c =
-    let d = g.D.Disk in
     let call = Append c.args.events.now c.args.time in
-    adds_on IsImageOfHistory d.view (NextBy call) (λ (thread : Thread). StepsBy call (OfThread thread)) c.args.disk
+    adds_on IsImageOfHistory g.D.Disk.view (NextBy call) (λ (thread : Thread). StepsBy call (OfThread thread)) c.args.disk
     (disk_of c.in-Ok.service) c.append_to.result.disk c.append_to.result.outcome
-    c.in-Ok.ensures.any_moment (λ h reads. c.append_to.ensures.leaves h (c.in-Ok.ensures.served reads.image h.name h
-    reads.told reads.stands))
+    c.in-Ok.ensures.any_moment (λ h reads. c.append_to.ensures.leaves h (served_as _ c.in-Ok.ensures.served h reads))
 
 pub returns-in-Err-clause-comes : goal.returns-in-Err-clause-comes
 returns-in-Err-clause-comes g c =

@@ -7,6 +7,7 @@ use Rattle.tw_answers.specs.Roots.{root_kind}
 use Rattle.tw_service.proofs.Standing.{once}
 use Rattle.tw_service.specs.Questions.{Besides}
 use Rattle.tw_service.specs.Serves.{disk_of, record_of}
+use Rattle.tw_diskcmd.proofs.AtRest.{served_as}
 use Rattle.tw_diskcmd.specs.Answers.{MachineAnswers, TableAnswersOr}
 use Rattle.tw_diskcmd.specs.Asking.{AnswersBy, AskComes, asked_bytes, asked_call, asked_table}
 use Rattle.tw_pages.proofs.AtRest.{left_on}
@@ -17,9 +18,7 @@ use Rattle.tw_diskcmd.proofs.asking.ask.Goals as goal
 
 pub returns-in-Ok-clause-comes : goal.returns-in-Ok-clause-comes
 returns-in-Ok-clause-comes g c =
-    c.ask_by.ensures.comes (g.D.Disk.view c.args.disk).content (g.D.Disk.view c.args.disk).faults
-    c.in-Ok.ensures.opened (λ h reads. c.in-Ok.ensures.served reads.image h.name h reads.told reads.stands)
-    c.in-Ok.ensures.later
+    c.ask_by.ensures.comes _ _ c.in-Ok.ensures.opened (served_as _ c.in-Ok.ensures.served) c.in-Ok.ensures.later
 
 pub returns-in-Ok-clause-leaves : goal.returns-in-Ok-clause-leaves
 returns-in-Ok-clause-leaves g c =
@@ -28,7 +27,7 @@ returns-in-Ok-clause-leaves g c =
     leaves_of_reading root_kind IsImageOfHistory d.view c.args.disk c.ask_by.result.disk c.ask_by.result.outcome
     (left_on d.view c.args.disk mid c.ask_by.result.disk (c.in-Ok.ensures.unchanged, c.in-Ok.ensures.any_moment)
     c.ask_by.ensures.leaves) (
-      λ h reads. c.ask_by.ensures.rests h (c.in-Ok.ensures.served reads.image h.name h reads.told reads.stands),
+      λ h reads. c.ask_by.ensures.rests h (served_as _ c.in-Ok.ensures.served h reads),
       λ w reads.
           let s = c.in-Ok.service in
           let own = c.in-Ok.ensures.over reads.image reads.told in

@@ -11,6 +11,7 @@ use Rattle.tw_service.specs.Machine.Reply.{OfReceipt}
 use Rattle.tw_service.specs.Serves.{disk_of, record_of}
 use Rattle.tw_service.specs.Writing.{ArchivesTo, IsReceiptOfRecord}
 use Rattle.tw_service.proofs.Standing.{once}
+use Rattle.tw_diskcmd.proofs.AtRest.{served_as}
 use Rattle.tw_diskcmd.specs.Leaves.{StaysOr}
 use Rattle.tw_diskcmd.specs.Steps.{AddsFrom}
 use Rattle.tw_diskcmd.proofs.StoreSteps.{adds_on, unopened_adds}
@@ -21,18 +22,14 @@ use Rattle.tw_diskcmd.proofs.receiving.receive_message.Goals as goal
 
 pub returns-in-Ok-clause-comes : goal.returns-in-Ok-clause-comes
 returns-in-Ok-clause-comes g c =
-    c.receive_by.ensures.comes (g.D.Disk.view c.args.disk).content (g.D.Disk.view c.args.disk).faults
-    c.in-Ok.ensures.opened (λ h reads. c.in-Ok.ensures.served reads.image h.name h reads.told reads.stands)
-    c.in-Ok.ensures.later
+    c.receive_by.ensures.comes _ _ c.in-Ok.ensures.opened (served_as _ c.in-Ok.ensures.served) c.in-Ok.ensures.later
 
 pub returns-in-Ok-clause-leaves : goal.returns-in-Ok-clause-leaves
 returns-in-Ok-clause-leaves g c =
-    let d = g.D.Disk in
     let call = Receive c.args.message.now c.args.time in
-    adds_on IsImageOfHistory d.view (NextBy call) (λ (receipt : Receipt). StepsBy call (OfReceipt receipt)) c.args.disk
+    adds_on IsImageOfHistory g.D.Disk.view (NextBy call) (λ (receipt : Receipt). StepsBy call (OfReceipt receipt)) c.args.disk
     (disk_of c.in-Ok.service) c.receive_by.result.disk c.receive_by.result.outcome
-    c.in-Ok.ensures.any_moment (λ h reads. c.receive_by.ensures.leaves h (c.in-Ok.ensures.served reads.image h.name h
-    reads.told reads.stands))
+    c.in-Ok.ensures.any_moment (λ h reads. c.receive_by.ensures.leaves h (served_as _ c.in-Ok.ensures.served h reads))
 
 pub returns-in-Err-clause-comes : goal.returns-in-Err-clause-comes
 returns-in-Err-clause-comes g c =
