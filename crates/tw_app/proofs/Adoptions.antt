@@ -1,7 +1,7 @@
 -- What a run of `adopt` says by itself, and what it tells where the inputs tell the bytes of all its files and nothing
 -- hinders it.
-use Rattle.std.proofs.Common.{◌≡◌, ◌∙◌, ℕ, List, ◌∷◌, refl, ap, sym, subst, arith, inl, inr}
-use Rattle.std.specs.Prelude.{Option, Some, None, MatchOption, Result, Ok, Err}
+use Rattle.std.proofs.Common.{◌≡◌, ◌∙◌, ℕ, List, ◌∷◌, ap, sym, subst, arith, inl, inr}
+use Rattle.std.specs.Prelude.{Option, Some, Result, Ok, Err}
 use Rattle.sha2.specs.Sha256.{sha256}
 use Rattle.tw_base.specs.declared.history.thread.Thread.{Thread}
 use Rattle.tw_base.specs.history.History.{History}
@@ -9,7 +9,6 @@ use Rattle.tw_base.specs.history.HistoryCodec.{history_bytes, history_layout}
 use Rattle.tw_base.proofs.lemmas.format.FormatLaws.{one_value}
 use Rattle.tw_disk.specs.Disk.{DiskView}
 use Rattle.tw_outside.specs.Files.{Files}
-use Rattle.tw_outside.specs.TakenBytes.{Appends}
 use Rattle.tw_words.specs.CommandLine.{command_of}
 use Rattle.tw_words.specs.declared.command.Command.{Command}
 use Rattle.tw_words.specs.declared.command.Command.TheVariants.{Adopt}
@@ -23,86 +22,54 @@ use Rattle.tw_reachcmd.specs.declared.adopting.Taken.TheVariants.{File, Fault}
 use Rattle.tw_reachcmd.specs.Adopting.{AdoptComes, IsAdoptionTaken}
 use Rattle.tw_reachcmd.specs.AdoptTexts.{taken_status, taken_text}
 use Rattle.tw_app.specs.declared.outcome.Outcome.{Outcome}
+use Rattle.tw_app.specs.declared.outcome.Outcome.TheVariants.{Undone}
 use Rattle.tw_app.specs.Adoptions.{AsksAdoption, IsAdoptedRun, IsAdoptingRun, IsAdoptionOf, TakesOver}
-use Rattle.tw_app.specs.Around.{Around, Outside, Writes}
+use Rattle.tw_app.specs.Around.{Around, Writes}
 use Rattle.tw_app.specs.Outcomes.{of_taken, outcome_by, status_of, text_of}
-use Rattle.tw_app.specs.Running.{EndsAllowed, EndsWith, HaveNoForm, IsDiskUntouched, IsOutcomeOf, work}
+use Rattle.tw_app.specs.Running.{EndsAllowed, EndsWith, work}
 use Rattle.tw_app.specs.Statuses.{AreWordsOf}
+use Rattle.tw_app.proofs.AskedRuns.{asked_for, comes_by, told_as}
 use Rattle.tw_app.proofs.Commands.{fault_not_zero}
 use Rattle.tw_app.proofs.OneAdoption.{file_not_bad, file_not_broken}
 use Rattle.tw_app.proofs.ToldFiles.{good_not_bad, has_anchors_of}
 
 -- ---- status 0
 
--- taking over a history comes to its answer, or isn't done
-record Adopts {D : Type 0} (o : Outside D) (c : Command) (outcome : Outcome) : Type 0 where
-  history : List ℕ
-  anchors : List ℕ
-  proof : List ℕ
-  more : List (List ℕ)
-  is_command : c ≡ Adopt history anchors proof more
-  result : Result Taken CommandFault
-  comes : AdoptComes o.inputs history anchors (proof ∷ more) result
-  is_outcome : outcome ≡ outcome_by of_taken result
-
-adopts_by : {D : Type 0} (view : D → DiskView) (o : Outside D) (c : Command) (outcome : Outcome) → AsksAdoption c
-    → (work view o c).does outcome → Adopts o c outcome
-adopts_by view o (Adopt history anchors proof more) outcome is came = record {
-  history = history;
-  anchors = anchors;
-  proof = proof;
-  more = more;
-  is_command = refl;
-  result = came.0;
-  comes = came.1.0;
-  is_outcome = came.2;
-}
-adopts_by view o _ outcome is came = absurd is
-
 module _ {D : Type 0} (view : D → DiskView) (a : Around D) (status : ℕ) (run : EndsAllowed view a status)
     (zeroth : status ≡ 0) where
-  abbrev ended_as : Outcome
-  ended_as = run.0
-
-  -- the text is that of the outcome, whose status is 0
-  whole : (status_of ended_as ≡ 0) × Appends a.taken.before a.taken.after (text_of ended_as)
-  whole = by run.1.ends
-    where
-      by : EndsWith a.taken a.sink_faults status ended_as → (status_of ended_as ≡ 0) × Appends a.taken.before
-          a.taken.after (text_of ended_as)
-      by (inl ends) = (sym ends.0 ∙ zeroth, ends.1)
-      by (inr cut) = absurd (omega (arith, zeroth, cut.0))
-
-  of_result : (c : Command) → command_of a.words ≡ Some c → (ad : Adopts a.outside c ended_as)
-      (r : Result Taken CommandFault)
-      → AdoptComes a.outside.inputs ad.history ad.anchors (ad.proof ∷ ad.more) r → ended_as ≡ outcome_by of_taken r
-      → IsAdoptedRun a.outside.inputs.told a.words a.taken.before a.taken.after
-  of_result c is ad (Ok (File bytes)) comes came = record {
-    history = ad.history;
-    file = ad.anchors;
-    proof = ad.proof;
-    more = ad.more;
-    anchors = comes.0;
-    bytes = bytes;
-    is_command = is ∙ ap (λ (d : Command). Some d) ad.is_command;
-    has_anchors = comes.1;
-    there = comes.2;
-    taken_over = comes.3;
-    written = subst (λ (o : Outcome). Appends a.taken.before a.taken.after (text_of o)) came whole.1;
-  }
-  of_result c is ad (Ok (Fault fault)) comes came = absurd (omega (arith, sym (ap status_of came) ∙ whole.0))
-  of_result c is ad (Err f) comes came = absurd (fault_not_zero f (sym (ap status_of came) ∙ whole.0))
-
   pub adopted : AreWordsOf AsksAdoption a.words → IsAdoptedRun a.outside.inputs.told a.words a.taken.before
       a.taken.after
-  adopted asks = by (command_of a.words) refl run.1.has asks
+  adopted asks = asked_for view a status run AsksAdoption asks by
     where
-      by : (option : Option Command) → command_of a.words ≡ option → MatchOption option (HaveNoForm a.words ended_as
-          × IsDiskUntouched view a.outside) (λ c. (work view a.outside c).does ended_as)
-          → MatchOption option ⊥ AsksAdoption → IsAdoptedRun a.outside.inputs.told a.words a.taken.before a.taken.after
-      by None is has asks = absurd asks
-      by (Some c) is has asks = let ad = adopts_by view a.outside c ended_as asks has in of_result c is ad ad.result
-          ad.comes ad.is_outcome
+      whole : (o : Outcome) → run.0 ≡ o → (status ≡ status_of o) × Writes a (text_of o)
+      whole = told_as view a status run (λ cut. omega (arith, zeroth, cut.0))
+
+      of : (history anchors proof : List ℕ) (more : List (List ℕ))
+          → command_of a.words ≡ Some (Adopt history anchors proof more) → (r : Result Taken CommandFault)
+          → AdoptComes a.outside.inputs history anchors (proof ∷ more) r → run.0 ≡ outcome_by of_taken r
+          → IsAdoptedRun a.outside.inputs.told a.words a.taken.before a.taken.after
+      of history anchors proof more is (Ok (File bytes)) comes came = record {
+        history = history;
+        file = anchors;
+        proof = proof;
+        more = more;
+        anchors = comes.0;
+        bytes = bytes;
+        is_command = is;
+        has_anchors = comes.1;
+        there = comes.2;
+        taken_over = comes.3;
+        written = (whole (of_taken (File bytes)) came).1;
+      }
+      of history anchors proof more is (Ok (Fault fault)) comes came =
+          absurd (omega (arith, zeroth, (whole (of_taken (Fault fault)) came).0))
+      of history anchors proof more is (Err f) comes came =
+          absurd (fault_not_zero f (sym (whole (Undone f) came).0 ∙ zeroth))
+
+      by : (c : Command) → command_of a.words ≡ Some c → AsksAdoption c → (work view a.outside c).does run.0
+          → IsAdoptedRun a.outside.inputs.told a.words a.taken.before a.taken.after
+      by (Adopt history anchors proof more) is asks came = of history anchors proof more is came.0 came.1.0 came.2
+      by _ is asks came = absurd asks
 
 -- ---- which answer comes
 
@@ -166,17 +133,8 @@ module _ {D : Type 0} (view : D → DiskView) (a : Around D) (status : ℕ) (h :
   by_result (Err (command.Unreadable (Unsound named step rule))) comes outcome came (inl ends) =
       absurd (file_not_broken is.file_bytes h step rule is.is_file (comes.2 is.file_bytes is.history_told))
 
-  abbrev HasAt : Outcome → Option Command → Type 0
-  HasAt outcome option = MatchOption option (HaveNoForm a.words outcome × IsDiskUntouched view a.outside)
-      (λ c. (work view a.outside c).does outcome)
-
-  abbrev Came : Outcome → Type 0
-  Came outcome =
-      IsOutcomeOf of_taken (λ (r : Result Taken CommandFault). AdoptComes a.outside.inputs is.history_file
-      is.anchors_file files r × IsDiskUntouched view a.outside) outcome
-
-  by_outcome : (outcome : Outcome) → Came outcome → EndsWith a.taken a.sink_faults status outcome → Ending
-  by_outcome outcome came ends = by_result came.0 came.1.0 outcome came.2 ends
-
   pub adopts : EndsAllowed view a status → Ending
-  adopts run = by_outcome run.0 (subst (HasAt run.0) is.is_command run.1.has) run.1.ends
+  adopts run =
+      let came = comes_by view a status run (Adopt is.history_file is.anchors_file is.proof_file is.more_files)
+      is.is_command in
+      by_result came.0 came.1.0 run.0 came.2 run.1.ends

@@ -1,6 +1,6 @@
 -- What an audit tells, where the inputs tell the bytes of all its files and nothing hinders it.
 use Rattle.std.proofs.Common.{◌≡◌, ◌∙◌, ℕ, List, [], ◌∷◌, ap, sym, subst, inl, inr}
-use Rattle.std.specs.Prelude.{false, Option, MatchOption, Result, Ok, Err}
+use Rattle.std.specs.Prelude.{false, Option, Result, Ok, Err}
 use Rattle.sha2.specs.Sha256.{sha256}
 use Rattle.tw_base.specs.declared.history.report.Reason.{Reason}
 use Rattle.tw_base.specs.declared.history.report.Report.{Report}
@@ -12,7 +12,7 @@ use Rattle.tw_base.specs.kinds.Clash.{Clash as Clashing}
 use Rattle.tw_base.proofs.lemmas.kinds.ListLemmas.{Each-parts}
 use Rattle.tw_disk.specs.Disk.{DiskView}
 use Rattle.tw_outside.specs.Files.{Files, TellsBytes}
-use Rattle.tw_words.specs.declared.command.Command.{Command}
+use Rattle.tw_words.specs.declared.command.Command.TheVariants.{Audit}
 use Rattle.tw_text.specs.Reports.{rejected_text, stands_text}
 use Rattle.tw_text.specs.declared.fault.CommandFault.{CommandFault}
 use Rattle.tw_text.specs.declared.fault.CommandFault.TheVariants.{DiskFault, InputFault, NoMemory, Refused, Unreadable}
@@ -33,7 +33,8 @@ use Rattle.tw_app.specs.declared.outcome.Outcome.{Outcome}
 use Rattle.tw_app.specs.Around.{Around, Writes}
 use Rattle.tw_app.specs.Audits.{EndsIn, FindsOf, IsAuditOf, IsFoundRun}
 use Rattle.tw_app.specs.Outcomes.{of_audited, outcome_by, status_of, text_of}
-use Rattle.tw_app.specs.Running.{EndsAllowed, EndsWith, HaveNoForm, IsDiskUntouched, IsOutcomeOf, work}
+use Rattle.tw_app.specs.Running.{EndsAllowed, EndsWith}
+use Rattle.tw_app.proofs.AskedRuns.{comes_by}
 use Rattle.tw_app.proofs.OneFamily.{histories_not_bad, histories_once}
 use Rattle.tw_app.proofs.ToldFiles.{good_not_bad, has_anchors_of}
 
@@ -141,18 +142,7 @@ module _ {D : Type 0} (view : D → DiskView) (a : Around D) (status : ℕ) (byt
       absurd (histories_not_bad MOST_HISTORY_BYTES [] is.history_files is.history_bytes family (Unsound named step rule)
       is.are_histories (comes.2.1.is_bad is.history_bytes is.histories_told))
 
-  abbrev HasAt : Outcome → Option Command → Type 0
-  HasAt outcome option = MatchOption option (HaveNoForm a.words outcome × IsDiskUntouched view a.outside)
-      (λ c. (work view a.outside c).does outcome)
-
-  abbrev Came : Outcome → Type 0
-  Came outcome =
-      IsOutcomeOf of_audited
-      (λ (r : Result Audited CommandFault). AuditComes a.outside.inputs is.proof_file is.anchors_file is.history_files r
-      × IsDiskUntouched view a.outside) outcome
-
-  by_outcome : (outcome : Outcome) → Came outcome → EndsWith a.taken a.sink_faults status outcome → Ending
-  by_outcome outcome came ends = by_result came.0 came.1.0 outcome came.2 ends
-
   pub finds : EndsAllowed view a status → Ending
-  finds run = by_outcome run.0 (subst (HasAt run.0) is.is_command run.1.has) run.1.ends
+  finds run =
+      let came = comes_by view a status run (Audit is.proof_file is.anchors_file is.history_files) is.is_command in
+      by_result came.0 came.1.0 run.0 came.2 run.1.ends

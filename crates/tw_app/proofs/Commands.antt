@@ -342,41 +342,43 @@ module _ {D : Type 0} (view : D → DiskView)
       })
       written_of_disk (asking_is_safe view o.disk.before o.disk.after)
 
+  -- one that writes bytes
+  written_row : (c : Command) (Comes : Result (List ℕ) CommandFault → Type 0)
+      → HasCauses IsImageOfHistory o.inputs (found_around view o) (NamesFile c) ⊥ Comes
+      → Row c (over_files view o Written Comes)
+  written_row c Comes causes =
+      files_row c Written written_tells Comes causes (λ x v is comes. absurd (written_of_disk.unjudged x v is))
+      (λ x place is comes. absurd (written_of_disk.unjoined x (Unfit place) is))
+
   show_row : (history : List ℕ) (step index : ℕ) → Row (Show history step index) (work view o (Show history step index))
   show_row history step index =
-      files_row (Show history step index) Written written_tells (ShowComes o.inputs history step index)
+      written_row (Show history step index) (ShowComes o.inputs history step index)
       (record {
         input = λ rose. (tt, rose);
         disk = λ came. absurd came;
         serves = λ h reads why came. came;
         memory = tt;
       })
-      (λ x v is comes. absurd (written_of_disk.unjudged x v is))
-      (λ x place is comes. absurd (written_of_disk.unjoined x (Unfit place) is))
 
   replay_row : (file : List ℕ) → Row (Replay file) (work view o (Replay file))
   replay_row file =
-      files_row (Replay file) Written written_tells (ReplayComes o.inputs file)
+      written_row (Replay file) (ReplayComes o.inputs file)
       (record {
         input = λ rose. (tt, rose);
         disk = λ came. absurd came;
         serves = λ h reads why came. came;
         memory = tt;
       })
-      (λ x v is comes. absurd (written_of_disk.unjudged x v is))
-      (λ x place is comes. absurd (written_of_disk.unjoined x (Unfit place) is))
 
   generate_row : (number rounds : ℕ) → Row (Generate number rounds) (work view o (Generate number rounds))
   generate_row number rounds =
-      files_row (Generate number rounds) Written written_tells (GenerateComes number rounds)
+      written_row (Generate number rounds) (GenerateComes number rounds)
       (record {
         input = λ came. absurd came;
         disk = λ came. absurd came;
         serves = λ h reads why came. came;
         memory = tt;
       })
-      (λ x v is comes. absurd (written_of_disk.unjudged x v is))
-      (λ x place is comes. absurd (written_of_disk.unjoined x (Unfit place) is))
 
   join_row : (files : List (List ℕ)) → Row (Join files) (work view o (Join files))
   join_row files =

@@ -51,6 +51,7 @@ use Rattle.tw_app.specs.Running.{EndsAllowed, EndsWith, HasOutcome, HaveNoForm, 
 use Rattle.tw_app.specs.Statuses.{AreWordsOf, DiskFailed, IsAcceptedRun, IsAnsweredRun, IsDiskFaultRun, IsDoneRun}
 use Rattle.tw_app.specs.Statuses.{IsGapRun, IsIdle, IsInputFaultRun, IsRejectedRun, IsStatus, IsUndoneRun, IsUsageRun}
 use Rattle.tw_app.specs.Statuses.{IsVerify, IsWork}
+use Rattle.tw_app.proofs.AskedRuns.{asked_for, told_as}
 use Rattle.tw_app.proofs.Words.{no_text_outcome}
 use Rattle.tw_app.proofs.Commands.{Judges, LeavesGap, Row, fault_not_zero, of_option, of_words, rows, same_left}
 use Rattle.tw_app.proofs.Commands.{serves_list, verdict_or_fault}
@@ -159,11 +160,11 @@ module _ {D : Type 0} (view : D → DiskView)
     abbrev Told : Outcome → Type 0
     Told o = (status ≡ status_of o) × Writes a (text_of o)
 
-    told : (status ≡ 4 → ⊥) → Told outcome
-    told other = ⊎_elim (λ ends. ends) (λ ends. absurd (other ends.0)) run.1.ends
-
     told_of : (o : Outcome) → outcome ≡ o → (status ≡ 4 → ⊥) → Told o
-    told_of o is other = subst Told is (told other)
+    told_of o is other = told_as view a status run (λ cut. other cut.0) o is
+
+    told : (status ≡ 4 → ⊥) → Told outcome
+    told = told_of outcome refl
 
     -- ---- what is left of the disk
 
@@ -229,7 +230,8 @@ module _ {D : Type 0} (view : D → DiskView)
 
     pub accepted : status ≡ 0 → AreWordsOf IsVerify a.words → IsAcceptedRun a.outside.inputs.told a.words a.taken.before
         a.taken.after
-    accepted zeroth asks = by (command_of a.words) refl run.1.has asks
+    accepted zeroth asks = asked_for view a status run IsVerify asks
+        (λ c is verify does. of c is does (verdict_or_fault view a.outside c outcome verify does))
       where
         of : (c : Command) → command_of a.words ≡ Some c → Does c outcome → ((v : Verdict) × (outcome ≡ Judged v))
             ⊎ ((f : CommandFault) × (outcome ≡ Undone f))
@@ -241,12 +243,6 @@ module _ {D : Type 0} (view : D → DiskView)
         of c is does (inr fault) =
             absurd (fault_not_zero fault.0 (sym (told_of (Undone fault.0) fault.1 (zero_not_four status zeroth)).0
             ∙ zeroth))
-
-        by : (option : Option Command) → command_of a.words ≡ option → MatchOption option (HaveNoForm a.words outcome
-            × IsDiskUntouched view a.outside) (λ c. Does c outcome) → MatchOption option ⊥ IsVerify
-            → IsAcceptedRun a.outside.inputs.told a.words a.taken.before a.taken.after
-        by None is has asks = absurd asks
-        by (Some c) is has asks = of c is has (verdict_or_fault view a.outside c outcome asks has)
 
     -- ---- the other statuses
 

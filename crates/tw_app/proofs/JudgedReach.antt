@@ -1,16 +1,14 @@
 -- Of runs that judge map files or evidence, where the inputs tell the bytes of all files.
-use Rattle.std.proofs.Common.{◌≡◌, ◌∙◌, ℕ, List, refl, ap, sym, subst, inl, inr}
-use Rattle.std.specs.Prelude.{Option, Some, MatchOption, Result, Ok, Err, map}
+use Rattle.std.proofs.Common.{◌≡◌, ◌∙◌, ℕ, List, refl, sym, subst, inl, inr}
+use Rattle.std.specs.Prelude.{Option, Result, Ok, Err, map}
 use Rattle.sha2.specs.Sha256.{sha256}
 use Rattle.tw_base.specs.declared.history.thread.Thread.{Thread}
-use Rattle.tw_base.specs.format.Formats.{Format, IsPlace, Spells, SpellsNothing}
+use Rattle.tw_base.specs.format.Formats.{Format, IsPlace, SpellsNothing}
 use Rattle.tw_base.specs.kinds.Faults.{Rose}
 use Rattle.tw_disk.specs.Disk.{DiskView}
 use Rattle.tw_outside.specs.Asked.{Asked}
 use Rattle.tw_outside.specs.Files.{Files, TellsBytes}
-use Rattle.tw_words.specs.declared.command.Command.{Command}
 use Rattle.tw_words.specs.declared.command.Command.TheVariants.{CheckMap, CheckFork}
-use Rattle.tw_words.specs.CommandLine.{command_of}
 use Rattle.tw_text.specs.declared.fault.CommandFault.{CommandFault}
 use Rattle.tw_text.specs.declared.fault.CommandFault.TheVariants.{InputFault, DiskFault, NoMemory, Refused, Unserved}
 use Rattle.tw_text.specs.declared.fault.CommandFault.TheVariants.{Unreadable, Taken, NotFollowed}
@@ -26,37 +24,24 @@ use Rattle.tw_tmap.specs.declared.map_verdict.MapVerdict.TheVariants.{Yes, No, G
 use Rattle.tw_tmap.specs.Binding.{BindsMap}
 use Rattle.tw_tmap.specs.Checking.{map_verdict}
 use Rattle.tw_tmap.specs.MapFiles.{high_layout, low_layout}
-use Rattle.tw_msg.specs.AnchorsFile.{AllGood, IsFirstBadLine, anchor_on, lines}
-use Rattle.tw_filecmd.specs.Verifying.{HasAnchors}
+use Rattle.tw_msg.specs.AnchorsFile.{IsFirstBadLine, anchor_on, lines}
 use Rattle.tw_reachcmd.specs.CheckFork.{CheckForkComes}
-use Rattle.tw_reachcmd.specs.Held.{FileHolds, HoldsNone}
+use Rattle.tw_reachcmd.specs.Held.{HoldsNone}
 use Rattle.tw_reachcmd.specs.CheckMap.{CheckMapComes, HoldMaps}
 use Rattle.tw_judge.specs.Forks.{IsForkTold, fork_status}
-use Rattle.tw_judge.specs.Maps.{AreMaps, AreMapsTold, AreMapsUnjudged, ThreeFiles, map_status}
+use Rattle.tw_judge.specs.Maps.{AreMapBytesJudged, AreMaps, AreMapsTold, AreMapsUnjudged, ThreeFiles, map_status}
 use Rattle.tw_judge.specs.Told.{IsUnjudged}
-use Rattle.tw_app.specs.declared.outcome.Outcome.{Outcome}
 use Rattle.tw_app.specs.Around.{Around, Writes}
 use Rattle.tw_app.specs.Judging.{JudgesEvidence, JudgesMapFiles, NoneFailed}
 use Rattle.tw_app.specs.Outcomes.{of_fork, of_mapped, outcome_by, status_of, text_of}
-use Rattle.tw_app.specs.Running.{EndsAllowed, EndsWith, HasOutcome, HaveNoForm, IsDiskUntouched, IsOutcomeOf, work}
-use Rattle.tw_app.proofs.ToldFiles.{same, there}
+use Rattle.tw_app.specs.Running.{EndsAllowed, IsDiskUntouched}
+use Rattle.tw_app.proofs.ToldFiles.{anchors_of, bad_line_of, held_spells, holds_of, same, there}
+use Rattle.tw_app.proofs.ToldRuns.{ComesTo, comes_to, run_ends, run_told, tells}
 
 -- ---- the bytes of a told file
 
 module _ {X : Type 0} (layout : Format X) (told : Option Files) (file bytes : List ℕ)
     (tells : TellsBytes told file bytes) where
-  spelled-of : (x : X) → FileHolds layout told file x → Spells layout bytes x
-  spelled-of x holds = subst (λ (b : List ℕ). Spells layout b x) (sym (holds.same bytes tells)) holds.spelled
-
-  holds-of : (x : X) → Spells layout bytes x → FileHolds layout told file x
-  holds-of x spells =
-      record {
-        there = there told file bytes tells;
-        bytes = bytes;
-        spelled = spells;
-        same = λ others other. same told file others bytes other tells;
-      }
-
   holds_none-of : (place : ℕ) → SpellsNothing layout bytes × IsPlace layout bytes place → HoldsNone layout told file
       place
   holds_none-of place is = record {
@@ -64,24 +49,6 @@ module _ {X : Type 0} (layout : Format X) (told : Option Files) (file bytes : Li
     nothing = λ others other. subst (λ (b : List ℕ). SpellsNothing layout b × IsPlace layout b place)
         (same told file bytes others tells other) is;
   }
-
-module _ (told : Option Files) (file bytes : List ℕ) (tells : TellsBytes told file bytes) where
-  anchors-of : AllGood (lines bytes) → HasAnchors told file (map anchor_on (lines bytes))
-  anchors-of good = record {
-    there = there told file bytes tells;
-    good = λ others other. subst (λ b. AllGood (lines b)) (same told file bytes others tells other) good;
-    same = λ others other. ap (λ b. map anchor_on (lines b)) (same told file bytes others tells other);
-  }
-
--- ---- what comes of a result that is told
-
--- a result of which May holds, with this status and text
-record ComesTo {X : Type 0} (of : X → Outcome) (May : Result X CommandFault → Type 0) (status : ℕ)
-    (text : List ℕ) : Type 0 where
-  pub result : Result X CommandFault
-  pub comes : May result
-  pub status_is : status ≡ status_of (outcome_by of result)
-  pub text_is : text ≡ text_of (outcome_by of result)
 
 -- ---- map files
 
@@ -98,21 +65,21 @@ module _ (a : Asked) (bytes names : ThreeFiles) (low_told : TellsBytes a.told na
 
   maps-of : (l : LowFile) (h : HighFile) → HoldMaps a.told names.low names.high l h → AreMaps bytes l h
   maps-of l h hold = record {
-    low_spelled = spelled-of low_layout a.told names.low bytes.low low_told l hold.low_held;
-    high_spelled = spelled-of high_layout a.told names.high bytes.high high_told h hold.high_held;
+    low_spelled = held_spells low_layout a.told names.low bytes.low low_told l hold.low_held;
+    high_spelled = held_spells high_layout a.told names.high bytes.high high_told h hold.high_held;
   }
 
   hold-of : (l : LowFile) (h : HighFile) → AreMaps bytes l h → HoldMaps a.told names.low names.high l h
   hold-of l h are = record {
-    low_held = holds-of low_layout a.told names.low bytes.low low_told l are.low_spelled;
-    high_held = holds-of high_layout a.told names.high bytes.high high_told h are.high_spelled;
+    low_held = holds_of low_layout a.told names.low bytes.low low_told l are.low_spelled;
+    high_held = holds_of high_layout a.told names.high bytes.high high_told h are.high_spelled;
   }
 
   map-unjudged : (Rose a.before a.after → ⊥) → (f : CommandFault) → MapComes (Err f) → AreMapsUnjudged bytes names f
   map-unjudged none (Unreadable (BadByte named place)) (inl is) = inl (is.0, is.1.nothing bytes.low low_told)
   map-unjudged none (Unreadable (BadByte named place)) (inr is) =
       inr (inl (
-        (is.0.0, spelled-of low_layout a.told names.low bytes.low low_told is.0.0 is.0.1),
+        (is.0.0, held_spells low_layout a.told names.low bytes.low low_told is.0.0 is.0.1),
         (is.1.0, is.1.1.nothing bytes.high high_told),
       ))
   map-unjudged none (Unreadable (BadLine named number)) is =
@@ -122,25 +89,23 @@ module _ (a : Asked) (bytes names : ThreeFiles) (low_told : TellsBytes a.told na
   map-unjudged none NoMemory is = inl tt
   map-unjudged none _ is = absurd is
 
+  map-judged : (v : MapVerdict) → MapComes (Ok v) → AreMapBytesJudged bytes v
+  map-judged v (l, h, held, (hold, has, judged)) =
+      let under : held ≡ map anchor_on (lines bytes.anchors) = has.same bytes.anchors anchors_told in
+      record {
+        low = l;
+        high = h;
+        are = maps-of l h hold;
+        good = has.good bytes.anchors anchors_told;
+        is_verdict = subst (λ (ts : List Thread). v ≡ map_verdict sha256 ts l h) under judged.is_verdict;
+        binds = subst (λ (ts : List Thread). BindsMap sha256 ts l h v) under judged.binds;
+      }
+
   map-told : (Rose a.before a.after → ⊥) → (r : Result MapVerdict CommandFault) → MapComes r
       → AreMapsTold bytes names (status_of (outcome_by of_mapped r)) (text_of (outcome_by of_mapped r))
-  map-told none (Err f) comes =
-      inr (record { fault = f; unjudged = map-unjudged none f comes; status_is = refl; text_is = refl })
-  map-told none (Ok v) (l, h, held, (hold, has, judged)) =
-      let under : held ≡ map anchor_on (lines bytes.anchors) = has.same bytes.anchors anchors_told in
-      inl (record {
-        verdict = v;
-        judged = record {
-          low = l;
-          high = h;
-          are = maps-of l h hold;
-          good = has.good bytes.anchors anchors_told;
-          is_verdict = subst (λ (ts : List Thread). v ≡ map_verdict sha256 ts l h) under judged.is_verdict;
-          binds = subst (λ (ts : List Thread). BindsMap sha256 ts l h v) under judged.binds;
-        };
-        status_is = map_status_is v;
-        text_is = refl;
-      })
+  map-told none =
+      tells of_mapped MapComes (AreMapBytesJudged bytes) (AreMapsUnjudged bytes names) map_status_is (λ v. refl)
+      map-judged (map-unjudged none)
 
   map-fault : (f : CommandFault) → AreMapsUnjudged bytes names f → MapComes (Err f)
   map-fault (Unreadable (BadByte named place)) (inl is) =
@@ -152,7 +117,7 @@ module _ (a : Asked) (bytes names : ThreeFiles) (low_told : TellsBytes a.told na
       )
   map-fault (Unreadable (BadByte named place)) (inr (inl is)) =
       inr (
-        (is.0.0, holds-of low_layout a.told names.low bytes.low low_told is.0.0 is.0.1),
+        (is.0.0, holds_of low_layout a.told names.low bytes.low low_told is.0.0 is.0.1),
         (
           is.1.0,
           holds_none-of high_layout a.told names.high bytes.high high_told place is.1.1,
@@ -196,32 +161,23 @@ module _ (a : Asked) (bytes names : ThreeFiles) (low_told : TellsBytes a.told na
   map-fault (Unserved cause) (inr (inl is)) = absurd is.1
   map-fault (Unserved cause) (inr (inr is)) = absurd is.1
 
-  map-comes : (status : ℕ) (text : List ℕ) → AreMapsTold bytes names status text → ComesTo of_mapped MapComes status
-      text
-  map-comes status text (inl t) =
-      let j = t.judged in
-      record {
-        result = Ok t.verdict;
-        comes = (
-          j.low,
-          j.high,
-          map anchor_on (lines bytes.anchors),
-          (
-            hold-of j.low j.high j.are,
-            anchors-of a.told names.anchors bytes.anchors anchors_told j.good,
-            record { is_verdict = j.is_verdict; binds = j.binds },
-          ),
-        );
-        status_is = t.status_is ∙ sym (map_status_is t.verdict);
-        text_is = t.text_is;
-      }
-  map-comes status text (inr t) =
-      record {
-        result = Err t.fault;
-        comes = map-fault t.fault t.unjudged;
-        status_is = t.status_is;
-        text_is = t.text_is;
-      }
+  judged-maps : (v : MapVerdict) → AreMapBytesJudged bytes v → MapComes (Ok v)
+  judged-maps v j = (
+    j.low,
+    j.high,
+    map anchor_on (lines bytes.anchors),
+    (
+      hold-of j.low j.high j.are,
+      anchors_of a.told names.anchors bytes.anchors anchors_told j.good,
+      record { is_verdict = j.is_verdict; binds = j.binds },
+    ),
+  )
+
+  map-comes : (status : ℕ) (text : List ℕ) → AreMapsTold bytes names status text
+      → ComesTo of_mapped MapComes status text
+  map-comes =
+      comes_to of_mapped MapComes (AreMapBytesJudged bytes) (AreMapsUnjudged bytes names) map_status_is (λ v. refl)
+      judged-maps map-fault
 
 -- ---- evidence
 
@@ -264,12 +220,8 @@ module _ (a : Asked) (evidence_file file evidence anchors : List ℕ) (evidence_
   fork-fault : (f : CommandFault) → IsUnjudged file anchors f → ForkComes (Err f)
   fork-fault (Unreadable (BadLine named number)) is = (
     is.0,
-    record {
-      proof_there = there a.told evidence_file evidence evidence_told;
-      there = there a.told file anchors anchors_told;
-      bad = λ bytes tells. subst (λ b. IsFirstBadLine (lines b) number) (same a.told file anchors bytes anchors_told
-          tells) is.1;
-    },
+    bad_line_of a.told file anchors anchors_told evidence_file number
+        (there a.told evidence_file evidence evidence_told) is.1,
   )
   fork-fault NoMemory is = tt
   fork-fault _ is = absurd is
@@ -280,7 +232,7 @@ module _ (a : Asked) (evidence_file file evidence anchors : List ℕ) (evidence_
     result = Ok t.verdict;
     comes = (
       map anchor_on (lines anchors),
-      anchors-of a.told file anchors anchors_told good,
+      anchors_of a.told file anchors anchors_told good,
       record {
         there = there a.told evidence_file evidence evidence_told;
         is_verdict = λ bytes tells. subst (λ b. IsForkVerdict sha256 (map anchor_on (lines anchors)) b t.verdict)
@@ -302,58 +254,12 @@ module _ (a : Asked) (evidence_file file evidence anchors : List ℕ) (evidence_
 
 -- ---- runs
 
-module _ {D : Type 0} (view : D → DiskView) (a : Around D) {X : Type 0} (of : X → Outcome)
-    (Comes : Result X CommandFault → Type 0) (Told : ℕ → List ℕ → Type 0) where
-  abbrev Works : Outcome → Type 0
-  Works = IsOutcomeOf of (λ (r : Result X CommandFault). Comes r × IsDiskUntouched view a.outside)
-
-  abbrev HasAt : Outcome → Option Command → Type 0
-  HasAt outcome option = MatchOption option (HaveNoForm a.words outcome × IsDiskUntouched view a.outside)
-      (λ c. (work view a.outside c).does outcome)
-
-  module _ (command : Command) (is_command : command_of a.words ≡ Some command) where
-    run-told : ((o : Outcome) → (work view a.outside command).does o → Works o) → ((r : Result X CommandFault) → Comes r
-        → Told (status_of (outcome_by of r)) (text_of (outcome_by of r)))
-        → NoneFailed a → (status : ℕ) → EndsAllowed view a status → (text : List ℕ) × Told status text × Writes a text
-    run-told works told none status run = by run.0 run.1.has run.1.ends
-      where
-        ended : (outcome : Outcome) → EndsWith a.taken a.sink_faults status outcome → (status ≡ status_of outcome)
-            × Writes a (text_of outcome)
-        ended outcome (inl ends) = ends
-        ended outcome (inr cut) = absurd (none.sink cut.2)
-
-        of_comes : (outcome : Outcome) → Works outcome → (status ≡ status_of outcome) → Writes a (text_of outcome)
-            → (text : List ℕ) × Told status text × Writes a text
-        of_comes outcome comes is writes =
-            let here : Told (status_of outcome) (text_of outcome) =
-            subst (λ (o : Outcome). Told (status_of o) (text_of o)) (sym comes.2) (told comes.0 comes.1.0) in
-            (text_of outcome, subst (λ (s : ℕ). Told s (text_of outcome)) (sym is) here, writes)
-
-        by : (outcome : Outcome) → HasOutcome view a.outside a.words outcome → EndsWith a.taken a.sink_faults status
-            outcome
-            → (text : List ℕ) × Told status text × Writes a text
-        by outcome has ends =
-            let ending = ended outcome ends in
-            of_comes outcome (works outcome (subst (HasAt outcome) is_command has)) ending.0 ending.1
-
-    run-ends : ((o : Outcome) → Works o → (work view a.outside command).does o) → (status : ℕ) (text : List ℕ)
-        → ComesTo of Comes status text → IsDiskUntouched view a.outside
-        → Writes a text → EndsAllowed view a status
-    run-ends does status text to untouched writes = (
-      outcome_by of to.result,
-      record {
-        has = subst (HasAt (outcome_by of to.result)) (sym is_command)
-            (does (outcome_by of to.result) (to.result, (to.comes, untouched), refl));
-        ends = inl (to.status_is, subst (Writes a) to.text_is writes);
-      },
-    )
-
 module _ {D : Type 0} (view : D → DiskView) (a : Around D) where
   pub map_run-told : (bytes names : ThreeFiles) (status : ℕ) → JudgesMapFiles a bytes names → NoneFailed a
       → EndsAllowed view a status
       → (text : List ℕ) × AreMapsTold bytes names status text × Writes a text
   map_run-told bytes names status j none run =
-      run-told view a of_mapped (CheckMapComes a.outside.inputs names.low names.high names.anchors)
+      run_told view a of_mapped (CheckMapComes a.outside.inputs names.low names.high names.anchors)
       (AreMapsTold bytes names) (CheckMap names.low names.high names.anchors)
       j.is_command (λ o does. does) (map-told a.outside.inputs bytes names j.low_told j.high_told j.anchors_told
       none.inputs) none status run
@@ -362,7 +268,7 @@ module _ {D : Type 0} (view : D → DiskView) (a : Around D) where
       → IsDiskUntouched view a.outside
       → AreMapsTold bytes names status text → Writes a text → EndsAllowed view a status
   map_run-ends bytes names status text j untouched told writes =
-      run-ends view a of_mapped (CheckMapComes a.outside.inputs names.low names.high names.anchors)
+      run_ends view a of_mapped (CheckMapComes a.outside.inputs names.low names.high names.anchors)
       (AreMapsTold bytes names) (CheckMap names.low names.high names.anchors)
       j.is_command (λ o does. does) status text (map-comes a.outside.inputs bytes names j.low_told j.high_told
       j.anchors_told status text told) untouched writes
@@ -371,7 +277,7 @@ module _ {D : Type 0} (view : D → DiskView) (a : Around D) where
       → NoneFailed a → EndsAllowed view a status
       → (text : List ℕ) × IsForkTold file evidence anchors status text × Writes a text
   fork_run-told file evidence anchors status j none run =
-      run-told view a of_fork (CheckForkComes a.outside.inputs j.evidence_file file) (IsForkTold file evidence anchors)
+      run_told view a of_fork (CheckForkComes a.outside.inputs j.evidence_file file) (IsForkTold file evidence anchors)
       (CheckFork j.evidence_file file)
       j.is_command (λ o does. does) (fork-told a.outside.inputs j.evidence_file file evidence anchors j.evidence_told
       j.anchors_told none.inputs) none status run
@@ -380,7 +286,7 @@ module _ {D : Type 0} (view : D → DiskView) (a : Around D) where
       anchors → IsDiskUntouched view a.outside
       → IsForkTold file evidence anchors status text → Writes a text → EndsAllowed view a status
   fork_run-ends file evidence anchors status text j untouched told writes =
-      run-ends view a of_fork (CheckForkComes a.outside.inputs j.evidence_file file) (IsForkTold file evidence anchors)
+      run_ends view a of_fork (CheckForkComes a.outside.inputs j.evidence_file file) (IsForkTold file evidence anchors)
       (CheckFork j.evidence_file file)
       j.is_command (λ o does. does) status text (fork-comes a.outside.inputs j.evidence_file file evidence anchors
       j.evidence_told j.anchors_told status text told) untouched writes

@@ -1,8 +1,10 @@
 pub mod Commands
 pub mod Words
+mod AskedRuns
 pub mod Endings
 pub mod ToldFiles
 pub mod ToldMaps
+mod ToldRuns
 pub mod JudgedRuns
 pub mod JudgedReach
 pub mod PlayedFiles

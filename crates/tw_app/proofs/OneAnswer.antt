@@ -1,7 +1,7 @@
 -- Over files whose bytes are told, each command over files that reach beyond one proof comes to one answer; so two runs
 -- alike end alike.
 use Rattle.std.proofs.Common.{◌≡◌, ◌∙◌, ℕ, List, [], ◌∷◌, ap, sym, subst, inl, inr, refl, ◌⊎◌}
-use Rattle.std.specs.Prelude.{Option, MatchOption, Result, Ok, Err}
+use Rattle.std.specs.Prelude.{Option, Result, Ok, Err}
 use Rattle.tw_base.specs.declared.history.thread.Key.{Key}
 use Rattle.tw_base.specs.declared.history.thread.Thread.{Thread}
 use Rattle.tw_base.specs.declared.kinds.limits.TheConstants.{MOST_HISTORY_BYTES}
@@ -17,14 +17,10 @@ use Rattle.tw_words.specs.CommandLine.{command_of}
 use Rattle.tw_words.specs.declared.command.Command.{Command}
 use Rattle.tw_words.specs.declared.command.Command.TheVariants.{Accuse, Adopt, Atlas, Audit, CheckFork, CheckMap}
 use Rattle.tw_text.specs.declared.fault.CommandFault.{CommandFault}
-use Rattle.tw_text.specs.declared.fault.CommandFault.TheVariants as command
-use Rattle.tw_text.specs.declared.fault.CommandFault.TheVariants.{DiskFault, InputFault, NoMemory, Refused, NotFollowed}
-use Rattle.tw_text.specs.declared.fault.CommandFault.TheVariants.{Unreadable, Unserved}
+use Rattle.tw_text.specs.declared.fault.CommandFault.TheVariants.{InputFault, NoMemory}
+use Rattle.tw_text.specs.declared.fault.CommandFault.TheVariants.{Unreadable}
 use Rattle.tw_text.specs.declared.refusal.BadInput.{BadInput}
 use Rattle.tw_text.specs.declared.refusal.BadInput.TheVariants.{BadByte, BadLine, Unsound}
-use Rattle.tw_base.specs.declared.history.refusal.FollowRefusal.{FollowRefusal}
-use Rattle.tw_base.specs.declared.history.refusal.Refusal.{Refusal}
-use Rattle.tw_text.specs.declared.refusal.StoreCause.{StoreCause}
 use Rattle.tw_audit.specs.Auditing.{IsAudit}
 use Rattle.tw_atlas.specs.Earliest.{IsAtlasPlanned}
 use Rattle.tw_base.specs.declared.history.report.Hop.{Hop}
@@ -46,7 +42,8 @@ use Rattle.tw_app.specs.Around.{Around, Writes}
 use Rattle.tw_app.specs.Commands.{command_files}
 use Rattle.tw_app.specs.Outcomes.{of_accused, of_audited, of_fork, of_mapped, of_planned, of_taken, outcome_by}
 use Rattle.tw_app.specs.Outcomes.{status_of, text_of}
-use Rattle.tw_app.specs.Running.{EndsAllowed, EndsWith, HaveNoForm, IsDiskUntouched, IsHindered, IsOutcomeOf, work}
+use Rattle.tw_app.specs.Running.{EndsAllowed, EndsWith, IsDiskUntouched, IsHindered, IsOutcomeOf, work}
+use Rattle.tw_app.proofs.AskedRuns.{comes_by}
 use Rattle.tw_app.proofs.OneAdoption.{byte_not_broken, byte_once, file_not_bad, file_not_broken, rule_once, taken_once}
 use Rattle.tw_app.proofs.OneAtlas.{bad_receipts_once, hops_not_bad, hops_once, planned_once}
 use Rattle.tw_app.proofs.OneFamily.{bad_history_once, histories_not_bad, histories_once}
@@ -56,6 +53,13 @@ use Rattle.tw_app.proofs.OneReason.{audited_once, fork_once}
 use Rattle.tw_app.proofs.ToldFiles.{anchors_once, bad_line_once, good_not_bad, tell_all}
 
 -- ---- results of commands over files alone
+
+-- the inputs failed between these counts of faults, there was no memory, or a file isn't what is read
+abbrev IsFileFault : (before after : ℕ) → CommandFault → Type 0
+IsFileFault before after InputFault = Rose before after
+IsFileFault before after NoMemory = Unit {0}
+IsFileFault before after (Unreadable bad) = Unit {0}
+IsFileFault before after _ = ⊥
 
 module _ {X : Type 0} where
   -- a result that neither a failure nor want of memory may bring
@@ -70,14 +74,9 @@ module _ {X : Type 0} where
   abbrev unreadable : BadInput → Result X CommandFault
   unreadable bad = Err (Unreadable bad)
 
-  -- it comes of files alone, which were asked between these counts of faults
-  record IsOfFiles (before after : ℕ) (May : Result X CommandFault → Type 0) : Type 0 where
-    input : May (Err InputFault) → Rose before after
-    disk : May (Err DiskFault) → ⊥
-    taken : May (Err command.Taken) → ⊥
-    refused : (refusal : Refusal) → May (Err (Refused refusal)) → ⊥
-    not_followed : (refusal : FollowRefusal) → May (Err (NotFollowed refusal)) → ⊥
-    unserved : (cause : StoreCause) → May (Err (Unserved cause)) → ⊥
+  -- its faults are those of files alone, which were asked between these counts of faults
+  abbrev IsOfFiles : (before after : ℕ) → (May : Result X CommandFault → Type 0) → Type 0
+  IsOfFiles before after May = (f : CommandFault) → May (Err f) → IsFileFault before after f
 
   abbrev Seen : (May : Result X CommandFault → Type 0) → Result X CommandFault → Type 0
   Seen May r = ((x : X) × (r ≡ done x) × May (Ok x)) ⊎ ((bad : BadInput) × (r ≡ unreadable bad)
@@ -89,11 +88,7 @@ module _ {X : Type 0} where
   seen before after May files (Err (Unreadable bad)) settled may = inr (bad, refl, may)
   seen before after May files (Err InputFault) settled may = absurd settled
   seen before after May files (Err NoMemory) settled may = absurd settled
-  seen before after May files (Err DiskFault) settled may = absurd (files.disk may)
-  seen before after May files (Err command.Taken) settled may = absurd (files.taken may)
-  seen before after May files (Err (Refused refusal)) settled may = absurd (files.refused refusal may)
-  seen before after May files (Err (NotFollowed refusal)) settled may = absurd (files.not_followed refusal may)
-  seen before after May files (Err (Unserved cause)) settled may = absurd (files.unserved cause may)
+  seen before after May files (Err f) settled may = absurd (files f may)
 
   -- what may come of two runs is one thing
   record Agree (One Other : Result X CommandFault → Type 0) : Type 0 where
@@ -124,17 +119,14 @@ module _ (told : Option Files) where
         let names = both.0 in
         let places = both.1 in
         λ i. BadByte (names i) (places i))
-    accuse_bad (BadByte named p) (BadLine again number) a b = absurd b
-    accuse_bad (BadByte named p) (Unsound again step rule) a b = absurd b
-    accuse_bad (BadLine named number) other a b = absurd a
-    accuse_bad (Unsound named step rule) other a b = absurd a
+    accuse_bad (BadByte named p) _ a b = absurd b
+    accuse_bad _ other a b = absurd a
 
     accuse_apart : (x : Accused) (bad : BadInput) → AccuseComes (asked told m n) first second link (Ok x)
         → AccuseComes (asked told k l) first second link (Err (Unreadable bad)) → ⊥
     accuse_apart x (BadByte named place) a b =
         parts_not_bad told first second link (tells_parts told first second link tells) a.0 a.1 a.2 named place a.3.0 b
-    accuse_apart x (BadLine named number) a b = b
-    accuse_apart x (Unsound named step rule) a b = b
+    accuse_apart x _ a b = b
 
   module _ (first second : List ℕ) (link : Option (List ℕ))
       (tells : TellsEach told (command_files (Accuse first second link))) (m n k l : ℕ) where
@@ -163,16 +155,13 @@ module _ (told : Option Files) where
         let names = a.0 ∙ sym b.0 in
         let numbers = bad_line_once told anchors tells.1.0.0 tells.1.0.1 file p q a.1 b.1 in
         λ i. BadLine (names i) (numbers i))
-    fork_bad (BadLine named p) (BadByte again place) a b = absurd b
-    fork_bad (BadLine named p) (Unsound again step rule) a b = absurd b
-    fork_bad (BadByte named place) other a b = absurd a
-    fork_bad (Unsound named step rule) other a b = absurd a
+    fork_bad (BadLine named p) _ a b = absurd b
+    fork_bad _ other a b = absurd a
 
     fork_apart : (v : ForkVerdict) (bad : BadInput) → CheckForkComes (asked told m n) file anchors (Ok v)
         → CheckForkComes (asked told k l) file anchors (Err (Unreadable bad)) → ⊥
     fork_apart v (BadLine named number) a b = good_not_bad told anchors tells.1.0.0 tells.1.0.1 a.0 file number a.1 b.1
-    fork_apart v (BadByte named place) a b = b
-    fork_apart v (Unsound named step rule) a b = b
+    fork_apart v _ a b = b
 
   module _ (file anchors : List ℕ) (tells : TellsEach told (command_files (CheckFork file anchors))) (m n k l : ℕ) where
     fork_agree : Agree (CheckForkComes (asked told m n) file anchors) (CheckForkComes (asked told k l) file anchors)
@@ -211,18 +200,15 @@ module _ (told : Option Files) where
         let names = both.0 in
         let places = both.1 in
         λ i. BadByte (names i) (places i))
-    atlas_bad (BadByte named p) (BadLine again number) a b = absurd b
-    atlas_bad (BadByte named p) (Unsound again step rule) a b = absurd b
-    atlas_bad (BadLine named number) other a b = absurd a
-    atlas_bad (Unsound named step rule) other a b = absurd a
+    atlas_bad (BadByte named p) _ a b = absurd b
+    atlas_bad _ other a b = absurd a
 
     atlas_apart : (x : Planned) (bad : BadInput) → AtlasComes (asked told m n) start files (Ok x)
         → AtlasComes (asked told k l) start files (Err (Unreadable bad)) → ⊥
     atlas_apart x (BadByte named place) a b =
         let all = tell_all told files tells in
         hops_not_bad [] files all.0 a.1.0 named place (a.1.1.are all.0 all.1) (b.is_bad all.0 all.1)
-    atlas_apart x (BadLine named number) a b = b
-    atlas_apart x (Unsound named step rule) a b = b
+    atlas_apart x _ a b = b
 
   module _ (start : Key) (files : List (List ℕ)) (tells : TellsEach told files) (m n k l : ℕ) where
     atlas_agree : Agree (AtlasComes (asked told m n) start files) (AtlasComes (asked told k l) start files)
@@ -379,72 +365,38 @@ module _ (told : Option Files) where
 module _ (a : Asked) where
   accuse_files : (first second : List ℕ) (link : Option (List ℕ)) → IsOfFiles a.before a.after
       (AccuseComes a first second link)
-  accuse_files first second link =
-      record {
-        input = λ rose. rose;
-        disk = λ came. came;
-        taken = λ came. came;
-        refused = λ refusal came. came;
-        not_followed = λ refusal came. came;
-        unserved = λ cause came. came;
-      }
+  accuse_files first second link NoMemory came = tt
+  accuse_files first second link (Unreadable bad) came = tt
+  accuse_files first second link _ came = came
 
   fork_files : (file anchors : List ℕ) → IsOfFiles a.before a.after (CheckForkComes a file anchors)
-  fork_files file anchors =
-      record {
-        input = λ rose. rose;
-        disk = λ came. came;
-        taken = λ came. came;
-        refused = λ refusal came. came;
-        not_followed = λ refusal came. came;
-        unserved = λ cause came. came;
-      }
+  fork_files file anchors NoMemory came = tt
+  fork_files file anchors (Unreadable bad) came = tt
+  fork_files file anchors _ came = came
 
   map_files : (low high anchors : List ℕ) → IsOfFiles a.before a.after (CheckMapComes a low high anchors)
-  map_files low high anchors =
-      record {
-        input = λ rose. rose;
-        disk = λ came. came;
-        taken = λ came. came;
-        refused = λ refusal came. came;
-        not_followed = λ refusal came. came;
-        unserved = λ cause came. came;
-      }
+  map_files low high anchors NoMemory came = tt
+  map_files low high anchors (Unreadable bad) came = tt
+  map_files low high anchors _ came = came
 
   atlas_files : (start : Key) (files : List (List ℕ)) → IsOfFiles a.before a.after (AtlasComes a start files)
-  atlas_files start files =
-      record {
-        input = λ failed. failed.1;
-        disk = λ came. came;
-        taken = λ came. came;
-        refused = λ refusal came. came;
-        not_followed = λ refusal came. came;
-        unserved = λ cause came. came;
-      }
+  atlas_files start files InputFault failed = failed.1
+  atlas_files start files NoMemory came = tt
+  atlas_files start files (Unreadable bad) came = tt
+  atlas_files start files _ came = came
 
   adopt_files : (history anchors : List ℕ) (proofs : List (List ℕ)) → IsOfFiles a.before a.after
       (AdoptComes a history anchors proofs)
-  adopt_files history anchors proofs =
-      record {
-        input = λ rose. rose;
-        disk = λ came. came;
-        taken = λ came. came;
-        refused = λ refusal came. came;
-        not_followed = λ refusal came. came;
-        unserved = λ cause came. came;
-      }
+  adopt_files history anchors proofs NoMemory came = tt
+  adopt_files history anchors proofs (Unreadable bad) came = tt
+  adopt_files history anchors proofs _ came = came
 
   audit_files : (proof anchors : List ℕ) (histories : List (List ℕ)) → IsOfFiles a.before a.after
       (AuditComes a proof anchors histories)
-  audit_files proof anchors histories =
-      record {
-        input = λ rose. rose;
-        disk = λ came. came.2;
-        taken = λ came. came.2;
-        refused = λ refusal came. came.2;
-        not_followed = λ refusal came. came.2;
-        unserved = λ cause came. came.2;
-      }
+  audit_files proof anchors histories InputFault rose = rose
+  audit_files proof anchors histories NoMemory came = tt
+  audit_files proof anchors histories (Unreadable bad) came = tt
+  audit_files proof anchors histories _ came = came.2
 
 -- ---- runs
 
@@ -459,14 +411,9 @@ module _ {D : Type 0} (a : Around D) (status : ℕ) (free : IsHindered a status 
       (files : IsOfFiles a.outside.inputs.before a.outside.inputs.after May) where
     settled : (r : Result X CommandFault) → May r → status ≡ status_of (outcome_by of r) → IsSettled r
     settled (Ok x) may is = tt
-    settled (Err InputFault) may is = free (inl (is, files.input may))
+    settled (Err InputFault) may is = free (inl (is, files InputFault may))
     settled (Err NoMemory) may is = free (inr (inr is))
-    settled (Err DiskFault) may is = tt
-    settled (Err command.Taken) may is = tt
-    settled (Err (Refused refusal)) may is = tt
-    settled (Err (NotFollowed refusal)) may is = tt
-    settled (Err (Unserved cause)) may is = tt
-    settled (Err (Unreadable bad)) may is = tt
+    settled (Err f) may is = tt
 
     -- what came is seen of the files
     seen_of : (U : Type 0) (outcome : Outcome) → (came : IsOutcomeOf of (λ (r : Result X CommandFault). May r × U)
@@ -570,12 +517,9 @@ module _ {D : Type 0} (view : D → DiskView) (one other : Around D) (alike : Ar
       (IsDiskUntouched view one.outside) (IsDiskUntouched view other.outside) x y came comes ends ended
   by_command _ reaches tells x y came comes ends ended = absurd reaches
 
-  abbrev HasAt : Around D → Outcome → Option Command → Type 0
-  HasAt a outcome option = MatchOption option (HaveNoForm a.words outcome × IsDiskUntouched view a.outside)
-      (λ c. (work view a.outside c).does outcome)
-
   pub one_ending : EndsAllowed view one status → EndsAllowed view other again → Ending
   one_ending run also =
-      by_command alike.command alike.reaches alike.tells run.0 also.0 (subst (HasAt one run.0) alike.is_command
-      run.1.has)
-      (subst (HasAt other also.0) (ap command_of alike.same_words ∙ alike.is_command) also.1.has) run.1.ends also.1.ends
+      by_command alike.command alike.reaches alike.tells run.0 also.0
+      (comes_by view one status run alike.command alike.is_command)
+      (comes_by view other again also alike.command (ap command_of alike.same_words ∙ alike.is_command)) run.1.ends
+      also.1.ends

@@ -34,8 +34,11 @@ same_script all bytes is = elim (cases_lt script_read (length bytes)) [
   | inr fits ↦ ap script_of (is ∙ take_all script_read bytes fits)
 ]
 
-module _ (a : Asked) (file all : List ℕ) (there : IsThere a.told file) (read : IsReadTo a.told file script_read
-    all) where
+module _ (a : Asked) (file all front : List ℕ) (is_front : all ≡ front) (there : IsThere a.told file)
+    (is_read : IsReadTo a.told file script_read front) where
+  read : IsReadTo a.told file script_read all
+  read bytes tells = is_front ∙ is_read bytes tells
+
   pub plays : (played : Played) (text : List ℕ) → Replays all (Ok played) → text ≡ played.text
       → ReplayComes a file (Ok text)
   plays played text replays is = (

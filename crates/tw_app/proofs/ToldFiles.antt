@@ -40,8 +40,17 @@ tell_all told (file ∷ files) each = let rest = tell_all told files each.1 in (
 
 module _ {X : Type 0} (layout : Format X) (told : Option Files) (file bytes : List ℕ)
     (tells : TellsBytes told file bytes) where
-  held_spells : (x : X) → FileHolds layout told file x → Spells layout bytes x
+  pub held_spells : (x : X) → FileHolds layout told file x → Spells layout bytes x
   held_spells x holds = subst (λ (b : List ℕ). Spells layout b x) (sym (holds.same bytes tells)) holds.spelled
+
+  pub holds_of : (x : X) → Spells layout bytes x → FileHolds layout told file x
+  holds_of x spells =
+      record {
+        there = there told file bytes tells;
+        bytes = bytes;
+        spelled = spells;
+        same = λ others other. same told file others bytes other tells;
+      }
 
   pub held_once : (x y : X) → FileHolds layout told file x → FileHolds layout told file y → x ≡ y
   held_once x y one other = one_value layout bytes x y (held_spells x one) (held_spells y other)
@@ -74,6 +83,18 @@ module _ (told : Option Files) (file bytes : List ℕ) (tells : TellsBytes told 
     good = λ others other. subst (λ (b : List ℕ). AllGood (lines b)) (same told file bytes others tells other) are.good;
     same = λ others other. are.are ∙ ap (λ (b : List ℕ). map anchor_on (lines b))
         (same told file bytes others tells other);
+  }
+
+  pub anchors_of : AllGood (lines bytes) → HasAnchors told file (map anchor_on (lines bytes))
+  anchors_of good = has_anchors_of (map anchor_on (lines bytes)) (record { good = good; are = refl })
+
+  -- one of which a line is bad has that line
+  pub bad_line_of : (proof : List ℕ) (number : ℕ) → IsThere told proof → IsFirstBadLine (lines bytes) number
+      → HasBadLine told proof file number
+  bad_line_of proof number proof_there bad = record {
+    proof_there = proof_there;
+    there = there told file bytes tells;
+    bad = λ others other. subst (λ b. IsFirstBadLine (lines b) number) (same told file bytes others tells other) bad;
   }
 
   pub anchors_once : (one other : List Thread) → HasAnchors told file one → HasAnchors told file other → one ≡ other

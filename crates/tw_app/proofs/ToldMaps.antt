@@ -1,19 +1,17 @@
 -- What a run of `checkmap` tells of files whose bytes the inputs tell.
 use Rattle.std.proofs.Common.{◌≡◌, ◌∙◌, ℕ, List, refl, ap, sym, subst, inl, inr}
-use Rattle.std.specs.Prelude.{map, Option, MatchOption, Result, Ok, Err}
+use Rattle.std.specs.Prelude.{Option, Result, Ok, Err}
 use Rattle.sha2.specs.Sha256.{sha256}
 use Rattle.tw_base.specs.declared.history.thread.Thread.{Thread}
 use Rattle.tw_base.specs.history.History.{History}
 use Rattle.tw_disk.specs.Disk.{DiskView}
 use Rattle.tw_outside.specs.Files.{Files}
-use Rattle.tw_words.specs.declared.command.Command.{Command}
 use Rattle.tw_words.specs.declared.command.Command.TheVariants.{CheckMap}
 use Rattle.tw_text.specs.declared.fault.CommandFault.{CommandFault}
 use Rattle.tw_text.specs.declared.fault.CommandFault.TheVariants.{DiskFault, InputFault, NoMemory, Refused, Unreadable}
 use Rattle.tw_text.specs.declared.fault.CommandFault.TheVariants.{Unserved, Taken, NotFollowed}
 use Rattle.tw_text.specs.declared.refusal.BadInput.{BadInput}
 use Rattle.tw_text.specs.Faults.{fault_text}
-use Rattle.tw_msg.specs.AnchorsFile.{AllGood, anchor_on, lines}
 use Rattle.tw_filecmd.specs.Verifying.{HasAnchors}
 use Rattle.tw_tmap.specs.declared.map_file.HighFile.{HighFile}
 use Rattle.tw_tmap.specs.declared.map_file.LowFile.{LowFile}
@@ -32,9 +30,10 @@ use Rattle.tw_app.specs.Commands.{command_files}
 use Rattle.tw_app.specs.MapRuns.{AreAsked, AreOwnMaps, EndsUnhindered, JudgesMaps, RefusesMaps, TellsMapVerdict}
 use Rattle.tw_app.specs.MapRuns.{bounds_of}
 use Rattle.tw_app.specs.Outcomes.{of_mapped, outcome_by, status_of, text_of}
-use Rattle.tw_app.specs.Running.{EndsAllowed, EndsWith, HaveNoForm, IsDiskUntouched, IsOutcomeOf, work}
+use Rattle.tw_app.specs.Running.{EndsAllowed, EndsWith}
+use Rattle.tw_app.proofs.AskedRuns.{comes_by}
 use Rattle.tw_app.proofs.OneMap.{bad_map_once, maps_not_bad}
-use Rattle.tw_app.proofs.ToldFiles.{held_once, same, there}
+use Rattle.tw_app.proofs.ToldFiles.{has_anchors_of, held_once, holds_of}
 
 module _ {D : Type 0} (view : D → DiskView) (a : Around D) (low : LowFile) (high : HighFile) (anchors : List Thread)
     (status : ℕ)
@@ -54,29 +53,13 @@ module _ {D : Type 0} (view : D → DiskView) (a : Around D) (low : LowFile) (hi
   tells = ((is.low_bytes, is.low_tells), ((is.high_bytes, is.high_tells), ((is.anchors_bytes, is.anchors_tell), tt)))
 
   low_holds : FileHolds low_layout told is.low_file low
-  low_holds = record {
-    there = there told is.low_file is.low_bytes is.low_tells;
-    bytes = is.low_bytes;
-    spelled = is.low_spelled;
-    same = λ others tells. sym (same told is.low_file is.low_bytes others is.low_tells tells);
-  }
+  low_holds = holds_of low_layout told is.low_file is.low_bytes is.low_tells low is.low_spelled
 
   high_holds : FileHolds high_layout told is.high_file high
-  high_holds = record {
-    there = there told is.high_file is.high_bytes is.high_tells;
-    bytes = is.high_bytes;
-    spelled = is.high_spelled;
-    same = λ others tells. sym (same told is.high_file is.high_bytes others is.high_tells tells);
-  }
+  high_holds = holds_of high_layout told is.high_file is.high_bytes is.high_tells high is.high_spelled
 
   good : HasAnchors told is.anchors_file anchors
-  good = record {
-    there = there told is.anchors_file is.anchors_bytes is.anchors_tell;
-    good = λ others tells. subst (λ (b : List ℕ). AllGood (lines b)) (same told is.anchors_file is.anchors_bytes others
-        is.anchors_tell tells) is.are_anchors.good;
-    same = λ others tells. is.are_anchors.are ∙ ap (λ (b : List ℕ). map anchor_on (lines b))
-        (same told is.anchors_file is.anchors_bytes others is.anchors_tell tells);
-  }
+  good = has_anchors_of told is.anchors_file is.anchors_bytes is.anchors_tell anchors is.are_anchors
 
   -- so the verdict is that on these
   verdict_is : (verdict : MapVerdict) → Comes (Ok verdict) → verdict ≡ map_verdict sha256 anchors low high
@@ -114,19 +97,10 @@ module _ {D : Type 0} (view : D → DiskView) (a : Around D) (low : LowFile) (hi
       absurd (maps_not_bad told is.low_file is.high_file is.anchors_file tells low high anchors
       (record { low_held = low_holds; high_held = high_holds }) good bad comes)
 
-  abbrev HasAt : Outcome → Option Command → Type 0
-  HasAt outcome option = MatchOption option (HaveNoForm a.words outcome × IsDiskUntouched view a.outside)
-      (λ c. (work view a.outside c).does outcome)
-
-  abbrev Came : Outcome → Type 0
-  Came outcome = IsOutcomeOf of_mapped (λ (r : Result MapVerdict CommandFault). Comes r × IsDiskUntouched view
-      a.outside) outcome
-
-  by_outcome : (outcome : Outcome) → Came outcome → EndsWith a.taken a.sink_faults status outcome → Ending
-  by_outcome outcome came ends = by_result came.0 came.1.0 outcome came.2 ends
-
   pub tells_verdict : EndsAllowed view a status → Ending
-  tells_verdict run = by_outcome run.0 (subst (HasAt run.0) is.is_command run.1.has) run.1.ends
+  tells_verdict run =
+      let came = comes_by view a status run (CheckMap is.low_file is.high_file is.anchors_file) is.is_command in
+      by_result came.0 came.1.0 run.0 came.2 run.1.ends
 
   -- two services' own files
   pub tells_bounds : (own other : History) (step top upto : ℕ) → AreAsked own other step top upto → AreOwnMaps own other
@@ -167,16 +141,7 @@ module _ {D : Type 0} (view : D → DiskView) (a : Around D) (bad : BadInput) (s
   refused_by (Err NoMemory) comes outcome came (inl ends) = inl (inr (inr (ends.0 ∙ ap status_of came)))
   refused_by _ comes outcome came (inl ends) = absurd comes
 
-  abbrev Has : Outcome → Option Command → Type 0
-  Has outcome option = MatchOption option (HaveNoForm a.words outcome × IsDiskUntouched view a.outside)
-      (λ c. (work view a.outside c).does outcome)
-
-  abbrev CameSo : Outcome → Type 0
-  CameSo outcome = IsOutcomeOf of_mapped (λ (r : Result MapVerdict CommandFault). ComesSo r × IsDiskUntouched view
-      a.outside) outcome
-
-  refusal_of : (outcome : Outcome) → CameSo outcome → EndsWith a.taken a.sink_faults status outcome → EndsSo
-  refusal_of outcome came ends = refused_by came.0 came.1.0 outcome came.2 ends
-
   pub tells_refusal : EndsAllowed view a status → EndsSo
-  tells_refusal run = refusal_of run.0 (subst (Has run.0) is.is_command run.1.has) run.1.ends
+  tells_refusal run =
+      let came = comes_by view a status run (CheckMap is.low_file is.high_file is.anchors_file) is.is_command in
+      refused_by came.0 came.1.0 run.0 came.2 run.1.ends
