@@ -1,6 +1,6 @@
 -- How the trees of new nodes come one by one, and what is kept of them.
 use Rattle.std.proofs.Common.{◌≡◌, ◌↔◌, ℕ, suc, zero, ◌+◌, ◌<◌, ◌≤◌, List, [], ◌∷◌, ◌++◌, length, get_or, map, refl, ap}
-use Rattle.std.proofs.Common.{sym, subst, ◌∙◌, Option, Some, None, IsTrue, drop, add-one}
+use Rattle.std.proofs.Common.{sym, subst, ◌∙◌, Option, Some, None, Bool, IsTrue, drop, add-one}
 use Rattle.std.specs.Prelude.{if◌then◌else◌, is_some, option_map, IsSome}
 use Rattle.std.proofs.lemmas.Bool.{le-leb, lt-leb}
 use Rattle.std.proofs.lemmas.List.{append-nil, append_assoc, get_or-map, length-map, length_push, map-append}
@@ -156,6 +156,22 @@ module _ (h : History) (i : ℕ) (summaries : List Summary) (n : Node) (ns : Lis
       by None at some = cc
       by (Some e) at some =
           let there = (entry_to-at h (suc i) n.entry e at).1 in (e, at, there, (entry_at-parts h n.entry e there).0)
+
+  -- whether the node's tree rises, by a test of whatever sides and entry
+  pub rises_by : (left right d f : Summary) (rises : Bool) → left ≡ get_or summaries n.left d
+      → right ≡ get_or summaries n.right f
+      → ((l r : Tree) (e : Entry) → left ≡ summary_of l → right ≡ summary_of r → Received h l → Received h r → Rises l
+      → Rises r → entry_at h n.entry ≡ Some e → IsTrue rises ↔ Rises (Branch l e r))
+      → (left ≡ summary_of left_of) × (right ≡ summary_of right_of)
+      × (IsTrue rises ↔ Rises (Branch left_of entry-of_node.0 right_of))
+  rises_by left right d f rises left_is right_is test =
+      let one = left_is ∙ summary-of_node n.left d p.fit.0.0 in
+      let other = right_is ∙ summary-of_node n.right f p.fit.0.1 in (
+        one,
+        other,
+        test left_of right_of entry-of_node.0 one other (received-of_node n.left) (received-of_node n.right)
+            (rises-of_node n.left) (rises-of_node n.right) entry-of_node.2,
+      )
 
 -- whether there is an entry of a step up to i
 pub entry_to-within : (h : History) (i k : ℕ) → k ≤ i → entry_to h i k ≡ entry_at h k

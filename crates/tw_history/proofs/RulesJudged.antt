@@ -26,7 +26,7 @@ use Rattle.tw_history.specs.declared.fault.HistoryFault.TheVariants.{Malformed, 
 use Rattle.tw_history.specs.declared.soundness.summary.Summary.{Summary}
 use Rattle.tw_history.specs.declared.soundness.Judged.{Judged}
 use Rattle.tw_history.specs.JudgingSteps.{IsGreatest, IsGreatestTime, HasJudged, IsFirstRule, IsLater, TellsFirst}
-use Rattle.tw_history.specs.JudgingSteps.{first_of, greatest_of, summary_of}
+use Rattle.tw_history.specs.JudgingSteps.{TellsRules, first_of, greatest_of, summary_of}
 use Rattle.tw_history.specs.Tables.{IsTable, node_of, step_of, steps_of_table}
 use Rattle.tw_history.specs.Refusals.{TellsRule}
 use Rattle.tw_base.specs.history.Rules.{KeepsRule, Rule, rule_number}
@@ -90,7 +90,7 @@ module _ (h : History) (i : ℕ) (s : Step) (one : KeepsRule h i s NodesAreKnown
 
   pub first-told : (a b c d e : Bool) → Tests a HoldsAllThreads → Tests b IsOfAnother → Tests c StepsRise
       → Tests d EventsFit → Tests e TimesDontFall
-      → MatchOption (first_of a b c d e) ((rule : Rule) → KeepsRule h i s rule) (IsFirstRule h i s)
+      → TellsRules h i s (first_of a b c d e)
   first-told false b c d e is3 is4 is5 is6 is7 = (
     HoldsAllThreads,
     refl,
@@ -254,12 +254,14 @@ module _ (h : History) (i : ℕ) (step : StepOfTable) (fresh : List NodeOfTable)
   ThisStep = step_of step fresh
 
   -- rule 1
-  pub known_by : (first : ℕ) (items : List Summary) → items ≡ map summary_of (forest h i) → first ≡ length items
-      → (NodesFit h (i + 1) first (map node_of fresh) × (step.root < first + length fresh)) ↔ KeepsRule h i ThisStep
-      NodesAreKnown
-  known_by first items kept is =
-      known-is h i ThisStep there (i + 1) first (length fresh) (add-one i)
-      (is ∙ ap length kept ∙ length-map (forest h i) summary_of) (sym (length-map fresh node_of))
+  pub names_by : (first : ℕ) (items : List Summary) (r : Bool) → items ≡ map summary_of (forest h i)
+      → first ≡ length items
+      → (IsTrue r ↔ (NodesFit h (i + 1) first (map node_of fresh) × (step.root < first + length fresh)))
+      → IsTrue r ↔ KeepsRule h i ThisStep NodesAreKnown
+  names_by first items r kept is exactly =
+      let known = known-is h i ThisStep there (i + 1) first (length fresh) (add-one i)
+      (is ∙ ap length kept ∙ length-map (forest h i) summary_of) (sym (length-map fresh node_of)) in
+      ((λ yes. known.0 (exactly.0 yes)), (λ keeps. exactly.1 (known.1 keeps)))
 
   -- the root is the number of a summary
   pub root-within : (items : List Summary) → items ≡ map summary_of (forest h (suc i)) → KeepsRule h i ThisStep

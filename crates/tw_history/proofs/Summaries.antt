@@ -90,7 +90,7 @@ above_by_first h [] e step above got rising some at test = absurd (omega (arith,
 above_by_first h (x ∷ xs) e step above got rising some at test =
     let exactly = test e x at got.0 in ((λ yes. all_above e x xs rising (exactly.0 yes)), (λ all. exactly.1 all.0))
 
-pub Each-none : (P : Entry → Type 0) (es : List Entry) → length es ≡ 0 → Each P es
+Each-none : (P : Entry → Type 0) (es : List Entry) → length es ≡ 0 → Each P es
 Each-none P [] none = tt
 Each-none P (x ∷ xs) none = absurd (omega (arith, none))
 
@@ -111,8 +111,9 @@ pub last-summary : (s : Summary) (t : Tree) → s ≡ summary_of t → s.last �
 unfolding summary_of
 last-summary s t is = ap (λ (x : Summary). x.last) is
 
-pub none_counted : (s : Summary) (t : Tree) → s ≡ summary_of t → s.count ≡ 0 → length (entries t) ≡ 0
-none_counted s t is none = let count = count-summary s t is in omega arith
+-- whatever each entry has to be, those of a tree without one are
+pub each_of_none : (P : Entry → Type 0) (s : Summary) (t : Tree) → s ≡ summary_of t → s.count ≡ 0 → Each P (entries t)
+each_of_none P s t is none = Each-none P (entries t) (let count = count-summary s t is in omega arith)
 
 pub some_counted : (s : Summary) (t : Tree) → s ≡ summary_of t → s.count ≢ 0 → 0 < length (entries t)
 some_counted s t is some = let count = count-summary s t is in omega arith

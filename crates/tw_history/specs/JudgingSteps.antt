@@ -7,14 +7,19 @@ use Rattle.tw_base.specs.declared.history.thread.Entry.{Entry}
 use Rattle.tw_base.specs.declared.history.thread.Key.{Key}
 use Rattle.tw_base.specs.declared.history.thread.Thread.{Thread}
 use Rattle.tw_base.specs.kinds.Lists.{Each, In}
-use Rattle.tw_base.specs.history.History.{History, Step, entry_at, received, times}
+use Rattle.tw_base.specs.history.History.{History, Step, entry_at, received, step_at, times}
 use Rattle.tw_base.specs.history.Tree.{IsRising, Tree, entries, forest}
 use Rattle.tw_history.specs.declared.soundness.summary.Summary.{Summary}
 use Rattle.tw_history.specs.declared.soundness.greatest.GreatestSteps.{GreatestSteps}
 use Rattle.tw_history.specs.declared.soundness.Judged.{Judged}
 use Rattle.tw_history.specs.declared.fault.HistoryFault.{HistoryFault}
 use Rattle.tw_history.specs.declared.fault.HistoryFault.TheVariants.{NoMemory, Unsound}
+use Rattle.tw_base.specs.declared.kinds.limits.TheConstants.{LAST_STEP}
 use Rattle.tw_base.specs.history.Rules.{KeepsRule, Rule, rule_number}
+use Rattle.tw_base.specs.history.Rules.Rule.{NodesAreKnown, TreesRise}
+use Rattle.tw_history.specs.declared.step.Node.{Node as NodeOfTable}
+use Rattle.tw_history.specs.declared.step.Step.{Step as StepOfTable}
+use Rattle.tw_history.specs.Tables.{step_of}
 
 -- what an archive is ordered by
 abbrev pub thread_key : Thread → Key
@@ -79,6 +84,20 @@ first_of holds_all another later fit rise =
 abbrev pub IsFirstRule : (h : History) (i : ℕ) (s : Step) → ℕ → Type 0
 IsFirstRule h i s rule =
     (broken : Rule) × (rule ≡ rule_number broken) × (KeepsRule h i s broken → ⊥) × ((other : Rule) → rule_number other < rule → KeepsRule h i s other)
+
+-- the first rule that is broken is told, or that each is kept
+abbrev pub TellsRules : (h : History) (i : ℕ) (s : Step) → (told : Option ℕ) → Type 0
+TellsRules h i s told = MatchOption told ((rule : Rule) → KeepsRule h i s rule) (IsFirstRule h i s)
+
+-- whichever step it is, once its nodes are planted, and of what was judged before it no more is known than is kept: of a
+-- step that keeps the first two rules the first one that it doesn't keep is told
+abbrev pub TellsUnkept : History → Judged → StepOfTable → (told : Option ℕ) → Type 0
+TellsUnkept h judged step told =
+    (i : ℕ) (fresh : List NodeOfTable) → step_at h (suc i) ≡ Some (step_of step fresh) → suc i ≤ LAST_STEP
+    → judged.summaries.items ≡ map summary_of (forest h (suc i)) → judged.threads ≡ length (received h i)
+    → IsGreatest (received h i) (greatest_of judged.greatest) → IsGreatestTime (times h i) judged.time
+    → KeepsRule h i (step_of step fresh) NodesAreKnown → KeepsRule h i (step_of step fresh) TreesRise
+    → TellsRules h i (step_of step fresh) told
 
 -- why step i + 1, which is s, isn't sound: the first rule that it breaks
 abbrev pub TellsFirst : (h : History) (i : ℕ) (s : Step) → HistoryFault → Type 0

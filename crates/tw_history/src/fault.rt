@@ -38,14 +38,3 @@ pub enum ShowFault {
     /// There was no memory for what the call needed.
     NoMemory,
 }
-
-impl From<NoMemory> for ShowFault {
-    ghost use Rattle.std.specs.Prelude.{◌≡◌};
-    ghost use Rattle.tw_history.specs.declared.fault.ShowFault.TheVariants.{NoMemory as WantedMemory};
-
-    ghost from_gives = { λ _ fault. fault ≡ WantedMemory };
-
-    fn from(_refused: NoMemory) -> Self {
-        ShowFault::NoMemory
-    }
-}

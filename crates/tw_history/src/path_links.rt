@@ -11,11 +11,12 @@ use crate::pass::{Digests, pass_step, pass_steps};
 use crate::step_digests::{link_at, root_of_events};
 use std::alloc::Global;
 use tw_base::{Hasher, NoMemory, Unwritten, power_of_two};
-use tw_skipproof::{Link, LinkList, next_hop};
+use tw_skipproof::{Link, next_hop};
 
 /// The links of the path down from a step, in the order in which a pass comes by: from the lower
-/// step, which it has passed, upwards. A path has at most 80 links, and so many calls are open.
-fn links_upwards<H: Hasher>(
+/// step, which it has passed, upwards; the pass goes on to the upper step. A path has at most 80 links,
+/// and so many calls are open.
+pub(crate) fn links_upwards<H: Hasher>(
     alloc: Global,
     history: &History,
     from: u64,
@@ -42,25 +43,4 @@ fn links_upwards<H: Hasher>(
     let link = link_at(alloc, &passed, level)?;
     links.push(link)?;
     Ok(links)
-}
-
-/// The links of the path from a step down to one that the pass has passed; the pass goes on to the
-/// upper step.
-pub(crate) fn path_links<H: Hasher>(
-    alloc: Global,
-    history: &History,
-    from: u64,
-    to: u64,
-    digests: &mut Digests,
-    texts: &mut Unwritten<H>,
-) -> Result<LinkList, NoMemory>
-    requires order { to ≤ from }
-    requires inside { from ≤ length history.now.steps }
-    requires few { from ≤ LAST_STEP }
-    requires passed { HasPassed H.dig history.now to digests.old }
-    ensures { IfOk result (λ links. IsPathOf H.dig history.now links from to) }
-{
-    let mut links = links_upwards(alloc, history, from, to, digests, texts)?;
-    links.reverse();
-    Ok(LinkList::from_vec(links))
 }

@@ -10,7 +10,7 @@ ghost use Rattle.tw_base.specs.kinds.Lists.{Each};
 ghost use Rattle.tw_base.specs.format.Formats.{Spells};
 ghost use Rattle.tw_skipproof.specs.Acceptance.{IsAcceptedUnder};
 ghost use Rattle.tw_skipproof.specs.Existence.{existence_layout};
-ghost use Rattle.tw_skipproof.specs.HistoryProofs.{IsExistenceOf, IsOpeningOf, IsPartOfHistory, MakesExistence};
+ghost use Rattle.tw_skipproof.specs.HistoryProofs.{IsOpeningOf, IsPartOfHistory, MakesExistence};
 ghost use Rattle.tw_history.specs.Tables.{IsInRange};
 ghost use Rattle.tw_history.specs.PassSteps.{HasPassed, passed_events};
 ghost use Rattle.tw_history.specs.Refusals.{RefusesEvent};
@@ -20,12 +20,12 @@ use crate::fault::ShowFault;
 use crate::history::History;
 use crate::lookup::{content_at, content_behind, count_of_steps, time_behind};
 use crate::pass::{Digests, auth_passed, begin_pass, pass_step, pass_steps};
-use crate::path_links::path_links;
+use crate::path_links::links_upwards;
 use crate::step_digests::{count_of_events, opening_with};
 use std::alloc::Global;
 use tw_base::{Bytes, Content, Digest, Hasher, NoMemory, Unwritten};
 use tw_events::{event_part, root_over};
-use tw_skipproof::{ExistenceProof, Opening, Part, Path, write_existence};
+use tw_skipproof::{ExistenceProof, LinkList, Opening, Part, Path, write_existence};
 
 /// The events of the content, where one has this index; else how many there are.
 fn events_having(content: &Content, index: u32) -> Result<&[Bytes], u32>
@@ -108,39 +108,17 @@ fn part_of<H: Hasher>(
     let mut texts = Unwritten::<H>::new();
     let mut digests = begin_pass(alloc, history, &mut texts)?;
     let opening = opening_of(alloc, history, step, event_root, &mut digests, &mut texts)?;
-    let links = path_links(alloc, history, top, step, &mut digests, &mut texts)?;
+    let mut links = links_upwards(alloc, history, top, step, &mut digests, &mut texts)?;
+    links.reverse();
     Ok(Part {
         service: history.name,
         step,
         top,
-        path: Path { links },
+        path: Path {
+            links: LinkList::from_vec(links),
+        },
         opening,
     })
-}
-
-/// The proof that the event of this index stands in the step, whose events these are.
-fn existence_of<H: Hasher>(
-    alloc: Global,
-    history: &History,
-    step: u64,
-    events: &[Bytes],
-    index: u32,
-) -> Result<ExistenceProof, NoMemory>
-    requires from_1 { 0 < step }
-    requires inside { step ≤ length history.now.steps }
-    requires events { events.now ≡ events_at history.now step }
-    requires index { index < length events.now }
-    requires few { length events.now ≤ MOST_EVENTS }
-    requires small { Each (λ event. length event ≤ MOST_EVENT_BYTES) events.now }
-    ensures existence { IfOk result (IsExistenceOf H.dig history.now step index (length history.now.steps)) }
-    ensures time { IfOk result (λ proof. IsTimeWithinLimits proof.at.opening.time) }
-    ensures small { IfOk result (λ proof. length proof.event.event ≤ MOST_EVENT_BYTES) }
-    ensures few { OnOk result (length history.now.steps ≤ LAST_STEP) }
-{
-    let event = event_part::<H>(alloc, events, index)?;
-    let event_root = root_over::<H>(&event, events.len() as u32);
-    let at = part_of::<H>(alloc, history, step, event_root)?;
-    Ok(ExistenceProof { at, event })
 }
 
 /// The bytes of the proof that the event of this index stands in the step, whose events these are.
@@ -159,7 +137,10 @@ fn written_existence<H: Hasher>(
     requires small { Each (λ event. length event ≤ MOST_EVENT_BYTES) events.now }
     ensures { IfOk result (MakesExistence H.dig history.now step index (length history.now.steps)) }
 {
-    let proof = existence_of::<H>(alloc, history, step, events, index)?;
+    let event = event_part::<H>(alloc, events, index)?;
+    let event_root = root_over::<H>(&event, events.len() as u32);
+    let at = part_of::<H>(alloc, history, step, event_root)?;
+    let proof = ExistenceProof { at, event };
     write_existence(alloc, &proof)
 }
 
@@ -186,6 +167,8 @@ pub fn show_event<H: Hasher>(
     ensures refused { IfErr result (RefusesEvent history.now step index) }
 {
     let events = events_to_show(history, step, index)?;
-    let bytes = written_existence::<H>(alloc, history, step, events, index)?;
-    Ok(bytes)
+    match written_existence::<H>(alloc, history, step, events, index) {
+        Ok(bytes) => Ok(bytes),
+        Err(NoMemory) => Err(ShowFault::NoMemory),
+    }
 }

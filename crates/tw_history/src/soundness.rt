@@ -4,7 +4,7 @@ ghost use Rattle.std.specs.Prelude.{◌≡◌, ℕ, suc, ◌<◌, ◌≤◌, len
 ghost use Rattle.tw_base.specs.history.History.{History as HistoryMeant, Step as StepMeant, step_at};
 ghost use Rattle.tw_base.specs.history.Limits.{IsTimeWithinLimits};
 ghost use Rattle.tw_base.specs.history.Sound.{IsSound, IsSoundStep};
-ghost use Rattle.tw_history.specs.JudgingSteps.{HasJudged, TellsFirst, first_of};
+ghost use Rattle.tw_history.specs.JudgingSteps.{HasJudged, TellsFirst, TellsUnkept, first_of};
 ghost use Rattle.tw_history.specs.Tables.{IsInRange, IsTable, step_of, steps_of_table};
 ghost use Rattle.tw_history.specs.Refusals.{TellsRule};
 ghost use Rattle.tw_base.specs.declared.kinds.limits.TheConstants.{LAST_STEP};
@@ -136,6 +136,24 @@ fn judge_step(
     if !plant(history, earlier, fresh, &mut judged.summaries)? {
         return unsound(number, 2);
     }
+    if let Some(rule) = first_unkept(history, judged, step) {
+        return unsound(number, rule);
+    }
+    limits_law(&step.content);
+    let thread = received_thread(step);
+    judged.threads += count(&thread);
+    judged.time = greatest_with(judged.time, step.time);
+    judged.greatest.add(&thread)?;
+    Ok(())
+}
+
+/// The number of the first of the rules 3 to 7 that the step doesn't keep, once its nodes are planted.
+fn first_unkept(history: &History, judged: &Judged, step: &Step) -> Option<u8>
+    requires few { judged.now.threads < LAST_STEP }
+    requires root { step.now.root < length judged.now.summaries.items }
+    requires content { IsInRange step.now.content }
+    ensures { TellsUnkept history.now judged.now step.now result }
+{
     let thread = received_thread(step);
     let threads = judged.threads + count(&thread);
     let holds_all = judged.summaries[step.root as usize].count == threads;
@@ -143,14 +161,7 @@ fn judge_step(
     let later = is_later(&judged.greatest, &thread);
     let fit = events_fit(step);
     let rise = doesnt_fall(judged.time, step.time);
-    if let Some(rule) = first_broken(holds_all, another, later, fit, rise) {
-        return unsound(number, rule);
-    }
-    limits_law(&step.content);
-    judged.threads = threads;
-    judged.time = greatest_with(judged.time, step.time);
-    judged.greatest.add(&thread)?;
-    Ok(())
+    first_broken(holds_all, another, later, fit, rise)
 }
 
 /// The number of the first of the rules 3 to 7 that isn't kept, by whether each of them is.

@@ -1,6 +1,6 @@
 // What is kept of a tree while a history is judged: how many entries, and which steps received the first and last.
 
-ghost use Rattle.std.specs.Prelude.{◌≡◌};
+ghost use Rattle.std.specs.Prelude.{◌≡◌, ◌≢◌};
 ghost use Rattle.tw_base.specs.declared.history.thread.Entry.{Entry};
 ghost use Rattle.tw_base.specs.history.Tree.{Tree};
 ghost use Rattle.tw_base.specs.history.Tree.Tree.{Branch, Empty};
@@ -36,8 +36,16 @@ impl Summary {
     {
         Summary {
             count: left.count.saturating_add(right.count).saturating_add(1),
-            first: if left.count == 0 { step } else { left.first },
-            last: if right.count == 0 { step } else { right.last },
+            first: left.end_or(left.first, step),
+            last: right.end_or(right.last, step),
         }
+    }
+
+    /// This end of the tree, or the step where it has no entry.
+    fn end_or(&self, end: u64, step: u64) -> u64
+        ensures none { self.now.count ≡ 0 → result ≡ step }
+        ensures some { self.now.count ≢ 0 → result ≡ end }
+    {
+        if self.count == 0 { step } else { end }
     }
 }
