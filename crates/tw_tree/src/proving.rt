@@ -21,6 +21,17 @@ pub enum ProveFault {
     NoMemory,
 }
 
+impl From<NoMemory> for ProveFault {
+    ghost use Rattle.std.specs.Prelude.{◌≡◌};
+    ghost use Rattle.tw_tree.specs.declared.proving.ProveFault.TheVariants.{NoMemory as WantedMemory};
+
+    ghost from_gives = { λ _ fault. fault ≡ WantedMemory };
+
+    fn from(_none: NoMemory) -> Self {
+        ProveFault::NoMemory
+    }
+}
+
 /// The part of the tree at the asked place.
 #[tactic(auto, unfolding(tw_treeproof::specs::Making::place_of_ask))]
 fn place<'a>(tree: &'a Tree, ask: &Ask) -> &'a Tree
@@ -99,8 +110,6 @@ pub fn prove<H: Hasher>(alloc: Global, tree: &Tree, ask: &Ask) -> Result<TreePro
     if !is_so(tree, ask) {
         return Err(ProveFault::Untrue);
     }
-    match nodes_above::<H>(alloc, tree, ask) {
-        Ok(ancestors) => Ok(proof_at::<H>(place(tree, ask), ancestors)),
-        Err(NoMemory) => Err(ProveFault::NoMemory),
-    }
+    let ancestors = nodes_above::<H>(alloc, tree, ask)?;
+    Ok(proof_at::<H>(place(tree, ask), ancestors))
 }
