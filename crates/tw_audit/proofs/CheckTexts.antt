@@ -37,6 +37,18 @@ gathered f [] ys = refl
 gathered f (x ∷ xs) ys = ap (λ zs. f x ++ zs) (gathered f xs ys)
     ∙ sym (append_assoc (f x) (flat_map f xs) (flat_map f ys))
 
+-- of the checks of hops, where it is known of those of each
+gathered-hops : {Y : Type 0} (f : Check → List Y) (of_hop : HopPart → List Y)
+    → ((part step : ℕ) (root : List ℕ) (hop : HopPart) → flat_map f (hop_checks part step root hop) ≡ of_hop hop)
+    → (hops : List HopPart) (part step : ℕ) (root : List ℕ)
+    → flat_map f (hops_checks part step root hops) ≡ flat_map of_hop hops
+gathered-hops f of_hop each [] part step root = refl
+gathered-hops f of_hop each (hop ∷ hops) part step root =
+    gathered f (hop_checks part step root hop) (hops_checks (suc part) hop.entry.thread.step (opening_root hop.opening)
+    hops)
+    ∙ (λ k. each part step root hop k ++ gathered-hops f of_hop each hops (suc part) hop.entry.thread.step
+    (opening_root hop.opening) k)
+
 module _ (dig : List ℕ → List ℕ) where
   abbrev texts_of : List Check → List (List ℕ)
   texts_of cs = flat_map (check_texts dig) cs
@@ -76,15 +88,6 @@ module _ (dig : List ℕ → List ℕ) where
       (gathered (check_texts dig) (bind_checks part hop) (opening_checks part hop.entry.thread hop.opening)
       ∙ (λ k. texts-bind part hop k ++ texts-opened part hop.entry.thread hop.opening k))
 
-  texts-hops : (hops : List HopPart) (part step : ℕ) (root : List ℕ) → texts_of (hops_checks part step root hops)
-      ≡ flat_map (hop_texts dig) hops
-  texts-hops [] part step root = refl
-  texts-hops (hop ∷ hops) part step root =
-      gathered (check_texts dig) (hop_checks part step root hop) (hops_checks (suc part) hop.entry.thread.step
-      (opening_root hop.opening) hops)
-      ∙ (λ k. texts-hop part step root hop k ++ texts-hops hops (suc part) hop.entry.thread.step
-      (opening_root hop.opening) k)
-
   texts-tail : (part : ℕ) (t : Thread) (tail : Tail) → texts_of (tail_checks part t tail) ≡ seen_texts dig
       (tail_at t tail) tail.event
   texts-tail part t tail = ap (λ ts. part_texts dig (tail_at t tail) ++ ts)
@@ -119,7 +122,8 @@ module _ (dig : List ℕ → List ℕ) where
       rests =
           gathered (check_texts dig) (hops_checks 1 (start_of p).step (opening_root p.before) p.hops)
           (tail_checks (suc (length p.hops)) (end_of_order p) p.tail)
-          ∙ (λ k. texts-hops p.hops 1 (start_of p).step (opening_root p.before) k ++ texts-tail (suc (length p.hops))
+          ∙ (λ k. gathered-hops (check_texts dig) (hop_texts dig) texts-hop p.hops 1 (start_of p).step
+          (opening_root p.before) k ++ texts-tail (suc (length p.hops))
           (end_of_order p) p.tail k)
 
 -- ---- what is held
@@ -155,15 +159,6 @@ module _ (anchors : List Thread) where
       ∙ (λ k. held-bind part hop k ++ held-opened part hop.entry.thread hop.opening k) ∙ append-nil
       (held_of_hop anchors hop)
 
-  held-hops : (hops : List HopPart) (part step : ℕ) (root : List ℕ) → held_of (hops_checks part step root hops)
-      ≡ flat_map (held_of_hop anchors) hops
-  held-hops [] part step root = refl
-  held-hops (hop ∷ hops) part step root =
-      gathered (held_by anchors) (hop_checks part step root hop) (hops_checks (suc part) hop.entry.thread.step
-      (opening_root hop.opening) hops)
-      ∙ (λ k. held-hop part step root hop k ++ held-hops hops (suc part) hop.entry.thread.step
-      (opening_root hop.opening) k)
-
   pub held-precedes : (p : PrecedenceProof)
       → option_to_list (anchor_of anchors p.head.service p.head.top) ++ flat_map (held_of_hop anchors) p.hops ≡ held
       anchors (Precedes p)
@@ -182,7 +177,8 @@ module _ (anchors : List Thread) where
           gathered (held_by anchors) (hops_checks 1 (start_of p).step (opening_root p.before) p.hops)
           (tail_checks (suc (length p.hops)) (end_of_order p) p.tail)
           ∙ append-nil (held_of (hops_checks 1 (start_of p).step (opening_root p.before) p.hops))
-          ∙ held-hops p.hops 1 (start_of p).step (opening_root p.before)
+          ∙ gathered-hops (held_by anchors) (held_of_hop anchors) held-hop p.hops 1 (start_of p).step
+          (opening_root p.before)
 
   pub held-link : (p : LinkProof) → option_to_list (anchor_of anchors p.service p.top) ≡ held anchors (Linked p)
   held-link p = sym (append-nil (option_to_list (anchor_of anchors p.service p.top)))

@@ -129,48 +129,50 @@ record Places (key : List ℕ) (keys : List (List ℕ)) : Type 0 where
   one_is : get_or keys one [] ≡ key
   other_is : get_or keys other [] ≡ key
 
+-- a key that stands so often or more stands in front and less often behind, or so often behind
+in_front : (key k : List ℕ) (keys : List (List ℕ)) (n : ℕ) → suc n ≤ hits key (k ∷ keys)
+    → ((k ≡ key) × (n ≤ hits key keys)) ⊎ (suc n ≤ hits key keys)
+in_front key k keys n some = by (bytes_eq k key) refl (subst (λ m. suc n ≤ m) (hits-more key k keys) some)
+  where
+    by : (b : Bool) → bytes_eq k key ≡ b → suc n ≤ cond b 1 0 + hits key keys
+        → ((k ≡ key) × (n ≤ hits key keys)) ⊎ (suc n ≤ hits key keys)
+    by true here some = inl ((bytes_eq-Decides k key).0 here, omega (arith, some))
+    by false apart some = inr (omega (arith, some))
+
 place-of : (key : List ℕ) (keys : List (List ℕ)) → 1 ≤ hits key keys → Place key keys
 place-of key [] some = absurd (let none : 1 ≤ 0 = some in omega (arith, none))
-place-of key (k ∷ keys) some = by (place-of key keys) (bytes_eq k key) refl (subst (λ n. 1 ≤ n) (hits-more key k keys)
-    some)
-  where
-    by : (1 ≤ hits key keys → Place key keys) → (b : Bool) → bytes_eq k key ≡ b → 1 ≤ cond b 1 0 + hits key keys
-        → Place key (k ∷ keys)
-    by rest true here some = record { at = 0; inside = omega arith; is = (bytes_eq-Decides k key).0 here }
-    by rest false apart some =
-        let more : 1 ≤ hits key keys = omega (arith, some) in
-        let p : Place key keys = rest more in
-        record { at = suc p.at; inside = (let inside = p.inside in omega (arith, inside)); is = p.is }
+place-of key (k ∷ keys) some =
+    let rest : 1 ≤ hits key keys → Place key keys = place-of key keys in
+    elim (in_front key k keys 0 some) [
+      | inl here ↦ record { at = 0; inside = omega arith; is = here.0 }
+      | inr more ↦ (let p : Place key keys = rest more in
+          record { at = suc p.at; inside = (let inside = p.inside in omega (arith, inside)); is = p.is })
+    ]
 
 places-of : (key : List ℕ) (keys : List (List ℕ)) → 2 ≤ hits key keys → Places key keys
 places-of key [] some = absurd (let none : 2 ≤ 0 = some in omega (arith, none))
-places-of key (k ∷ keys) some = by (places-of key keys) (bytes_eq k key) refl (subst (λ n. 2 ≤ n) (hits-more key k keys)
-    some)
-  where
-    by : (2 ≤ hits key keys → Places key keys) → (b : Bool) → bytes_eq k key ≡ b → 2 ≤ cond b 1 0 + hits key keys
-        → Places key (k ∷ keys)
-    by rest true here some =
-        let more : 1 ≤ hits key keys = omega (arith, some) in
-        let p : Place key keys = place-of key keys more in
-        record {
-          one = 0;
-          other = suc p.at;
-          order = omega arith;
-          inside = (let inside = p.inside in omega (arith, inside));
-          one_is = (bytes_eq-Decides k key).0 here;
-          other_is = p.is;
-        }
-    by rest false apart some =
-        let more : 2 ≤ hits key keys = omega (arith, some) in
-        let p : Places key keys = rest more in
-        record {
-          one = suc p.one;
-          other = suc p.other;
-          order = (let order = p.order in omega (arith, order));
-          inside = (let inside = p.inside in omega (arith, inside));
-          one_is = p.one_is;
-          other_is = p.other_is;
-        }
+places-of key (k ∷ keys) some =
+    let rest : 2 ≤ hits key keys → Places key keys = places-of key keys in
+    elim (in_front key k keys 1 some) [
+      | inl here ↦ (let p : Place key keys = place-of key keys here.1 in
+          record {
+            one = 0;
+            other = suc p.at;
+            order = omega arith;
+            inside = (let inside = p.inside in omega (arith, inside));
+            one_is = here.0;
+            other_is = p.is;
+          })
+      | inr more ↦ (let p : Places key keys = rest more in
+          record {
+            one = suc p.one;
+            other = suc p.other;
+            order = (let order = p.order in omega (arith, order));
+            inside = (let inside = p.inside in omega (arith, inside));
+            one_is = p.one_is;
+            other_is = p.other_is;
+          })
+    ]
 
 -- keys of which none is below the other are one
 neither-below : (x y : List ℕ) → is_lt (slice_cmp nat_cmp x y) ≡ false → is_lt (slice_cmp nat_cmp y x) ≡ false → x ≡ y

@@ -1,21 +1,22 @@
 // What checking a proof hashes, in the order of its bytes, once more and without a judgement; tw_chain/src/passing.rt has the
 // checks.
 
-ghost use Rattle.std.specs.Prelude.{◌≡◌, ℕ, ◌<◌, ◌≤◌, List, length, IfSome};
+ghost use Rattle.std.specs.Prelude.{◌≡◌, ℕ, ◌<◌, ◌≤◌, List, ◌++◌, length, IfSome};
 ghost use Rattle.std.specs.List.{flat_map};
 ghost use Rattle.tw_base.specs.declared.kinds.limits.TheConstants.{LAST_STEP};
 ghost use Rattle.tw_base.specs.kinds.Lists.{Each};
 ghost use Rattle.tw_skipproof.specs.Acceptance.{part_texts};
 ghost use Rattle.tw_skipproof.specs.Paths.{HasShape, path_texts};
-ghost use Rattle.tw_chain.specs.declared.proof.Proof.TheVariants.{Absent, Archived, Exists, Precedes};
+ghost use Rattle.tw_treeproof.specs.Answers.{tree_proof_texts};
+ghost use Rattle.tw_chain.specs.declared.proof.Proof.TheVariants.{Exists, Precedes};
 ghost use Rattle.tw_chain.specs.Accepting.{proof_texts};
 ghost use Rattle.tw_chain.specs.Checks.{checks, end_of_order};
 ghost use Rattle.tw_audit.specs.PieceTexts.{bind_texts, hop_texts, opened_texts, seen_texts};
 ghost use Rattle.tw_audit.specs.Shapes.{IsCheckShaped, IsEventShaped, IsHopShaped, IsPartAuditable};
 ghost use Rattle.tw_base.specs.kinds.Handing.{Hands};
 
-use tw_base::{Ask, Digest, EventPart, Transcript};
-use tw_chain::{AbsenceProof, HopPart, PrecedenceProof, Proof, ThreadProof};
+use tw_base::{Ask, Digest, EventPart, Transcript, TreeProof};
+use tw_chain::{HopPart, PrecedenceProof, Proof};
 use tw_events::root_over_told;
 use tw_skipproof::{ExistenceProof, Opening, Part, Path, climb_told, opening_auth_told};
 use tw_treeproof::tree_label_told;
@@ -61,24 +62,13 @@ fn hash_existence<T: Transcript>(proof: &ExistenceProof, texts: &mut T)
     hash_seen(&proof.at, &proof.event, texts);
 }
 
-/// Hands on the texts of a proof that a thread was received.
-fn hash_archived<T: Transcript>(proof: &ThreadProof, texts: &mut T)
-    requires { Each IsCheckShaped (checks (Archived proof.now)) }
-    ensures { Hands T.took texts.old texts.new (proof_texts T.dig (Archived proof.now)) }
+/// Hands on the texts of a step under its top, and then those of an answer of its archive.
+fn hash_answer<T: Transcript>(at: &Part, ask: &Ask, shown: &TreeProof, texts: &mut T)
+    requires { IsPartAuditable at.now }
+    ensures { Hands T.took texts.old texts.new (part_texts T.dig at.now ++ tree_proof_texts T.dig ask.now shown.now) }
 {
-    let at = &proof.at;
     hash_part(at.step, at.top, &at.path, &at.opening, texts);
-    tree_label_told(&Ask::Present(proof.entry), &proof.shown, texts);
-}
-
-/// Hands on the texts of a proof that no thread of a key was received.
-fn hash_absence<T: Transcript>(proof: &AbsenceProof, texts: &mut T)
-    requires { Each IsCheckShaped (checks (Absent proof.now)) }
-    ensures { Hands T.took texts.old texts.new (proof_texts T.dig (Absent proof.now)) }
-{
-    let at = &proof.at;
-    hash_part(at.step, at.top, &at.path, &at.opening, texts);
-    tree_label_told(&Ask::Absent(proof.key), &proof.shown, texts);
+    tree_label_told(ask, shown, texts);
 }
 
 /// Hands on the texts of the opening of a step, where there is one.
@@ -158,8 +148,12 @@ pub(crate) fn hash_proof<T: Transcript>(proof: &Proof, texts: &mut T)
     match proof {
         Proof::Exists(proof) => hash_existence(proof, texts),
         Proof::Precedes(proof) => hash_precedence(proof, texts),
-        Proof::Archived(proof) => hash_archived(proof, texts),
-        Proof::Absent(proof) => hash_absence(proof, texts),
+        Proof::Archived(proof) => {
+            hash_answer(&proof.at, &Ask::Present(proof.entry), &proof.shown, texts)
+        }
+        Proof::Absent(proof) => {
+            hash_answer(&proof.at, &Ask::Absent(proof.key), &proof.shown, texts)
+        }
         Proof::Linked(proof) => {
             hash_path(&proof.path, proof.top, proof.step, &proof.auth, texts)
         }

@@ -2,7 +2,7 @@ use Rattle.std.proofs.Common.{◌-◌, length, ap, sym, ◌∙◌}
 use Rattle.std.specs.Prelude.{slice_get}
 use Rattle.tw_chain.specs.Checks.{start_of}
 use Rattle.tw_chain.proofs.ChainShapes.{last_step-at}
-use Rattle.tw_audit.proofs.ShapeLaws.{last-is}
+use Rattle.tw_chain.proofs.EachCheck.{last-is}
 use Rattle.tw_audit.proofs.proofs.end_step.Goals as goal
 
 pub returns-in-Some : goal.returns-in-Some
