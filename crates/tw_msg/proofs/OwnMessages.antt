@@ -1,12 +1,9 @@
 -- The message that a history has of its last step: there is one, it climbs, and it is spelled. The receipt of a step
 -- likewise.
-use Rattle.std.proofs.Common.{◌≡◌, ℕ, suc, zero, ◌<◌, ◌≤◌, ◌^◌, List, [], ◌∷◌, length, refl, subst, sym, ap, ◌∙◌, lit<}
-use Rattle.std.proofs.Common.{arith}
-use Rattle.std.specs.Prelude.{Bool, true, false, Some, nat_le, remove}
-use Rattle.std.proofs.lemmas.Bool.{leb-false, leb-true}
-use Rattle.std.proofs.Math.Nat.{one-le-pow}
+use Rattle.std.proofs.Common.{◌≡◌, ℕ, ◌<◌, ◌≤◌, List, [], ◌∷◌, length, refl, subst, sym, ap, ◌∙◌, arith}
+use Rattle.std.specs.Prelude.{Some}
 use Rattle.tw_base.specs.declared.history.thread.Thread.{Thread}
-use Rattle.tw_base.specs.history.Auth.{auth, datum_text_at}
+use Rattle.tw_base.specs.history.Auth.{auth}
 use Rattle.tw_base.specs.history.History.{History, step_at, thread_of}
 use Rattle.tw_base.specs.history.Limits.{IsThread}
 use Rattle.tw_base.specs.history.Sound.{IsSound}
@@ -18,10 +15,9 @@ use Rattle.tw_base.proofs.lemmas.history.Trees.{received-sound}
 use Rattle.tw_base.proofs.lemmas.kinds.DigestBytes.{auth-digest}
 use Rattle.tw_skipproof.specs.declared.path.Link.{Link}
 use Rattle.tw_skipproof.specs.Codecs.{path_codec}
-use Rattle.tw_skipproof.specs.HistoryProofs.{IsPathOf, labels_at}
-use Rattle.tw_skipproof.specs.Paths.{Climbs, hop, hop_level}
-use Rattle.tw_skipproof.proofs.Hops.{hop-below}
-use Rattle.tw_skipproof.proofs.OwnPaths.{path-of}
+use Rattle.tw_skipproof.specs.HistoryProofs.{IsPathOf}
+use Rattle.tw_skipproof.specs.Paths.{Climbs, hop}
+use Rattle.tw_skipproof.proofs.OwnPaths.{path-made, path-of}
 use Rattle.tw_skipproof.proofs.PartOf.{path-fits-made}
 use Rattle.tw_msg.specs.declared.message.Message.{Message}
 use Rattle.tw_msg.specs.declared.receipt.Receipt.{Receipt}
@@ -34,27 +30,6 @@ use Rattle.tw_msg.proofs.ThreadBytes.{thread-fits}
 
 module _ (dig : List ℕ → List ℕ) (h : History) where
   -- ---- there is one path, and so one message
-
-  abbrev HasPath : (from to : ℕ) → Type 0
-  HasPath from to = (links : List Link) × IsPathOf dig h links from to
-
-  -- each link leads a step or more down, and not below the lower step
-  path-within : (most from to : ℕ) → from ≤ most → to ≤ from → HasPath from to
-  path-within zero from to few order = ([], omega (arith, few))
-  path-within (suc most) from to few order =
-      let some : 1 ≤ 2 ^ hop_level from to = one-le-pow (hop_level from to) 2 (lit< tt) in
-      by (nat_le from to) refl (λ below. path-within most (hop from to) to (omega (arith, few, below, some))
-      (hop-below from to below))
-    where
-      by : (end : Bool) → nat_le from to ≡ end → (to < from → HasPath (hop from to) to) → HasPath from to
-      by true is onward = ([], leb-true from to is)
-      by false is onward =
-          let below : to < from = leb-false from to is in
-          let rest = onward below in
-          let link : Link =
-          record { datum = dig (datum_text_at dig h from); others = remove (labels_at dig h from) (hop_level from to) }
-          in
-          (link ∷ rest.0, (below, refl, refl, rest.1))
 
   path-one : (links other : List Link) (from to : ℕ) → IsPathOf dig h links from to → IsPathOf dig h other from to
       → links ≡ other
@@ -70,7 +45,7 @@ module _ (dig : List ℕ → List ℕ) (h : History) where
   pub message-there : (since : ℕ) → 0 < length h.steps → since ≤ length h.steps → (m : Message) × IsMessageOf dig h
       since m
   message-there since some order =
-      let path = path-within (length h.steps) (length h.steps) since (omega arith) order in (
+      let path = path-made dig h (length h.steps) since order in (
         record { thread = thread_at_step dig h (length h.steps); since = since; link = record { links = path.0 } },
         record { some = some; earlier = order; thread = refl; at_since = refl; link = path.1 },
       )
