@@ -1,17 +1,17 @@
 -- The events that a stream spells.
-use Rattle.std.proofs.Common.{◌≡◌, ℕ, suc, zero, ◌+◌, ◌<◌, ◌≤◌, List, [], ◌∷◌, ◌++◌, length, take, drop, refl, ap, sym}
-use Rattle.std.proofs.Common.{◌∙◌, arith, subst, append_assoc, length-append, length-take, length-drop}
+use Rattle.std.proofs.Common.{◌≡◌, ℕ, suc, zero, ◌+◌, ◌*◌, ◌<◌, ◌≤◌, List, [], ◌∷◌, ◌++◌, length, take, drop, refl, ap}
+use Rattle.std.proofs.Common.{sym, ◌∙◌, arith, subst, append_assoc, length-append, length-take, length-drop}
 use Rattle.std.specs.Int.{to_be_bytes, from_be_bytes, w32}
-use Rattle.std.proofs.lemmas.List.{drop-drop, append-nil}
+use Rattle.std.proofs.lemmas.List.{drop-drop, append-nil, take_all}
 use Rattle.std.proofs.lemmas.Nat.{from_be_bytes-to_be_bytes_4}
 use Rattle.tw_base.specs.kinds.Bytes.{AreBytes}
-use Rattle.tw_base.specs.declared.kinds.limits.TheConstants.{MOST_EVENT_BYTES}
+use Rattle.tw_base.specs.declared.kinds.limits.TheConstants.{MOST_EVENTS, MOST_EVENT_BYTES, MOST_STEP_BYTES}
 use Rattle.tw_base.specs.kinds.Lists.{Each}
 use Rattle.tw_base.proofs.lemmas.kinds.ByteLemmas.{AreBytes-back, AreBytes-front}
 use Rattle.tw_base.proofs.lemmas.kinds.TextFields.{halves}
 use Rattle.tw_skiplist.specs.ScanSteps.{HasEventAt, IsNoEventAt, SpellsEvents}
 use Rattle.tw_steppage.specs.StepBytes.{stream}
-use Rattle.tw_skiplist.proofs.Streams.{stream-append}
+use Rattle.tw_skiplist.proofs.Streams.{length-stream, stream-append}
 
 abbrev pub AllShort : List (List ℕ) → Type 0
 AllShort events = Each (λ event. length event ≤ MOST_EVENT_BYTES) events
@@ -67,17 +67,20 @@ module _ (bytes : List ℕ) (count at index : ℕ) (events es : List (List ℕ))
       take_drop (suc n) [] = refl
       take_drop (suc n) (x ∷ xs) = ap (λ (t : List ℕ). x ∷ t) (take_drop n xs)
 
-  -- where no event stands although some are to come, the bytes spell none
-  pub no_event : index < count → IsNoEventAt bytes at → ⊥
-  no_event less none = first rest_of.more
-      (omega (
+  -- as many events are to come as the count lacks
+  left : index + length rest_of.more ≡ count
+  left =
+      omega (
         arith,
-        less,
         count_is,
         spells.count_is,
         ap (λ (l : List (List ℕ)). length l) rest_of.all,
         length-append events rest_of.more,
-      )) rest_of.rest_is
+      )
+
+  -- where no event stands although some are to come, the bytes spell none
+  pub no_event : index < count → IsNoEventAt bytes at → ⊥
+  no_event less none = first rest_of.more (omega (arith, less, left)) rest_of.rest_is
       (each_of events rest_of.more (subst AllShort rest_of.all spells.limits.are.sizes))
     where
       each_of : (xs ys : List (List ℕ)) → AllShort (xs ++ ys) → AllShort ys
@@ -91,19 +94,38 @@ module _ (bytes : List ℕ) (count at index : ℕ) (events es : List (List ℕ))
   -- when all are taken, nothing is left, and the events are these
   pub all_taken : index ≡ count → (at ≡ length bytes) × (events ≡ es)
   all_taken done =
-      let none : rest_of.more ≡ [] = length-none rest_of.more
-      (omega (
-        arith,
-        done,
-        count_is,
-        spells.count_is,
-        ap (λ (l : List (List ℕ)). length l) rest_of.all,
-        length-append events rest_of.more,
-      )) in
-      let left : length (drop at bytes) ≡ 0 = ap (λ (t : List ℕ). length t) (rest_of.rest_is ∙ ap stream none) in (
-        omega (arith, left, length-drop at bytes, within),
+      let none : rest_of.more ≡ [] = length-none rest_of.more (omega (arith, done, left)) in
+      let empty : length (drop at bytes) ≡ 0 = ap (λ (t : List ℕ). length t) (rest_of.rest_is ∙ ap stream none) in (
+        omega (arith, empty, length-drop at bytes, within),
         sym (rest_of.all ∙ ap (λ (m : List (List ℕ)). events ++ m) none ∙ append-nil events),
       )
+
+  -- when all are taken, they end where the bytes do, and aren't too long together
+  pub not_ended : index ≡ count → (at ≡ length bytes → at ≤ 4 * count + MOST_STEP_BYTES → ⊥) → ⊥
+  not_ended done wrong =
+      let end = (all_taken done).0 in
+      let size : length (stream es) ≡ length bytes = ap (λ (t : List ℕ). length t) spells.stream_is in
+      wrong end (omega (arith, length-stream es, size, end, spells.count_is, spells.limits.fit))
+
+-- all events are taken, and end where the bytes do
+pub ended : (bytes : List ℕ) (count at index : ℕ) (events : List (List ℕ)) → stream events ≡ take at bytes
+    → length events ≡ index → AllShort events → index ≡ count → at ≡ length bytes → count ≤ MOST_EVENTS
+    → at ≤ 4 * count + MOST_STEP_BYTES → AreBytes bytes → SpellsEvents bytes count events
+ended bytes count at index events so_far count_is sizes done end few fits bytes_are =
+    let spelt : stream events ≡ bytes = so_far ∙ take_all at bytes (omega (arith, end)) in
+    let size : length (stream events) ≡ length bytes = ap (λ (t : List ℕ). length t) spelt in
+    record {
+      stream_is = spelt;
+      count_is = count_is ∙ done;
+      limits = record {
+        are = record {
+          count = omega (arith, count_is, done, few);
+          sizes = sizes;
+          bytes = spelled_bytes events (subst AreBytes (sym spelt) bytes_are);
+        };
+        fit = omega (arith, length-stream events, size, count_is, done, end, fits);
+      };
+    }
 
 -- ---- one more event
 
