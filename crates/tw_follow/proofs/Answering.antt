@@ -22,7 +22,7 @@ use Rattle.tw_base.specs.declared.history.refusal.FollowRefusal.TheVariants.{Mal
 use Rattle.tw_base.specs.declared.history.refusal.FollowRefusal.TheVariants.{NoMemory}
 use Rattle.tw_follow.specs.declared.root.RootRecord.{RootRecord}
 use Rattle.tw_follow.specs.Calls.{Offers, TellsHeads}
-use Rattle.tw_follow.specs.Writing.{moved_to}
+use Rattle.tw_follow.specs.Writing.{IsAnsweredTo, IsMovedBy, moved_to}
 use Rattle.tw_follow.specs.Follows.{Follows, HasSameDisk, IsOver, disk_of, has_failed, head_of, pages_of, record_of}
 use Rattle.tw_follow.specs.HeadLists.{HasHead, Kept, RiseTo, with_head}
 use Rattle.tw_follow.specs.HeadPages.{found_heads}
@@ -30,6 +30,7 @@ use Rattle.tw_follow.specs.Offers.{AnswersOffer, JudgesOffer, answer_to, judged_
 use Rattle.tw_follow.specs.Refusals.{IsFollowerFault, follower_refusals}
 use Rattle.tw_follow.specs.Runs.{MovesBy}
 use Rattle.tw_follow.specs.Stands.{KeepsList, StandsFor, StandsForOneOf, root_kind}
+use Rattle.tw_pages.specs.Commits.{Commits}
 use Rattle.tw_pages.specs.Records.{IsOneOf, IsWritten, Written, written_record}
 use Rattle.tw_pages.specs.Rests.{RestsWith}
 use Rattle.tw_pages.specs.States.{ServesState}
@@ -269,6 +270,27 @@ module _ {D H : Type 0} {g : _} {k : _} (view : D → DiskView) (only_now : (d :
               (sym done.0) (keeps_next kept follows);
         }
 
+    -- whatever the pages keep, the record and pages with the head are next
+    commits : (result : Result Thread FollowRefusal) (Done : Written RootRecord → Type 0) → IsWrittenBy Done
+        → (ps : Image) → IsOver dig view old ps
+        → IfOk result (λ thread. IsAnsweredTo dig bytes thread (written_record (record_of old) ps)
+        (moved_to (written_record (record_of old) ps) head)
+        × (record_of new ≡ (moved_to (written_record (record_of old) ps) head).root)
+        × RestsWith view (root_kind dig) new.recorded.store (moved_to (written_record (record_of old) ps) head))
+        → IfErr result (λ e. (e ≡ DiskFault) ⊎ (RestsWith view (root_kind dig) new.recorded.store
+        (written_record (record_of old) ps) × LeavesOnly (view (disk_of old)) (view (disk_of new))
+        (IsWritten (root_kind dig) (written_record (record_of old) ps))))
+        → Commits view (root_kind dig) DiskFault (IsMovedBy dig bytes) (IsAnsweredTo dig bytes) old.recorded.store
+        new.recorded.store (record_of old) (record_of new) result ps
+    commits result Done writes ps over done refused = record {
+      next = moved_to (written_record (record_of old) ps) head;
+      is_next = inr (head, judges, refl);
+      any_moment = (writes ps over).0;
+      told = (writes ps over).1;
+      done = done;
+      refused = refused;
+    }
+
     by : (kept : Kept) → Follows dig view old kept → MovesBy dig kept bytes judges.0 (with_head kept head)
     by kept follows =
         let same = rest_head view only_now dig old.recorded.store old.recorded.root kept follows in
@@ -297,15 +319,9 @@ module _ {D H : Type 0} {g : _} {k : _} (view : D → DiskView) (only_now : (d :
         refused = tt;
       };
       written = λ ps over.
-          let it = writes ps over in
-          record {
-            next = moved_to (written_record (record_of old) ps) head;
-            is_next = inr (head, judges, refl);
-            any_moment = it.0;
-            told = it.1;
-            done = ((Moves head, judges, heads.0, refl), it.2.0, it.2.1);
-            refused = tt;
-          };
+          let done = (writes ps over).2 in
+          commits (Ok thread) (λ w. (record_of new ≡ w.root) × RestsWith view (root_kind dig) new.recorded.store w)
+          writes ps over ((Moves head, judges, heads.0, refl), done.0, done.1) tt;
       head = (heads.0 ∙ sym heads.1, ap (λ (t : Thread). t.from) (heads.0 ∙ is.thread_is) ∙ is.from);
       same = λ e. absurd (later_differs (ap (λ (t : Thread). t.step) (sym (heads.0 ∙ is.thread_is) ∙ e)));
       kept = tt;
@@ -343,20 +359,12 @@ module _ {D H : Type 0} {g : _} {k : _} (view : D → DiskView) (only_now : (d :
           read_leaves view only_now dig old.recorded.store new.recorded.store old.recorded.root kept same follows,
         )) kept_is.1;
       };
-      written = λ ps over.
-          let it = writes ps over in
-          record {
-            next = moved_to (written_record (record_of old) ps) head;
-            is_next = inr (head, judges, refl);
-            any_moment = it.0;
-            told = it.1;
-            done = tt;
-            refused = ⊎_elim (λ e. inl e) (λ same. inr (
-              still_rests view (root_kind dig) old.recorded.store new.recorded.store
-                  (written_record old.recorded.root ps) same over,
-              same_leaves view only_now dig old.recorded.store new.recorded.store old.recorded.root ps same over,
-            )) kept_is.1;
-          };
+      written = λ ps over. commits (Err r) (λ w. Unit {0}) writes ps over tt
+          (⊎_elim (λ e. inl e) (λ same. inr (
+            still_rests view (root_kind dig) old.recorded.store new.recorded.store
+                (written_record old.recorded.root ps) same over,
+            same_leaves view only_now dig old.recorded.store new.recorded.store old.recorded.root ps same over,
+          )) kept_is.1);
       head = tt;
       same = tt;
       kept = kept_is.0;

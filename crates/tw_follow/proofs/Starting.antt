@@ -3,7 +3,6 @@ use Rattle.std.proofs.Common.{◌≡◌, ℕ, ◌≤◌, List, [], refl, sym, ar
 use Rattle.tw_base.specs.kinds.Names.{IsName}
 use Rattle.tw_base.specs.kinds.Texts.{genesis_text}
 use Rattle.tw_base.proofs.lemmas.kinds.DigestBytes.{IsDigest}
-use Rattle.tw_disk.specs.Image.{Image}
 use Rattle.tw_follow.specs.declared.root.RootRecord.{RootRecord}
 use Rattle.tw_follow.specs.HeadLists.{no_heads}
 use Rattle.tw_follow.specs.Roots.{IsAllowed}
@@ -11,12 +10,16 @@ use Rattle.tw_follow.specs.Stands.{KeepsList}
 use Rattle.tw_follow.proofs.Lists.{found-none}
 use Rattle.tw_follow.proofs.Spelling.{root-fits}
 
+-- the record of a follower that begins
+abbrev pub begun : (name auth : List ℕ) → RootRecord
+begun name auth = record { head = record { from = name; step = 0; auth = auth }; page = 0 }
+
+pub keeps_none : (name auth : List ℕ) → KeepsList [] (begun name auth) (no_heads name)
+keeps_none name auth = record { named = refl; found = found-none [] (begun name auth) refl }
+
 module _ (dig : List ℕ → List ℕ) (size : (text : List ℕ) → IsDigest (dig text)) (r : RootRecord)
     (is_name : IsName r.head.from) (first : r.head.step ≡ 0) (no_page : r.page ≡ 0)
     (label : r.head.auth ≡ dig (genesis_text r.head.from)) where
-  pub keeps_none : (pages : Image) → KeepsList pages r (no_heads r.head.from)
-  keeps_none pages = record { named = refl; found = found-none pages r first }
-
   pub may_none : (generation : ℕ) → generation ≤ 1 → IsAllowed dig 4 generation r
   may_none generation low = record {
     spelled = root-fits r is_name (omega (arith, first)) (subst IsDigest (sym label) (size (genesis_text r.head.from)))
