@@ -93,8 +93,12 @@ begun bytes made script true text none empty left whole within =
     (subst (λ (t : List ℕ). AreRead bytes nothing_made [] 0 (line_texts t)) (sym whole) (none-read bytes within)))
 begun bytes made script false text none empty left whole within = absurd (cc)
 
-module _ (bytes : List ℕ) (made : Made) (script : List NumberedLine) (number : ℕ) (text : List ℕ) (left : List (List ℕ))
-    (before : AreRead bytes made script number (text ∷ left)) where
+-- where a text is the first of those that are left
+module _ {bytes : List ℕ} {made : Made} {script : List NumberedLine} {number : ℕ} {text : List ℕ}
+    {texts left : List (List ℕ)} (so_far : AreRead bytes made script number texts) (is : texts ≡ text ∷ left) where
+  before : AreRead bytes made script number (text ∷ left)
+  before = subst (λ (ts : List (List ℕ)). AreRead bytes made script number ts) is so_far
+
   -- the next number
   up : suc number ≡ number + 1
   up = omega arith
@@ -130,8 +134,9 @@ module _ (bytes : List ℕ) (made : Made) (script : List NumberedLine) (number :
   stops-at NoMemory after told free = tt
 
 -- all are read
-pub all-read : (bytes : List ℕ) (made : Made) (script : List NumberedLine) (number : ℕ) → AreRead bytes made script
-    number [] → read_lines nothing_made 1 (line_texts bytes) ≡ Ok script
-all-read bytes made script number before =
-    before.read ∙ ap (ahead script) (read-none made (suc number)) ∙ ap (λ (lines : List NumberedLine). Ok lines)
+pub all-read : {bytes : List ℕ} {made : Made} {script : List NumberedLine} {number : ℕ} {texts : List (List ℕ)}
+    → AreRead bytes made script number texts → texts ≡ [] → read_lines nothing_made 1 (line_texts bytes) ≡ Ok script
+all-read {made = made} {script = script} {number = number} so_far none =
+    so_far.read ∙ ap (λ (ts : List (List ℕ)). ahead script (read_lines made (suc number) ts)) none
+    ∙ ap (ahead script) (read-none made (suc number)) ∙ ap (λ (lines : List NumberedLine). Ok lines)
     (append-nil script)

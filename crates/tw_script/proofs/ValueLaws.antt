@@ -28,25 +28,28 @@ module _ {V : Type 0} (part : List ℕ → Option V) where
   pub none-taken : (all : List (List ℕ)) → AreTaken all all []
   none-taken all = record { are = sym (behind-none (all_values part all)) }
 
-  module _ (all left : List (List ℕ)) (values : List V) where
-    pub more-taken : (word : List ℕ) (v : V) → AreTaken all (word ∷ left) values → part word ≡ Some v
-        → AreTaken all left (values ++ v ∷ [])
-    unfolding all_values
-    more-taken word v before some = record {
-      are = before.are ∙ rw some (behind-one values v (all_values part left));
-    }
+  -- where a word is the first of those that are left
+  module _ {all words left : List (List ℕ)} {values : List V} {word : List ℕ} (before : AreTaken all words values)
+      (is : words ≡ word ∷ left) where
+    now : all_values part all ≡ behind values (all_values part (word ∷ left))
+    now = before.are ∙ ap (λ (ws : List (List ℕ)). behind values (all_values part ws)) is
 
-    pub taken-stops : (word : List ℕ) → AreTaken all (word ∷ left) values → part word ≡ None
-        → all_values part all ≡ None
+    pub more-taken : (v : V) → part word ≡ Some v → AreTaken all left (values ++ v ∷ [])
     unfolding all_values
-    taken-stops word before none = before.are ∙ rw none refl
+    more-taken v some = record { are = now ∙ rw some (behind-one values v (all_values part left)) }
 
-    pub stop-taken : {Y Z : Type 0} (view : Y → V) (views : Z → List V) (word : List ℕ) (stop : Stop)
-        → AreTaken all (word ∷ left) values
+    pub taken-stops : part word ≡ None → all_values part all ≡ None
+    unfolding all_values
+    taken-stops none = now ∙ rw none refl
+
+    pub stop-taken : {Y Z : Type 0} (view : Y → V) (views : Z → List V) (stop : Stop)
         → ReadsWords (part word) view (Err stop) → ReadsWords (all_values part all) views (Err stop)
-    stop-taken view views word NotAllowed before none = taken-stops word before none
-    stop-taken view views word NoMemory before free = tt
+    stop-taken view views NotAllowed none = taken-stops none
+    stop-taken view views NoMemory free = tt
 
-  pub all-taken : (all : List (List ℕ)) (values : List V) → AreTaken all [] values → all_values part all ≡ Some values
+  pub all-taken : {all words : List (List ℕ)} {values : List V} → AreTaken all words values → words ≡ []
+      → all_values part all ≡ Some values
   unfolding all_values
-  all-taken all values before = before.are ∙ ap (λ (vs : List V). Some vs) (append-nil values)
+  all-taken {values = values} before none =
+      before.are ∙ ap (λ (ws : List (List ℕ)). behind values (all_values part ws)) none
+      ∙ ap (λ (vs : List V). Some vs) (append-nil values)

@@ -13,7 +13,7 @@ use crate::made::Made;
 use crate::parts::Parts;
 use crate::stop::Stop;
 use std::alloc::Global;
-use tw_base::{NoMemory, Sequence};
+use tw_base::Sequence;
 
 /// A line with its number in the file, counted from 1.
 #[derive(Drop, Debug)]
@@ -34,17 +34,6 @@ pub enum ScriptFault {
     TooLong { line: u64 },
     /// There was no memory for the lines.
     NoMemory,
-}
-
-impl From<NoMemory> for ScriptFault {
-    ghost use Rattle.std.specs.Prelude.{◌≡◌};
-    ghost use Rattle.tw_script.specs.declared.script.ScriptFault.TheVariants.{NoMemory as WantedMemory};
-
-    ghost from_gives = { λ _ fault. fault ≡ WantedMemory };
-
-    fn from(_refused: NoMemory) -> Self {
-        ScriptFault::NoMemory
-    }
 }
 
 /// The script of a file: lines of words with one blank between, each ended by one line feed, which the last may lack. An
@@ -91,7 +80,10 @@ fn read_lines(alloc: Global, bytes: &[u8]) -> Result<Script, ScriptFault>
                 Ok(line) => line,
                 Err(stop) => return Err(fault_at(number, stop)),
             };
-            script.push(NumberedLine { number, line })?;
+            match script.push(NumberedLine { number, line }) {
+                Ok(()) => {}
+                Err(_) => return Err(ScriptFault::NoMemory),
+            }
         }
     }
     Ok(script)
