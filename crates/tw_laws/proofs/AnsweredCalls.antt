@@ -3,6 +3,7 @@ use Rattle.std.proofs.Common.{◌≡◌, ◌⊎◌, ◌∙◌, ℕ, List, arith,
 use Rattle.std.proofs.lemmas.Bool.{cases_eq}
 use Rattle.std.specs.Prelude.{◌↔◌, IsTrue, Result, Ok, Err, IsErr, IfErr, IfOk, IsErrAnd, OnErr, MatchOption}
 use Rattle.std.specs.Prelude.{MatchResult, Option, Some, slice_index}
+use Rattle.tw_base.specs.format.Formats.{Spells, SpellsNothing}
 use Rattle.tw_base.specs.history.History.{History}
 use Rattle.tw_disk.specs.Disk.{DiskView, LeavesOnly}
 use Rattle.tw_disk.specs.Image.{Image, page_at}
@@ -15,21 +16,21 @@ use Rattle.tw_base.specs.declared.history.refusal.Refusal.{Refusal}
 use Rattle.tw_base.specs.declared.history.refusal.Refusal.TheVariants.{BadPage, DiskFault, Malformed, NoMemory, Reopen}
 use Rattle.tw_answers.specs.declared.root.RootRecord.{RootRecord}
 use Rattle.tw_service.specs.declared.service.Service.{Service}
+use Rattle.tw_msg.specs.Messages.{message_layout}
 use Rattle.tw_msg.specs.declared.message.Message.{Message}
 use Rattle.tw_msg.specs.declared.receipt.Receipt.{Receipt}
-use Rattle.tw_service.specs.Adding.{CallSteps, Receives}
+use Rattle.tw_service.specs.Adding.{CallSteps, Receives, ReceivesBytes}
 use Rattle.tw_service.specs.Machine.{AnswersByMachine, Call, IsStepOf, NextOf, Reply}
 use Rattle.tw_service.specs.Machine.Call.{Receive}
 use Rattle.tw_service.specs.Machine.Reply.{OfReceipt}
 use Rattle.tw_service.specs.Receiving.{RefusesNoMessage}
 use Rattle.tw_service.specs.Serves.{HasSameDisk, Serves, disk_of, has_failed, head_of, name_of, record_of}
 use Rattle.tw_service.specs.Stands.{StandsFor, StandsForOneOf}
-use Rattle.tw_answers.specs.Limits.{append_refusal, broken_refusal, link_refusal, order_refusal, own_refusal}
-use Rattle.tw_answers.specs.Limits.{thread_refusal, top_refusal}
+use Rattle.tw_answers.specs.Limits.{append_refusal, link_refusal, order_refusal, own_refusal, thread_refusal}
+use Rattle.tw_answers.specs.Limits.{top_refusal}
 use Rattle.tw_base.specs.declared.history.question.Question.{Question}
 use Rattle.tw_base.specs.declared.history.question.Question.TheVariants as ask
 use Rattle.tw_service.specs.Questions.{question_refusal}
-use Rattle.tw_service.specs.Tops.{top_or_last}
 use Rattle.tw_service.proofs.Serving.{rest_for_good}
 use Rattle.tw_laws.specs.Published.{IsReplyTo}
 use Rattle.tw_pages.specs.Disks.{IsLeft}
@@ -47,33 +48,11 @@ module _ {X : Type 0} (answer : Result X Refusal) (Else : Type 0) where
   append_reopens true steps clock events time says failed = says
   append_reopens false steps clock events time says failed = absurd cc
 
-  pub broken_reopens : (broken : Bool) → Says (broken_refusal broken) → IsTrue broken → answer ≡ Err Reopen
-  broken_reopens true says failed = says
-  broken_reopens false says failed = absurd cc
-
   pub thread_reopens : (broken : Bool) (last since : ℕ) → Says (thread_refusal broken last since) → IsTrue broken
       → answer ≡ Err Reopen
   unfolding thread_refusal
   thread_reopens true last since says failed = says
   thread_reopens false last since says failed = absurd cc
-
-  pub link_reopens : (broken : Bool) (last step top : ℕ) → Says (link_refusal broken last step top) → IsTrue broken
-      → answer ≡ Err Reopen
-  unfolding link_refusal
-  link_reopens true last step top says failed = says
-  link_reopens false last step top says failed = absurd cc
-
-  pub order_reopens : (broken : Bool) (last step top : ℕ) → Says (order_refusal broken last step top) → IsTrue broken
-      → answer ≡ Err Reopen
-  unfolding order_refusal
-  order_reopens true last step top says failed = says
-  order_reopens false last step top says failed = absurd cc
-
-  pub top_reopens : (broken : Bool) (last top : ℕ) → Says (top_refusal broken last top) → IsTrue broken
-      → answer ≡ Err Reopen
-  unfolding top_refusal
-  top_reopens true last top says failed = says
-  top_reopens false last top says failed = absurd cc
 
   pub own_reopens : (broken : Bool) (own from : List ℕ) → Says (own_refusal broken own from) → IsTrue broken
       → answer ≡ Err Reopen
@@ -83,15 +62,10 @@ module _ {X : Type 0} (answer : Result X Refusal) (Else : Type 0) where
 
   pub question_reopens : (broken : Bool) (last : ℕ) (q : Question) → Says (question_refusal broken last q)
       → IsTrue broken → answer ≡ Err Reopen
-  unfolding question_refusal
-  question_reopens broken last (ask.Event step index top) = order_reopens broken last step (top_or_last top last)
-  question_reopens broken last (ask.Thread step key top) = order_reopens broken last step (top_or_last top last)
-  question_reopens broken last (ask.Absent step key top) = order_reopens broken last step (top_or_last top last)
-  question_reopens broken last (ask.Link step top) = link_reopens broken last step (top_or_last top last)
-  question_reopens broken last (ask.Low step peer top) = order_reopens broken last step (top_or_last top last)
-  question_reopens broken last (ask.High step peer top) = top_reopens broken last (top_or_last top last)
-  question_reopens broken last (ask.ThreadOut since) = thread_reopens broken last since
-  question_reopens broken last ask.Export = broken_reopens broken
+  unfolding question_refusal order_refusal link_refusal top_refusal thread_refusal
+  question_reopens true last ask.Export says failed = says
+  question_reopens true last _ says failed = says
+  question_reopens false last q says failed = absurd cc
 
 pub weaker : {T E : Type 0} (result : Result T E) (P Q : Type 0) → (P → Q) → OnErr result P → OnErr result Q
 weaker (Ok x) P Q step is = tt
@@ -157,27 +131,28 @@ module _ {D H : Type 0} {g : _} {k : _} (dig : List ℕ → List ℕ) (view : D 
   answers_as h Reopen a = a
   answers_as h _ a = a
 
+  -- a fact of an answer is one of its reply
+  done_as : (result : Result T Refusal) (P : Reply → Type 0) → IfOk result (λ value. P (reply value))
+      → IfOk (replied reply result) P
+  done_as (Ok x) P is = is
+  done_as (Err r) P is = is
+
+  refused_as : (result : Result T Refusal) (P Q : Refusal → Type 0) → ((r : Refusal) → P r → Q r) → IfErr result P
+      → IfErr (replied reply result) Q
+  refused_as (Ok x) P Q step is = is
+  refused_as (Err r) P Q step is = step r is
+
   steps_as : (result : Result T Refusal) (h : History) → CallSteps dig view call reply old new result h
       → CallSteps dig view call (λ (x : Reply). x) old new (replied reply result) h
-  steps_as (Ok x) h s =
+  steps_as result h s =
       record {
         next = s.next;
         is_next = s.is_next;
         any_moment = s.any_moment;
         told = s.told;
-        done = s.done;
-        refused = tt;
-        machine = λ whole. tt;
-      }
-  steps_as (Err r) h s =
-      record {
-        next = s.next;
-        is_next = s.is_next;
-        any_moment = s.any_moment;
-        told = s.told;
-        done = tt;
-        refused = s.refused;
-        machine = λ whole. answers_as h r (s.machine whole);
+        done = done_as result (λ (y : Reply). IsStepOf dig h call y s.next × Serves dig view new s.next) s.done;
+        refused = refused_as result _ _ (λ r is. is) s.refused;
+        machine = λ whole. refused_as result _ _ (λ r is. answers_as h r is) (s.machine whole);
       }
 
   abbrev Remembers : Result T Refusal → Type 0
@@ -244,10 +219,27 @@ module _ {D H : Type 0} {g : _} {k : _} (dig : List ℕ → List ℕ) (view : D 
         let a = machine is h served in
         subst (λ (n : History). IsStepOf dig h call (reply x) n) (only h a.0 (reply x) a.1) a.1
 
+    done_by : (result : Result T Refusal) → (IsTrue (has_failed old) → result ≡ Err Reopen) → Is_step result
+        → (h : History) → Serves dig view old h → Serves dig view new h
+        → IfOk result (λ value. IsStepOf dig h call (reply value) h × Serves dig view new h)
+    done_by (Ok x) reopen machine h served on = (answered (has_failed old) refl x reopen machine h served, on)
+    done_by (Err r) reopen machine h served on = tt
+
+    machine_by : (result : Result T Refusal) (h : History) → AnswersByMachine dig h call reply result
+        (Serves dig view new)
+        → IfErr result (λ refusal. AnswersByMachine dig h call reply (Err refusal) (Serves dig view new))
+    machine_by (Ok x) h answers = tt
+    machine_by (Err r) h answers = answers
+
+    -- what holds after each answer holds after a refusal but a disk fault
+    refused_by : (result : Result T Refusal) (P : Type 0) → P → IfErr result (λ refusal. (refusal ≡ DiskFault) ⊎ P)
+    refused_by (Ok x) P is = tt
+    refused_by (Err r) P is = inr is
+
     read_steps : (result : Result T Refusal) → (IsTrue (has_failed old) → result ≡ Err Reopen) → Is_step result
         → Serves_on → record_of new ≡ record_of old
         → (h : History) → Serves dig view old h → CallSteps dig view call reply old new result h
-    read_steps (Ok x) reopen machine same kept h served =
+    read_steps result reopen machine same kept h served =
         let on = same h served in
         let rest = rest_for_good view only_now dig new.recorded.kept.store new.recorded.kept.root h on.0 in
         record {
@@ -260,35 +252,14 @@ module _ {D H : Type 0} {g : _} {k : _} (dig : List ℕ → List ℕ) (view : D 
             told = rest.told;
             has = inl (subst (λ (r : RootRecord). StandsFor dig rest.image r.name h) kept rest.has);
           };
-          done = (answered (has_failed old) refl x reopen machine h served, on.0);
-          refused = tt;
-          machine = λ whole. tt;
-        }
-    read_steps (Err r) reopen machine same kept h served =
-        let on = same h served in
-        let rest = rest_for_good view only_now dig new.recorded.kept.store new.recorded.kept.root h on.0 in
-        record {
-          next = h;
-          is_next = stays h;
-          any_moment = leaves_weaker (view (disk_of old)) (view (disk_of new)) (λ i. StandsFor dig i (name_of old) h)
-              (StandsForOneOf dig (name_of old) h h) (λ c s. inl s) on.1;
-          told = record {
-            image = rest.image;
-            told = rest.told;
-            has = inl (subst (λ (r : RootRecord). StandsFor dig rest.image r.name h) kept rest.has);
-          };
-          done = tt;
-          refused = inr on;
-          machine = λ whole. machine whole h served;
+          done = done_by result reopen machine h served on.0;
+          refused = refused_by result _ on;
+          machine = λ whole. machine_by result h (machine whole h served);
         }
 
     kept_by : (result : Result T Refusal) → record_of new ≡ record_of old → Keeps result
     kept_by (Ok x) kept = tt
     kept_by (Err r) kept = (ap (λ (r : RootRecord). r.head) kept, ap (λ (r : RootRecord). r.name) kept)
-
-    unwritten_by : (result : Result T Refusal) → HasSameDisk view old new → LeavesUnwritten result
-    unwritten_by (Ok x) same = tt
-    unwritten_by (Err r) same = inr same
 
     pub reads : (kind : (x : T) → IsReplyTo call (reply x)) (result : Result T Refusal) → (IsTrue (has_failed old)
         → result ≡ Err Reopen) → Is_step result → Serves_on → record_of new ≡ record_of old → HasSameDisk view old new
@@ -296,7 +267,7 @@ module _ {D H : Type 0} {g : _} {k : _} (dig : List ℕ → List ℕ) (view : D 
         → IsCallAnswered dig view call (replied reply result) old new
     reads kind result reopen machine same kept unwritten broken =
         adds kind result (read_steps result reopen machine same kept) reopen broken (kept_by result kept)
-        (unwritten_by result unwritten)
+        (refused_by result _ unwritten)
 
 -- ---- receiving
 
@@ -304,23 +275,32 @@ is_refused : (result : Result Receipt Refusal) (refusal : Refusal) → result �
 is_refused (Ok receipt) refusal is = absurd cc
 is_refused (Err r) refusal is = refl
 
--- bytes that are no message are refused
-pub refuses_bytes : (broken : Bool) (bytes : List ℕ) (result : Result Receipt Refusal) → RefusesNoMessage broken bytes
+bytes_refused : (broken : Bool) (bytes : List ℕ) (result : Result Receipt Refusal) → RefusesNoMessage broken bytes
     result → IsErr result
-refuses_bytes true bytes result is = is_refused result Reopen is
-refuses_bytes false bytes result (inl is) = is_refused result NoMemory is
-refuses_bytes false bytes result (inr is) = is_refused result (Malformed is.0) is.1
+bytes_refused true bytes result is = is_refused result Reopen is
+bytes_refused false bytes result (inl is) = is_refused result NoMemory is
+bytes_refused false bytes result (inr is) = is_refused result (Malformed is.0) is.1
 
-module _ {D H : Type 0} {g : _} {k : _} (dig : List ℕ → List ℕ) (view : D → DiskView) (m : Message) (time : Option ℕ)
-    (old new : Service D H g k) where
-  received_kept : (result : Result Receipt Refusal) → OnErr result (record_of new ≡ record_of old)
-      → OnErr result ((head_of new ≡ head_of old) × (name_of new ≡ name_of old))
-  received_kept result kept =
+module _ {D H : Type 0} {g : _} {k : _} (dig : List ℕ → List ℕ) (view : D → DiskView) (bytes : List ℕ)
+    (time : Option ℕ) (old new : Service D H g k) (result : Result Receipt Refusal)
+    (of : ReceivesBytes dig view bytes time old new result) where
+  -- bytes that are no message are refused
+  pub refuses_bytes : SpellsNothing message_layout bytes → IsErr result × (new ≡ old)
+  refuses_bytes none = let no = of.malformed none in (bytes_refused (has_failed old) bytes result no.0, no.1)
+
+  received_kept : OnErr result (record_of new ≡ record_of old) → OnErr result ((head_of new ≡ head_of old)
+      × (name_of new ≡ name_of old))
+  received_kept kept =
       weaker result _ _ (λ same. (ap (λ (r : RootRecord). r.head) same, ap (λ (r : RootRecord). r.name) same)) kept
 
-  pub received : (result : Result Receipt Refusal) → Receives dig view m time old new result → IsCallAnswered dig view
-      (Receive m time) (replied (λ (r : Receipt). OfReceipt r) result) old new
-  received result a =
+  abbrev Answers : Message → Type 0
+  Answers m = IsCallAnswered dig view (Receive m time) (replied (λ (r : Receipt). OfReceipt r) result) old new
+
+  received_as : (m : Message) → Receives dig view m time old new result → Answers m
+  received_as m a =
       adds dig view (Receive m time) (λ (r : Receipt). OfReceipt r) old new (λ r. tt) result a.steps
-      (own_reopens result _ (has_failed old) (name_of old) m.thread.from a.table) a.broken (received_kept result a.kept)
+      (own_reopens result _ (has_failed old) (name_of old) m.thread.from a.table) a.broken (received_kept a.kept)
       a.unwritten
+
+  pub received : (m : Message) → Spells message_layout bytes m → ((result ≡ Err NoMemory) × (new ≡ old)) ⊎ Answers m
+  received m spells = ⊎_elim (λ none. inl (none.1, none.2)) (λ is. inr (received_as m is)) (of.message m spells)

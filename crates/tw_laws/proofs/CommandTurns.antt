@@ -1,7 +1,7 @@
 -- What each command leaves of a disk whose images go on from one history, and that it publishes a thread of the history
 -- that is then there.
 use Rattle.std.proofs.Common.{◌≡◌, ◌∙◌, ℕ, List, ap, sym, subst, ⊎_elim}
-use Rattle.std.specs.Prelude.{Option, Some, Result, Ok, Err}
+use Rattle.std.specs.Prelude.{Some, Result, Ok, Err}
 use Rattle.sha2.specs.Sha256.{sha256}
 use Rattle.tw_base.specs.declared.history.question.Question.{Question}
 use Rattle.tw_base.specs.declared.history.question.Question.TheVariants as ask
@@ -9,23 +9,20 @@ use Rattle.tw_base.specs.declared.history.thread.Thread.{Thread}
 use Rattle.tw_base.specs.history.History.{History}
 use Rattle.tw_disk.specs.Disk.{DiskView}
 use Rattle.tw_disk.specs.Image.{Image}
-use Rattle.tw_msg.specs.declared.receipt.Receipt.{Receipt}
 use Rattle.tw_pages.specs.Slots.{IsTaken}
 use Rattle.tw_service.specs.Machine.{Call, NextOf, last_thread}
 use Rattle.tw_service.specs.Machine.Call.{Append as Appending, Ask, Receive as Receiving}
 use Rattle.tw_service.specs.Machine.Reply.{OfBytes, OfReceipt}
 use Rattle.tw_service.specs.Stands.{StandsFor}
 use Rattle.tw_text.specs.declared.fault.CommandFault.{CommandFault}
-use Rattle.tw_diskcmd.specs.Appending.{AppendComes, AppendLeaves, AppendSafe, AreEventsOf}
+use Rattle.tw_diskcmd.specs.Appending.{AreEventsOf}
 use Rattle.tw_diskcmd.specs.Asking.{AskComes}
 use Rattle.tw_pages.specs.Disks.{AddsSafe, OneOf}
 use Rattle.tw_pages.proofs.AtRest.{untouched_left}
 use Rattle.tw_diskcmd.specs.Comes.{FoundDisk}
 use Rattle.tw_diskcmd.specs.Files.{IsMessageIn}
-use Rattle.tw_diskcmd.specs.Disks.{IsImageOfHistory, IsLeft, NextBy, ReadLeavesHistory, ReadsAsHistory, RestsAtHistory}
+use Rattle.tw_diskcmd.specs.Disks.{IsImageOfHistory, IsLeft, NextBy, ReadsAsHistory, RestsAtHistory}
 use Rattle.tw_diskcmd.specs.Disks.{StandsAtHistory}
-use Rattle.tw_diskcmd.specs.Init.{InitComes, InitLeaves}
-use Rattle.tw_diskcmd.specs.Receiving.{ReceiveComes, ReceiveLeaves, ReceiveSafe}
 use Rattle.tw_diskcmd.proofs.AtRest.{own_name, stands_taken}
 use Rattle.tw_diskcmd.proofs.CommandLaws.{asking_is_safe}
 use Rattle.tw_words.specs.declared.command.Command.{Command}
@@ -33,8 +30,7 @@ use Rattle.tw_words.specs.declared.command.Command.TheVariants as command
 use Rattle.tw_app.specs.declared.outcome.Outcome.{Outcome}
 use Rattle.tw_app.specs.declared.outcome.Outcome.TheVariants.{Made, Received, Written, Undone}
 use Rattle.tw_app.specs.Around.{Outside, found_around}
-use Rattle.tw_app.specs.Outcomes.{outcome_by}
-use Rattle.tw_app.specs.Running.{asking, work}
+use Rattle.tw_app.specs.Running.{IsOutcomeOf, asking, work}
 use Rattle.tw_app.proofs.Commands.{rows}
 use Rattle.tw_laws.specs.Published.{IsInAnswer, IsThreadOf}
 use Rattle.tw_laws.proofs.Threads.{last_own, next_has, next_name, told_own}
@@ -49,6 +45,13 @@ same_made t u is = cc
 
 pub made_undone : (t : Thread) (f : CommandFault) → Made t ≡ Undone f → ⊥
 made_undone t f is = cc
+
+-- what holds of the outcome of each result holds of what came
+by_outcome : {X : Type 0} {May : Result X CommandFault → Type 0} (of : X → Outcome) (P : Outcome → Type 0)
+    (outcome : Outcome) → IsOutcomeOf of May outcome → ((x : X) → May (Ok x) → P (of x))
+    → ((f : CommandFault) → May (Err f) → P (Undone f)) → P outcome
+by_outcome of P outcome (Ok x, may, is) done undone = subst P (sym is) (done x may)
+by_outcome of P outcome (Err f, may, is) done undone = subst P (sym is) (undone f may)
 
 -- what the answer of a history to a question publishes
 answer_told : (t : FoundDisk) (h : History) (reads : ReadsAsHistory t.found h) (q : Question) (bytes : List ℕ)
@@ -207,84 +210,36 @@ module _ {D : Type 0} (view : D → DiskView) (name : List ℕ)
       -- one that asks a question
       asked : (q : Question) (outcome : Outcome) → (asking view o (Some q)).does outcome
           → Behind h (IsOutByAnswer q outcome)
-      asked q outcome came = of_result came.0 came.1 came.2
-        where
-          of_result : (r : Result (List ℕ) CommandFault) → AskComes (found_around view o) q r × ReadLeavesHistory view
-              o.disk.before o.disk.after r → outcome ≡ outcome_by Written r
-              → Behind h (IsOutByAnswer q outcome)
-          of_result (Ok bytes) may is =
-              subst (λ (x : Outcome). Behind h (IsOutByAnswer q x)) (sym is)
-              (settled_behind (IsOutByAnswer q (Written bytes)) may.1.0 (may.1.1.0 read reads)
-              (λ t told. answer_told (found_around view o) read reads q bytes t may.0 told))
-          of_result (Err f) may is =
-              subst (λ (x : Outcome). Behind h (IsOutByAnswer q x)) (sym is)
-              (left_behind (IsOutByAnswer q (Undone f))
-              ((asking_is_safe view o.disk.before o.disk.after {X = List ℕ}).safe (Err f) may.1).0 (λ t told. told))
+      asked q outcome came =
+          by_outcome Written (λ x. Behind h (IsOutByAnswer q x)) outcome came
+          (λ bytes may. settled_behind (IsOutByAnswer q (Written bytes)) may.1.0 (may.1.1.0 read reads)
+          (λ t told. answer_told (found_around view o) read reads q bytes t may.0 told))
+          (λ f may. left_behind (IsOutByAnswer q (Undone f))
+          ((asking_is_safe view o.disk.before o.disk.after {X = List ℕ}).safe (Err f) may.1).0 (λ t told. told))
 
       taken : IsTaken waver.0.image
       taken = stands_taken read waver.0.image reads.stands
 
       making : (of : List ℕ) (outcome : Outcome) → Does (command.Init of) outcome → By (command.Init of) outcome
-      making of outcome came = of_result came.0 came.1 came.2
-        where
-          left : IsLeft view o.disk.before o.disk.after
-          left = ((rows view only_now as_it_reads o (command.Init of)).safe outcome came).2 waver.0.image waver.0.told
-              taken
+      making of outcome came =
+          let left = ((rows view only_now as_it_reads o (command.Init of)).safe outcome came).2 waver.0.image
+          waver.0.told taken in
+          by_outcome Made (By (command.Init of)) outcome came
+          (λ thread may. absurd (may.0.free waver.0.image waver.0.told taken))
+          (λ f may. left_behind (IsOutBy (command.Init of) (Undone f)) left (λ t told. told))
 
-          of_result : (r : Result Thread CommandFault) → InitComes (found_around view o) of r × InitLeaves view
-              o.disk.before o.disk.after of r → outcome ≡ outcome_by Made r → By (command.Init of) outcome
-          of_result (Ok thread) may is = absurd (may.0.free waver.0.image waver.0.told taken)
-          of_result (Err f) may is = subst (λ (x : Outcome). By (command.Init of) x) (sym is)
-              (left_behind (IsOutBy (command.Init of) (Undone f)) left (λ t told. told))
-
-      appending : (file : List ℕ) (time : Option ℕ) (outcome : Outcome) → Does (command.Append file time) outcome
-          → By (command.Append file time) outcome
-      appending file time outcome came = of_result came.0 came.1 came.2
-        where
-          safe : AppendSafe view o.disk.before o.disk.after o.inputs.told file time
-          safe = (rows view only_now as_it_reads o (command.Append file time)).safe outcome came
-
-          of_result : (r : Result Thread CommandFault) → AppendComes o.inputs (found_around view o) file time r
-              × AppendLeaves view o.disk.before o.disk.after o.inputs.told file time r
-              → outcome ≡ outcome_by Made r → By (command.Append file time) outcome
-          of_result (Ok thread) may is =
-              let events = may.1.0.0 in
-              let step = may.1.0.2.0.machine read reads in
-              let added = may.1.0.2.1 read reads in
-              let last : thread ≡ last_thread sha256 added.0 = step.0 ∙ ap (λ (n : History). last_thread sha256 n)
-              (sym added.1.0) in
-              subst (λ (x : Outcome). By (command.Append file time) x) (sym is)
-              (added_behind (AreEventsOf o.inputs.told file) (λ events. Appending events time) safe.1
-              (IsOutBy (command.Append file time) (Made thread)) (Appending events time) added.0 added.1.0 added.2.0
-              (λ t told. subst (λ (u : Thread). IsThreadOf sha256 added.0 u) (sym (told ∙ last))
-              (last_own sha256 added.0)))
-          of_result (Err f) may is =
-              subst (λ (x : Outcome). By (command.Append file time) x) (sym is)
-              (adds_behind (AreEventsOf o.inputs.told file) (λ events. Appending events time) safe.1
-              (IsOutBy (command.Append file time) (Undone f)) (λ t told. told))
-
-      receiving : (file : List ℕ) (time : Option ℕ) (outcome : Outcome) → Does (command.Receive file time) outcome
-          → By (command.Receive file time) outcome
-      receiving file time outcome came = of_result came.0 came.1 came.2
-        where
-          safe : ReceiveSafe view o.disk.before o.disk.after o.inputs.told file time
-          safe = (rows view only_now as_it_reads o (command.Receive file time)).safe outcome came
-
-          of_result : (r : Result Receipt CommandFault) → ReceiveComes o.inputs (found_around view o) file time r
-              × ReceiveLeaves view o.disk.before o.disk.after o.inputs.told file time r
-              → outcome ≡ outcome_by Received r → By (command.Receive file time) outcome
-          of_result (Ok receipt) may is =
-              let m = may.1.0.0 in
-              let added = may.1.0.2.1 read reads in
-              subst (λ (x : Outcome). By (command.Receive file time) x) (sym is)
-              (added_behind (IsMessageIn o.inputs.told file) (λ m. Receiving m time) safe.1
-              (IsOutBy (command.Receive file time) (Received receipt)) (Receiving m time) added.0 added.1.0 added.2.0
-              (λ t told. told_own sha256 read reads.stands.stands.keeps.sound (Receiving m time) (OfReceipt receipt)
-              added.0 tt added.1.1 t told))
-          of_result (Err f) may is =
-              subst (λ (x : Outcome). By (command.Receive file time) x) (sym is)
-              (adds_behind (IsMessageIn o.inputs.told file) (λ m. Receiving m time) safe.1
-              (IsOutBy (command.Receive file time) (Undone f)) (λ t told. told))
+      -- one that may add a step
+      module _ {X Y : Type 0} (c : Command) (of : Y → Outcome) (In : X → Type 0) (call : X → Call)
+          (safe : AddsSafe IsImageOfHistory view In (λ x. NextBy (call x)) o.disk.before o.disk.after) where
+        adding : {May : Result Y CommandFault → Type 0} (outcome : Outcome) → IsOutcomeOf of May outcome
+            → ((y : Y) → May (Ok y) → (by : Call) × (next : History) × NextOf sha256 by read next
+            × RestsAtHistory view o.disk.after next
+            × ((t : Thread) → IsOutBy c (of y) t → IsThreadOf sha256 next t))
+            → ((f : CommandFault) (t : Thread) → IsOutBy c (Undone f) t → ⊥) → By c outcome
+        adding outcome came added none =
+            by_outcome of (By c) outcome came
+            (λ y may. let a = added y may in added_behind In call safe (IsOutBy c (of y)) a.0 a.1 a.2 a.3 a.4)
+            (λ f may. adds_behind In call safe (IsOutBy c (Undone f)) (none f))
 
       -- a follower's command over a service's disk
       offering : (file : List ℕ) (outcome : Outcome) → Does (command.Offer file) outcome → IsLeft view o.disk.before
@@ -297,8 +252,34 @@ module _ {D : Type 0} (view : D → DiskView) (name : List ℕ)
       -- what each command leaves
       pub leaves : (c : Command) (outcome : Outcome) → Does c outcome → By c outcome
       leaves (command.Init of) outcome came = making of outcome came
-      leaves (command.Append file time) outcome came = appending file time outcome came
-      leaves (command.Receive file time) outcome came = receiving file time outcome came
+      leaves (command.Append file time) outcome came =
+          adding (command.Append file time) Made (AreEventsOf o.inputs.told file) (λ events. Appending events time)
+          ((rows view only_now as_it_reads o (command.Append file time)).safe outcome came).1 outcome came
+          (λ thread may.
+          let added = may.1.0.2.1 read reads in
+          let last : thread ≡ last_thread sha256 added.0 = (may.1.0.2.0.machine read reads).0
+          ∙ ap (λ (n : History). last_thread sha256 n) (sym added.1.0) in (
+            Appending may.1.0.0 time,
+            added.0,
+            added.1.0,
+            added.2.0,
+            λ t told. subst (λ (u : Thread). IsThreadOf sha256 added.0 u) (sym (told ∙ last)) (last_own sha256 added.0),
+          ))
+          (λ f t told. told)
+      leaves (command.Receive file time) outcome came =
+          adding (command.Receive file time) Received (IsMessageIn o.inputs.told file) (λ m. Receiving m time)
+          ((rows view only_now as_it_reads o (command.Receive file time)).safe outcome came).1 outcome came
+          (λ receipt may.
+          let by = Receiving may.1.0.0 time in
+          let added = may.1.0.2.1 read reads in (
+            by,
+            added.0,
+            added.1.0,
+            added.2.0,
+            λ t told. told_own sha256 read reads.stands.stands.keeps.sound by (OfReceipt receipt) added.0 tt added.1.1 t
+                told,
+          ))
+          (λ f t told. told)
       leaves (command.Thread since) outcome came = asked (ask.ThreadOut since) outcome came
       leaves (command.ProveEvent step index top) outcome came = asked (ask.Event step index top) outcome came
       leaves (command.ProveThread step peer k top) outcome came =

@@ -6,7 +6,6 @@ use Rattle.std.specs.Prelude.{◌&&◌, if◌then◌else◌, nat_le, MatchOption
 use Rattle.std.proofs.lemmas.Bool.{leb-true}
 use Rattle.std.proofs.lemmas.List.{length_push}
 use Rattle.std.proofs.lemmas.Option.{slice_get_cases}
-use Rattle.tw_base.specs.declared.history.thread.Key.{Key}
 use Rattle.tw_base.specs.declared.history.thread.Thread.{Thread}
 use Rattle.tw_base.specs.format.Formats.{Spells}
 use Rattle.tw_base.specs.history.Auth.{auth}
@@ -24,7 +23,7 @@ use Rattle.tw_chain.specs.declared.proof.Proof.TheVariants.{Exists, Archived, Ab
 use Rattle.tw_chain.specs.Proofs.{proof_codec, proof_layout}
 use Rattle.tw_chain.proofs.ProofCodec.{from_existence, proof-lawful}
 use Rattle.tw_skipproof.specs.declared.existence.Part.{Part}
-use Rattle.tw_skipproof.specs.HistoryProofs.{IsPartOfHistory, MakesExistence}
+use Rattle.tw_skipproof.specs.HistoryProofs.{IsPartOfHistory}
 use Rattle.tw_base.specs.declared.history.refusal.Refusal.{Refusal}
 use Rattle.tw_base.specs.declared.history.refusal.Refusal.TheVariants.{NoStep, TooLong}
 use Rattle.tw_answers.specs.Limits.{is_in_order, link_refusal, or_else, order_refusal, top_refusal}
@@ -39,13 +38,12 @@ use Rattle.tw_tmap.specs.declared.map_file.LowPart.{LowPart}
 use Rattle.tw_tmap.specs.Checking.{low_ask, low_file_part}
 use Rattle.tw_tmap.specs.MapFiles.{high_codec, low_codec}
 use Rattle.tw_tmap.proofs.MapCodec.{high-lawful, low-lawful}
-use Rattle.tw_service.specs.Machine.{Call, IsStepOf, Makes, MakesAbsence, MakesLink, MakesThread, NextOf, Reply}
+use Rattle.tw_service.specs.Machine.{Call, IsStepOf, Makes, MakesLink, NextOf, Reply}
 use Rattle.tw_service.specs.Machine.{append_table, last_thread}
 use Rattle.tw_service.specs.Exporting.{is_short, told_size}
 use Rattle.tw_base.specs.declared.history.question.Question.{Question}
 use Rattle.tw_base.specs.declared.history.question.Question.TheVariants as ask
 use Rattle.tw_service.specs.Questions.{history_refusal, pages_refusal, question_refusal}
-use Rattle.tw_service.specs.Tops.{top_or_last}
 use Rattle.tw_service.specs.Machine.Call.{Append, Ask, Receive, CountSteps, TellHead, TellName}
 use Rattle.tw_service.specs.Machine.Reply.{OfBytes, OfThread, OfReceipt, Refused}
 use Rattle.tw_service.proofs.ReceivingLaws.{own-receipt}
@@ -130,13 +128,13 @@ module _ (dig : List ℕ → List ℕ) where
       there in
       ⊎_elim (λ e. e) (λ no. absurd no) in_one
 
-  event_own : (h : History) (step index top : ℕ) (bytes : List ℕ) → step ≤ length h.steps → MakesExistence dig h step
-      index top bytes
+  -- the thread of a proof that is of one part
+  part_own : (h : History) (step top : ℕ) (bytes : List ℕ) (q : Proof) (p : Part) → IsPartOfHistory dig h step top p
+      → step ≤ length h.steps → Spells proof_layout bytes q → own_threads q ≡ thread_before p ∷ []
       → (t : Thread) → IsInProof bytes t → IsThreadOf dig h t
-  event_own h step index top bytes order makes t told =
-      let is = only_thread bytes told.0 (Exists makes.0) t (thread_before makes.0.at) told.1
-      (from_existence bytes makes.0 makes.1) told.2 refl in
-      subst (λ (u : Thread). IsThreadOf dig h u) (sym is) (before_own h step top makes.0.at makes.2.at order)
+  part_own h step top bytes q p part order made is t told =
+      let one = only_thread bytes told.0 q t (thread_before p) told.1 made told.2 is in
+      subst (λ (u : Thread). IsThreadOf dig h u) (sym one) (before_own h step top p part order)
 
   link_own : (h : History) (step top : ℕ) (bytes : List ℕ) → step ≤ length h.steps → MakesLink dig h step top bytes
       → (t : Thread) → IsInProof bytes t → IsThreadOf dig h t
@@ -150,20 +148,6 @@ module _ (dig : List ℕ → List ℕ) where
       let is = only_thread bytes told.0 (Linked p) t (record { from = p.service; step = p.step; auth = p.auth }) told.1
       makes.1 told.2 refl in
       subst (λ (u : Thread). IsThreadOf dig h u) (sym is) own
-
-  thread_own : (h : History) (step : ℕ) (key : Key) (top : ℕ) (bytes : List ℕ) → step ≤ length h.steps
-      → MakesThread dig h step key top bytes
-      → (t : Thread) → IsInProof bytes t → IsThreadOf dig h t
-  thread_own h step key top bytes order makes t told =
-      let is = only_thread bytes told.0 (Archived makes.0) t (thread_before makes.0.at) told.1 makes.1 told.2 refl in
-      subst (λ (u : Thread). IsThreadOf dig h u) (sym is) (before_own h step top makes.0.at makes.2.at order)
-
-  absence_own : (h : History) (step : ℕ) (key : Key) (top : ℕ) (bytes : List ℕ) → step ≤ length h.steps
-      → MakesAbsence dig h step key top bytes
-      → (t : Thread) → IsInProof bytes t → IsThreadOf dig h t
-  absence_own h step key top bytes order makes t told =
-      let is = only_thread bytes told.0 (Absent makes.0) t (thread_before makes.0.at) told.1 makes.1 told.2 refl in
-      subst (λ (u : Thread). IsThreadOf dig h u) (sym is) (before_own h step top makes.0.at makes.2.at order)
 
   -- ---- map files
 
@@ -254,32 +238,23 @@ module _ (dig : List ℕ → List ℕ) where
   answer_own : (h : History) → IsSound h → (q : Question) → history_refusal h q ≡ None → (bytes : List ℕ)
       → Makes dig h q bytes → (t : Thread) → IsInAnswer dig q bytes t → IsThreadOf dig h t
   unfolding question_refusal pages_refusal Makes
-  answer_own h sound (ask.Event step index top) none bytes makes t told =
-      let n = length h.steps in
-      event_own h step index (top_or_last top n) bytes (order_within n step (top_or_last top n)
-      (none_first (order_refusal false n step (top_or_last top n)) _ none)) makes t told
-  answer_own h sound (ask.Thread step key top) none bytes makes t told =
-      let n = length h.steps in
-      thread_own h step key (top_or_last top n) bytes (order_within n step (top_or_last top n)
-      (none_first (order_refusal false n step (top_or_last top n)) _ none)) makes t told
-  answer_own h sound (ask.Absent step key top) none bytes makes t told =
-      let n = length h.steps in
-      absence_own h step key (top_or_last top n) bytes (order_within n step (top_or_last top n)
-      (none_first (order_refusal false n step (top_or_last top n)) _ none)) makes t told
-  answer_own h sound (ask.Link step top) none bytes makes t told =
-      let n = length h.steps in
-      link_own h step (top_or_last top n) bytes (link_within n step (top_or_last top n)
-      (none_first (link_refusal false n step (top_or_last top n)) _ none)) makes t told
-  answer_own h sound (ask.Low step peer top) none bytes makes t told =
-      let n = length h.steps in
-      low_own h step peer (top_or_last top n) bytes (order_within n step (top_or_last top n)
-      (none_first (order_refusal false n step (top_or_last top n)) _ none)) makes t told
-  answer_own h sound (ask.High step peer top) none bytes makes t told =
-      let n = length h.steps in
-      high_own h step peer (top_or_last top n) bytes
-      (top_within n (top_or_last top n) (none_first (top_refusal false n (top_or_last top n)) _ none)) makes t told
-  answer_own h sound (ask.ThreadOut since) none bytes makes t told = message_own h since bytes makes t told
-  answer_own h sound ask.Export none bytes makes t told =
+  answer_own h sound (ask.Event step index top) none bytes makes =
+      part_own h step _ bytes (Exists makes.0) makes.0.at makes.2.at (order_within _ _ _ (none_first _ _ none))
+      (from_existence bytes makes.0 makes.1) refl
+  answer_own h sound (ask.Thread step key top) none bytes makes =
+      part_own h step _ bytes (Archived makes.0) makes.0.at makes.2.at (order_within _ _ _ (none_first _ _ none))
+      makes.1 refl
+  answer_own h sound (ask.Absent step key top) none bytes makes =
+      part_own h step _ bytes (Absent makes.0) makes.0.at makes.2.at (order_within _ _ _ (none_first _ _ none)) makes.1
+      refl
+  answer_own h sound (ask.Link step top) none bytes makes =
+      link_own h step _ bytes (link_within _ _ _ (none_first _ _ none)) makes
+  answer_own h sound (ask.Low step peer top) none bytes makes =
+      low_own h step peer _ bytes (order_within _ _ _ (none_first _ _ none)) makes
+  answer_own h sound (ask.High step peer top) none bytes makes =
+      high_own h step peer _ bytes (top_within _ _ (none_first _ _ none)) makes
+  answer_own h sound (ask.ThreadOut since) none bytes makes = message_own h since bytes makes
+  answer_own h sound ask.Export none bytes makes = λ t told.
       let file = reads-back h sound (passes (is_short h) (TooLong (told_size h)) none) in
       file_own h bytes t (subst (λ (bs : List ℕ). Spells history_layout bs h) (sym makes) file.1) told
 

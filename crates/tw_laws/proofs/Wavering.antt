@@ -112,9 +112,35 @@ module _ {D : Type 0} (dig : List ℕ → List ℕ) (view : D → DiskView) (nam
     ActsBy act old new h = Acted view (services dig view) IsOf Has ServesAs (IsThreadOf dig) ShowsHead (TellsThread dig)
         act old new h
 
+    -- one of the two is served, and what was told holds of it; or a disk fault came, and nothing was told
+    abbrev EndsIn : (act : ServiceAct) (old new : Service D H g k) (h next : History) → Type 0
+    EndsIn act old new h next =
+        (ServesAs new next × ((t : Thread) → TellsThread dig act t → IsThreadOf dig next t))
+        ⊎ ((ServesAs new h × ((t : Thread) → TellsThread dig act t → IsThreadOf dig h t))
+        ⊎ ((has_failed new ≡ true) × ((t : Thread) → TellsThread dig act t → ⊥) × ((t : Thread) → ShowsHead new t
+        → ShowsHead old t)))
+
+    ends_in : (call : Call) (answer : Result Reply Refusal) (old new : Service D H g k) (h : History)
+        (a : IsCallAnswered dig view call answer old new) (served : ServesAs old h)
+        → EndsIn (Answered call answer) old new h (a.steps h served.0).next
+    ends_in call (Ok reply) old new h a served =
+        let s = a.steps h served.0 in
+        inl (
+          (s.done.1, next_name dig call h s.next s.is_next ∙ served.1),
+          λ t told. told_own dig h served.0.keeps.sound call reply s.next a.kind s.done.0 t told,
+        )
+    ends_in call (Err refusal) old new h a served = ⊎_elim
+        (λ fault. inr
+        (inr (
+          a.broken.1 (inr (ap (λ (r : Refusal). Err r) fault)),
+          (λ t told. told),
+          shows_still old new a.kept,
+        )))
+        (λ on. inr (inl ((on.0, served.1), λ t told. absurd told))) (a.steps h served.0).refused
+
     answered : (call : Call) (answer : Result Reply Refusal) (old new : Service D H g k) (h : History)
         → IsCallAnswered dig view call answer old new → ServesAs old h → ActsBy (Answered call answer) old new h
-    answered call (Ok reply) old new h a served =
+    answered call answer old new h a served =
         let s = a.steps h served.0 in
         let own = own_name old h served in
         record {
@@ -123,28 +149,7 @@ module _ {D : Type 0} (dig : List ℕ → List ℕ) (view : D → DiskView) (nam
           any_moment = subst (λ (n : List ℕ). LeavesOnly (view (disk_of old)) (view (disk_of new))
               (StandsForOneOf dig n h s.next)) own s.any_moment;
           told = subst (λ (n : List ℕ). Reads (view (disk_of new)) (StandsForOneOf dig n h s.next)) own s.told;
-          done = inl (
-            (s.done.1, next_name dig call h s.next s.is_next ∙ served.1),
-            λ t told. told_own dig h served.0.keeps.sound call reply s.next a.kind s.done.0 t told,
-          );
-        }
-    answered call (Err refusal) old new h a served =
-        let s = a.steps h served.0 in
-        let own = own_name old h served in
-        record {
-          next = s.next;
-          goes = next_has dig call h s.next s.is_next;
-          any_moment = subst (λ (n : List ℕ). LeavesOnly (view (disk_of old)) (view (disk_of new))
-              (StandsForOneOf dig n h s.next)) own s.any_moment;
-          told = subst (λ (n : List ℕ). Reads (view (disk_of new)) (StandsForOneOf dig n h s.next)) own s.told;
-          done = ⊎_elim
-              (λ fault. inr
-              (inr (
-                a.broken.1 (inr (ap (λ (r : Refusal). Err r) fault)),
-                (λ t told. told),
-                shows_still old new a.kept,
-              )))
-              (λ on. inr (inl ((on.0, served.1), λ t told. absurd told))) s.refused;
+          done = ends_in call answer old new h a served;
         }
 
     told_still : (call : Call) (answer : Result Reply Refusal) (service : Service D H g k) (h : History)

@@ -1,15 +1,8 @@
-use Rattle.std.proofs.Common.{inl, inr, ⊎_elim}
-use Rattle.std.specs.Prelude.{None}
-use Rattle.tw_service.specs.Serves.{has_failed}
 use Rattle.tw_laws.proofs.AnsweredCalls.{received, refuses_bytes}
 use Rattle.tw_laws.proofs.calls.receive.Goals as goal
 
 pub returns-clause-malformed : goal.returns-clause-malformed
-returns-clause-malformed g c = λ none.
-    let no = c.receive.ensures.malformed none in
-    (refuses_bytes (has_failed c.args.service.now) c.args.bytes.now c.receive.result no.0, no.1)
+returns-clause-malformed g c = refuses_bytes g.H.Hasher.dig g.D.Disk.view _ _ _ _ _ c.receive.ensures
 
 pub returns-clause-message : goal.returns-clause-message
-returns-clause-message g c = λ m spells.
-    ⊎_elim (λ none. inl (none.1, none.2)) (λ is. inr (received g.H.Hasher.dig g.D.Disk.view m None _ _ _ is))
-    (c.receive.ensures.message m spells)
+returns-clause-message g c = received g.H.Hasher.dig g.D.Disk.view _ _ _ _ _ c.receive.ensures
