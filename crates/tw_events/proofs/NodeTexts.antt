@@ -1,11 +1,11 @@
 -- The texts above a leaf, one text more.
 use Rattle.std.proofs.Common.{◌≡◌, ℕ, suc, ◌+◌, ◌<◌, ◌≤◌, List, [], ◌∷◌, ◌++◌, length, get_or, drop, refl, ap, sym, ◌∙◌}
-use Rattle.std.proofs.Common.{add-one, drop-cons}
 use Rattle.std.specs.Prelude.{reverse}
-use Rattle.std.proofs.lemmas.List.{drop_all, reverse-append}
+use Rattle.std.proofs.lemmas.List.{drop_all}
 use Rattle.tw_base.specs.declared.events.side.Side.{Side}
 use Rattle.tw_base.specs.events.AuditPath.{audit_texts, node_text_beside, node_texts_above, path_sides}
 use Rattle.tw_base.specs.kinds.Texts.{event_leaf_text}
+use Rattle.tw_events.proofs.Steps.{popped_step}
 
 module _ (dig : List ℕ → List ℕ) where
   -- one label of an audit path
@@ -15,14 +15,8 @@ module _ (dig : List ℕ → List ℕ) where
       ≡ node_text_beside side label reached ∷ node_texts_above dig (reverse rest) (drop (i + 1) path)
       (dig (node_text_beside side label reached))
   unfolding node_texts_above
-  nodes-step items rest side path i label reached popped inside same =
-      ap (λ s. node_texts_above dig (reverse s) (drop i path) reached) popped
-      ∙ ap (λ s. node_texts_above dig s (drop i path) reached) (reverse-append rest (side ∷ []))
-      ∙ ap (λ p. node_texts_above dig (side ∷ reverse rest) p reached) (drop-cons path i label inside)
-      ∙ ap (λ l. node_text_beside side l reached ∷ node_texts_above dig (reverse rest) (drop (suc i) path)
-      (dig (node_text_beside side l reached))) (sym same)
-      ∙ ap (λ n. node_text_beside side label reached ∷ node_texts_above dig (reverse rest) (drop n path)
-      (dig (node_text_beside side label reached))) (sym (add-one i))
+  nodes-step items rest side path i label reached = popped_step (λ s p. node_texts_above dig s p reached) items rest side
+      path i label
 
   none-above : (sides : List Side) (reached : List ℕ) → node_texts_above dig sides [] reached ≡ []
   unfolding node_texts_above

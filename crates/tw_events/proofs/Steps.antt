@@ -10,6 +10,17 @@ use Rattle.tw_base.proofs.lemmas.events.EventTrees.{audit_path-left, audit_path-
 use Rattle.tw_base.proofs.lemmas.events.EventTrees.{event_root-none, event_root-one}
 use Rattle.tw_base.proofs.lemmas.events.Upwards.{root_above-no_label, root_above-none}
 
+-- what a walk up a path has before it, where the last side is popped, and the label at i is its own
+pub popped_step : {X : Type 0} (walk : List Side → List (List ℕ) → X) (items rest : List Side) (side : Side)
+    (path : List (List ℕ)) (i : ℕ) (label : List ℕ) → items ≡ rest ++ side ∷ [] → i < length path
+    → label ≡ get_or path i label
+    → walk (reverse items) (drop i path) ≡ walk (side ∷ reverse rest) (label ∷ drop (i + 1) path)
+popped_step walk items rest side path i label popped inside same =
+    ap (λ s. walk (reverse s) (drop i path)) popped ∙ ap (λ s. walk s (drop i path)) (reverse-append rest (side ∷ []))
+    ∙ ap (walk (side ∷ reverse rest)) (drop-cons path i label inside)
+    ∙ ap (λ l. walk (side ∷ reverse rest) (l ∷ drop (suc i) path)) (sym same)
+    ∙ ap (λ n. walk (side ∷ reverse rest) (label ∷ drop n path)) (sym (add-one i))
+
 module _ (dig : List ℕ → List ℕ) where
   pub root-none : (events : List (List ℕ)) → length events < 1 → event_root dig events ≡ dig no_events_text
   root-none [] none = event_root-none dig
@@ -103,13 +114,8 @@ module _ (dig : List ℕ → List ℕ) where
       → root_above dig (reverse items) (drop i path) reached ≡ root_above dig (reverse rest) (drop (i + 1) path)
       (dig (node_text_beside side label reached))
   unfolding root_above
-  root_above-step items rest side path i label reached popped inside same =
-      ap (λ s. root_above dig (reverse s) (drop i path) reached) popped
-      ∙ ap (λ s. root_above dig s (drop i path) reached) (reverse-append rest (side ∷ []))
-      ∙ ap (λ p. root_above dig (side ∷ reverse rest) p reached) (drop-cons path i label inside)
-      ∙ ap (λ l. root_above dig (reverse rest) (drop (suc i) path) (dig (node_text_beside side l reached))) (sym same)
-      ∙ ap (λ n. root_above dig (reverse rest) (drop n path) (dig (node_text_beside side label reached)))
-      (sym (add-one i))
+  root_above-step items rest side path i label reached = popped_step (λ s p. root_above dig s p reached) items rest side
+      path i label
 
   pub root_above-end : (sides : List Side) (path : List (List ℕ)) (i : ℕ) (reached : List ℕ) → length path ≤ i
       → root_above dig sides (drop i path) reached ≡ reached

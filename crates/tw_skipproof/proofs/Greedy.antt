@@ -1,6 +1,6 @@
 -- The greedy rule, and how many links a greedy path has.
-use Rattle.std.proofs.Common.{◌≡◌, ℕ, suc, zero, ◌+◌, ◌-◌, ◌*◌, ◌<◌, ◌≤◌, ◌^◌, ◌%◌, List, [], ◌∷◌, length, Bool, true}
-use Rattle.std.proofs.Common.{false, refl, arith, lit<, inl, inr}
+use Rattle.std.proofs.Common.{◌≡◌, ◌⊎◌, ℕ, suc, zero, ◌+◌, ◌-◌, ◌*◌, ◌<◌, ◌≤◌, ◌^◌, ◌%◌, List, [], ◌∷◌, length, Bool}
+use Rattle.std.proofs.Common.{true, false, refl, arith, lit<, inl, inr}
 use Rattle.std.specs.Prelude.{nat_le, if◌then◌else◌}
 use Rattle.std.proofs.lemmas.Bool.{cases_lt, cases_eq, le-leb}
 use Rattle.std.proofs.Math.Nat.{le_trans, mod-one, pow-le-pow_right, pow-suc}
@@ -62,27 +62,58 @@ below_power m n a l h =
       | inr more ↦ absurd (let over : 2 ^ n ≤ 2 ^ m = pow-le-pow_right (lit< tt) more in omega arith)
     ]
 
+-- where a hop is below the step's top level, none of the next level fits
+pub hop-fits : (from to : ℕ) → hop_level from to < top_level from → from - to < 2 ^ suc (hop_level from to)
+hop-fits from to under =
+    elim (cases_lt (from - to) (2 ^ suc (hop_level from to))) [
+      | inl less ↦ less
+      | inr more ↦ (let least = hop_level-greatest from to (suc (hop_level from to)) (omega (arith, under)) more in
+          absurd (omega (arith, least)))
+    ]
+
+-- so what is left behind it is shorter than the hop
+pub hop-leaves : (from to : ℕ) → to < from → hop_level from to < top_level from → hop from to - to < 2 ^ hop_level from to
+hop-leaves from to order under =
+    let fits = hop_level-short from to order in
+    omega (arith, fits, hop-fits from to under, pow-suc 2 (hop_level from to))
+
+-- a hop of a way that is shorter than a power that divides the step is below that power, and below the step's top level
+pub near_hop : (from to k : ℕ) → from < 2 ^ 64 → to < from → from % 2 ^ k ≡ 0 → from - to < 2 ^ k
+    → (hop_level from to < k) × (hop_level from to < top_level from)
+near_hop from to k small order divides near =
+    let lower = below_power (hop_level from to) k (from - to) (hop_level-short from to order) near in
+    let top = top_level-greatest from k (omega (arith, order)) small divides in
+    (lower, omega (arith, lower, top))
+
 -- once the way left is shorter than a power that divides the step, the levels fall
 short_way : (links : List Link) (from to k : ℕ) → from < 2 ^ 64 → HasShape links from to → from % 2 ^ k ≡ 0
     → from - to < 2 ^ k → length links ≤ k
 short_way [] from to k small shape divides near = omega arith
 short_way (link ∷ links) from to k small shape divides near =
     let level : ℕ = hop_level from to in
-    let fits = hop_level-short from to shape.0 in
-    let lower : level < k = below_power level k (from - to) fits near in
-    let over : from - to < 2 ^ suc level =
-    elim (cases_lt (from - to) (2 ^ suc level)) [
-      | inl less ↦ less
-      | inr more ↦ (
-          let divided : from % 2 ^ suc level ≡ 0 = divides-less from k (suc level) lower divides in
-          let least : suc level ≤ level = hop_level-greatest from to (suc level)
-          (top_level-greatest from (suc level) (omega (arith, shape.0)) small divided) more in
-          absurd (omega (arith, least)))
-    ] in
+    let first = near_hop from to k small shape.0 divides near in
     let rest : length links ≤ level =
     short_way links (hop from to) to level (omega (arith, small)) shape.2 (hop-divides from to shape.0 small)
-    (let twice = pow-suc 2 level in omega (arith, over, fits, twice)) in
-    omega (arith, rest, lower)
+    (hop-leaves from to shape.0 first.1) in
+    omega (arith, rest, first.0)
+
+-- the first hop of a long way is of the step's top level, and a higher power divides where it leads; or of a lower one
+pub far_hop : (from to k digits : ℕ) → from < 2 ^ 64 → to < from → from % 2 ^ k ≡ 0 → from < 2 ^ digits
+    → 2 ^ k ≤ from - to
+    → (k ≤ hop_level from to) × (hop_level from to < digits)
+    × (((hop_level from to ≡ top_level from) × (hop from to % 2 ^ suc (hop_level from to) ≡ 0))
+    ⊎ (hop_level from to < top_level from))
+far_hop from to k digits small order divides below far =
+    let level : ℕ = hop_level from to in
+    let positive : 0 < from = omega arith in
+    let under : level ≤ top_level from = hop_level-le from to in (
+      hop_level-greatest from to k (top_level-greatest from k positive small divides) far,
+      below_power level digits (from - to) (hop_level-short from to order) (omega arith),
+      elim (cases_eq level (top_level from)) [
+        | inl top ↦ inl (top, rw top (divides-next from positive small))
+        | inr other ↦ inr (omega (arith, under, other))
+      ],
+    )
 
 -- a way from a step that 2 ^ k divides, and that is below 2 ^ digits
 long_way : (links : List Link) (from to k digits : ℕ) → from < 2 ^ 64 → HasShape links from to → from % 2 ^ k ≡ 0
@@ -94,30 +125,17 @@ long_way (link ∷ links) from to k digits small shape divides below within =
       | inl near ↦ (let few = short_way (link ∷ links) from to k small shape divides near in omega (arith, few))
       | inr far ↦ (
           let level : ℕ = hop_level from to in
-          let positive : 0 < from = omega (arith, shape.0) in
-          let fits = hop_level-short from to shape.0 in
-          let at_least : k ≤ level = hop_level-greatest from to k (top_level-greatest from k positive small divides)
-          far in
-          let lower : level < digits = below_power level digits (from - to) fits (omega arith) in
-          elim (cases_eq level (top_level from)) [
+          let first = far_hop from to k digits small shape.0 divides below far in
+          elim (first.2) [
             | inl top ↦ (
-                let next : hop from to % 2 ^ suc level ≡ 0 = rw top (divides-next from positive small) in
-                let rest = long_way links (hop from to) to (suc level) digits (omega (arith, small)) shape.2 next
-                (omega (arith, below)) lower in
-                omega (arith, rest, at_least, lower))
+                let rest = long_way links (hop from to) to (suc level) digits (omega (arith, small)) shape.2 top.1
+                (omega (arith, below)) first.1 in
+                omega (arith, rest, first.0, first.1))
             | inr other ↦ (
-                let under : level ≤ top_level from = hop_level-le from to in
-                let over : from - to < 2 ^ suc level =
-                elim (cases_lt (from - to) (2 ^ suc level)) [
-                  | inl less ↦ less
-                  | inr more ↦ (let least : suc level ≤ level = hop_level-greatest from to (suc level)
-                      (omega (arith, under, other)) more in absurd (omega (arith, least)))
-                ] in
                 let rest : length links ≤ level =
                 short_way links (hop from to) to level (omega (arith, small)) shape.2
-                (hop-divides from to shape.0 small)
-                (let twice = pow-suc 2 level in omega (arith, over, fits, twice)) in
-                omega (arith, rest, lower))
+                (hop-divides from to shape.0 small) (hop-leaves from to shape.0 other) in
+                omega (arith, rest, first.1))
           ])
     ]
 

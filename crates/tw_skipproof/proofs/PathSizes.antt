@@ -10,7 +10,7 @@ use Rattle.tw_base.proofs.lemmas.kinds.Levels.{top_level-zero}
 use Rattle.tw_skipproof.specs.declared.path.Link.{Link}
 use Rattle.tw_skipproof.specs.Paths.{HasShape, hop, hop_level}
 use Rattle.tw_skipproof.proofs.Hops.{hop_level-le, hop_level-short}
-use Rattle.tw_skipproof.proofs.Greedy.{below_power, hop-divides, hop_level-greatest}
+use Rattle.tw_skipproof.proofs.Greedy.{below_power, far_hop, hop-divides, hop-fits, hop-leaves, near_hop}
 
 -- ---- the digests of a path
 
@@ -76,21 +76,13 @@ short_weight : (links : List Link) (from to k : ℕ) → from < 2 ^ 64 → HasSh
 short_weight [] from to k small shape divides near = omega arith
 short_weight (link ∷ links) from to k small shape divides near =
     let level : ℕ = hop_level from to in
-    let fits = hop_level-short from to shape.0 in
-    let lower : level < k = below_power level k (from - to) fits near in
-    let top : k ≤ top_level from = top_level-greatest from k (omega (arith, shape.0)) small divides in
-    let over : from - to < 2 ^ suc level =
-    elim (cases_lt (from - to) (2 ^ suc level)) [
-      | inl less ↦ less
-      | inr more ↦ (let least : suc level ≤ level = hop_level-greatest from to (suc level) (omega (arith, top, lower))
-          more in absurd (omega (arith, least)))
-    ] in
+    let first = near_hop from to k small shape.0 divides near in
     let rest : weight links ≤ suc (top_level (hop from to)) + triangle level =
     short_weight links (hop from to) to level (omega (arith, small)) shape.2 (hop-divides from to shape.0 small)
-    (let twice = pow-suc 2 level in omega (arith, over, fits, twice)) in
-    let after : top_level (hop from to) ≤ level = top_level-after from level small (omega (arith, fits))
-    (omega (arith, lower, top)) in
-    let wider = triangle-le (suc level) k lower in
+    (hop-leaves from to shape.0 first.1) in
+    let fits = hop_level-short from to shape.0 in
+    let after : top_level (hop from to) ≤ level = top_level-after from level small (omega (arith, fits)) first.1 in
+    let wider = triangle-le (suc level) k first.0 in
     omega (arith, rest, after, shape.1, triangle-suc level, wider)
 
 -- a way from a step that 2 ^ k divides, and that is below 2 ^ digits
@@ -109,29 +101,18 @@ long_weight (link ∷ links) from to k digits small shape divides below within =
       | inl near ↦ (let few = short_weight (link ∷ links) from to k small shape divides near in
           omega (arith, few, least, top))
       | inr far ↦ (
-          let fits = hop_level-short from to shape.0 in
-          let at_least : k ≤ level = hop_level-greatest from to k (top_level-greatest from k positive small divides)
-          far in
-          let lower : level < digits = below_power level digits (from - to) fits (omega arith) in
-          elim (cases_eq level (top_level from)) [
+          let first = far_hop from to k digits small shape.0 divides below far in
+          elim (first.2) [
             | inl same ↦ (
-                let next : hop from to % 2 ^ suc level ≡ 0 = rw same (divides-next from positive small) in
-                let rest = long_weight links (hop from to) to (suc level) digits (omega (arith, small)) shape.2 next
-                (omega (arith, below)) lower in
-                let less = triangle-le k level at_least in
-                omega (arith, rest, less, shape.1, same, triangle-suc level))
+                let rest = long_weight links (hop from to) to (suc level) digits (omega (arith, small)) shape.2 same.1
+                (omega (arith, below)) first.1 in
+                let less = triangle-le k level first.0 in
+                omega (arith, rest, less, shape.1, same.0, triangle-suc level))
             | inr other ↦ (
-                let under : level ≤ top_level from = hop_level-le from to in
-                let over : from - to < 2 ^ suc level =
-                elim (cases_lt (from - to) (2 ^ suc level)) [
-                  | inl less ↦ less
-                  | inr more ↦ (let low : suc level ≤ level = hop_level-greatest from to (suc level)
-                      (omega (arith, under, other)) more in absurd (omega (arith, low)))
-                ] in
-                let divided : from % 2 ^ suc level ≡ 0 = divides-less from (top_level from) (suc level)
-                (omega (arith, under, other)) (top_level-divides from positive small) in
-                let few = short_weight (link ∷ links) from to (suc level) small shape divided over in
-                let wide = triangle-le (suc level) digits lower in
+                let divided : from % 2 ^ suc level ≡ 0 = divides-less from (top_level from) (suc level) other
+                (top_level-divides from positive small) in
+                let few = short_weight (link ∷ links) from to (suc level) small shape divided (hop-fits from to other) in
+                let wide = triangle-le (suc level) digits first.1 in
                 omega (arith, few, wide, least, top))
           ])
     ]

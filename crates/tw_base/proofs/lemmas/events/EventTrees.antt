@@ -113,70 +113,63 @@ halves n events more e =
           ∙ ap (λ x. n - x) same,
     )
 
--- where a list of more than one event is made from its halves, splits past its number of events change nothing
-enough : {X : Type 0} (f : ℕ → List (List ℕ) → X) (join : List (List ℕ) → X → X → X)
-    → ((a b : ℕ) (events : List (List ℕ)) → length events ≤ 1 → f a events ≡ f b events)
-    → ((splits : ℕ) (events : List (List ℕ)) → 1 < length events → f (suc splits) events ≡ join events
-    (f splits (left_half events)) (f splits (right_half events)))
-    → (a b : ℕ) (events : List (List ℕ)) → length events ≤ a → length events ≤ b → f a events ≡ f b events
-enough {X} f join few more a b events m n = by_halves P small large (length events) a b events refl m n
-  where
-    P : ℕ → Type 0
-    P n = (a b : ℕ) (events : List (List ℕ)) → length events ≡ n → n ≤ a → n ≤ b → f a events ≡ f b events
+-- a value of events that is made from those of their halves, where there is more than one of them
+module _ {X : Type 0} (f : ℕ → List (List ℕ) → X) (join : List (List ℕ) → X → X → X) (none : (a b : ℕ) → f a [] ≡ f b [])
+    (one : (a b : ℕ) (e : List ℕ) → f a (e ∷ []) ≡ f b (e ∷ []))
+    (next : (splits : ℕ) (d e : List ℕ) (es : List (List ℕ)) → f (suc splits) (d ∷ e ∷ es) ≡ join (d ∷ e ∷ es)
+    (f splits (left_half (d ∷ e ∷ es))) (f splits (right_half (d ∷ e ∷ es)))) where
+  few : (a b : ℕ) (events : List (List ℕ)) → length events ≤ 1 → f a events ≡ f b events
+  few a b [] h = none a b
+  few a b (e ∷ []) h = one a b e
+  few a b (d ∷ e ∷ es) h = absurd (omega arith)
 
-    small : (n : ℕ) → n ≤ 1 → P n
-    small n one a b events e m k = few a b events (omega arith)
+  more : (splits : ℕ) (events : List (List ℕ)) → 1 < length events → f (suc splits) events ≡ join events
+      (f splits (left_half events)) (f splits (right_half events))
+  more splits [] h = absurd (omega arith)
+  more splits (e ∷ []) h = absurd (omega arith)
+  more splits (d ∷ e ∷ es) h = next splits d e es
 
-    large : (n : ℕ) → 1 < n → P (largest_power_below n) → P (n - largest_power_below n) → P n
-    large n two left right zero b events e m k = absurd (omega arith)
-    large n two left right (suc a) zero events e m k = absurd (omega arith)
-    large n two left right (suc a) (suc b) events e m k =
-        let l = largest_power_below-less n two in
-        let s = largest_power_below-some n two in
-        let two' : 1 < length events = omega arith in
-        let sizes = halves n events two e in
-        let first : f a (left_half events) ≡ f b (left_half events) =
-        left a b (left_half events) sizes.1 (omega arith) (omega arith) in
-        let second : f a (right_half events) ≡ f b (right_half events) =
-        right a b (right_half events) sizes.2 (omega arith) (omega arith) in
-        more a events two' ∙ ap (λ x. join events x (f a (right_half events))) first
-        ∙ ap (λ y. join events (f b (left_half events)) y) second ∙ sym (more b events two')
+  -- splits past the number of events change nothing
+  enough : (a b : ℕ) (events : List (List ℕ)) → length events ≤ a → length events ≤ b → f a events ≡ f b events
+  enough a b events m n = by_halves P small large (length events) a b events refl m n
+    where
+      P : ℕ → Type 0
+      P n = (a b : ℕ) (events : List (List ℕ)) → length events ≡ n → n ≤ a → n ≤ b → f a events ≡ f b events
 
--- so a list's halves may be taken with their own number of events
-halved : {X : Type 0} (f : ℕ → List (List ℕ) → X) (join : List (List ℕ) → X → X → X)
-    → ((a b : ℕ) (events : List (List ℕ)) → length events ≤ 1 → f a events ≡ f b events)
-    → ((splits : ℕ) (events : List (List ℕ)) → 1 < length events → f (suc splits) events ≡ join events
-    (f splits (left_half events)) (f splits (right_half events)))
-    → (events : List (List ℕ)) → 1 < length events
-    → f (length events) events ≡ join events (f (length (left_half events)) (left_half events))
-    (f (length (right_half events)) (right_half events))
-halved {X} f join few more events two =
-    let all : ℕ = length (left_half events) + length (right_half events) in
-    enough f join few more (length events) (suc (length events)) events (omega arith) (omega arith)
-    ∙ more (length events) events two
-    ∙ ap (λ x. join events x (f (length events) (right_half events)))
-    (enough f join few more (length events) (length (left_half events)) (left_half events)
-    (omega (arith, length-left_half events two, largest_power_below-less (length events) two)) (omega arith))
-    ∙ ap (λ y. join events (f (length (left_half events)) (left_half events)) y)
-    (enough f join few more (length events) (length (right_half events)) (right_half events)
-    (omega (arith, length-right_half events)) (omega arith))
+      small : (n : ℕ) → n ≤ 1 → P n
+      small n one a b events e m k = few a b events (omega arith)
+
+      large : (n : ℕ) → 1 < n → P (largest_power_below n) → P (n - largest_power_below n) → P n
+      large n two left right zero b events e m k = absurd (omega arith)
+      large n two left right (suc a) zero events e m k = absurd (omega arith)
+      large n two left right (suc a) (suc b) events e m k =
+          let l = largest_power_below-less n two in
+          let s = largest_power_below-some n two in
+          let two' : 1 < length events = omega arith in
+          let sizes = halves n events two e in
+          let first : f a (left_half events) ≡ f b (left_half events) =
+          left a b (left_half events) sizes.1 (omega arith) (omega arith) in
+          let second : f a (right_half events) ≡ f b (right_half events) =
+          right a b (right_half events) sizes.2 (omega arith) (omega arith) in
+          more a events two' ∙ ap (λ x. join events x (f a (right_half events))) first
+          ∙ ap (λ y. join events (f b (left_half events)) y) second ∙ sym (more b events two')
+
+  -- so a list's halves may be taken with their own number of events
+  halved : (events : List (List ℕ)) → 1 < length events
+      → f (length events) events ≡ join events (f (length (left_half events)) (left_half events))
+      (f (length (right_half events)) (right_half events))
+  halved events two =
+      let all : ℕ = length (left_half events) + length (right_half events) in
+      enough (length events) (suc (length events)) events (omega arith) (omega arith)
+      ∙ more (length events) events two
+      ∙ ap (λ x. join events x (f (length events) (right_half events)))
+      (enough (length events) (length (left_half events)) (left_half events)
+      (omega (arith, length-left_half events two, largest_power_below-less (length events) two)) (omega arith))
+      ∙ ap (λ y. join events (f (length (left_half events)) (left_half events)) y)
+      (enough (length events) (length (right_half events)) (right_half events)
+      (omega (arith, length-right_half events)) (omega arith))
 
 module _ (dig : List ℕ → List ℕ) where
-  tree_hash-few : (a b : ℕ) (events : List (List ℕ)) → length events ≤ 1 → tree_hash dig a events ≡ tree_hash dig b
-      events
-  unfolding tree_hash
-  tree_hash-few a b [] h = refl
-  tree_hash-few a b (e ∷ []) h = refl
-  tree_hash-few a b (e ∷ f ∷ es) h = absurd (omega arith)
-
-  tree_hash-more : (splits : ℕ) (events : List (List ℕ)) → 1 < length events
-      → tree_hash dig (suc splits) events ≡ dig (event_node_text (tree_hash dig splits (left_half events))
-      (tree_hash dig splits (right_half events)))
-  unfolding tree_hash
-  tree_hash-more splits [] h = absurd (omega arith)
-  tree_hash-more splits (e ∷ []) h = absurd (omega arith)
-  tree_hash-more splits (e ∷ f ∷ es) h = refl
-
   pub event_root-none : event_root dig [] ≡ dig no_events_text
   unfolding event_root tree_hash
   event_root-none = refl
@@ -188,35 +181,21 @@ module _ (dig : List ℕ → List ℕ) where
   pub event_root-more : (events : List (List ℕ)) → 1 < length events
       → event_root dig events ≡ dig (event_node_text (event_root dig (left_half events))
       (event_root dig (right_half events)))
-  unfolding event_root
-  event_root-more events h = halved (tree_hash dig) (λ events x y. dig (event_node_text x y)) tree_hash-few
-      tree_hash-more events h
-
-  path-few : (a b : ℕ) (events : List (List ℕ)) → length events ≤ 1 → path_within dig a events ≡ path_within dig b
-      events
-  unfolding path_within
-  path-few a b [] h = refl
-  path-few a b (e ∷ []) h = refl
-  path-few a b (e ∷ f ∷ es) h = absurd (omega arith)
+  unfolding event_root tree_hash
+  event_root-more = halved (tree_hash dig) (λ events x y. dig (event_node_text x y)) (λ a b. refl) (λ a b e. refl)
+      (λ splits d e es. refl)
 
   path_join : List (List ℕ) → (ℕ → List (List ℕ)) → (ℕ → List (List ℕ)) → ℕ → List (List ℕ)
   path_join events x y index =
       if nat_lt index (largest_power_below (length events)) then x index ++ event_root dig (right_half events) ∷ []
       else y (index - largest_power_below (length events)) ++ event_root dig (left_half events) ∷ []
 
-  path-more : (splits : ℕ) (events : List (List ℕ)) → 1 < length events
-      → path_within dig (suc splits) events ≡ path_join events (path_within dig splits (left_half events))
-      (path_within dig splits (right_half events))
-  unfolding path_within path_join
-  path-more splits [] h = absurd (omega arith)
-  path-more splits (e ∷ []) h = absurd (omega arith)
-  path-more splits (e ∷ f ∷ es) h = refl
-
   path-halved : (events : List (List ℕ)) (index : ℕ) → 1 < length events
       → audit_path dig events index ≡ path_join events (audit_path dig (left_half events))
       (audit_path dig (right_half events)) index
-  unfolding audit_path
-  path-halved events index h = ap (λ p. p index) (halved (path_within dig) path_join path-few path-more events h)
+  unfolding audit_path path_within path_join
+  path-halved events index h = ap (λ p. p index) (halved (path_within dig) path_join (λ a b. refl) (λ a b e. refl)
+      (λ splits d e es. refl) events h)
 
   pub audit_path-none : (index : ℕ) → audit_path dig [] index ≡ []
   unfolding audit_path path_within
@@ -250,25 +229,9 @@ module _ (dig : List ℕ → List ℕ) where
   audit_path-right events index h past =
       path-side events index false h (le-ltb index (largest_power_below (length events)) past)
 
-  texts-few : (a b : ℕ) (events : List (List ℕ)) → length events ≤ 1 → node_texts_within dig a events
-      ≡ node_texts_within dig b events
-  unfolding node_texts_within
-  texts-few a b [] h = refl
-  texts-few a b (e ∷ []) h = refl
-  texts-few a b (e ∷ f ∷ es) h = absurd (omega arith)
-
   -- the text of the root of more than one event
   abbrev pub top_text : List (List ℕ) → List ℕ
   top_text events = event_node_text (event_root dig (left_half events)) (event_root dig (right_half events))
-
-  texts-more : (splits : ℕ) (events : List (List ℕ)) → 1 < length events
-      → node_texts_within dig (suc splits) events
-      ≡ node_texts_within dig splits (left_half events) ++ (node_texts_within dig splits (right_half events) ++ top_text
-      events ∷ [])
-  unfolding node_texts_within
-  texts-more splits [] h = absurd (omega arith)
-  texts-more splits (e ∷ []) h = absurd (omega arith)
-  texts-more splits (e ∷ f ∷ es) h = refl
 
   pub event_node_texts-few : (events : List (List ℕ)) → length events ≤ 1 → event_node_texts dig events ≡ []
   unfolding event_node_texts node_texts_within
@@ -279,9 +242,9 @@ module _ (dig : List ℕ → List ℕ) where
   pub event_node_texts-more : (events : List (List ℕ)) → 1 < length events
       → event_node_texts dig events ≡ event_node_texts dig (left_half events)
       ++ (event_node_texts dig (right_half events) ++ top_text events ∷ [])
-  unfolding event_node_texts
-  event_node_texts-more events h = halved (node_texts_within dig) (λ events x y. x ++ (y ++ top_text events ∷ []))
-      texts-few texts-more events h
+  unfolding event_node_texts node_texts_within
+  event_node_texts-more = halved (node_texts_within dig) (λ events x y. x ++ (y ++ top_text events ∷ [])) (λ a b. refl)
+      (λ a b e. refl) (λ splits d e es. refl)
 
   -- a root has the size of a digest
   pub length-event_root : (size : (text : List ℕ) → length (dig text) ≡ 32) (events : List (List ℕ))
