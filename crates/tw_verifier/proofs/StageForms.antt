@@ -1,5 +1,5 @@
 -- The formats of proofs as chains of segments: what stands behind each segment is the rest of the next stage.
-use Rattle.std.proofs.Common.{◌≡◌, ℕ, suc, zero, ◌+◌, ◌-◌, ◌<◌, ◌≤◌, List, [], ◌∷◌, ◌++◌, length, replicate, refl, sym}
+use Rattle.std.proofs.Common.{◌≡◌, ℕ, suc, ◌+◌, ◌-◌, ◌<◌, ◌≤◌, List, [], ◌∷◌, ◌++◌, length, replicate, refl, sym}
 use Rattle.std.proofs.Common.{ap, ◌∙◌, append_assoc, arith}
 use Rattle.std.specs.Prelude.{Bool, true, false, Option, Some, None, nat_lt, ◌==◌, if◌then◌else◌}
 use Rattle.std.proofs.lemmas.Bool.{le-ltb, lt-ltb}
@@ -7,7 +7,6 @@ use Rattle.std.proofs.lemmas.List.{append-nil, length-replicate}
 use Rattle.tw_base.specs.declared.events.event_part.EventPart.{EventPart}
 use Rattle.tw_base.specs.declared.kinds.limits.TheConstants.{LAST_STEP, MOST_HOPS}
 use Rattle.tw_base.specs.declared.history.thread.Entry.{Entry}
-use Rattle.tw_base.specs.declared.history.thread.Key.{Key}
 use Rattle.tw_base.specs.declared.history.thread.Thread.{Thread}
 use Rattle.tw_base.specs.declared.history.tree_proof.Ancestor.{Ancestor}
 use Rattle.tw_base.specs.declared.history.tree_proof.TreeProof.{TreeProof}
@@ -17,7 +16,7 @@ use Rattle.tw_base.specs.format.Codecs.{number_codec, optional, pair, text_codec
 use Rattle.tw_base.specs.history.EntryCodec.{entry_codec}
 use Rattle.tw_base.specs.format.Formats.{Format, then_by}
 use Rattle.tw_base.specs.format.Formats.Format.{Done}
-use Rattle.tw_pieces.proofs.SegmentLaws.{then_absent, then_assoc, then_behind, then_each, then_kind, then_many}
+use Rattle.tw_pieces.proofs.SegmentLaws.{then_absent, then_behind, then_each, then_kind, then_many}
 use Rattle.tw_pieces.proofs.SegmentLaws.{then_none, then_pair, then_present, then_seen, then_variant}
 use Rattle.tw_skipproof.specs.declared.existence.Part.{Part}
 use Rattle.tw_skipproof.specs.declared.opening.Opening.{Opening}
@@ -38,13 +37,13 @@ use Rattle.tw_chain.specs.declared.proof.Proof.TheVariants.{Exists, Precedes, Ar
 use Rattle.tw_chain.specs.declared.proof.Tail.{Tail}
 use Rattle.tw_verifier.specs.Chaining.{behind_chain, chain_of, closed, with_hop}
 use Rattle.tw_chain.specs.Checks.{last_hop_thread}
-use Rattle.tw_verifier.specs.Judgements.{judged_layout, judgement_of}
+use Rattle.tw_verifier.specs.Judgements.{judged_layout}
 use Rattle.tw_chain.specs.Proofs.{absence_body, absence_of, behind_codec, body_of_kind, existence_of, following}
 use Rattle.tw_chain.specs.Proofs.{hop_bytes, hop_codec, hops_codec, key_codec, kind_codec, kinds_codec, last_step}
 use Rattle.tw_chain.specs.Proofs.{link_body, link_of, precedence_body, precedence_of, proof_codec, proof_kind}
 use Rattle.tw_chain.specs.Proofs.{tail_codec, thread_body, thread_proof_of}
-use Rattle.tw_verifier.specs.Stages.{behind_absent, behind_archived, behind_before, behind_first, behind_kind}
-use Rattle.tw_verifier.specs.Stages.{behind_link, behind_only, behind_second, behind_shown, chain_with, counted_hops}
+use Rattle.tw_verifier.specs.Stages.{behind_absent, behind_archived, behind_before, behind_kind}
+use Rattle.tw_verifier.specs.Stages.{behind_only, behind_second, behind_shown, counted_hops}
 use Rattle.tw_verifier.specs.Stages.{event_stage, gap_head, head_stage, judged_stage, kind_head, link_head, link_stage}
 use Rattle.tw_verifier.specs.Stages.{nodes_of, part_head, part_stage, path_of, present_head, tail_of, with_tree_nodes}
 use Rattle.tw_verifier.proofs.ChainSteps.{closed-hop}
@@ -186,27 +185,29 @@ module _ (dig : List ℕ → List ℕ) (anchors : List Thread) where
       ∙ then_pair (part_codec 1) events (λ t. judge (Exists (record { at = t.0; event = t.1 })))
       ∙ part-flat 1 (event_stage (behind_only dig anchors))
 
+  -- a step under a top, what is asked of its archive, and the tree proof
+  answer-flat : {X : Type 0} (c : Codec X) (shown : Codec TreeProof) (make : Part → X → TreeProof → Proof)
+      → then_by (pair (part_codec 0) (λ at. pair c (λ asked. shown))).format (λ t. judge (make t.0 t.1.0 t.1.1))
+      ≡ head_stage 0 (λ at. then_by c.format (λ asked. then_by shown.format (λ s. judge (make at asked s))))
+  answer-flat c shown make =
+      then_pair (part_codec 0) (λ at. pair c (λ asked. shown)) (λ t. judge (make t.0 t.1.0 t.1.1))
+      ∙ (λ k. then_by (part_codec 0).format (λ at. then_pair c (λ asked. shown) (λ y. judge (make at y.0 y.1)) k))
+      ∙ part-flat 0 (λ at. then_by c.format (λ asked. then_by shown.format (λ s. judge (make at asked s))))
+
   thread-flat : then_by thread_body.format (λ p. judge (Archived p)) ≡ head_stage 0
       (λ at. then_by entry_codec.format (behind_archived dig anchors at))
   unfolding thread_body
   thread-flat =
-      let behind = λ (at : Part). pair entry_codec (λ entry. present_codec) in
-      then_seen _ _ (pair (part_codec 0) behind) (λ p. judge (Archived p))
-      ∙ then_pair (part_codec 0) behind (λ t. judge (Archived (record { at = t.0; entry = t.1.0; shown = t.1.1 })))
-      ∙ (λ k. then_by (part_codec 0).format (λ at. then_pair entry_codec (λ entry. present_codec)
-      (λ y. judge (Archived (record { at = at; entry = y.0; shown = y.1 }))) k))
-      ∙ part-flat 0 (λ at. then_by entry_codec.format (behind_archived dig anchors at))
+      then_seen _ _ (pair (part_codec 0) (λ at. pair entry_codec (λ entry. present_codec))) (λ p. judge (Archived p))
+      ∙ answer-flat entry_codec present_codec
+      (λ at entry shown. Archived (record { at = at; entry = entry; shown = shown }))
 
   absence-flat : then_by absence_body.format (λ p. judge (Absent p)) ≡ head_stage 0
       (λ at. then_by key_codec.format (behind_absent dig anchors at))
   unfolding absence_body
   absence-flat =
-      let behind = λ (at : Part). pair key_codec (λ key. gap_codec) in
-      then_seen _ _ (pair (part_codec 0) behind) (λ p. judge (Absent p))
-      ∙ then_pair (part_codec 0) behind (λ t. judge (Absent (record { at = t.0; key = t.1.0; shown = t.1.1 })))
-      ∙ (λ k. then_by (part_codec 0).format (λ at. then_pair key_codec (λ key. gap_codec)
-      (λ y. judge (Absent (record { at = at; key = y.0; shown = y.1 }))) k))
-      ∙ part-flat 0 (λ at. then_by key_codec.format (behind_absent dig anchors at))
+      then_seen _ _ (pair (part_codec 0) (λ at. pair key_codec (λ key. gap_codec))) (λ p. judge (Absent p))
+      ∙ answer-flat key_codec gap_codec (λ at key shown. Absent (record { at = at; key = key; shown = shown }))
 
   link-flat : then_by link_body.format (λ p. judge (Linked p)) ≡ link_stage dig anchors
   unfolding link_body link_head path_codec each
