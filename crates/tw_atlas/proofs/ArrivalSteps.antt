@@ -2,10 +2,7 @@
 use Rattle.std.proofs.Common.{◌≡◌, ◌≢◌, ◌⊎◌, ℕ, ◌<◌, ◌≤◌, List, [], ◌∷◌, ◌++◌, length, Bool, true, false, cond, Option}
 use Rattle.std.proofs.Common.{Some, None, refl, sym, ◌∙◌, ap, subst, inl, inr, arith}
 use Rattle.std.specs.Prelude.{map, slice_get, IfOk, MatchOption, OnOk, Result, Ok, Err}
-use Rattle.std.specs.declared.cmp.Ordering.{Ordering}
-use Rattle.std.specs.declared.cmp.Ordering.TheVariants.{Less, Equal, Greater}
-use Rattle.std.proofs.lemmas.Bool.{ltb-false, ltb-true}
-use Rattle.std.proofs.lemmas.Map.Lookups.{exact_bytes}
+use Rattle.std.proofs.lemmas.Bool.{false_from_ne_true, ltb-false, ltb-true}
 use Rattle.tw_base.specs.declared.kinds.failure.NoMemory.{NoMemory}
 use Rattle.std.specs.BTreeMap.{BTreeMap, IsOrdered, values}
 use Rattle.std.specs.List.Sorted.{IsStrictlySortedBy}
@@ -15,6 +12,7 @@ use Rattle.std.specs.Cmp.Lexicographic.{slice_cmp}
 use Rattle.std.specs.Str.{bytes_eq}
 use Rattle.std.proofs.lemmas.Cmp.{nat_list_cmp_total}
 use Rattle.std.proofs.lemmas.Map.Entries.{btree_map_get_place}
+use Rattle.std.proofs.lemmas.Map.Text.{is_eq-slice_cmp}
 use Rattle.std.proofs.lemmas.Slice.Eq.{bytes_eq-Decides}
 use Rattle.tw_base.specs.declared.history.thread.Key.{Key}
 use Rattle.tw_base.specs.kinds.Lists.{Each, In}
@@ -158,14 +156,11 @@ offer-changes (Ok done) stop number old new offered is test here others = λ bef
     (is ∙ ap (λ (n : ℕ). record { service = stop.from; step = stop.step; leg = n }) (sym count)) here others
 offer-changes (Err none) stop number old new offered is test here others = tt
 
-unequal : (o : Ordering) → (o ≡ Equal → ⊥) → is_eq o ≡ false
-unequal Less differ = refl
-unequal Equal differ = absurd (differ refl)
-unequal Greater differ = refl
-
 -- two names that differ compare as such
 pub apart : (one other : List ℕ) → other ≢ one → is_eq (slice_cmp nat_cmp one other) ≡ false
-apart one other differ = unequal (slice_cmp nat_cmp one other) (λ e. differ (sym (exact_bytes one other e)))
+apart one other differ =
+    is_eq-slice_cmp one other
+    ∙ false_from_ne_true (bytes_eq one other) (λ same. differ (sym ((bytes_eq-Decides one other).0 same)))
 
 pub best-none : (kept : List ℕ → Option Arrival) → ((service : List ℕ) → kept service ≡ None) → AreBest [] kept
 best-none kept none service = subst (BestFor [] service) (sym (none service)) (λ n s is same. cc)
