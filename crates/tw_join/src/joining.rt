@@ -122,7 +122,15 @@ fn with_part<'a>(
 {
     match taken {
         Taken::Nothing => Ok(with_second(alloc, part)),
-        Taken::Hops(second, joints) => with_hop_part(second, joints, part),
+        Taken::Hops(second, joints) => match part {
+            Proof::Archived(thread) => with_thread(second, joints, thread),
+            Proof::Linked(link) => with_link(second, joints, link),
+            Proof::Exists(first) => Ok(with_first(second, joints, first)),
+            Proof::Precedes(_) | Proof::Absent(_) => {
+                drop(joints);
+                Ok(None)
+            }
+        },
         whole => {
             drop(whole);
             Ok(None)
@@ -137,26 +145,6 @@ fn with_second(alloc: Global, part: &Proof) -> Option<Taken<'_>>
     match part {
         Proof::Exists(second) => Some(Taken::Hops(second, Vec::new(alloc))),
         _ => None,
-    }
-}
-
-/// What is taken with one part more behind hops, or none where the part doesn't fit.
-fn with_hop_part<'a>(
-    second: &'a ExistenceProof,
-    joints: Vec<Joint<'a>>,
-    part: &'a Proof,
-) -> Result<Option<Taken<'a>>, NoMemory>
-    ensures { IfOk result (λ next. option_map taken_of next
-        ≡ with_part_more (Hops second.now (joints_of joints.entry.items)) part.now) }
-{
-    match part {
-        Proof::Archived(thread) => with_thread(second, joints, thread),
-        Proof::Linked(link) => with_link(second, joints, link),
-        Proof::Exists(first) => Ok(with_first(second, joints, first)),
-        Proof::Precedes(_) | Proof::Absent(_) => {
-            drop(joints);
-            Ok(None)
-        }
     }
 }
 
