@@ -72,12 +72,17 @@ of_weaker P Q step (Some r) all = step r all
 
 -- ---- the tables after a disk fault
 
+-- no line of a table says that there was one: not the first, of a call after it, and none of the others
+no_fault : (table : Bool → Option Refusal) → Of NoFault (table true) → Of IsTold (table false) → (broken : Bool)
+    → Of NoFault (table broken)
+no_fault table first told true = first
+no_fault table first told false = of_weaker IsTold NoFault (λ r is. is.0) (table false) told
+
 pub append_no_fault : (broken : Bool) (steps : ℕ) (clock : Option ℕ) (events : List (List ℕ)) (time : Option ℕ)
     → Of NoFault (append_refusal broken steps clock events time)
 unfolding append_refusal
-append_no_fault true steps clock events time = λ is. is
-append_no_fault false steps clock events time = of_weaker IsTold NoFault (λ r is. is.0) _
-    (append_told steps clock events time)
+append_no_fault broken steps clock events time = no_fault (λ b. append_refusal b steps clock events time) (λ is. is)
+    (append_told steps clock events time) broken
 
 pub order_told : (last step top : ℕ) → Of IsTold (order_refusal false last step top)
 unfolding order_refusal
@@ -86,8 +91,8 @@ order_told last step top = of_if IsTold (is_in_order last step top) None (Some (
 
 pub order_no_fault : (broken : Bool) (last step top : ℕ) → Of NoFault (order_refusal broken last step top)
 unfolding order_refusal
-order_no_fault true last step top = λ is. is
-order_no_fault false last step top = of_weaker IsTold NoFault (λ r is. is.0) _ (order_told last step top)
+order_no_fault broken last step top = no_fault (λ b. order_refusal b last step top) (λ is. is)
+    (order_told last step top) broken
 
 pub thread_told : (last since : ℕ) → Of IsTold (thread_refusal false last since)
 unfolding thread_refusal
@@ -96,8 +101,8 @@ thread_told last since = of_if IsTold (nat_lt 0 last && nat_le since last) None 
 
 pub thread_no_fault : (broken : Bool) (last since : ℕ) → Of NoFault (thread_refusal broken last since)
 unfolding thread_refusal
-thread_no_fault true last since = λ is. is
-thread_no_fault false last since = of_weaker IsTold NoFault (λ r is. is.0) _ (thread_told last since)
+thread_no_fault broken last since = no_fault (λ b. thread_refusal b last since) (λ is. is) (thread_told last since)
+    broken
 
 pub link_told : (last step top : ℕ) → Of IsTold (link_refusal false last step top)
 unfolding link_refusal
@@ -106,8 +111,8 @@ link_told last step top = of_if IsTold (nat_le step top && (nat_le 1 top && nat_
 
 pub link_no_fault : (broken : Bool) (last step top : ℕ) → Of NoFault (link_refusal broken last step top)
 unfolding link_refusal
-link_no_fault true last step top = λ is. is
-link_no_fault false last step top = of_weaker IsTold NoFault (λ r is. is.0) _ (link_told last step top)
+link_no_fault broken last step top = no_fault (λ b. link_refusal b last step top) (λ is. is) (link_told last step top)
+    broken
 
 pub top_told : (last top : ℕ) → Of IsTold (top_refusal false last top)
 unfolding top_refusal
@@ -115,8 +120,7 @@ top_told last top = of_if IsTold (nat_le 1 top && nat_le top last) None (Some (N
 
 pub top_no_fault : (broken : Bool) (last top : ℕ) → Of NoFault (top_refusal broken last top)
 unfolding top_refusal
-top_no_fault true last top = λ is. is
-top_no_fault false last top = of_weaker IsTold NoFault (λ r is. is.0) _ (top_told last top)
+top_no_fault broken last top = no_fault (λ b. top_refusal b last top) (λ is. is) (top_told last top) broken
 
 -- ---- a bad page and a disk fault are faults
 
