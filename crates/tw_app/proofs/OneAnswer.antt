@@ -428,24 +428,6 @@ module _ {D : Type 0} (view : D → DiskView) (one other : Around D) (alike : Ar
   abbrev Ending : Type 0
   Ending = (again ≡ status) × ((text : List ℕ) × Writes one text × Writes other text)
 
-  -- what came of both is one result
-  module _ {X : Type 0} (of : X → Outcome) (One Other : Result X CommandFault → Type 0) where
-    alike_ends : IsOfFiles one.outside.inputs.before one.outside.inputs.after One
-        → IsOfFiles other.outside.inputs.before other.outside.inputs.after Other
-        → Agree One Other → (U V : Type 0) (x y : Outcome) → IsOutcomeOf of (λ (r : Result X CommandFault). One r × U) x
-        → IsOutcomeOf of (λ (r : Result X CommandFault). Other r × V) y → EndsWith one.taken one.sink_faults status x
-        → EndsWith other.taken other.sink_faults again y → Ending
-    alike_ends files also agree U V x y came comes ends ended =
-        let results : came.0 ≡ comes.0 =
-        once One Other agree came.0 comes.0 (seen_of one status free of One files U x came ends)
-        (seen_of other again free_too of Other also V y comes ended) in
-        let outcomes : y ≡ x = comes.2 ∙ sym (ap (outcome_by of) results) ∙ sym came.2 in
-        let here = told_of one status free x ends in
-        let there = told_of other again free_too y ended in (
-          there.0 ∙ ap status_of outcomes ∙ sym here.0,
-          (text_of x, here.1, subst (λ (outcome : Outcome). Writes other (text_of outcome)) outcomes there.1),
-        )
-
   abbrev told : Option Files
   told = one.outside.inputs.told
 
@@ -461,61 +443,55 @@ module _ {D : Type 0} (view : D → DiskView) (one other : Around D) (alike : Ar
   abbrev l : ℕ
   l = other.outside.inputs.after
 
+  -- what came of both is one result
+  module _ {X : Type 0} (of : X → Outcome) (Comes : Asked → Result X CommandFault → Type 0)
+      (files : (a : Asked) → IsOfFiles a.before a.after (Comes a))
+      (agree : Agree (Comes (asked told m n)) (Comes (asked told k l))) where
+    alike_ends : (x y : Outcome)
+        → IsOutcomeOf of (λ (r : Result X CommandFault). Comes one.outside.inputs r × IsDiskUntouched view one.outside) x
+        → IsOutcomeOf of (λ (r : Result X CommandFault). Comes other.outside.inputs r × IsDiskUntouched view
+        other.outside) y
+        → EndsWith one.taken one.sink_faults status x → EndsWith other.taken other.sink_faults again y → Ending
+    alike_ends x y came comes ends ended =
+        let agrees : Agree (Comes one.outside.inputs) (Comes other.outside.inputs) =
+        subst (λ (t : Option Files). Agree (Comes (asked told m n)) (Comes (asked t k l))) (sym alike.same_told) agree in
+        let results : came.0 ≡ comes.0 =
+        once (Comes one.outside.inputs) (Comes other.outside.inputs) agrees came.0 comes.0
+        (seen_of one status free of (Comes one.outside.inputs) (files one.outside.inputs)
+        (IsDiskUntouched view one.outside) x came ends)
+        (seen_of other again free_too of (Comes other.outside.inputs) (files other.outside.inputs)
+        (IsDiskUntouched view other.outside) y comes ended) in
+        let outcomes : y ≡ x = comes.2 ∙ sym (ap (outcome_by of) results) ∙ sym came.2 in
+        let here = told_of one status free x ends in
+        let there = told_of other again free_too y ended in (
+          there.0 ∙ ap status_of outcomes ∙ sym here.0,
+          (text_of x, here.1, subst (λ (outcome : Outcome). Writes other (text_of outcome)) outcomes there.1),
+        )
+
   -- of each command
   by_command : (c : Command) → ReachesBeyond c → TellsEach told (command_files c) → (x y : Outcome)
       → (work view one.outside c).does x → (work view other.outside c).does y
       → EndsWith one.taken one.sink_faults status x → EndsWith other.taken other.sink_faults again y → Ending
-  by_command (Accuse first second link) reaches tells x y came comes ends ended =
-      alike_ends of_accused (AccuseComes one.outside.inputs first second link)
-      (AccuseComes other.outside.inputs first second link)
-      (accuse_files one.outside.inputs first second link) (accuse_files other.outside.inputs first second link)
-      (subst (λ (t : Option Files). Agree (AccuseComes (asked told m n) first second link)
-      (AccuseComes (asked t k l) first second link)) (sym alike.same_told)
-      (accuse_agree told first second link tells m n k l))
-      (IsDiskUntouched view one.outside) (IsDiskUntouched view other.outside) x y came comes ends ended
-  by_command (CheckFork file anchors) reaches tells x y came comes ends ended =
-      alike_ends of_fork (CheckForkComes one.outside.inputs file anchors) (CheckForkComes other.outside.inputs file
-      anchors)
-      (fork_files one.outside.inputs file anchors) (fork_files other.outside.inputs file anchors)
-      (subst (λ (t : Option Files). Agree (CheckForkComes (asked told m n) file anchors)
-      (CheckForkComes (asked t k l) file anchors)) (sym alike.same_told)
-      (fork_agree told file anchors tells m n k l))
-      (IsDiskUntouched view one.outside) (IsDiskUntouched view other.outside) x y came comes ends ended
-  by_command (CheckMap low high anchors) reaches tells x y came comes ends ended =
-      alike_ends of_mapped (CheckMapComes one.outside.inputs low high anchors)
-      (CheckMapComes other.outside.inputs low high anchors)
-      (map_files one.outside.inputs low high anchors) (map_files other.outside.inputs low high anchors)
-      (subst (λ (t : Option Files). Agree (CheckMapComes (asked told m n) low high anchors)
-      (CheckMapComes (asked t k l) low high anchors)) (sym alike.same_told)
-      (map_agree told low high anchors tells m n k l))
-      (IsDiskUntouched view one.outside) (IsDiskUntouched view other.outside) x y came comes ends ended
-  by_command (Atlas name pos files) reaches tells x y came comes ends ended =
+  by_command (Accuse first second link) reaches tells =
+      alike_ends of_accused (λ a. AccuseComes a first second link) (λ a. accuse_files a first second link)
+      (accuse_agree told first second link tells m n k l)
+  by_command (CheckFork file anchors) reaches tells =
+      alike_ends of_fork (λ a. CheckForkComes a file anchors) (λ a. fork_files a file anchors)
+      (fork_agree told file anchors tells m n k l)
+  by_command (CheckMap low high anchors) reaches tells =
+      alike_ends of_mapped (λ a. CheckMapComes a low high anchors) (λ a. map_files a low high anchors)
+      (map_agree told low high anchors tells m n k l)
+  by_command (Atlas name pos files) reaches tells =
       let start : Key = record { from = name; step = pos } in
-      alike_ends of_planned (AtlasComes one.outside.inputs start files) (AtlasComes other.outside.inputs start files)
-      (atlas_files one.outside.inputs start files) (atlas_files other.outside.inputs start files)
-      (subst (λ (t : Option Files). Agree (AtlasComes (asked told m n) start files)
-      (AtlasComes (asked t k l) start files)) (sym alike.same_told)
-      (atlas_agree told start files tells m n k l))
-      (IsDiskUntouched view one.outside) (IsDiskUntouched view other.outside) x y came comes ends ended
-  by_command (Audit proof anchors histories) reaches tells x y came comes ends ended =
-      alike_ends of_audited (AuditComes one.outside.inputs proof anchors histories)
-      (AuditComes other.outside.inputs proof anchors histories)
-      (audit_files one.outside.inputs proof anchors histories) (audit_files other.outside.inputs proof anchors
-      histories)
-      (subst (λ (t : Option Files). Agree (AuditComes (asked told m n) proof anchors histories)
-      (AuditComes (asked t k l) proof anchors histories)) (sym alike.same_told)
-      (audit_agree told proof anchors histories tells m n k l))
-      (IsDiskUntouched view one.outside) (IsDiskUntouched view other.outside) x y came comes ends ended
-  by_command (Adopt history anchors proof more) reaches tells x y came comes ends ended =
-      alike_ends of_taken (AdoptComes one.outside.inputs history anchors (proof ∷ more))
-      (AdoptComes other.outside.inputs history anchors (proof ∷ more))
-      (adopt_files one.outside.inputs history anchors (proof ∷ more)) (adopt_files other.outside.inputs history anchors
-      (proof ∷ more))
-      (subst (λ (t : Option Files). Agree (AdoptComes (asked told m n) history anchors (proof ∷ more))
-      (AdoptComes (asked t k l) history anchors (proof ∷ more))) (sym alike.same_told)
-      (adopt_agree told history anchors proof more tells m n k l))
-      (IsDiskUntouched view one.outside) (IsDiskUntouched view other.outside) x y came comes ends ended
-  by_command _ reaches tells x y came comes ends ended = absurd reaches
+      alike_ends of_planned (λ a. AtlasComes a start files) (λ a. atlas_files a start files)
+      (atlas_agree told start files tells m n k l)
+  by_command (Audit proof anchors histories) reaches tells =
+      alike_ends of_audited (λ a. AuditComes a proof anchors histories) (λ a. audit_files a proof anchors histories)
+      (audit_agree told proof anchors histories tells m n k l)
+  by_command (Adopt history anchors proof more) reaches tells =
+      alike_ends of_taken (λ a. AdoptComes a history anchors (proof ∷ more))
+      (λ a. adopt_files a history anchors (proof ∷ more)) (adopt_agree told history anchors proof more tells m n k l)
+  by_command _ reaches tells = absurd reaches
 
   pub one_ending : EndsAllowed view one status → EndsAllowed view other again → Ending
   one_ending run also =
