@@ -1,5 +1,8 @@
 // How far a history is taken over, or why it isn't.
 
+ghost use Rattle.std.specs.Prelude.{◌≡◌};
+ghost use Rattle.tw_adopt.specs.declared.adopted.AdoptFault.TheVariants.{NoMemory as WantedMemory};
+
 use tw_base::{Bytes, Digest, Name, NoMemory, Reason, Sequence};
 use tw_history::History;
 
@@ -45,9 +48,6 @@ pub enum AdoptFault {
 }
 
 impl From<NoMemory> for AdoptFault {
-    ghost use Rattle.std.specs.Prelude.{◌≡◌};
-    ghost use Rattle.tw_adopt.specs.declared.adopted.AdoptFault.TheVariants.{NoMemory as WantedMemory};
-
     ghost from_gives = { λ _ fault. fault ≡ WantedMemory };
 
     fn from(_refused: NoMemory) -> Self {

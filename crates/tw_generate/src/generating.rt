@@ -18,6 +18,7 @@ ghost use Rattle.tw_generate.specs.Summing.{IsClaimed, IsSummaryOf, TellsStands,
 ghost use Rattle.tw_generate.specs.Unrefused.{HavePlayed};
 ghost use Rattle.tw_generate.specs.declared.generating.GenerateFault.TheVariants.{TooMany};
 ghost use Rattle.tw_generate.specs.declared.summary.Summary.{Summary as SummaryMeant};
+ghost use Rattle.tw_generate.specs.declared.generating.GenerateFault.TheVariants.{NoMemory as WantedMemory};
 
 use crate::claiming::claim;
 use crate::judging::{exported, heads, judge, list_of, map, stands};
@@ -43,8 +44,6 @@ pub enum GenerateFault {
 }
 
 impl From<NoMemory> for GenerateFault {
-    ghost use Rattle.tw_generate.specs.declared.generating.GenerateFault.TheVariants.{NoMemory as WantedMemory};
-
     ghost from_gives = { λ _ fault. fault ≡ WantedMemory };
 
     fn from(_none: NoMemory) -> Self {

@@ -1,5 +1,8 @@
 // Why a history isn't read, isn't sound or has no file, and why none of its events is shown.
 
+ghost use Rattle.std.specs.Prelude.{◌≡◌};
+ghost use Rattle.tw_history.specs.declared.fault.HistoryFault.TheVariants.{NoMemory as WantedMemory};
+
 use tw_base::NoMemory;
 
 /// Why a history isn't read, isn't sound, or has no file.
@@ -18,9 +21,6 @@ pub enum HistoryFault {
 }
 
 impl From<NoMemory> for HistoryFault {
-    ghost use Rattle.std.specs.Prelude.{◌≡◌};
-    ghost use Rattle.tw_history.specs.declared.fault.HistoryFault.TheVariants.{NoMemory as WantedMemory};
-
     ghost from_gives = { λ _ fault. fault ≡ WantedMemory };
 
     fn from(_refused: NoMemory) -> Self {

@@ -5,6 +5,7 @@ ghost use Rattle.std.specs.List.{AllPairs, list_any};
 ghost use Rattle.tw_msg.specs.AnchorsFile.{AllGood, anchor_on, is_anchor, is_of, lines, line_may_follow};
 ghost use Rattle.tw_text.specs.Words.{is_number_within, word_number};
 ghost use Rattle.tw_msg.specs.AnchorFaults.{TellsBadLine};
+ghost use Rattle.tw_msg.specs.declared.anchors.AnchorFault.TheVariants.{NoMemory as WantedMemory};
 
 use crate::split::split_at_first;
 use std::alloc::Global;
@@ -23,9 +24,6 @@ pub enum AnchorFault {
 }
 
 impl From<NoMemory> for AnchorFault {
-    ghost use Rattle.std.specs.Prelude.{◌≡◌};
-    ghost use Rattle.tw_msg.specs.declared.anchors.AnchorFault.TheVariants.{NoMemory as WantedMemory};
-
     ghost from_gives = { λ _ fault. fault ≡ WantedMemory };
 
     fn from(_refused: NoMemory) -> Self {

@@ -1,5 +1,8 @@
 // Why a call on a tree in pages that takes memory has no answer; the others answer a `WalkFault` of tw_disk.
 
+ghost use Rattle.std.specs.Prelude.{◌≡◌};
+ghost use Rattle.tw_rbtree.specs.declared.fault.TreeFault.TheVariants.{NoMemory as WantedMemory};
+
 use tw_base::NoMemory;
 use tw_disk::WalkFault;
 
@@ -21,9 +24,6 @@ pub enum TreeFault {
 }
 
 impl From<NoMemory> for TreeFault {
-    ghost use Rattle.std.specs.Prelude.{◌≡◌};
-    ghost use Rattle.tw_rbtree.specs.declared.fault.TreeFault.TheVariants.{NoMemory as WantedMemory};
-
     ghost from_gives = { λ _ fault. fault ≡ WantedMemory };
 
     fn from(_none: NoMemory) -> Self {
@@ -32,7 +32,6 @@ impl From<NoMemory> for TreeFault {
 }
 
 impl From<WalkFault> for TreeFault {
-    ghost use Rattle.std.specs.Prelude.{◌≡◌};
     ghost use Rattle.tw_rbtree.specs.FaultWords.{tree_fault};
 
     ghost from_gives = { λ walk fault. fault ≡ tree_fault walk };

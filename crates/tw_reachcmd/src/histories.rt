@@ -8,6 +8,7 @@ ghost use Rattle.tw_base.specs.kinds.Faults.{Rose};
 ghost use Rattle.tw_base.specs.kinds.Lists.{Each};
 ghost use Rattle.tw_outside.specs.Files.{IsThere};
 ghost use Rattle.tw_reachcmd.specs.Reading.{AreHistoriesRead, IsAloneBeside, IsReadBeside};
+ghost use Rattle.tw_reachcmd.specs.declared.histories.HistoryRefusal.TheVariants.{NoMemory as WantedMemory};
 
 use crate::gathering::{Gathers, read_files};
 use std::alloc::Global;
@@ -40,9 +41,6 @@ pub(crate) enum HistoryRefusal {
 }
 
 impl From<NoMemory> for HistoryRefusal {
-    ghost use Rattle.std.specs.Prelude.{◌≡◌};
-    ghost use Rattle.tw_reachcmd.specs.declared.histories.HistoryRefusal.TheVariants.{NoMemory as WantedMemory};
-
     ghost from_gives = { λ _ refusal. refusal ≡ WantedMemory };
 
     fn from(_none: NoMemory) -> Self {

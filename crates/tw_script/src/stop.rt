@@ -1,5 +1,8 @@
 // Why a text isn't taken as a line of a script.
 
+ghost use Rattle.std.specs.Prelude.{◌≡◌};
+ghost use Rattle.tw_script.specs.declared.stop.Stop.TheVariants.{NoMemory as WantedMemory};
+
 use tw_base::NoMemory;
 
 /// Why a text isn't taken as a line of a script.
@@ -12,9 +15,6 @@ pub enum Stop {
 }
 
 impl From<NoMemory> for Stop {
-    ghost use Rattle.std.specs.Prelude.{◌≡◌};
-    ghost use Rattle.tw_script.specs.declared.stop.Stop.TheVariants.{NoMemory as WantedMemory};
-
     ghost from_gives = { λ _ stop. stop ≡ WantedMemory };
 
     fn from(_refused: NoMemory) -> Self {

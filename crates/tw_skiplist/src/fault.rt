@@ -1,6 +1,7 @@
 // Why a call on a list of steps has no answer.
 
 ghost use Rattle.std.specs.Prelude.{◌≡◌};
+ghost use Rattle.tw_skiplist.specs.declared.fault.ListFault.TheVariants.{NoMemory as WantedMemory};
 
 use tw_base::{NoMemory, Refusal};
 use tw_disk::WalkFault;
@@ -21,8 +22,6 @@ pub enum ListFault {
 }
 
 impl From<NoMemory> for ListFault {
-    ghost use Rattle.tw_skiplist.specs.declared.fault.ListFault.TheVariants.{NoMemory as WantedMemory};
-
     ghost from_gives = { λ _ fault. fault ≡ WantedMemory };
 
     fn from(_none: NoMemory) -> Self {

@@ -5,6 +5,7 @@ ghost use Rattle.tw_base.specs.history.Tree.{IsRising, entries};
 ghost use Rattle.tw_tree.specs.TreeMeaning.{meant_tree};
 ghost use Rattle.tw_tree.specs.Proving.{Proves};
 ghost use Rattle.tw_treeproof.specs.Making.{IsSo, place_of_ask, proof_at as proof_of_place, way_up};
+ghost use Rattle.tw_tree.specs.declared.proving.ProveFault.TheVariants.{NoMemory as WantedMemory};
 
 use crate::searching::get;
 use crate::tree::{Tree, label};
@@ -22,9 +23,6 @@ pub enum ProveFault {
 }
 
 impl From<NoMemory> for ProveFault {
-    ghost use Rattle.std.specs.Prelude.{◌≡◌};
-    ghost use Rattle.tw_tree.specs.declared.proving.ProveFault.TheVariants.{NoMemory as WantedMemory};
-
     ghost from_gives = { λ _ fault. fault ≡ WantedMemory };
 
     fn from(_none: NoMemory) -> Self {

@@ -22,10 +22,7 @@ pub enum Stop {
 }
 
 impl From<NoMemory> for Stop {
-    ghost use Rattle.std.specs.Prelude.{◌≡◌};
-    ghost use Rattle.tw_words.specs.declared.cursor.Stop.TheVariants.{NoMemory as WantedMemory};
-
-    ghost from_gives = { λ _ stop. stop ≡ WantedMemory };
+    ghost from_gives = { λ _ stop. stop ≡ Stop.NoMemory };
 
     fn from(_refused: NoMemory) -> Self {
         Stop::NoMemory
