@@ -8,20 +8,18 @@ use Rattle.std.proofs.lemmas.List.{append-nil, append_assoc, append_cancel_left,
 use Rattle.std.proofs.lemmas.List.{length_push, take-append-drop, take_all}
 use Rattle.std.proofs.lemmas.Option.{slice_get_within}
 use Rattle.tw_base.specs.declared.history.thread.Entry.{Entry}
-use Rattle.tw_base.specs.format.Codecs.{behind, by_kind, counted, many, name_codec, number_codec, pair, seen}
-use Rattle.tw_base.specs.format.Fields.{number_bytes}
 use Rattle.tw_base.specs.history.Auth.{auth}
 use Rattle.tw_base.specs.history.History.{History, Node, Step, plus, step_at, thread_of, time_of}
-use Rattle.tw_base.specs.history.HistoryCodec.{history_bytes, history_codec, history_magic, step_codec}
+use Rattle.tw_base.specs.history.HistoryCodec.{history_bytes, step_codec}
 use Rattle.tw_base.specs.history.Rules.{KeepsRule, NodesFit, Rule}
 use Rattle.tw_base.specs.history.Rules.Rule.{EventsFit, HoldsAllThreads, IsOfAnother, NodesAreKnown, StepsRise}
 use Rattle.tw_base.specs.history.Rules.Rule.{TimesDontFall, TreesRise}
 use Rattle.tw_base.specs.history.Sound.{IsSound, IsSoundStep}
 use Rattle.tw_base.specs.history.Tree.{IsRising, Tree, entries, forest, new_trees, tree}
 use Rattle.tw_base.specs.kinds.Lists.{Each}
-use Rattle.tw_base.proofs.lemmas.format.NumberLaws.{length-number_bytes}
 use Rattle.tw_base.proofs.lemmas.history.Plus.{auth-plus, entry_to-plus, forest-plus, received-plus, step_at-plus}
 use Rattle.tw_base.proofs.lemmas.history.Plus.{times-plus, tree-plus}
+use Rattle.tw_history.proofs.ByteCounts.{file-size}
 use Rattle.tw_adopt.specs.FirstSteps.{Same, first_steps}
 
 -- ---- one step less
@@ -165,19 +163,6 @@ flat-front f (suc count) [] = omega arith
 flat-front f (suc count) (s ∷ steps) =
     let rest = flat-front f count steps in
     omega (arith, rest, length-append (f s) (flat_map f (take count steps)), length-append (f s) (flat_map f steps))
-
-file-size : (h : History) → length (history_bytes h) ≡ 12 + length h.name + length (flat_map step_codec.write h.steps)
-unfolding history_codec seen behind pair counted by_kind many number_codec name_codec
-file-size h =
-    let number : List ℕ = number_bytes 8 (length h.steps) in
-    let all : List ℕ = flat_map step_codec.write h.steps in
-    omega (
-      arith,
-      length-append history_magic (h.name ++ (number ++ all)),
-      length-append h.name (number ++ all),
-      length-append number all,
-      length-number_bytes 8 (length h.steps),
-    )
 
 pub short-first_steps : (h : History) (count : ℕ) → length (history_bytes (first_steps h count)) ≤ length
     (history_bytes h)

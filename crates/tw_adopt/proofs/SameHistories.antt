@@ -1,7 +1,7 @@
 -- Two sound histories with one authenticator at a step are the same up to there, or two of their texts clash.
 use Rattle.std.proofs.Common.{◌≡◌, ℕ, suc, zero, ◌-◌, ◌<◌, ◌≤◌, ◌^◌, List, [], ◌++◌, length, get_or, drop, refl, ap}
 use Rattle.std.proofs.Common.{sym, ◌∙◌, subst, arith, inl, inr}
-use Rattle.std.specs.Prelude.{Option, Some, None, IfSome, map, option_and_then}
+use Rattle.std.specs.Prelude.{Option, Some, None, map, option_and_then}
 use Rattle.std.specs.Option.{option_map}
 use Rattle.std.proofs.lemmas.Bool.{cases_lt}
 use Rattle.std.proofs.lemmas.Option.{none-some, same_Some, slice_get_cases}
@@ -13,7 +13,6 @@ use Rattle.tw_base.specs.events.EventTree.{event_root}
 use Rattle.tw_base.specs.history.Auth.{auth, auth_text, auths, datum_text_at, link_texts_at, tree_label}
 use Rattle.tw_base.specs.history.History.{History, Step, entry_at, events_at, events_of, step_at, thread_of, time_at}
 use Rattle.tw_base.specs.history.HistoryTexts.{history_texts, texts_to}
-use Rattle.tw_base.specs.history.Limits.{IsTimeWithinLimits}
 use Rattle.tw_base.specs.history.Sound.{IsSound}
 use Rattle.tw_base.specs.history.Tree.{entries, tree}
 use Rattle.tw_base.specs.kinds.Bytes.{AreBytes}
@@ -27,7 +26,7 @@ use Rattle.tw_base.proofs.lemmas.history.ArchiveTexts.{tree_texts-within}
 use Rattle.tw_base.proofs.lemmas.history.Auths.{auth-suc, auths-at, has-auth_text, has-datum_text, has-event_text}
 use Rattle.tw_base.proofs.lemmas.history.Auths.{has-link_text, label-at, link_texts-has, text_at}
 use Rattle.tw_base.proofs.lemmas.history.Plus.{tree-first}
-use Rattle.tw_base.proofs.lemmas.history.SoundEvents.{sound-may_record, sound-time}
+use Rattle.tw_base.proofs.lemmas.history.SoundEvents.{sound-may_record}
 use Rattle.tw_base.proofs.lemmas.history.TextBytes.{history_texts-bytes}
 use Rattle.tw_base.proofs.lemmas.history.Trees.{IsArchived, entry_at-parts, tree-archived, tree-rising}
 use Rattle.tw_base.proofs.lemmas.kinds.Clashes.{Among-left, Among-right, and_then, same_text}
@@ -35,6 +34,7 @@ use Rattle.tw_base.proofs.lemmas.kinds.DigestBytes.{map-digests}
 use Rattle.tw_base.proofs.lemmas.kinds.ListLemmas.{Each-append, Each-in}
 use Rattle.tw_base.proofs.lemmas.kinds.Sizes.{tree_label-size}
 use Rattle.tw_base.proofs.lemmas.kinds.TextFields.{SameDatum, authenticator-fields, datum-fields, link-fields}
+use Rattle.tw_skipproof.proofs.OpeningBinding.{small_time}
 use Rattle.tw_adopt.specs.FirstSteps.{Same, content_at}
 use Rattle.tw_adopt.proofs.SameTexts.{events-same, trees-same}
 
@@ -151,13 +151,6 @@ same_more g h i in_g in_h before content time archive = record {
 
 few_events : (f : History) (i : ℕ) → IsSound f → length (events_at f (suc i)) < 2 ^ 32
 few_events f i sound = let few = (sound-may_record f (suc i) sound).are.count in omega (arith, few)
-
-small_time : (f : History) (i : ℕ) → IsSound f → IfSome (time_at f (suc i)) (λ t. t < 2 ^ 64)
-small_time f i sound = within (time_at f (suc i)) (sound-time f (suc i) sound)
-  where
-    within : (time : Option ℕ) → IsTimeWithinLimits time → IfSome time (λ t. t < 2 ^ 64)
-    within None is = tt
-    within (Some t) is = omega (arith, is)
 
 genesis-name : (name other : List ℕ) → genesis_text name ≡ genesis_text other → name ≡ other
 unfolding genesis_text

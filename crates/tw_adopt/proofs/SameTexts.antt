@@ -1,10 +1,7 @@
 -- Lists of events with one root, and trees with one label, are the same, or two texts clash.
-use Rattle.std.proofs.Common.{◌≡◌, ℕ, ◌-◌, ◌<◌, ◌≤◌, List, [], ◌∷◌, ◌++◌, length, get_or, drop, refl, ap, sym, ◌∙◌}
+use Rattle.std.proofs.Common.{◌≡◌, ℕ, ◌-◌, ◌<◌, ◌≤◌, List, [], ◌∷◌, ◌++◌, length, refl, ap, sym, ◌∙◌}
 use Rattle.std.proofs.Common.{arith, inl}
-use Rattle.std.specs.Int.{w64, to_be_bytes, from_be_bytes}
 use Rattle.std.proofs.lemmas.List.{take-append-drop}
-use Rattle.std.proofs.lemmas.Nat.{from_be_bytes-to_be_bytes_8}
-use Rattle.tw_base.specs.declared.history.thread.Entry.{Entry}
 use Rattle.tw_base.specs.events.EventTree.{event_root, event_texts, largest_power_below, left_half, right_half}
 use Rattle.tw_base.specs.history.Auth.{tree_label}
 use Rattle.tw_base.specs.history.Entries.{IsFit, entry_text}
@@ -14,14 +11,15 @@ use Rattle.tw_base.specs.history.Tree.Tree.{Empty, Branch}
 use Rattle.tw_base.specs.kinds.Bytes.{AreBytes}
 use Rattle.tw_base.specs.kinds.Clash.{OrClash, Within}
 use Rattle.tw_base.specs.kinds.Lists.{Each}
-use Rattle.tw_base.specs.kinds.Texts.{empty_tree_text, event_leaf_text, event_node_text, tree_node_text}
+use Rattle.tw_base.specs.kinds.Texts.{empty_tree_text, event_leaf_text, event_node_text}
 use Rattle.tw_base.proofs.lemmas.events.EventTrees.{by_halves, event_root-more, event_root-one, event_texts-leaf}
 use Rattle.tw_base.proofs.lemmas.events.EventTrees.{event_texts-left, event_texts-right, event_texts-top}
 use Rattle.tw_base.proofs.lemmas.events.EventTrees.{length-event_root, length-left_half, length-right_half}
 use Rattle.tw_base.proofs.lemmas.kinds.Clashes.{Among-left, Among-right, and_then, same_text}
 use Rattle.tw_base.proofs.lemmas.kinds.ListLemmas.{Each-parts}
 use Rattle.tw_base.proofs.lemmas.kinds.Sizes.{tree_label-size}
-use Rattle.tw_base.proofs.lemmas.kinds.TextFields.{halves, leaf-fields, node-fields}
+use Rattle.tw_base.proofs.lemmas.kinds.TextFields.{leaf-fields, node-fields}
+use Rattle.tw_treeproof.proofs.Binding.{not_leaf, tree_node-fields}
 
 -- a list is its halves
 whole : (xs ys : List (List ℕ)) → left_half xs ≡ left_half ys → right_half xs ≡ right_half ys → xs ≡ ys
@@ -29,37 +27,6 @@ whole xs ys one other =
     let halves_same : left_half xs ++ right_half xs ≡ left_half ys ++ right_half ys = λ i. one i ++ other i in
     sym (take-append-drop (largest_power_below (length xs)) xs) ∙ halves_same ∙ take-append-drop
     (largest_power_below (length ys)) ys
-
--- ---- the fields of equal texts of nodes
-
-same_entry : (e f : Entry) → e.thread.from ≡ f.thread.from → e.thread.step ≡ f.thread.step
-    → e.thread.auth ≡ f.thread.auth → e.archived ≡ f.archived → e ≡ f
-same_entry e f n s a r = λ i. record { thread = record { from = n i; step = s i; auth = a i }; archived = r i }
-
-record SameNode (l : List ℕ) (e : Entry) (r : List ℕ) (l' : List ℕ) (e' : Entry) (r' : List ℕ) : Type 0 where
-  left : l ≡ l'
-  entry : e ≡ e'
-  right : r ≡ r'
-
-tree_node-fields : (l r l' r' : List ℕ) (e e' : Entry) → length l ≡ length l' → IsFit e → IsFit e'
-    → entry_text l e r ≡ entry_text l' e' r' → SameNode l e r l' e' r'
-unfolding tree_node_text
-tree_node-fields l r l' r' e e' n f g same =
-    let one = halves l l' _ _ n (ap (drop 1) same) in
-    let two = halves e.thread.from e'.thread.from _ _ (f.from.0 ∙ sym g.from.0) one.1 in
-    let three = halves (to_be_bytes w64 e.thread.step) (to_be_bytes w64 e'.thread.step) _ _ refl two.1 in
-    let four = halves e.thread.auth e'.thread.auth _ _ (f.auth.0 ∙ sym g.auth.0) three.1 in
-    let five = halves (to_be_bytes w64 e.archived) (to_be_bytes w64 e'.archived) _ _ refl four.1 in
-    let step : e.thread.step ≡ e'.thread.step = sym (from_be_bytes-to_be_bytes_8 e.thread.step f.step)
-    ∙ ap (from_be_bytes w64) three.0 ∙ from_be_bytes-to_be_bytes_8 e'.thread.step g.step in
-    let archived : e.archived ≡ e'.archived = sym (from_be_bytes-to_be_bytes_8 e.archived f.archived)
-    ∙ ap (from_be_bytes w64) five.0 ∙ from_be_bytes-to_be_bytes_8 e'.archived g.archived in
-    record { left = one.0; entry = same_entry e e' two.0 step four.0 archived; right = five.1 }
-
--- a node's text is none of the empty tree
-not_empty : (l r : List ℕ) (e : Entry) → empty_tree_text ≡ entry_text l e r → ⊥
-unfolding empty_tree_text tree_node_text
-not_empty l r e same = let never : 0x14 ≡ 0x15 = ap (λ t. get_or t 0 0) same in absurd (omega (arith, never))
 
 module _ (dig : List ℕ → List ℕ) (size : (text : List ℕ) → length (dig text) ≡ 32) (texts : List (List ℕ))
     (are : Each AreBytes texts) where
@@ -131,12 +98,12 @@ module _ (dig : List ℕ → List ℕ) (size : (text : List ℕ) → length (dig
       and_then dig texts (empty_tree_text ≡ entry_text (tree_label dig l) x (tree_label dig r)) (Empty ≡ Branch l x r)
       (same_text dig texts are empty_tree_text (entry_text (tree_label dig l) x (tree_label dig r)) (p _ (inl refl))
       (q _ (Among-right _ (tree_texts dig l) _ (Among-right _ (tree_texts dig r) _ (inl refl)))) e)
-      (λ same. absurd (not_empty (tree_label dig l) (tree_label dig r) x same))
+      (λ same. absurd (not_leaf (tree_label dig l) (tree_label dig r) x same))
   trees-same (Branch l x r) Empty f g p q e =
       and_then dig texts (empty_tree_text ≡ entry_text (tree_label dig l) x (tree_label dig r)) (Branch l x r ≡ Empty)
       (same_text dig texts are empty_tree_text (entry_text (tree_label dig l) x (tree_label dig r)) (q _ (inl refl))
       (p _ (Among-right _ (tree_texts dig l) _ (Among-right _ (tree_texts dig r) _ (inl refl)))) (sym e))
-      (λ same. absurd (not_empty (tree_label dig l) (tree_label dig r) x same))
+      (λ same. absurd (not_leaf (tree_label dig l) (tree_label dig r) x same))
   trees-same (Branch l x r) (Branch m y s) f g p q e =
       let fit = Each-parts IsFit (entries l) (x ∷ entries r) f in
       let fit' = Each-parts IsFit (entries m) (y ∷ entries s) g in

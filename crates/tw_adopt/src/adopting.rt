@@ -50,26 +50,6 @@ fn adopt_heard<H: Hasher>(
     }
 }
 
-/// How far the history is taken over by the proofs, or the first fault: `adopt`, but for its second clause.
-fn answer<H: Hasher>(
-    alloc: Global,
-    history: &History,
-    anchors: &[Thread],
-    proofs: &ProofList,
-) -> Result<Adopted, AdoptFault>
-    requires { 0 < length proofs.now }
-    ensures { IsAdoption H.dig anchors.now history.now proofs.now result }
-{
-    match hear_all::<H>(alloc, proofs.as_slice(), anchors, history) {
-        Ok(heard) => {
-            let answer = adopt_heard::<H>(alloc, history, &heard);
-            drop(heard);
-            answer
-        }
-        Err(NoMemory) => Err(AdoptFault::NoMemory),
-    }
-}
-
 /// How far the history is taken over by the proofs, of which there is one at least (the command takes 64). Each
 /// has to be accepted under the anchors, not in the strict form, as one that a service received a thread of the
 /// history's service, of a step at which the history has the thread's authenticator. Then the answer is the
@@ -103,5 +83,12 @@ pub fn adopt<H: Hasher>(
     // histories and of the proof, both of bytes, have one digest.
     ensures binds { IsSound history.now → BindsAdoption H.dig history.now anchors.now proofs.now result }
 {
-    answer::<H>(alloc, history, anchors, proofs)
+    match hear_all::<H>(alloc, proofs.as_slice(), anchors, history) {
+        Ok(heard) => {
+            let answer = adopt_heard::<H>(alloc, history, &heard);
+            drop(heard);
+            answer
+        }
+        Err(NoMemory) => Err(AdoptFault::NoMemory),
+    }
 }

@@ -131,11 +131,10 @@ steps-size (s ∷ steps) nodes counted =
       sum_by-cons step_size s steps,
     )
 
-pub history-size : (h : History) (steps : List Step) (nodes : List TableNode) → h.steps ≡ steps_of_table steps nodes
-    → sum_by (λ s. s.fresh) steps ≡ length nodes → length h.name ≡ 16
-    → length (history_bytes h) ≡ 28 + sum_by step_size steps
+pub file-size : (h : History) → length (history_bytes h) ≡ 12 + length h.name + length
+    (flat_map step_codec.write h.steps)
 unfolding history_codec seen behind pair counted by_kind many number_codec name_codec
-history-size h steps nodes is counted name =
+file-size h =
     let number : List ℕ = number_bytes 8 (length h.steps) in
     let all : List ℕ = flat_map step_codec.write h.steps in
     omega (
@@ -144,6 +143,16 @@ history-size h steps nodes is counted name =
       length-append h.name (number ++ all),
       length-append number all,
       length-number_bytes 8 (length h.steps),
+    )
+
+pub history-size : (h : History) (steps : List Step) (nodes : List TableNode) → h.steps ≡ steps_of_table steps nodes
+    → sum_by (λ s. s.fresh) steps ≡ length nodes → length h.name ≡ 16
+    → length (history_bytes h) ≡ 28 + sum_by step_size steps
+history-size h steps nodes is counted name =
+    let whole = file-size h in
+    omega (
+      arith,
+      whole,
       name,
       ap (λ ss. length (flat_map step_codec.write ss)) is,
       steps-size steps nodes counted,
