@@ -1,5 +1,4 @@
 // Writing evidence of a fork, for whoever accuses; proofs by themselves are written in tw_chain.
-#![tactic(auto, unfolding(crate::specs::Evidence::evidence_codec, crate::specs::Evidence::thread_proof_codec, tw_skipproof::specs::Seen::parts))]
 
 ghost use Rattle.std.specs.Prelude.{◌≡◌, ◌++◌, IfOk, OnOk};
 ghost use Rattle.tw_base.specs.format.Formats.{Spells};
@@ -13,6 +12,7 @@ use tw_chain::{ThreadProof, put_thread_body};
 use tw_skipproof::put_path;
 
 /// Appends the proof of a received thread.
+#[tactic(auto, unfolding(crate::specs::Evidence::thread_proof_codec))]
 fn put_thread_proof(into: &mut Bytes, proof: &ThreadProof) -> Result<(), NoMemory>
     ensures { OnOk result (into.new ≡ into.old ++ thread_proof_codec.write proof.now) }
 {
@@ -22,6 +22,7 @@ fn put_thread_proof(into: &mut Bytes, proof: &ThreadProof) -> Result<(), NoMemor
 }
 
 /// Appends the evidence.
+#[tactic(auto, unfolding(crate::specs::Evidence::evidence_codec, tw_skipproof::specs::Seen::parts))]
 fn put_evidence(into: &mut Bytes, evidence: &Evidence) -> Result<(), NoMemory>
     ensures { OnOk result (into.new ≡ into.old ++ evidence_bytes evidence.now) }
 {
@@ -36,7 +37,6 @@ fn put_evidence(into: &mut Bytes, evidence: &Evidence) -> Result<(), NoMemory>
 /// The bytes of the evidence: the four bytes `TWV1`, both proofs, the bottom, and the path. They spell it
 /// where both proofs have a spelling, and the path the links of the greedy path between their threads'
 /// steps.
-#[tactic(auto)]
 pub fn write_evidence(alloc: Global, evidence: &Evidence) -> Result<Bytes, NoMemory>
     // What is written of evidence is its bytes in the format.
     ensures bytes { IfOk result (λ bytes. bytes ≡ evidence_bytes evidence.now) }

@@ -13,7 +13,7 @@ use crate::made::Made;
 use crate::parts::Parts;
 use crate::stop::Stop;
 use std::alloc::Global;
-use tw_base::Sequence;
+use tw_base::{NoMemory, Sequence};
 
 /// A line with its number in the file, counted from 1.
 #[derive(Drop, Debug)]
@@ -82,7 +82,7 @@ fn read_lines(alloc: Global, bytes: &[u8]) -> Result<Script, ScriptFault>
             };
             match script.push(NumberedLine { number, line }) {
                 Ok(()) => {}
-                Err(_) => return Err(ScriptFault::NoMemory),
+                Err(NoMemory) => return Err(ScriptFault::NoMemory),
             }
         }
     }
