@@ -127,23 +127,22 @@ under_of a proof anchors histories front f (Err NoMemory) there far each are com
 under_of a proof anchors histories front f _ there far each are comes = absurd comes
 
 -- where a file couldn't be read
+by_fault : (Comes : CommandFault → Type 0) (why : ReadingFault) (came : CommandFault) → (why ≡ Failed → Comes InputFault)
+    → Comes NoMemory → came ≡ fault_of_input why → Comes came
+by_fault Comes Failed came failed memory is = subst Comes (sym is) (failed refl)
+by_fault Comes WantedMemory came failed memory is = subst Comes (sym is) memory
+
 pub under_failed : (a : Asked) (proof : List ℕ) (anchors : List Thread) (histories : List (List ℕ)) (why : ReadingFault)
-    (came : CommandFault)
-    → (why ≡ Failed → Rose a.before a.after) → came ≡ fault_of_input why → UnderComes a proof anchors histories
-    (Err came)
-under_failed a proof anchors histories Failed came rose is =
-    subst (λ (f : CommandFault). UnderComes a proof anchors histories (Err f)) (sym is) (rose refl)
-under_failed a proof anchors histories WantedMemory came rose is =
-    subst (λ (f : CommandFault). UnderComes a proof anchors histories (Err f)) (sym is) tt
+    (came : CommandFault) → (why ≡ Failed → Rose a.before a.after) → came ≡ fault_of_input why
+    → UnderComes a proof anchors histories (Err came)
+under_failed a proof anchors histories why came rose is =
+    by_fault (λ f. UnderComes a proof anchors histories (Err f)) why came rose tt is
 
 pub audit_failed : (a : Asked) (proof anchors : List ℕ) (histories : List (List ℕ)) (why : ReadingFault)
-    (came : CommandFault)
-    → (why ≡ Failed → Rose a.before a.after) → came ≡ fault_of_input why → AuditComes a proof anchors histories
-    (Err came)
-audit_failed a proof anchors histories Failed came rose is =
-    subst (λ (f : CommandFault). AuditComes a proof anchors histories (Err f)) (sym is) (rose refl)
-audit_failed a proof anchors histories WantedMemory came rose is =
-    subst (λ (f : CommandFault). AuditComes a proof anchors histories (Err f)) (sym is) tt
+    (came : CommandFault) → (why ≡ Failed → Rose a.before a.after) → came ≡ fault_of_input why
+    → AuditComes a proof anchors histories (Err came)
+audit_failed a proof anchors histories why came rose is =
+    by_fault (λ f. AuditComes a proof anchors histories (Err f)) why came rose tt is
 
 -- since an earlier moment, of inputs that tell the same, under the anchors of a file
 pub audits_since : (told now : Option Files) (before begun after : ℕ) (proof anchors : List ℕ) (held : List Thread)

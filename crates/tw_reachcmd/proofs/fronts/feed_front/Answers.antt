@@ -1,6 +1,7 @@
 use Rattle.std.proofs.Common.{◌∙◌, ◌+◌, ◌≤◌, ◌≡◌, ℕ, Ok, List, false, length, ap, refl, subst, sym, arith}
 use Rattle.std.specs.Prelude.{IsTrue}
 use Rattle.tw_outside.specs.Files.{TellsBytes}
+use Rattle.tw_filecmd.proofs.SameNames.{still_same}
 use Rattle.tw_reachcmd.specs.Fronts.{IsFedOf}
 use Rattle.tw_reachcmd.proofs.KeptFronts.{far_all, far_broken, fed_of_few, fed_of_nothing, fed_of_told}
 use Rattle.tw_reachcmd.proofs.fronts.feed_front.Goals as goal
@@ -69,10 +70,7 @@ loop-came-preserved g c =
     (c.in-Ok.ensures.fed c.args.anchors.now) c.loop-came.invariant.fed in
     record {
       kept = c.in-Ok.ensures.kept ∙ c.loop-came.invariant.kept;
-      same_names = λ other. (
-        λ may. (c.loop-came.invariant.same_names other).0 ((c.in-Ok.ensures.same_names other).0 may),
-        λ may. (c.in-Ok.ensures.same_names other).1 ((c.loop-came.invariant.same_names other).1 may),
-      );
+      same_names = still_same g.I.Inputs.may_ask c.loop-came.invariant.same_names c.in-Ok.ensures.same_names;
       later = omega (arith, c.in-Ok.ensures.later, c.loop-came.invariant.later);
       few =
           let few : length c.feed.new.self.bytes.items ≤ 4430818 =

@@ -4,6 +4,7 @@ use Rattle.std.proofs.lemmas.List.{take_more}
 use Rattle.tw_base.specs.kinds.Lists.{Each}
 use Rattle.tw_base.proofs.lemmas.kinds.ListLemmas.{Each-append}
 use Rattle.tw_outside.specs.Files.{IsReadTo, IsThere}
+use Rattle.tw_filecmd.proofs.SameNames.{still_same}
 use Rattle.tw_reachcmd.proofs.gathering.read_files.Goals as goal
 
 pub loop-file-preserved : goal.loop-file-preserved
@@ -26,10 +27,7 @@ loop-file-preserved g c =
     grind (arith, common_steps, take_more) in
     record {
       kept = c.in_ok-bytes.ensures.kept ∙ c.loop-file.invariant.kept;
-      same_names = λ other. (
-        λ may. (c.loop-file.invariant.same_names other).0 ((c.in_ok-bytes.ensures.same_names other).0 may),
-        λ may. (c.in_ok-bytes.ensures.same_names other).1 ((c.loop-file.invariant.same_names other).1 may),
-      );
+      same_names = still_same g.I.Inputs.may_ask c.loop-file.invariant.same_names c.in_ok-bytes.ensures.same_names;
       later = omega (arith, c.in_ok-bytes.ensures.later, c.loop-file.invariant.later);
       holds = c.in_ok-add.ensures.holds;
       there =
