@@ -39,8 +39,8 @@ told_result Is t (Err DiskFault) tells is = absurd tells
 told_result Is t (Err NoMemory) tells is = absurd tells
 told_result Is t _ tells is = absurd is
 
--- what a command adds to a store that a file holds: this, none from some byte on, which comes to these results, and makes these of
--- the state and of the record and pages, with such answers
+-- what a command does that adds to a store what a file holds: what the file may hold, and from which byte on it holds none; what that comes
+-- to; which state, and which record and pages, are next; and how an answer tells of them
 pub record Addition (R S T X : Type 0) : Type 1 where
   pub Has : T → Type 0
   pub IsBadByte : (bytes : List ℕ) (place : ℕ) → Type 0
