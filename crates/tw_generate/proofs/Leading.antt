@@ -85,27 +85,23 @@ heard-events own one other h of_one of_other events before =
       other_is = before.other_is ∙ sym (heard-nothing h step refl other);
     }
 
--- a message of the first of the others
-pub heard-one : (own one other : List ℕ) (from before after : History) (of_one of_other last : ℕ)
-    → bytes_eq one other ≡ false → from.name ≡ one
-    → HasHeardOf own one other before of_one of_other → HasHeard from before after last → HasHeardOf own one other after
-    last of_other
-heard-one own one other from before after of_one of_other last apart is was now = record {
-  name = now.name ∙ was.name;
-  one_is = now.last_is ∙ ap (last_heard after) is;
-  other_is = was.other_is ∙ sym (now.others other (ap (λ n. bytes_eq n other) is ∙ apart));
-}
+module _ {own one other : List ℕ} {from before after : History} {of_one of_other last : ℕ}
+    (was : HasHeardOf own one other before of_one of_other) (now : HasHeard from before after last) where
+  -- a message of the first of the others
+  pub heard-one : bytes_eq one other ≡ false → from.name ≡ one → HasHeardOf own one other after last of_other
+  heard-one apart is = record {
+    name = now.name ∙ was.name;
+    one_is = now.last_is ∙ ap (last_heard after) is;
+    other_is = was.other_is ∙ sym (now.others other (ap (λ n. bytes_eq n other) is ∙ apart));
+  }
 
--- a message of the second
-pub heard-other : (own one other : List ℕ) (from before after : History) (of_one of_other last : ℕ)
-    → bytes_eq other one ≡ false → from.name ≡ other
-    → HasHeardOf own one other before of_one of_other → HasHeard from before after last → HasHeardOf own one other after
-    of_one last
-heard-other own one other from before after of_one of_other last apart is was now = record {
-  name = now.name ∙ was.name;
-  one_is = was.one_is ∙ sym (now.others one (ap (λ n. bytes_eq n one) is ∙ apart));
-  other_is = now.last_is ∙ ap (last_heard after) is;
-}
+  -- a message of the second
+  pub heard-other : bytes_eq other one ≡ false → from.name ≡ other → HasHeardOf own one other after of_one last
+  heard-other apart is = record {
+    name = now.name ∙ was.name;
+    one_is = was.one_is ∙ sym (now.others one (ap (λ n. bytes_eq n one) is ∙ apart));
+    other_is = now.last_is ∙ ap (last_heard after) is;
+  }
 
 -- nothing at the start
 pub heard-none : (own one other : List ℕ) → HasHeardOf own one other (no_history own) 0 0

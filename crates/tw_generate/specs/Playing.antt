@@ -19,9 +19,8 @@ module _ {D H : Type 0} {g : _} {k : _} (dig : List ℕ → List ℕ) (view : D 
   abbrev pub PlaysHistory : Service D H g k → History → Type 0
   PlaysHistory service h = Serves dig view service h × (has_failed service ≡ false)
 
-  -- the one service has told its last step to the other one, which has heard of it up to this step
-  pub record HasTold (a b : History) (from to : Service D H g k) (last : ℕ) : Type 0 where
-    pub sender : PlaysHistory from a
+  -- the last step of the one history was told to the service that played the other one, which has heard of it up to this step
+  pub record HasTold (a b : History) (to : Service D H g k) (last : ℕ) : Type 0 where
     pub heard : History
     pub hears : Hears dig a b heard
     pub receiver : PlaysHistory to heard

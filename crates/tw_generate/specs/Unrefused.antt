@@ -12,7 +12,7 @@ use Rattle.tw_service.specs.Machine.Call.{Ask}
 use Rattle.tw_service.specs.declared.service.Service.{Service}
 use Rattle.tw_generate.specs.Coming.{AllCanBeDone, CanTell, IsLedTo, IsNotRefused}
 use Rattle.tw_generate.specs.Playing.{AllPlay, ArePlaying, PlaysHistory}
-use Rattle.tw_generate.specs.Schedules.{ScheduledAct, Trio, last_heard}
+use Rattle.tw_generate.specs.Schedules.{Hears, ScheduledAct, Trio, last_heard}
 use Rattle.tw_generate.specs.declared.services.Services.{Services}
 
 -- a fault of the disk, or want of memory
@@ -51,6 +51,19 @@ module _ {D H : Type 0} {g : _} {k : _} (dig : List ℕ → List ℕ) (view : D 
   -- the services play histories of which the one can tell its last step to the other, whose last archived step of it is known
   abbrev pub CanHear : (from to : Service D H g k) (last : ℕ) → Type 0
   CanHear from to last = (a : History) × (b : History) × PlaysHistory dig view from a × PlaysHistory dig view to b × (last ≡ last_heard b a.name) × CanTell dig a b
+
+  -- the same of two others: it can tell the one, and, having told it, the other one
+  pub record CanHearBoth (from one other : Service D H g k) (one_heard other_heard : ℕ) : Type 0 where
+    pub teller : History
+    pub first : History
+    pub second : History
+    pub plays : PlaysHistory dig view from teller
+    pub plays_first : PlaysHistory dig view one first
+    pub plays_second : PlaysHistory dig view other second
+    pub first_is : one_heard ≡ last_heard first teller.name
+    pub second_is : other_heard ≡ last_heard second teller.name
+    pub can_first : CanTell dig teller first
+    pub can_second : (h : History) → Hears dig teller first h → CanTell dig teller second
 
   -- the services play histories from which all acts can be done
   abbrev pub CanPlay : List ScheduledAct → Services D H g k → Type 0

@@ -1,18 +1,16 @@
 // The three services of a schedule, and its rounds; what one of them does is in `telling.rt`.
 
-ghost use Rattle.std.specs.Prelude.{◌≡◌, ◌%◌, ◌==◌, [], ◌∷◌, Some, IfOk, IsTrue, OnOk, if◌then◌else◌};
+ghost use Rattle.std.specs.Prelude.{◌≡◌, ◌%◌, ◌==◌, [], Some, IfOk, IsTrue, OnOk, if◌then◌else◌};
 ghost use Rattle.tw_base.specs.kinds.Names.{is_name_text, padded_name};
 ghost use Rattle.tw_disk.specs.Image.{Image};
 ghost use Rattle.tw_pages.specs.Slots.{IsTaken};
 ghost use Rattle.tw_generate.specs.Draws.{after_step};
 ghost use Rattle.tw_generate.specs.Playing.{ArePlaying, LeadsByActs};
-ghost use Rattle.tw_generate.specs.Schedules.ScheduledAct.{Tells};
-ghost use Rattle.tw_generate.specs.Schedules.Who.{Alpha, Beta, Gamma};
 ghost use Rattle.tw_generate.specs.Schedules.{all_append, all_tell, end_event, no_steps, round_of_acts, rounds_of, schedule};
 ghost use Rattle.tw_generate.specs.Unrefused.{CanPlay};
 
 use crate::draws::Draws;
-use crate::telling::{append, make, tell};
+use crate::telling::{append, make, tell_both};
 use std::alloc::Global;
 use tw_base::{Bytes, EventList, Hasher, Name, NoMemory};
 use tw_disk::Disk;
@@ -101,62 +99,39 @@ impl<D: Disk, H: Hasher> Services<D, H> {
         Ok(())
     }
 
-    /// Alpha tells its last step to the two others.
-    fn alpha_tells(&mut self) -> Result<(), NoMemory>
-        requires { CanPlay H.dig D.view (Tells Alpha Beta ∷ Tells Alpha Gamma ∷ []) self.old }
-        ensures { OnOk result (LeadsByActs H.dig D.view (Tells Alpha Beta ∷ Tells Alpha Gamma ∷ []) self.old self.new) }
-    {
-        let Services {
-            alpha,
-            beta,
-            gamma,
-            heard,
-        } = self;
-        tell(alpha, beta, &mut heard.beta_of_alpha)?;
-        tell(alpha, gamma, &mut heard.gamma_of_alpha)?;
-        Ok(())
-    }
-
-    /// Beta tells its last step to the two others.
-    fn beta_tells(&mut self) -> Result<(), NoMemory>
-        requires { CanPlay H.dig D.view (Tells Beta Alpha ∷ Tells Beta Gamma ∷ []) self.old }
-        ensures { OnOk result (LeadsByActs H.dig D.view (Tells Beta Alpha ∷ Tells Beta Gamma ∷ []) self.old self.new) }
-    {
-        let Services {
-            alpha,
-            beta,
-            gamma,
-            heard,
-        } = self;
-        tell(beta, alpha, &mut heard.alpha_of_beta)?;
-        tell(beta, gamma, &mut heard.gamma_of_beta)?;
-        Ok(())
-    }
-
-    /// Gamma tells its last step to the two others.
-    fn gamma_tells(&mut self) -> Result<(), NoMemory>
-        requires { CanPlay H.dig D.view (Tells Gamma Alpha ∷ Tells Gamma Beta ∷ []) self.old }
-        ensures { OnOk result (LeadsByActs H.dig D.view (Tells Gamma Alpha ∷ Tells Gamma Beta ∷ []) self.old self.new) }
-    {
-        let Services {
-            alpha,
-            beta,
-            gamma,
-            heard,
-        } = self;
-        tell(gamma, alpha, &mut heard.alpha_of_gamma)?;
-        tell(gamma, beta, &mut heard.beta_of_gamma)?;
-        Ok(())
-    }
-
     /// Each tells its last step to the two others.
     fn exchange(&mut self) -> Result<(), NoMemory>
         requires { CanPlay H.dig D.view all_tell self.old }
         ensures { OnOk result (LeadsByActs H.dig D.view all_tell self.old self.new) }
     {
-        self.alpha_tells()?;
-        self.beta_tells()?;
-        self.gamma_tells()
+        let Services {
+            alpha,
+            beta,
+            gamma,
+            heard,
+        } = self;
+        tell_both(
+            alpha,
+            beta,
+            &mut heard.beta_of_alpha,
+            gamma,
+            &mut heard.gamma_of_alpha,
+        )?;
+        tell_both(
+            beta,
+            alpha,
+            &mut heard.alpha_of_beta,
+            gamma,
+            &mut heard.gamma_of_beta,
+        )?;
+        tell_both(
+            gamma,
+            alpha,
+            &mut heard.alpha_of_gamma,
+            beta,
+            &mut heard.beta_of_gamma,
+        )?;
+        Ok(())
     }
 
     /// The messages of the round of this number.

@@ -15,7 +15,7 @@ ghost use Rattle.tw_service.specs.Stands.{no_history};
 ghost use Rattle.tw_generate.specs.Playing.{HasTold, PlaysHistory};
 ghost use Rattle.tw_generate.specs.Schedules.{last_heard};
 ghost use Rattle.tw_generate.specs.Summing.{IsQuestionAnswered};
-ghost use Rattle.tw_generate.specs.Unrefused.{CanHear, IsFailure, TakesCall};
+ghost use Rattle.tw_generate.specs.Unrefused.{CanHear, CanHearBoth, IsFailure, TakesCall};
 
 use std::alloc::Global;
 use tw_answers::Refusal;
@@ -108,18 +108,36 @@ fn heard(before: u64, after: u64, last: u64, step: u64) -> u64
 }
 
 /// Tells a service's last step to another one. The last step of it that the other one archived is `last`, before and after.
-pub(crate) fn tell<D: Disk, H: Hasher>(
+fn tell<D: Disk, H: Hasher>(
     from: &mut Service<D, H>,
     to: &mut Service<D, H>,
     last: &mut u64,
 ) -> Result<(), NoMemory>
     requires { CanHear H.dig D.view from.old to.old last.old }
     ensures { (a b : History) → PlaysHistory H.dig D.view from.old a → PlaysHistory H.dig D.view to.old b → last.old ≡ last_heard b a.name
-        → OnOk result (HasTold H.dig D.view a b from.new to.new last.new) }
+        → OnOk result (PlaysHistory H.dig D.view from.new a × HasTold H.dig D.view a b to.new last.new) }
 {
     let bytes = answered(from, &Question::ThreadOut { since: *last })?;
     let before = to.steps();
     given(to.receive(bytes.as_slice()))?;
     *last = heard(before, to.steps(), *last, from.steps());
+    Ok(())
+}
+
+/// Tells a service's last step to one other service and then to another one, as `tell` does.
+pub(crate) fn tell_both<D: Disk, H: Hasher>(
+    from: &mut Service<D, H>,
+    one: &mut Service<D, H>,
+    one_heard: &mut u64,
+    other: &mut Service<D, H>,
+    other_heard: &mut u64,
+) -> Result<(), NoMemory>
+    requires { CanHearBoth H.dig D.view from.old one.old other.old one_heard.old other_heard.old }
+    ensures { (a b e : History) → PlaysHistory H.dig D.view from.old a → PlaysHistory H.dig D.view one.old b → PlaysHistory H.dig D.view other.old e
+        → one_heard.old ≡ last_heard b a.name → other_heard.old ≡ last_heard e a.name
+        → OnOk result (PlaysHistory H.dig D.view from.new a × HasTold H.dig D.view a b one.new one_heard.new × HasTold H.dig D.view a e other.new other_heard.new) }
+{
+    tell(from, one, one_heard)?;
+    tell(from, other, other_heard)?;
     Ok(())
 }

@@ -36,21 +36,22 @@ returns g c = λ a b sends takes known.
     let last : c.heard.result ≡ (if nat_lt (length b.steps) (length next.steps) then length a.steps else since) =
     c.heard.ensures ∙ ap (λ n. if nat_lt n c.steps.result then c.steps-2.result else since) before
     ∙ ap (λ n. if nat_lt (length b.steps) n then c.steps-2.result else since) after
-    ∙ ap (λ n. if nat_lt (length b.steps) (length next.steps) then n else since) at in
-    record {
-      sender = told.0;
-      heard = next;
-      hears = record {
-        message = m;
-        is_message = subst (λ n. IsMessageOf dig a n m) known made.2;
-        receipt = c.in_ok-given.field-0;
-        receives = received.3;
-      };
-      receiver = received.1;
-      has_heard = subst (HasHeard a b next) (sym last)
-          (has-heard a b next m.thread _ _ (ap (λ (t : Thread). t.from) made.2.thread)
-          (ap (λ (t : Thread). t.step) made.2.thread) received.2 since known);
-    }
+    ∙ ap (λ n. if nat_lt (length b.steps) (length next.steps) then n else since) at in (
+      told.0,
+      record {
+        heard = next;
+        hears = record {
+          message = m;
+          is_message = subst (λ n. IsMessageOf dig a n m) known made.2;
+          receipt = c.in_ok-given.field-0;
+          receives = received.3;
+        };
+        receiver = received.1;
+        has_heard = subst (HasHeard a b next) (sym last)
+            (has-heard a b next m.thread _ _ (ap (λ (t : Thread). t.from) made.2.thread)
+            (ap (λ (t : Thread). t.step) made.2.thread) received.2 since known);
+      },
+    )
 
 pub answered-requires-clause-takes : goal.answered-requires-clause-takes
 answered-requires-clause-takes g c =

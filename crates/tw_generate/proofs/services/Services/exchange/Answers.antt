@@ -1,47 +1,39 @@
-use Rattle.std.proofs.Common.{List, [], ◌∷◌, ◌++◌}
-use Rattle.tw_generate.specs.Schedules.{ScheduledAct}
-use Rattle.tw_generate.specs.Schedules.ScheduledAct.{Tells}
+use Rattle.std.proofs.Common.{[], ◌++◌}
 use Rattle.tw_generate.specs.Schedules.Who.{Alpha, Beta, Gamma}
-use Rattle.tw_generate.proofs.Leading.{leads-on, on-ok}
-use Rattle.tw_generate.proofs.Unrefused.{can-begin, can-on}
+use Rattle.tw_generate.proofs.Leading.{leads-on}
+use Rattle.tw_generate.proofs.ToldSteps.{both-told, may-tell-both, tells-both, tells_of, told_by}
 use Rattle.tw_generate.proofs.services.Services.exchange.Goals as goal
-
-abbrev of_alpha : List ScheduledAct
-of_alpha = Tells Alpha Beta ∷ Tells Alpha Gamma ∷ []
-
-abbrev of_beta : List ScheduledAct
-of_beta = Tells Beta Alpha ∷ Tells Beta Gamma ∷ []
-
-abbrev of_gamma : List ScheduledAct
-of_gamma = Tells Gamma Alpha ∷ Tells Gamma Beta ∷ []
 
 pub returns : goal.returns
 returns g c =
     let dig = g.H.Hasher.dig in
     let view = g.D.Disk.view in
-    on-ok c.gamma_tells.result
-    (λ told. leads-on dig view of_alpha (of_beta ++ of_gamma) c.args.self.now c.alpha_tells.new.self
-    c.gamma_tells.new.self c.in_ok-alpha_tells.ensures
-    (leads-on dig view of_beta of_gamma c.alpha_tells.new.self c.beta_tells.new.self c.gamma_tells.new.self
-    c.in_ok-beta_tells.ensures told))
-    c.gamma_tells.ensures
+    leads-on dig view (tells_of Alpha) (tells_of Beta ++ tells_of Gamma) c.args.self.now _ _
+    (tells-both dig view Alpha c.args.self.now c.tell_both.new.from _ _ _ _ c.in_ok-tell_both.ensures)
+    (leads-on dig view (tells_of Beta) (tells_of Gamma) _ _ _
+    (tells-both dig view Beta _ c.tell_both-2.new.from _ _ _ _ c.in_ok-tell_both-2.ensures)
+    (tells-both dig view Gamma _ c.tell_both-3.new.from _ _ _ _ c.in_ok-tell_both-3.ensures))
 
-pub alpha_tells-requires : goal.alpha_tells-requires
-alpha_tells-requires g c = can-begin g.H.Hasher.dig g.D.Disk.view of_alpha (of_beta ++ of_gamma) c.args.self.now
-    c.requires
+pub tell_both-requires : goal.tell_both-requires
+tell_both-requires g c =
+    may-tell-both g.H.Hasher.dig g.D.Disk.view Alpha (tells_of Beta ++ tells_of Gamma) c.args.self.now c.requires
 
-pub beta_tells-requires : goal.beta_tells-requires
-beta_tells-requires g c =
-    let dig = g.H.Hasher.dig in
-    let view = g.D.Disk.view in
-    can-begin dig view of_beta of_gamma c.alpha_tells.new.self
-    (can-on dig view of_alpha (of_beta ++ of_gamma) c.args.self.now c.alpha_tells.new.self c.in_ok-alpha_tells.ensures
-    c.requires)
+pub tell_both-requires-2 : goal.tell_both-requires-2
+tell_both-requires-2 g c =
+    may-tell-both g.H.Hasher.dig g.D.Disk.view Beta (tells_of Gamma)
+    (told_by Alpha c.args.self.now c.tell_both.new.from c.tell_both.new.one c.tell_both.new.other
+    c.tell_both.new.one_heard c.tell_both.new.other_heard)
+    (both-told g.H.Hasher.dig g.D.Disk.view Alpha (tells_of Beta ++ tells_of Gamma) c.args.self.now c.requires
+    c.tell_both.new.from _ _ _ _ c.in_ok-tell_both.ensures)
 
-pub gamma_tells-requires : goal.gamma_tells-requires
-gamma_tells-requires g c =
-    let dig = g.H.Hasher.dig in
-    let view = g.D.Disk.view in
-    can-on dig view of_beta of_gamma c.alpha_tells.new.self c.beta_tells.new.self c.in_ok-beta_tells.ensures
-    (can-on dig view of_alpha (of_beta ++ of_gamma) c.args.self.now c.alpha_tells.new.self c.in_ok-alpha_tells.ensures
-    c.requires)
+pub tell_both-requires-3 : goal.tell_both-requires-3
+tell_both-requires-3 g c =
+    let one = told_by Alpha c.args.self.now c.tell_both.new.from c.tell_both.new.one c.tell_both.new.other
+    c.tell_both.new.one_heard c.tell_both.new.other_heard in
+    may-tell-both g.H.Hasher.dig g.D.Disk.view Gamma []
+    (told_by Beta one c.tell_both-2.new.from c.tell_both-2.new.one c.tell_both-2.new.other
+    c.tell_both-2.new.one_heard c.tell_both-2.new.other_heard)
+    (both-told g.H.Hasher.dig g.D.Disk.view Beta (tells_of Gamma) one
+    (both-told g.H.Hasher.dig g.D.Disk.view Alpha (tells_of Beta ++ tells_of Gamma) c.args.self.now c.requires
+    c.tell_both.new.from _ _ _ _ c.in_ok-tell_both.ensures) c.tell_both-2.new.from _ _ _ _
+    c.in_ok-tell_both-2.ensures)
