@@ -44,22 +44,8 @@ fn list_fault(fault: TreeFault) -> ListFault
     }
 }
 
-/// The nodes of the tree under the root that are new since this page.
-fn list_nodes<P: Pages, H: Hasher>(
-    alloc: Global,
-    pages: &mut P,
-    root: &Root,
-    since: u64,
-) -> Result<NewNodes, ListFault>
-    ensures reads { ReadsPages list_faults P.view P.same pages.old pages.new (λ nodes. nodes) result (λ ps. listed H.dig ps since root.now) }
-{
-    match fresh::<P, H>(alloc, pages, root, since) {
-        Ok(nodes) => Ok(nodes),
-        Err(fault) => Err(list_fault(fault)),
-    }
-}
-
-/// The same; a page that was read is kept until they are listed, and isn't asked for again.
+/// The nodes of the tree under the root that are new since this page. A page that was read is kept until they are listed, and isn't
+/// asked for again.
 fn list_once<P: Pages, H: Hasher>(
     alloc: Global,
     pages: &mut P,
@@ -70,7 +56,10 @@ fn list_once<P: Pages, H: Hasher>(
 {
     let mut shelf = Shelf::unbounded(alloc);
     let mut near = Shelved::over(pages, &mut shelf);
-    list_nodes::<Shelved<P>, H>(alloc, &mut near, root, since)
+    match fresh::<Shelved<P>, H>(alloc, &mut near, root, since) {
+        Ok(nodes) => Ok(nodes),
+        Err(fault) => Err(list_fault(fault)),
+    }
 }
 
 /// The number of the archive's root after the step; None where no history file has such a step.
