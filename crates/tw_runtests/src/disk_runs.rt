@@ -128,74 +128,73 @@ fn after_going_on(
     disk
 }
 
-/// A run of the line is stopped at this call, and a crash leaves the outcome of the choice: the step is there or not, and the line is done then.
-fn stopped(
-    rt: &impl Abort,
-    alloc: Global,
-    inputs: &mut MemInputs,
-    line: &str,
-    proved: &str,
+/// A line that adds a step, one that proves what it recorded, one of its device calls, and what a crash leaves.
+#[derive(Clone, Copy)]
+struct Trial {
+    line: &'static str,
+    proved: &'static str,
     call: u64,
     choice: u8,
-)
-    requires called { 1 ≤ call }
-    requires chosen { choice ≤ 3 }
+}
+
+/// A run of the line is stopped at this call, and a crash leaves the outcome of the choice: the step is there or not, and the line is done then.
+fn stopped(rt: &impl Abort, alloc: Global, inputs: &mut MemInputs, trial: Trial)
+    requires called { 1 ≤ trial.call }
+    requires chosen { trial.choice ≤ 3 }
 {
     let mut disk = made(rt, alloc, inputs);
-    disk.stop_at(call);
-    let mut disk = after_fault(rt, alloc, disk, inputs, line);
-    disk.crash(choice);
-    let (status, disk) = status_of(rt, alloc, disk, inputs, proved);
-    assert!(rt; status == 0 || status == 7, "{proved}");
-    drop(after_going_on(rt, alloc, disk, inputs, line, proved));
+    disk.stop_at(trial.call);
+    let mut disk = after_fault(rt, alloc, disk, inputs, trial.line);
+    disk.crash(trial.choice);
+    let (status, disk) = status_of(rt, alloc, disk, inputs, trial.proved);
+    assert!(rt; status == 0 || status == 7, "{}", trial.proved);
+    drop(after_going_on(rt, alloc, disk, inputs, trial.line, trial.proved));
+}
+
+/// A call fails in a run of the line; it is done then, and stands after a crash.
+fn failed(rt: &impl Abort, alloc: Global, inputs: &mut MemInputs, trial: Trial)
+    requires { trial.choice ≤ 3 }
+{
+    let mut disk = made(rt, alloc, inputs);
+    disk.fail(trial.call).expect(rt, "memory");
+    let disk = after_fault(rt, alloc, disk, inputs, trial.line);
+    let mut disk = after_going_on(rt, alloc, disk, inputs, trial.line, trial.proved);
+    disk.crash(trial.choice);
+    let (status, disk) = status_of(rt, alloc, disk, inputs, trial.proved);
+    assert_eq!(rt; status, 0, "{}", trial.proved);
+    drop(disk);
+}
+
+/// Each trial of the lines: a run is stopped, or a call of it fails.
+fn tried(rt: &impl Abort, alloc: Global, stops: bool) {
+    let mut inputs = files(rt, alloc);
+    for (line, proved) in ADDED {
+        for call in 1u64..10 {
+            for choice in 0u8..4 {
+                let trial = Trial {
+                    line,
+                    proved,
+                    call,
+                    choice,
+                };
+                if stops {
+                    stopped(rt, alloc, &mut inputs, trial);
+                } else {
+                    failed(rt, alloc, &mut inputs, trial);
+                }
+            }
+        }
+    }
 }
 
 #[test]
 fn a_crash_at_each_call_leaves_the_step_or_none(rt: HostRuntime) {
-    let alloc = rt.alloc();
-    let mut inputs = files(&rt, alloc);
-    for (line, proved) in ADDED {
-        for call in 1u64..10 {
-            for choice in 0u8..4 {
-                stopped(&rt, alloc, &mut inputs, line, proved, call, choice);
-            }
-        }
-    }
-}
-
-/// A call fails in a run of the line; it is done then, and stands after a crash.
-fn failed(
-    rt: &impl Abort,
-    alloc: Global,
-    inputs: &mut MemInputs,
-    line: &str,
-    proved: &str,
-    call: u64,
-    choice: u8,
-)
-    requires { choice ≤ 3 }
-{
-    let mut disk = made(rt, alloc, inputs);
-    disk.fail(call).expect(rt, "memory");
-    let disk = after_fault(rt, alloc, disk, inputs, line);
-    let mut disk = after_going_on(rt, alloc, disk, inputs, line, proved);
-    disk.crash(choice);
-    let (status, disk) = status_of(rt, alloc, disk, inputs, proved);
-    assert_eq!(rt; status, 0, "{proved}");
-    drop(disk);
+    tried(&rt, rt.alloc(), true);
 }
 
 #[test]
 fn a_step_made_after_a_disk_fault_stands_after_a_crash(rt: HostRuntime) {
-    let alloc = rt.alloc();
-    let mut inputs = files(&rt, alloc);
-    for (line, proved) in ADDED {
-        for call in 1u64..10 {
-            for choice in 0u8..4 {
-                failed(&rt, alloc, &mut inputs, line, proved, call, choice);
-            }
-        }
-    }
+    tried(&rt, rt.alloc(), false);
 }
 
 #[test]

@@ -74,24 +74,23 @@ fn ends_by_name(
     assert!(rt; status == 0 || status == 7 || status == 8, "{line}");
 }
 
-#[test]
-fn each_command_ends_by_name(rt: HostRuntime) {
-    for line in ASKED {
+/// Each of these lines ends by name over such disks.
+fn all_end_by_name(rt: &impl Abort, alloc: Global, made: &[(&str, &str)], lines: &[&str]) {
+    for line in lines {
         for honest in HONEST {
             for seed in 0..SEEDS {
-                ends_by_name(&rt, rt.alloc(), &MADE, line, honest, seed);
+                ends_by_name(rt, alloc, made, line, honest, seed);
             }
         }
     }
 }
 
 #[test]
+fn each_command_ends_by_name(rt: HostRuntime) {
+    all_end_by_name(&rt, rt.alloc(), &MADE, &ASKED);
+}
+
+#[test]
 fn each_command_of_a_follower_ends_by_name(rt: HostRuntime) {
-    for line in FOLLOWED {
-        for honest in HONEST {
-            for seed in 0..SEEDS {
-                ends_by_name(&rt, rt.alloc(), &WATCHED, line, honest, seed);
-            }
-        }
-    }
+    all_end_by_name(&rt, rt.alloc(), &WATCHED, &FOLLOWED);
 }
