@@ -22,15 +22,15 @@ WIDEST = 140
 MOST_LINES, MOST_FUNCTIONS, MOST_HEIGHT = 1500, 100, 8
 
 # The pairs of files that may share six lines in a row, as tools/twins.py counts them. The number only falls: who takes a pair away lowers it.
-MOST_TWINS = 119
+MOST_TWINS = 38
 
 # The crates that have more, and how much at most: no crate comes in, no number rises but for a reason that docs/DECISIONS.md tells, and one
 # that has no more than the others goes.
 LARGE = {
-    "tw_base": (3144, 158),
-    "tw_history": (2153, 109),
-    "tw_skiplist": (1583, 100),
-    "tw_verifier": (2030, 100),
+    "tw_base": (3127, 157),
+    "tw_history": (2124, 108),
+    "tw_skiplist": (1581, 100),
+    "tw_verifier": (1994, 100),
 }
 
 # The names that stand for a definition in two modules of `specs`: one notion over two subjects, which a reader always sees with their module.
