@@ -12,7 +12,7 @@ use tw_chain::{ThreadProof, put_thread_body};
 use tw_skipproof::put_path;
 
 /// Appends the proof of a received thread.
-#[tactic(auto, unfolding(crate::specs::Evidence::thread_proof_codec))]
+#[tactic(auto, unfolding(crate::specs::Evidence::thread_proof_codec, tw_skipproof::specs::Seen::parts))]
 fn put_thread_proof(into: &mut Bytes, proof: &ThreadProof) -> Result<(), NoMemory>
     ensures { OnOk result (into.new ≡ into.old ++ thread_proof_codec.write proof.now) }
 {

@@ -5,6 +5,7 @@ ghost use Rattle.tw_script.specs.LineTakings.{TakesText};
 ghost use Rattle.tw_script.specs.Scripts.{ReadsScript, is_skipped as is_skipped_of, line_number_at as line_number_at_of};
 ghost use Rattle.tw_script.specs.ScriptSteps.{ReadsLines, fault_at as fault_at_of};
 ghost use Rattle.tw_script.specs.declared.limits.TheConstants.{MOST_SCRIPT_BYTES};
+ghost use Rattle.tw_script.specs.declared.script.ScriptFault.TheVariants.{NoMemory as WantedMemory};
 
 use crate::limits::MOST_SCRIPT_BYTES;
 use crate::line::Line;
@@ -34,6 +35,14 @@ pub enum ScriptFault {
     TooLong { line: u64 },
     /// There was no memory for the lines.
     NoMemory,
+}
+
+impl From<NoMemory> for ScriptFault {
+    ghost from_gives = { λ _ fault. fault ≡ WantedMemory };
+
+    fn from(_refused: NoMemory) -> Self {
+        ScriptFault::NoMemory
+    }
 }
 
 /// The script of a file: lines of words with one blank between, each ended by one line feed, which the last may lack. An
@@ -80,10 +89,7 @@ fn read_lines(alloc: Global, bytes: &[u8]) -> Result<Script, ScriptFault>
                 Ok(line) => line,
                 Err(stop) => return Err(fault_at(number, stop)),
             };
-            match script.push(NumberedLine { number, line }) {
-                Ok(()) => {}
-                Err(NoMemory) => return Err(ScriptFault::NoMemory),
-            }
+            script.push(NumberedLine { number, line })?;
         }
     }
     Ok(script)

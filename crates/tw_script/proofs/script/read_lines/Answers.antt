@@ -14,9 +14,9 @@ returns-in-Err c =
     (stops-at c.loop-text.invariant c.in-Some.ensures c.in-Err.stop c.next_line.new.made
     (sym c.is_skipped.ensures ∙ c.if-not-is_skipped.true) c.in-Err.ensures)
 
-pub loop-text-preserved-in-Ok-push : goal.loop-text-preserved-in-Ok-push
-loop-text-preserved-in-Ok-push c =
-    rw (c.in-Ok-push.ensures.ok, c.in-Ok.ensures.1)
+pub loop-text-preserved-in-Continue-1 : goal.loop-text-preserved-in-Continue-1
+loop-text-preserved-in-Continue-1 c =
+    rw (c.in_ok-push.ensures.ok, c.in-Ok.ensures.1)
     (next-line c.loop-text.invariant c.in-Some.ensures c.in-Ok.line
     (sym c.is_skipped.ensures ∙ c.if-not-is_skipped.true) c.in-Ok.ensures.0)
 
