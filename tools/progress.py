@@ -28,9 +28,9 @@ from pictures import TOP, lines_of
 PROOF, TESTS, EDITS = "proof", "tests", "edits"
 Part = Tuple[str, str]
 
-# Lines that a proof takes beside those of the crate, to read what it stands on; the share of all lines below a program that it takes to put them together; and the share of a
-# proof that an edit takes, which is tried over one.
-READING, LINKED, EDIT = 100, 1 / 50, 1 / 3
+# Lines that a proof takes beside those of the crate, to read what it stands on, and that an edit takes, which leaves out what it doesn't stand on; and the share of all
+# lines below a program that it takes to put them together.
+READING, LINKED = 100, 1 / 50
 
 # The most lines of a failed crate that are shown, and columns of each.
 SHOWN, WIDTH = 12, 200
@@ -77,8 +77,7 @@ def sizes(tree: Path) -> Dict[Part, float]:
         if any("#[test]" in path.read_text() for path in (crate / "src").rglob("*.rt")):
             found[name, TESTS] = float(size)
         if edits:
-            # (they are tried over a proof of their own)
-            found[name, EDITS] = size * (1 + EDIT * edits)
+            found[name, EDITS] = float(READING * edits)
     return found
 
 

@@ -5,6 +5,8 @@ has to refuse each. With names of crates, those of these alone. Crates are prove
 
     python3 tools/wrong_bodies.py [NAME ..]
     python3 tools/wrong_bodies.py --list [NAME ..]      tries none: counts them, and tells those that don't fit the sources
+    python3 tools/wrong_bodies.py --kept [NAME ..]      tries those of the gate, crates/*/must-fail, without what they turn: each crate has to be proved with what its
+                                                        wrong body leaves out, so that it is the wrong body that the gate sees refused
 """
 
 import os
@@ -15,6 +17,7 @@ import tempfile
 from pathlib import Path
 
 from crate_copy import TOP, copy_crates
+from leave_out import BEGINS
 from pictures import crates
 
 
@@ -53,26 +56,54 @@ def listed(names):
     return 1 if wrong else 0
 
 
+def tried(names, edits):
+    """Tries these edits of the crates over a copy of the tree; answers the status, and what was said."""
+    with tempfile.TemporaryDirectory(prefix="timeweave_wrong_bodies_") as folder:
+        copy = Path(folder) / "tree"
+        copy_crates(names, copy, without=("must-fail",))
+        for name in names:
+            (copy / "crates" / name / "must-fail").mkdir()
+            for edit, text in edits(name).items():
+                (copy / "crates" / name / f"must-fail/{edit}.edit").write_text(text)
+        subprocess.run(["git", "init", "-q"], cwd=copy, check=True)
+        # What another copy on this machine has checked isn't checked anew.
+        checked = subprocess.run(["rt", "all", "check", "--jobs", str(os.cpu_count())], cwd=copy)
+        if checked.returncode:
+            return checked.returncode, ""
+        with subprocess.Popen(["rt", "must-fail", *names], cwd=copy, stdout=subprocess.PIPE, text=True) as ran:
+            said = []
+            for line in ran.stdout:
+                print(line, end="", flush=True)
+                said.append(line)
+        return ran.returncode, "".join(said)
+
+
+def left_out(name):
+    """What each wrong body of the gate leaves out, alone."""
+    texts = {path.stem: path.read_text() for path in (TOP / "crates" / name / "must-fail").glob("*.edit")}
+    return {edit: text.partition(BEGINS)[2] for edit, text in texts.items() if BEGINS in text}
+
+
+def kept(names):
+    """Whether each crate is proved with what its wrong bodies leave out and no wrong body."""
+    names = [name for name in names if left_out(name)]
+    _, said = tried(names, left_out)
+    wanted, proved = sum(len(left_out(name)) for name in names), said.count("NOT REFUSED")
+    print(f"{proved} of {wanted} crates are proved with what a wrong body leaves out (said above as NOT REFUSED)")
+    return 0 if proved == wanted else 1
+
+
 def main():
-    only_list = "--list" in sys.argv
-    wanted = [word for word in sys.argv[1:] if word != "--list"] or crates()
-    names = [name for name in wanted if (TOP / "crates" / name / "wrong-bodies.txt").exists()]
-    if only_list:
+    words = [word for word in sys.argv[1:] if word not in ("--list", "--kept")]
+    if "--kept" in sys.argv:
+        return kept(words or list(crates()))
+    names = [name for name in words or crates() if (TOP / "crates" / name / "wrong-bodies.txt").exists()]
+    if "--list" in sys.argv:
         return listed(names)
     if not names:
         print("no wrong bodies there")
         return 0
-    with tempfile.TemporaryDirectory(prefix="timeweave_wrong_bodies_") as folder:
-        copy = Path(folder) / "tree"
-        copy_crates(names, copy, without=("must-fail",))
-        for path in sorted(copy.glob("crates/*/wrong-bodies.txt")):
-            path.with_name("must-fail").mkdir()
-            for name, text in wrong_bodies(path).items():
-                (path.parent / "must-fail" / f"{name}.edit").write_text(text)
-        subprocess.run(["git", "init", "-q"], cwd=copy, check=True)
-        # What another copy on this machine has checked isn't checked anew.
-        checked = subprocess.run(["rt", "all", "check", "--jobs", str(os.cpu_count())], cwd=copy)
-        return checked.returncode or subprocess.run(["rt", "must-fail", *names], cwd=copy).returncode
+    return tried(names, lambda name: wrong_bodies(TOP / "crates" / name / "wrong-bodies.txt"))[0]
 
 
 if __name__ == "__main__":

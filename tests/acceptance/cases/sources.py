@@ -1,6 +1,6 @@
 """The sources keep the project's own rules: long functions say why they are, attributes fit on a line, files of lemmas say what they are
 of, tests stand in crates of their own, crates are small, no chain of crates is long, a definition's name stands for one thing, little
-stands twice, and want of memory has a cause."""
+stands twice, want of memory has a cause, and the gate tries one wrong body of a crate."""
 
 import re
 import shutil
@@ -265,6 +265,12 @@ def memory(program):
     return "\n".join(wrong + [f"  {place} doesn't, and is in WANTS" for place in sorted(allowed - said)]) or None
 
 
+def wrong_bodies(program):
+    """The crates of which the gate tries more than one wrong body: a second one has the whole crate proved again."""
+    counts = {name: len([path for path in files("*.edit") if path.relative_to(TOP).parts[:2] == ("crates", name)]) for name in crates()}
+    return "\n".join(f"  {name} has {count}, one is allowed" for name, count in counts.items() if count > 1) or None
+
+
 def heights(program):
     """The crates at the end of a chain that is too long."""
     known = crates()
@@ -288,6 +294,7 @@ def cases():
         "what is handed out": handed_out,
         "the header for C": header,
         "where memory is wanted": memory,
+        "wrong bodies of the gate": wrong_bodies,
         "heights": heights,
         "names of definitions": names_twice,
         "what stands twice": what_stands_twice,
