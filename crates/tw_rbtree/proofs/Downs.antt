@@ -28,7 +28,8 @@ use Rattle.tw_rbtree.specs.declared.proving.Shown.{Shown}
 use Rattle.tw_rbtree.specs.declared.seeking.Sought.{Sought}
 use Rattle.tw_rbtree.specs.Beside.{IsSoughtBy}
 use Rattle.tw_rbtree.specs.Downs.{IsSoughtIn}
-use Rattle.tw_rbtree.specs.Growing.{grows_above, grows_from, grows_if, grows_of, all_full, is_full}
+use Rattle.tw_rbtree.specs.declared.inserting.Grown.{Grown}
+use Rattle.tw_rbtree.specs.Growing.{grows_above, grows_from, grows_if, grows_of, all_full, is_full, is_two, leaf_of}
 use Rattle.tw_rbtree.specs.Paths.{found_tree_path, proof_in, shown_above, shown_at, shown_from, shown_of, way_nodes}
 use Rattle.tw_rbtree.specs.Paths.{way_proof, with_above}
 use Rattle.tw_rbtree.specs.Reading.{child_in, fits, node_in}
@@ -283,6 +284,9 @@ grows_on dig ps key p (Met s) = Is (Err Present)
 grows_on dig ps key p (Leaf s place) = Is (Ok (is_full p))
 grows_on dig ps key p (Child s place q) = grows_from dig ps key q.level s.low s.high q >>= (λ r. Is (grows_above p r))
 
+abbrev grow_result : Bool → Found (Result Bool TreeFault)
+grow_result two = Is (Ok two)
+
 module _ (dig : List ℕ → List ℕ) (ps : Image) (key : Key) (low high : Option Entry) (p : TreePage) where
   at_seek : IsMetAt (seek (Absent key) 0 low high p.entries).at (seek (Absent key) 0 low high p.entries).met
   at_seek = seek-met (Absent key) 0 low high p.entries
@@ -322,5 +326,26 @@ module _ (dig : List ℕ → List ℕ) (ps : Image) (key : Key) (low high : Opti
       by (Met s) = refl
       by (Leaf s place) = refl
       by (Child s place q) = refl
+
+  module _ (k : Key) (d : Down) (same : k ≡ key) (found : down_in dig ps (Absent k) low high p ≡ Is d) where
+    on_found : (e : Down) → d ≡ e → grows_from dig ps key p.level low high p ≡ grows_on dig ps key p e
+    on_found e is = grows-down
+        ∙ is_on (down_in dig ps (Absent key) low high p) (grows_on dig ps key p) d
+        (subst (λ (x : Key). down_in dig ps (Absent x) low high p ≡ Is d) same found)
+        ∙ ap (grows_on dig ps key p) is
+
+    pub grows-met : (s : Sought) → d ≡ Met s → grows_from dig ps key p.level low high p ≡ Is (Err Present)
+    grows-met s is = on_found (Met s) is
+
+    pub grows-leaf : (s : Sought) (place : ℕ) (e : Entry) (leaf : Grown) → d ≡ Leaf s place → leaf ≡ leaf_of dig e
+        → grows_from dig ps key p.level low high p ≡ Is (Ok (is_two leaf && is_full p))
+    grows-leaf s place e leaf is same_leaf = on_found (Leaf s place) is
+        ∙ ap (λ (g : Grown). grow_result (is_two g && is_full p)) (sym same_leaf)
+
+    pub grows-child : (s : Sought) (place : ℕ) (q : TreePage) (two : Bool) → d ≡ Child s place q
+        → grows_from dig ps key q.level s.low s.high q ≡ Is (Ok two)
+        → grows_from dig ps key p.level low high p ≡ Is (Ok (two && is_full p))
+    grows-child s place q two is below = on_found (Child s place q) is
+        ∙ is_on (grows_from dig ps key q.level s.low s.high q) (λ r. Is (grows_above p r)) (Ok two) below
 
 pub ruleset grows_down = (grows-down)

@@ -1,7 +1,6 @@
 -- The pages that an entry more takes, page by page on its way.
 use Rattle.std.proofs.Common.{◌≡◌, ℕ, ◌+◌, List, [], ◌∷◌, ◌++◌, length, append_assoc, refl, ap, sym, ◌∙◌, subst, arith}
 use Rattle.std.specs.Prelude.{Option, Some, None}
-use Rattle.std.proofs.lemmas.List.{append-nil}
 use Rattle.tw_base.specs.declared.history.root.Root.{Root}
 use Rattle.tw_base.specs.declared.history.thread.Entry.{Entry}
 use Rattle.tw_base.specs.declared.history.thread.Key.{Key}
@@ -13,13 +12,12 @@ use Rattle.tw_disk.specs.Found.{Found, ◌>>=◌}
 use Rattle.tw_disk.specs.Found.Found.{Is}
 use Rattle.tw_disk.specs.Image.{Image}
 use Rattle.tw_disk.proofs.FoundLaws.{is_on, same_found}
-use Rattle.tw_rbnode.specs.declared.child.Child.{Child as Link}
 use Rattle.tw_rbnode.specs.declared.node.Found.TheVariants.{Between}
 use Rattle.tw_rbnode.specs.Page.{TreePage}
 use Rattle.tw_rbtree.specs.declared.descending.Down.{Down}
 use Rattle.tw_rbtree.specs.declared.descending.Down.TheVariants.{Leaf, Child}
 use Rattle.tw_rbtree.specs.declared.inserting.Grown.{Grown}
-use Rattle.tw_rbtree.specs.declared.inserting.Grown.TheVariants.{One, Two}
+use Rattle.tw_rbtree.specs.declared.inserting.Grown.TheVariants.{Two}
 use Rattle.tw_rbtree.specs.declared.seeking.Sought.{Sought}
 use Rattle.tw_rbtree.specs.Growing.{leaf_of}
 use Rattle.tw_rbtree.specs.Putting.{AreRegrown, IsRegrown, IsTop, PutsIn, levels_on}
@@ -178,20 +176,11 @@ module _ (dig : List ℕ → List ℕ) (ps : Image) (root : Root) (e : Entry) (n
       },
     )
 
-    pub put-one : (c : Link) → grown ≡ One c → now ≡ Some (ps ++ lower) → new.page ≡ c.page → new.label ≡ c.label
-        → Put dig ps root e now new
-    put-one c is told page label = put-with [] lower told (sym (append-nil lower))
-        (subst (λ (g : Grown). IsTop dig (4 + length ps + length lower) (levels_on stops) g [] new) (sym is)
-        (refl, root-is_of new c.page c.label page label))
-
-    pub put-two : (left : Link) (middle : Entry) (right : Link) (top : Image) (last level : ℕ) → grown ≡ Two left middle
-        right → last ≡ 4 + length ps + length lower → level ≡ p.level
-        → now ≡ Some ((ps ++ lower) ++ top) → IsTop dig last (level + 1) (Two left middle right) top new
-        → Put dig ps root e now new
-    put-two left middle right top last level is ends level_is told is_top =
+    pub put-top : (top : Image) (last level : ℕ) → last ≡ 4 + length ps + length lower → level ≡ p.level
+        → now ≡ Some ((ps ++ lower) ++ top) → IsTop dig last (level + 1) grown top new → Put dig ps root e now new
+    put-top top last level ends level_is told is_top =
         let own = way-levels dig ps (Absent (key_of e)) None None p stops found in
         let levels : level + 1 ≡ levels_on stops = omega (arith, level_is, own) in
         put-with top (lower ++ top) (told ∙ ap (λ (xs : Image). Some xs) (append_assoc ps lower top)) refl
-        (subst (λ (g : Grown). IsTop dig (4 + length ps + length lower) (levels_on stops) g top new) (sym is)
-        (subst (λ (n : ℕ). IsTop dig n (levels_on stops) (Two left middle right) top new) ends
-        (subst (λ (n : ℕ). IsTop dig last n (Two left middle right) top new) levels is_top)))
+        (subst (λ (n : ℕ). IsTop dig n (levels_on stops) grown top new) ends
+        (subst (λ (n : ℕ). IsTop dig last n grown top new) levels is_top))

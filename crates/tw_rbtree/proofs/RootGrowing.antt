@@ -1,7 +1,8 @@
 -- A root with an entry more below it.
 use Rattle.std.proofs.Common.{◌≡◌, ◌≢◌, ℕ, ◌≤◌, List, length, Bool, true, refl, ap, sym, ◌∙◌, subst, arith, inl, inr}
 use Rattle.std.proofs.Common.{Result, Ok, Err}
-use Rattle.std.specs.Prelude.{Option, Some, None, map}
+use Rattle.std.specs.Prelude.{Option, Some, None, IfOk, map}
+use Rattle.std.proofs.lemmas.Result.{IfOk-weaker}
 use Rattle.tw_base.specs.declared.history.root.Root.{Root}
 use Rattle.tw_base.specs.declared.history.thread.Entry.{Entry}
 use Rattle.tw_base.specs.declared.history.thread.Key.{Key}
@@ -108,20 +109,19 @@ module _ (dig : List ℕ → List ℕ) (Has : OfPage) (ps : Image) (root : Root)
     pub rising : IsRising (with_entry (entries t) entry)
     pub keys : 1 ≤ length p.entries
 
-  pub root-grown : (entry : Entry) (p : TreePage) (two : Bool) (told : Option Image) (g h : Grown) → root.page ≢ 0
+  pub root-grown : (entry : Entry) (p : TreePage) (two : Bool) (told : Option Image) (g : Grown) → root.page ≢ 0
       → node_in dig ps root.page ≡ Is p → grows_from dig ps (key_of entry) p.level None None p ≡ Is (Ok two)
       → ((ts : List Tree) → AreTrees (IsTreeBelow dig Has ps p.level) p.children ts
       → IsRising (woven (map entries ts) p.entries) → (now : Image) × (told ≡ Some now) × GrownLists dig Has now p.level
-      (length p.entries) (with_entry (woven (map entries ts) p.entries) entry) g) → g ≡ h → RootGrown entry p told h
-  root-grown entry p two told g h some found grows lists is =
+      (length p.entries) (with_entry (woven (map entries ts) p.entries) entry) g) → RootGrown entry p told g
+  root-grown entry p two told g some found grows lists =
       let own = own-trees p some found in
       let all = lists own.trees own.are own.rising in
       record {
         now = all.0;
         told_now = all.1;
-        lists = subst (GrownLists dig Has all.0 p.level (length p.entries) (with_entry (entries t) entry)) is
-            (subst (λ (es : List Entry). GrownLists dig Has all.0 p.level (length p.entries) (with_entry es entry) g)
-            own.lists all.2);
+        lists = subst (λ (es : List Entry). GrownLists dig Has all.0 p.level (length p.entries) (with_entry es entry) g)
+            own.lists all.2;
         rising = rises-with entry p two some found grows;
         keys = own.keys;
       }
@@ -134,13 +134,17 @@ abbrev unnamed : Named
 unnamed = record { below = 0; tree = λ page. Empty }
 
 -- where an entry goes into a tree whatever is named, it goes into one of which nothing is
-pub inserted-plain : (dig : List ℕ → List ℕ) (ps : Image) (root new : Root) (entry : Entry) (told : Option Image)
-    (used : ℕ) → ((named : Named) → named.below ≤ used → (t : Tree) → StandsWith dig (HasNamed named) ps root t
-    → Inserted dig (HasNamed named) told new (with_entry (entries t) entry))
-    → (t : Tree) → StandsForTree dig ps root t → Inserted dig any_page told new (with_entry (entries t) entry)
-inserted-plain dig ps root new entry told used inserted t stands =
-    let all = inserted unnamed (omega arith) t (stands-unnamed dig unnamed ps refl root t stands) in
-    (all.0, all.1, all.2, stands-any dig (HasNamed unnamed) all.0 new all.1 all.3, all.4)
+pub inserted-plain : (dig : List ℕ → List ℕ) (ps : Image) (root : Root) (entry : Entry) (told : Option Image)
+    (used : ℕ) (r : Result Root TreeFault) → ((named : Named) → named.below ≤ used → (t : Tree)
+    → StandsWith dig (HasNamed named) ps root t
+    → IfOk r (λ new. Inserted dig (HasNamed named) told new (with_entry (entries t) entry)))
+    → (t : Tree) → StandsForTree dig ps root t
+    → IfOk r (λ new. Inserted dig any_page told new (with_entry (entries t) entry))
+inserted-plain dig ps root entry told used r inserted t stands =
+    IfOk-weaker r (λ new. Inserted dig (HasNamed unnamed) told new (with_entry (entries t) entry))
+    (λ new. Inserted dig any_page told new (with_entry (entries t) entry))
+    (λ new all. (all.0, all.1, all.2, stands-any dig (HasNamed unnamed) all.0 new all.1 all.3, all.4))
+    (inserted unnamed (omega arith) t (stands-unnamed dig unnamed ps refl root t stands))
 
 -- a child that is a tree, as a root
 pub root-stands : (dig : List ℕ → List ℕ) (Has : OfPage) (now : Image) (level least : ℕ) (c : Child) (t : Tree)

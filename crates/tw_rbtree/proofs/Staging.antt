@@ -1,13 +1,16 @@
 -- Pages that are staged over children that are trees.
 use Rattle.std.proofs.Common.{◌≡◌, ℕ, suc, zero, ◌+◌, ◌-◌, ◌≤◌, List, [], ◌∷◌, ◌++◌, length, refl, ap, sym, ◌∙◌, subst}
 use Rattle.std.proofs.Common.{arith, length-append}
-use Rattle.std.specs.Prelude.{Option, Some}
+use Rattle.std.specs.Prelude.{Bool, false, Option, Some, Result, Ok, Err}
 use Rattle.std.specs.Option.{option_map}
 use Rattle.std.proofs.Math.Seq.{get_or-append_seam}
 use Rattle.tw_base.specs.declared.history.thread.Entry.{Entry}
 use Rattle.tw_base.specs.kinds.Lists.{Each}
 use Rattle.tw_base.specs.format.PageBytes.{IsPageOf}
 use Rattle.tw_base.specs.history.Tree.{Tree, entries}
+use Rattle.tw_disk.specs.Answers.{AddsBy, AnswersAs, AnswersOr, NeverRefuses, is_failed}
+use Rattle.tw_disk.specs.Found.{Found, ◌>>=◌}
+use Rattle.tw_disk.specs.Found.Found.{Is, Bad}
 use Rattle.tw_disk.specs.Image.{Image, page_at}
 use Rattle.tw_disk.specs.Pages.{OnlyAdds, OnlyReads, PagesView}
 use Rattle.tw_disk.proofs.ReadingLaws.{adds_none, only_adds_on}
@@ -18,7 +21,12 @@ use Rattle.tw_rbnode.specs.Page.{IsNode, TreePage}
 use Rattle.tw_rbnode.specs.Trees.{page_tree}
 use Rattle.tw_rbnode.proofs.TreeLabels.{page-label}
 use Rattle.tw_rbnode.proofs.TreeLists.{page-list}
-use Rattle.tw_rbtree.specs.Growing.{IsChildTree, IsOverLevel, IsStaged}
+use Rattle.tw_rbtree.specs.declared.fault.TreeFault.{TreeFault}
+use Rattle.tw_rbtree.specs.declared.fault.TreeFault.TheVariants.{BadPage, DiskFault, NoMemory, Present, Untrue}
+use Rattle.tw_rbtree.specs.declared.inserting.Grown.{Grown}
+use Rattle.tw_rbtree.specs.Answers.{NeverUntrue}
+use Rattle.tw_rbtree.specs.FaultWords.{tree_faults}
+use Rattle.tw_rbtree.specs.Growing.{IsChildTree, IsOverLevel, IsStaged, is_two}
 use Rattle.tw_rbtree.specs.Reading.{IsPageAt}
 use Rattle.tw_rbtree.specs.Standing.{AreTrees, HasNamed, IsTreeBelow, Named, OfPage}
 use Rattle.tw_rbtree.proofs.Keeping.{below-kept, tree_page-kept, trees-map}
@@ -112,17 +120,57 @@ put_behind o ps bytes new told put = put ∙ ap (option_map (λ xs. xs ++ bytes 
 
 -- ---- calls that add pages behind what was read
 
+never-untrue : (r : Result Grown TreeFault) → NeverRefuses tree_faults r → NeverUntrue r
+never-untrue (Ok g) own = tt
+never-untrue (Err (BadPage page)) own = tt
+never-untrue (Err DiskFault) own = tt
+never-untrue (Err NoMemory) own = tt
+never-untrue (Err Present) own = tt
+never-untrue (Err Untrue) own = own
+
+grows-as : (r : Result Grown TreeFault) (two : Bool) (found : Found (Result Bool TreeFault))
+    → NeverRefuses tree_faults r → AnswersAs tree_faults is_two r (Is two) → found ≡ Is (Ok two)
+    → AnswersOr tree_faults is_two r found
+grows-as (Ok g) two found own answer is = is ∙ ap (λ (f : Found Bool). f >>= (λ b. Is (Ok b))) answer
+grows-as (Err (BadPage page)) two found own answer is =
+    absurd (let wrong : ◌≡◌ {A = Found Bool} (Is two) (Bad page) = answer in cc)
+grows-as (Err DiskFault) two found own answer is = tt
+grows-as (Err NoMemory) two found own answer is = tt
+grows-as (Err Present) two found own answer is = absurd own
+grows-as (Err Untrue) two found own answer is = absurd own
+
 module _ {P : Type 0} (view : P → PagesView) (same : P → P → Type 0)
     (same_on : (x y z : P) → same x y → same y z → same x z) where
-  pub read-adds : (a b c : P) (well all : Type 0) → OnlyReads view same a b well → OnlyAdds view same b c (Unit {0})
-      → well → OnlyAdds view same a c all
-  read-adds a b c well all reads adds is = only_adds_on view same a b c well (Unit {0}) all same_on (λ _. is) (λ _. tt)
-      (adds_none view same a b well reads) adds
+  pub read-adds : (a b c : P) (well more all : Type 0) → OnlyReads view same a b well
+      → OnlyAdds view same b c more → well → more → OnlyAdds view same a c all
+  read-adds a b c well more all reads adds is on = only_adds_on view same a b c well more all same_on (λ _. is)
+      (λ _. on) (adds_none view same a b well reads) adds
 
-  pub read-adds_more : (a b c d : P) (well more all : Type 0) → OnlyReads view same a b well
-      → OnlyAdds view same b c more → OnlyAdds view same c d (Unit {0}) → well → more → OnlyAdds view same a d all
-  read-adds_more a b c d well more all reads adds last is on = only_adds_on view same a c d (Unit {0}) (Unit {0}) all
-      same_on (λ _. tt) (λ _. tt) (only_adds_on view same a b c well more (Unit {0}) same_on (λ _. is) (λ _. on)
-      (adds_none view same a b well reads) adds) last
+  -- what was only read, as a call that adds
+  pub reads-only : (a b : P) (well : Type 0) → OnlyReads view same a b well → well → OnlyAdds view same a b (Unit {0})
+  reads-only a b well reads is =
+      let adds = adds_none view same a b well reads in record {
+        used_grows = adds.used_grows;
+        list_grows = adds.list_grows;
+        same_kept = adds.same_kept;
+        unbroken_kept = λ good whole. adds.unbroken_kept is whole;
+      }
 
-pub ruleset added_behind = (read-adds)
+  -- what was read and added, and then a page on the way down with what stands below it now
+  pub regrown-adds : (a b c : P) (two : Bool) (r : Result Grown TreeFault) (found : Image → Found (Result Bool
+      TreeFault)) → OnlyAdds view same a b (Unit {0}) → (view a).faults ≤ (view b).faults
+      → AddsBy tree_faults view same b c r (NeverRefuses tree_faults r) (AnswersAs tree_faults is_two) (λ ps. Is two)
+      → ((ps : Image) → (view a).list ≡ Some ps → found ps ≡ Is (Ok two))
+      → AddsBy tree_faults view same a c r (NeverUntrue r) (AnswersOr tree_faults is_two) found
+  regrown-adds a b c two r found adds later last is = record {
+    answer = λ ps told.
+        let more = adds.list_grows ps told in
+        grows-as r two (found ps) last.own (last.answer (ps ++ more.0) more.1) (is ps told);
+    own = never-untrue r last.own;
+    kept = only_adds_on view same a b c (Unit {0}) (is_failed tree_faults r ≡ false) (is_failed tree_faults r ≡ false)
+        same_on (λ _. tt) (λ well. well) adds last.kept;
+    faults = record {
+      later = omega (arith, later, last.faults.later);
+      rose = λ failed. omega (arith, later, last.faults.rose failed);
+    };
+  }

@@ -53,3 +53,7 @@ insert_at root None over = when (not over) root.page (Ok tt)
 
 unfoldable pub found_insert : (dig : List ℕ → List ℕ) → Image → Root → Key → Found (Result (Unit {0}) TreeFault)
 found_insert dig pages root key = way dig pages (HasNone key) root >>= (λ stops. insert_at root (end_of_way nowhere stops).met (overflows stops))
+
+-- the root's page, of this level, becomes one page or two: two have no room above them at the greatest level, and the page is told
+abbrev pub top_at : (page level : ℕ) → (two : Bool) → Found (Result (Unit {0}) TreeFault)
+top_at page level two = when (not (two && (level == TOP_LEVEL))) page (Ok tt)

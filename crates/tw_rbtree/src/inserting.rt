@@ -1,6 +1,6 @@
 // One entry more in a tree over pages: those on the way down are staged anew, and each earlier root keeps its tree.
 
-ghost use Rattle.std.specs.Prelude.{◌≡◌, ◌+◌, ◌*◌, ◌-◌, ◌<◌, ◌≤◌, ◌^◌, ◌++◌, ◌∷◌, ◌&&◌, [], ℕ, List, true, IfOk, Option, Some, length, map, slice_index_or};
+ghost use Rattle.std.specs.Prelude.{◌≡◌, ◌≢◌, ◌+◌, ◌*◌, ◌-◌, ◌<◌, ◌≤◌, ◌^◌, ◌++◌, ◌∷◌, ◌&&◌, [], ℕ, List, true, IfOk, None, Option, Some, length, map, slice_index_or};
 ghost use Rattle.std.specs.Option.{option_map};
 ghost use Rattle.tw_base.specs.declared.history.root.Root.{Root};
 ghost use Rattle.tw_base.specs.declared.history.thread.Entry.{Entry};
@@ -9,14 +9,14 @@ ghost use Rattle.tw_base.specs.history.Entries.{key_of};
 ghost use Rattle.tw_base.specs.history.Limits.{IsEntryInRange};
 ghost use Rattle.tw_base.specs.format.PageBytes.{IsPageOf};
 ghost use Rattle.tw_base.specs.history.Tree.{Tree, IsRising, entries};
-ghost use Rattle.tw_disk.specs.Answers.{AddsBy, AnswersOr};
+ghost use Rattle.tw_disk.specs.Answers.{AddsBy, AnswersAs, AnswersOr, NeverRefuses};
 ghost use Rattle.tw_disk.specs.Image.{Image};
 ghost use Rattle.tw_disk.specs.Pages.{OnlyAdds};
 ghost use Rattle.tw_rbnode.specs.Children.{AddedHasChildren, HasChildren, IsChildAt};
 ghost use Rattle.tw_rbnode.specs.NodeBytes.{fields_of, page_node_codec};
 ghost use Rattle.tw_rbnode.specs.Page.{IsBetween, IsNode};
 ghost use Rattle.tw_rbnode.specs.Trees.{woven};
-ghost use Rattle.tw_rbtree.specs.Answers.{NeverUntrue, found_insert};
+ghost use Rattle.tw_rbtree.specs.Answers.{NeverUntrue, found_insert, top_at};
 ghost use Rattle.tw_rbtree.specs.FaultWords.{tree_faults};
 ghost use Rattle.tw_rbtree.specs.Growing.{AddedAreNodes, AddedLists, GrownLists, IsGrownIn, IsLast, IsStaged, IsStagedAs, IsWith, LiesIn, MayGoInto, SidesList, grows_from, is_full, is_two, leaf_of};
 ghost use Rattle.tw_rbtree.specs.Putting.{ArePages, AreRegrown, IsRegrown, IsTop, PutsIn};
@@ -27,6 +27,7 @@ ghost use Rattle.tw_rbtree.specs.declared.inserting.Grown.TheVariants.{Two};
 ghost use Rattle.tw_rbtree.specs.declared.limits.TheConstants.{MOST_STAGED};
 ghost use Rattle.tw_base.specs.declared.history.tree_proof.Ask.TheVariants.{Absent};
 ghost use Rattle.tw_disk.specs.Found.Found.{Is};
+ghost use Rattle.tw_rbnode.specs.declared.limits.TheConstants.{TOP_LEVEL};
 
 use crate::descending::{Down, descend};
 use crate::fault::TreeFault;
@@ -135,12 +136,13 @@ fn regrow<P: Pages, H: Hasher>(
     node: &RbNode,
     place: u8,
     below: &Grown,
-) -> Result<Grown, NoMemory>
+) -> Result<Grown, TreeFault>
     requires used { (P.view pages.old).used < 2 ^ 48 - 5 }
     requires goes { MayGoInto H.dig node.now place below.now }
     ensures put { (ps : Image) → (P.view pages.old).list ≡ Some ps → IfOk result (λ g. (own : Image) × ((P.view pages.new).list ≡ Some (ps ++ own))
         × IsRegrown H.dig ((P.view pages.old).used) node.now place below.now own g) }
-    ensures two { IfOk result (λ g. is_two g ≡ (is_two below.now && is_full node.now)) }
+    ensures adds { AddsBy tree_faults P.view P.same pages.old pages.new result (NeverRefuses tree_faults result) (AnswersAs tree_faults is_two)
+        (λ ps. Is (is_two below.now && is_full node.now)) }
     ensures grown { (low high : Option Entry) → lie_between low high node.now.entries ≡ true → LiesIn low high below.now → IfOk result (IsGrownIn low high) }
     ensures lists { (ps : Image) → (P.view pages.old).list ≡ Some ps → HasChildren H.dig node.now → (named : Named) → named.below ≤ (P.view pages.old).used →
         (ts : List Tree) → AreTrees (IsTreeBelow H.dig (HasNamed named) ps node.now.level) node.now.children ts → IsRising (woven (map entries ts) node.now.entries) →
@@ -151,8 +153,6 @@ fn regrow<P: Pages, H: Hasher>(
     ensures last { IfOk result (λ g. IsLast ((P.view pages.new).used) g) }
     ensures more { IfOk result (λ g. (P.view pages.old).used < (P.view pages.new).used) }
     ensures few { (P.view pages.new).used ≤ (P.view pages.old).used + 2 }
-    ensures kept { OnlyAdds P.view P.same pages.old pages.new (Unit {0}) }
-    ensures faults { (P.view pages.new).faults ≡ (P.view pages.old).faults }
 {
     see_node(node);
     let added = with_grown::<H>(node, place, below);
@@ -179,7 +179,7 @@ fn leaf<H: Hasher>(entry: &Entry) -> Grown
 
 /// Puts the entry below this page, whose keys lie between these two entries as the entry does, and answers what the page has
 /// become. Calls itself once a level.
-#[tactic(auto, using(crate::proofs::Downs::grows_down, crate::proofs::Staging::added_behind))]
+#[tactic(auto, using(crate::proofs::Downs::grows_down))]
 fn grow_below<P: Pages, H: Hasher>(
     pages: &mut P,
     node: &RbNode,
@@ -211,10 +211,10 @@ fn grow_below<P: Pages, H: Hasher>(
     let ask = Ask::Absent(entry_key(entry));
     match descend::<P, H>(pages, &ask, node, low, high)? {
         Down::Met { .. } => Err(TreeFault::Present),
-        Down::Leaf { place, .. } => Ok(regrow::<P, H>(pages, node, place, &leaf::<H>(entry))?),
+        Down::Leaf { place, .. } => regrow::<P, H>(pages, node, place, &leaf::<H>(entry)),
         Down::Child { here, place, child } => {
             let below = grow_below::<P, H>(pages, &child, &here.low, &here.high, entry)?;
-            Ok(regrow::<P, H>(pages, node, place, &below)?)
+            regrow::<P, H>(pages, node, place, &below)
         }
     }
 }
@@ -257,6 +257,71 @@ fn stage_single<P: Pages, H: Hasher>(
 {
     let node = single::<H>(own, middle, left, right);
     Ok(root_of(stage_node::<P, H>(pages, &node)?))
+}
+
+/// The root over what the page of the earlier root, which has this level, has become: its page, or one more that is staged over two.
+fn stage_top<P: Pages, H: Hasher>(
+    pages: &mut P,
+    root: &Root,
+    own: u8,
+    grown: Grown,
+) -> Result<Root, TreeFault>
+    requires used { (P.view pages.old).used < 2 ^ 48 - 4 }
+    requires level { own ≤ TOP_LEVEL }
+    requires grown { IsGrownIn None None grown }
+    ensures adds { AddsBy tree_faults P.view P.same pages.old pages.new result (NeverUntrue result) (AnswersOr tree_faults (λ (_ : Root). tt))
+        (λ ps. top_at root.now.page own (is_two grown)) }
+    ensures lists { (ps : Image) → (P.view pages.old).list ≡ Some ps → (named : Named) → named.below ≤ (P.view pages.old).used →
+        (least : ℕ) → 1 ≤ least → (es : List Entry) → IsRising es → GrownLists H.dig (HasNamed named) ps own least es grown →
+        IfOk result (λ new. (now : Image) × (t : Tree) × ((P.view pages.new).list ≡ Some now)
+        × StandsWith H.dig (HasNamed named) now new t × (entries t ≡ es)) }
+    ensures put { (ps : Image) → (P.view pages.old).list ≡ Some ps → IfOk result (λ new. (top : Image) × ((P.view pages.new).list ≡ Some (ps ++ top))
+        × IsTop H.dig ((P.view pages.old).used) (own + 1) grown top new) }
+    ensures page { IsLast ((P.view pages.old).used) grown → IfOk result (λ new. (P.view pages.new).used ≡ new.page + 1) }
+    ensures few { (P.view pages.new).used ≤ (P.view pages.old).used + 1 }
+{
+    match grown {
+        Grown::One(child) => Ok(root_of(child)),
+        Grown::Two {
+            left,
+            middle,
+            right,
+        } => {
+            if own == TOP_LEVEL {
+                return Err(TreeFault::BadPage { page: root.page });
+            }
+            Ok(stage_single::<P, H>(pages, own + 1, left, middle, right)?)
+        }
+    }
+}
+
+/// Puts the entry into the tree under a root that has a page, and answers the new root.
+#[tactic(auto, using(crate::proofs::Inserts::insert_roots))]
+fn insert_below<P: Pages, H: Hasher>(
+    pages: &mut P,
+    root: &Root,
+    entry: &Entry,
+) -> Result<Root, TreeFault>
+    requires used { (P.view pages.old).used < 2 ^ 47 }
+    requires range { IsEntryInRange entry.now }
+    requires some { root.now.page ≢ 0 }
+    ensures adds { AddsBy tree_faults P.view P.same pages.old pages.new result (NeverUntrue result) (AnswersOr tree_faults (λ (_ : Root). tt))
+        (λ ps. found_insert H.dig ps root.now (key_of entry.now)) }
+    ensures inserted { (ps : Image) → (P.view pages.old).list ≡ Some ps → (named : Named) → named.below ≤ (P.view pages.old).used →
+        (t : Tree) → StandsWith H.dig (HasNamed named) ps root.now t →
+        IfOk result (λ new. (now : Image) × (grown : Tree) × ((P.view pages.new).list ≡ Some now)
+        × StandsWith H.dig (HasNamed named) now new grown × (entries grown ≡ with_entry (entries t) entry.now)) }
+    ensures put { (ps : Image) → (P.view pages.old).list ≡ Some ps → IfOk result (λ new. (more : Image) × ((P.view pages.new).list ≡ Some (ps ++ more))
+        × PutsIn H.dig ps root.now entry.now more new) }
+    ensures page { IfOk result (λ new. (P.view pages.new).used ≡ new.page + 1) }
+    ensures more { IfOk result (λ new. (P.view pages.old).used < (P.view pages.new).used) }
+    ensures few { (P.view pages.new).used ≤ (P.view pages.old).used + MOST_STAGED }
+{
+    let first = read_root::<P, H>(pages, root.page)?;
+    let own = level(&first);
+    let grown = grow_below::<P, H>(pages, &first, &None, &None, entry);
+    drop(first);
+    stage_top::<P, H>(pages, root, own, grown?)
 }
 
 /// Puts the entry into the tree under the root, and answers the new root. It reads the pages on the way down to the entry's place,
@@ -309,18 +374,5 @@ pub fn insert<P: Pages, H: Hasher>(
         };
         return Ok(stage_single::<P, H>(pages, 0, empty, entry, empty)?);
     }
-    let first = read_root::<P, H>(pages, root.page)?;
-    match grow_below::<P, H>(pages, &first, &None, &None, &entry)? {
-        Grown::One(child) => Ok(root_of(child)),
-        Grown::Two {
-            left,
-            middle,
-            right,
-        } => {
-            if level(&first) == TOP_LEVEL {
-                return Err(TreeFault::BadPage { page: root.page });
-            }
-            Ok(stage_single::<P, H>(pages, level(&first) + 1, left, middle, right)?)
-        }
-    }
+    insert_below::<P, H>(pages, root, &entry)
 }

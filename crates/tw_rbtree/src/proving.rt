@@ -131,8 +131,7 @@ fn shown_below<P: Pages, H: Hasher>(
     ensures ranges { IfOk result (λ shown. Each IsAncestorInRange (ancestors_of shown.proof)) }
 {
     match descend::<P, H>(pages, ask, node, low, high)? {
-        Down::Met { here } => Ok(end_in::<H>(alloc, node, &here)?),
-        Down::Leaf { here, .. } => Ok(end_in::<H>(alloc, node, &here)?),
+        Down::Met { here } | Down::Leaf { here, .. } => Ok(end_in::<H>(alloc, node, &here)?),
         Down::Child { here, child, .. } => {
             let shown = shown_below::<P, H>(alloc, pages, ask, &child, &here.low, &here.high)?;
             Ok(with_page::<H>(shown, node, &here.at)?)

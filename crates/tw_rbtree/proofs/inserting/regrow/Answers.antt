@@ -1,16 +1,29 @@
-use Rattle.std.proofs.Common.{arith, length, refl}
+use Rattle.std.proofs.Common.{Bool, ap, arith, length, refl, rules, sym}
 use Rattle.std.specs.Prelude.{map}
 use Rattle.tw_base.specs.history.Asking.{with_entry}
 use Rattle.tw_base.specs.history.Tree.{entries}
 use Rattle.tw_rbnode.specs.Trees.{woven}
+use Rattle.tw_disk.specs.Found.Found.{Is}
 use Rattle.tw_rbtree.specs.Standing.{HasNamed}
 use Rattle.tw_rbtree.proofs.GrowLaws.{grown-in, two-on}
 use Rattle.tw_rbtree.proofs.Replacing.{with-lists}
 use Rattle.tw_rbtree.proofs.inserting.regrow.Goals as goal
 
-pub returns-clause-two : goal.returns-clause-two
-returns-clause-two g c = two-on g.H.Hasher.dig _ c.args.place c.args.node.now c.args.below.now _
-    c.with_grown-added.result c.with_grown-added.ensures.with c.in_ok-grown.ensures.staged
+pub returns-clause-adds : goal.returns-clause-adds
+returns-clause-adds g c =
+    let kept = c.in_ok-grown.ensures.kept in record {
+      answer = λ ps told. ap (λ (b : Bool). Is b) (sym (two-on g.H.Hasher.dig _ c.args.place c.args.node.now
+          c.args.below.now _ c.with_grown-added.result c.with_grown-added.ensures.with
+          c.in_ok-grown.ensures.staged));
+      own = search rules;
+      kept = record {
+        used_grows = kept.used_grows;
+        list_grows = kept.list_grows;
+        same_kept = kept.same_kept;
+        unbroken_kept = λ good is. kept.unbroken_kept tt is;
+      };
+      faults = search rules;
+    }
 
 pub returns-clause-grown : goal.returns-clause-grown
 returns-clause-grown g c = λ low high lie lies.
