@@ -190,7 +190,11 @@ fn hold_bytes<H: Hasher>(
     ensures { (p : ProofMeant) → Spells proof_layout bytes.now p → report ≡ report_of p → IsAuditAnswer H.dig histories.now anchors.now p result }
 {
     match read_proof(alloc, bytes) {
-        Ok(proof) => hold::<H>(alloc, &proof, report, anchors, histories),
+        Ok(proof) => {
+            let finding = hold::<H>(alloc, &proof, report, anchors, histories);
+            drop(proof);
+            finding
+        }
         // Bytes that spell a proof are read, but for want of memory.
         Err(_) => {
             drop(report);
