@@ -42,7 +42,8 @@ fn linked(
     }
 }
 
-/// The evidence that the parts make.
+/// The evidence that the parts make. Parts that make none are given up by `drop`: those that go out of scope on many ways are
+/// proved slowly (docs/proving.md).
 fn evidence_of(
     alloc: Global,
     first: ThreadProof,
@@ -52,15 +53,24 @@ fn evidence_of(
     ensures { Accuses first second link result }
 {
     if !in_order(&first.entry.thread, &second.entry.thread) {
+        drop(link);
+        drop(second);
+        drop(first);
         return Err(JoinFault::Gap { place: 2 });
     }
-    let (bottom, link) = linked(alloc, &first.entry.thread, &second.entry.thread, link)?;
-    Ok(Evidence {
-        first,
-        second,
-        bottom,
-        link,
-    })
+    match linked(alloc, &first.entry.thread, &second.entry.thread, link) {
+        Ok((bottom, link)) => Ok(Evidence {
+            first,
+            second,
+            bottom,
+            link,
+        }),
+        Err(fault) => {
+            drop(second);
+            drop(first);
+            Err(fault)
+        }
+    }
 }
 
 /// The evidence that two proofs of received threads make, with a link from the second thread's step down

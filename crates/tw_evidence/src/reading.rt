@@ -1,16 +1,20 @@
 // Reading evidence of a fork, and the proofs alone of which it is made; other proofs are read in `tw_chain`.
 #![tactic(auto, unfolding(crate::specs::Seen::evidence_reading))]
 
-ghost use Rattle.std.specs.Prelude.{◌≡◌, ◌≤◌, length};
+ghost use Rattle.std.specs.Prelude.{◌≡◌, ◌≤◌, ℕ, List, length};
+ghost use Rattle.tw_base.specs.declared.kinds.limits.TheConstants.{LAST_STEP};
+ghost use Rattle.tw_base.specs.format.Codecs.{digest_codec, pair};
 ghost use Rattle.tw_base.specs.format.Formats.{ReadsAs};
 ghost use Rattle.tw_base.specs.format.Taking.{Takes};
+ghost use Rattle.tw_skipproof.specs.Codecs.{path_codec};
+ghost use Rattle.tw_skipproof.specs.declared.path.Path.{Path as PathMeant};
 ghost use Rattle.tw_evidence.specs.Evidence.{evidence_codec, evidence_layout, link_proof_codec, link_proof_layout, thread_proof_codec, thread_proof_layout};
 
 use crate::evidence::Evidence;
 use std::alloc::Global;
-use tw_base::{ReadFault, take_digest, take_text, whole_to};
+use tw_base::{Digest, ReadFault, take_digest, take_text, whole_to};
 use tw_chain::{LinkProof, ThreadProof, take_link_body, take_thread_body};
-use tw_skipproof::{PROOF_MAGIC, take_path};
+use tw_skipproof::{PROOF_MAGIC, Path, take_path};
 
 /// How evidence begins: the four bytes `TWV1`.
 pub(crate) const EVIDENCE_MAGIC: [u8; 4] = *b"TWV1";
@@ -51,24 +55,54 @@ fn take_link_proof(alloc: Global, bytes: &[u8], at: &mut u64) -> Result<LinkProo
     take_link_body(alloc, bytes, at)
 }
 
-/// Takes evidence.
+/// Takes the bottom, and the path from the upper step down to the lower one.
+fn take_bottom_and_link(
+    alloc: Global,
+    bytes: &[u8],
+    at: &mut u64,
+    upper: u64,
+    lower: u64,
+) -> Result<(Digest, Path), ReadFault>
+    requires within { at.old ≤ length bytes.now }
+    requires upper { upper ≤ LAST_STEP }
+    ensures { Takes (pair digest_codec (λ bottom. path_codec upper lower)) (λ (link : List ℕ × PathMeant). (link.0, link.1.links))
+        bytes.now at.old at.new result }
+{
+    let bottom = take_digest(bytes, at)?;
+    let path = take_path(alloc, bytes, at, upper, lower)?;
+    Ok((bottom, path))
+}
+
+/// Takes evidence. Its proofs are given up by `drop`: those that go out of scope on many ways are proved slowly
+/// (docs/proving.md).
 fn take_evidence(alloc: Global, bytes: &[u8], at: &mut u64) -> Result<Evidence, ReadFault>
     requires { at.old ≤ length bytes.now }
     ensures { Takes evidence_codec (λ e. e) bytes.now at.old at.new result }
 {
     take_text(bytes, at, &EVIDENCE_MAGIC)?;
     let first = take_thread_proof(alloc, bytes, at)?;
-    let second = take_thread_proof(alloc, bytes, at)?;
-    let bottom = take_digest(bytes, at)?;
+    let second = match take_thread_proof(alloc, bytes, at) {
+        Ok(second) => second,
+        Err(fault) => {
+            drop(first);
+            return Err(fault);
+        }
+    };
     let upper = second.entry.thread.step;
     let lower = first.entry.thread.step;
-    let link = take_path(alloc, bytes, at, upper, lower)?;
-    Ok(Evidence {
-        first,
-        second,
-        bottom,
-        link,
-    })
+    match take_bottom_and_link(alloc, bytes, at, upper, lower) {
+        Ok((bottom, link)) => Ok(Evidence {
+            first,
+            second,
+            bottom,
+            link,
+        }),
+        Err(fault) => {
+            drop(second);
+            drop(first);
+            Err(fault)
+        }
+    }
 }
 
 /// The proof of a received thread that the bytes spell, from first to last. Malformed exactly where they

@@ -1,5 +1,5 @@
 use Rattle.tw_evidence.proofs.EvidenceCodec.{steps-in-range}
 use Rattle.tw_evidence.proofs.reading.take_evidence.Goals as goal
 
-pub take_path-requires-clause-step : goal.take_path-requires-clause-step
-take_path-requires-clause-step c = (steps-in-range c.in_ok-second.second c.in_ok-second.ensures.1).thread
+pub take_bottom_and_link-requires-clause-upper : goal.take_bottom_and_link-requires-clause-upper
+take_bottom_and_link-requires-clause-upper c = (steps-in-range c.in-Ok.second c.in-Ok.ensures.1).thread
