@@ -1,9 +1,9 @@
-use Rattle.std.proofs.Common.{◌≡◌, ◌∙◌, List, ℕ, ap, inr, refl, sym}
+use Rattle.std.proofs.Common.{◌≡◌, ◌∙◌, List, ℕ, ap, arith, inr, refl, sym}
 use Rattle.std.specs.Prelude.{Option, Result, Ok}
 use Rattle.tw_disk.specs.Image.{Image}
 use Rattle.tw_disk.proofs.AnswerLaws.{as_or, stopped}
 use Rattle.tw_disk.proofs.FoundLaws.{bad_ends, is_on}
-use Rattle.tw_disk.proofs.ReadingLaws.{reads_weaker}
+use Rattle.tw_disk.proofs.ReadingLaws.{only_reads_on, reads_weaker}
 use Rattle.tw_disk.specs.Found.{Found, ◌>>=◌}
 use Rattle.tw_disk.specs.Found.Found.{Is}
 use Rattle.tw_skiplist.specs.declared.info.StepProof.{StepProof}
@@ -83,4 +83,29 @@ returns-in_err-events g c =
           ∙ bad_ends (events_of_info ps proof.info)
           (λ events. Is (Ok (event_proof_bytes dig name top index proof events))) page bad)
           c.in_err-events.ensures.reads);
+    }
+
+pub returns : goal.returns
+returns g c =
+    let dig = g.H.Hasher.dig in
+    let proof = c.in_ok-proof.proof in
+    let name = c.args.name.now in
+    let index = c.args.index in
+    let top = c.args.top in
+    let before = c.in_ok-proof.ensures.reads in
+    let reads = c.in_ok-events.ensures.reads in
+    record {
+      reads = record {
+        answer = λ ps told.
+            step_told dig ps name c.args.head.now c.args.step index top proof _ (before.answer ps told)
+            (sym (sym c.in_default.is ∙ c.event_refusal.ensures.answer))
+            ∙ is_on (events_of_info ps proof.info)
+            (λ events. Is (Ok (event_proof_bytes dig name top index proof events))) c.in_ok-events.events
+            (reads.answer ps (before.kept.list_kept ∙ told))
+            ∙ ap (λ (b : List ℕ). Is (Ok b)) (sym c.in_ok-write_event.ensures.bytes);
+        own = tt;
+        kept = only_reads_on g.P.Pages.view g.P.Pages.same _ _ _ _ _ _ g.met.P.Pages.same_on (λ good. refl)
+            (λ good. refl) before.kept reads.kept;
+        faults = record { later = omega (arith, before.faults.later, reads.faults.later); rose = λ failed. cc };
+      };
     }
