@@ -1,11 +1,13 @@
--- A refusal of what is shown, handed on where a proof is made of it.
+-- What is shown behind a first reading, where a proof is made of it: a refusal is handed on, and else the proof is written.
 use Rattle.std.proofs.Common.{◌≡◌, ◌≤◌, ◌∙◌, ℕ, List, Bool, false, ap, arith, refl, sym, subst}
 use Rattle.std.specs.Prelude.{Result, Ok, Err, IfErr, IsErrAnd, Some}
 use Rattle.tw_disk.specs.Answers.{AnswersOr, FaultSort, ReadsBy, RefusesAs, is_failed, is_of_disk}
 use Rattle.tw_disk.specs.Answers.FaultSort.{OfPage, OfCall}
 use Rattle.tw_disk.specs.Found.{Found, ◌>>=◌}
+use Rattle.tw_disk.specs.Found.Found.{Is}
 use Rattle.tw_disk.specs.Image.{Image}
 use Rattle.tw_disk.specs.Pages.{OnlyReads, PagesView}
+use Rattle.tw_disk.proofs.FoundLaws.{is_on}
 use Rattle.tw_disk.proofs.ReadingLaws.{only_reads_on}
 use Rattle.tw_base.specs.declared.history.refusal.Refusal.{Refusal}
 use Rattle.tw_answers.specs.Finds.{written_found}
@@ -62,3 +64,22 @@ handed-reads view same same_on old mid new bytes_of result fault Own found shown
         rose = λ rose. let more = reads.faults.rose (failed ∙ rose) in omega (arith, later, more);
       };
     }
+
+-- where it is shown, the whole is the bytes of the proof
+pub written-reads : {P X : Type 0} (view : P → PagesView) (same : P → P → Type 0)
+    (same_on : (x y z : P) → same x y → same y z → same x z) (old mid new : P) (bytes_of : X → List ℕ)
+    (bytes : List ℕ) (x : X) (found : Image → Found (Result (List ℕ) Refusal))
+    (shown : Image → Found (Result X Refusal)) → bytes ≡ bytes_of x
+    → OnlyReads view same old mid (◌≡◌ {A = Bool} false false) → (view old).faults ≤ (view mid).faults
+    → ((ps : Image) → (view old).list ≡ Some ps → found ps ≡ (shown ps >>= written_found bytes_of))
+    → ReadsBy service_refusals view same mid new (Ok x) (Unit {0}) (AnswersOr service_refusals (λ (x : X). x)) shown
+    → ReadsBy service_refusals view same old new (Ok bytes) (Unit {0})
+    (AnswersOr service_refusals (λ (b : List ℕ). b)) found
+written-reads view same same_on old mid new bytes_of bytes x found shown is kept later told_so reads = record {
+  answer = λ ps told.
+      told_so ps told ∙ is_on (shown ps) (written_found bytes_of) (Ok x) (reads.answer ps (kept.list_kept ∙ told))
+      ∙ ap (λ (b : List ℕ). Is (Ok b)) (sym is);
+  own = tt;
+  kept = only_reads_on view same old mid new _ _ _ same_on (λ good. refl) (λ good. refl) kept reads.kept;
+  faults = record { later = omega (arith, later, reads.faults.later); rose = λ failed. cc };
+}

@@ -53,24 +53,25 @@ fn evidence_of(
     ensures { Accuses first second link result }
 {
     if !in_order(&first.entry.thread, &second.entry.thread) {
-        drop(link);
-        drop(second);
         drop(first);
+        drop(second);
+        drop(link);
         return Err(JoinFault::Gap { place: 2 });
     }
-    match linked(alloc, &first.entry.thread, &second.entry.thread, link) {
-        Ok((bottom, link)) => Ok(Evidence {
-            first,
-            second,
-            bottom,
-            link,
-        }),
+    let (bottom, link) = match linked(alloc, &first.entry.thread, &second.entry.thread, link) {
+        Ok(parts) => parts,
         Err(fault) => {
-            drop(second);
             drop(first);
-            Err(fault)
+            drop(second);
+            return Err(fault);
         }
-    }
+    };
+    Ok(Evidence {
+        first,
+        second,
+        bottom,
+        link,
+    })
 }
 
 /// The evidence that two proofs of received threads make, with a link from the second thread's step down
