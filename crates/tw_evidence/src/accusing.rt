@@ -58,20 +58,19 @@ fn evidence_of(
         drop(link);
         return Err(JoinFault::Gap { place: 2 });
     }
-    let (bottom, link) = match linked(alloc, &first.entry.thread, &second.entry.thread, link) {
-        Ok(parts) => parts,
+    match linked(alloc, &first.entry.thread, &second.entry.thread, link) {
         Err(fault) => {
             drop(first);
             drop(second);
-            return Err(fault);
+            Err(fault)
         }
-    };
-    Ok(Evidence {
-        first,
-        second,
-        bottom,
-        link,
-    })
+        Ok((bottom, link)) => Ok(Evidence {
+            first,
+            second,
+            bottom,
+            link,
+        }),
+    }
 }
 
 /// The evidence that two proofs of received threads make, with a link from the second thread's step down
