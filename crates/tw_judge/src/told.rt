@@ -42,10 +42,13 @@ pub fn judge(
     match read_anchors(alloc, anchors) {
         Ok(held) => {
             let verdict = verify::<Sha>(alloc, proof, held.as_slice(), strict)?;
-            let text = print_verdict(alloc, &verdict)?;
+            let text = print_verdict(alloc, &verdict);
+            let status = status_of(&verdict);
+            drop(verdict);
+            drop(held);
             Ok(Told {
-                status: status_of(&verdict),
-                text,
+                status,
+                text: text?,
             })
         }
         Err(AnchorFault::BadLine { line }) => Ok(tell_line(alloc, file, line)?),
