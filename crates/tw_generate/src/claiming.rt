@@ -154,7 +154,9 @@ fn joined_bytes(alloc: Global, parts: &Sequence<Proof>) -> Result<Bytes, NoMemor
     ensures { IfOk result (λ bytes. IsJoined parts.now bytes) }
 {
     let proof = whole_of(join(alloc, parts.as_slice()))?;
-    write_proof(alloc, &proof)
+    let written = write_proof(alloc, &proof);
+    drop(proof);
+    written
 }
 
 /// The proof that alpha's first event precedes gamma's last one.

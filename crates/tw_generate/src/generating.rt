@@ -165,7 +165,7 @@ fn summarize<D: Disk, H: Hasher>(
     let claimed = claimed(alloc, services, rounds)?;
     let bounds = map(alloc, services, &heads)?;
     let (hops, stands) = judged::<H>(alloc, &claimed, &heads)?;
-    Ok(Summary {
+    let summary = Summary {
         stands,
         high: bounds.high,
         hops,
@@ -174,7 +174,10 @@ fn summarize<D: Disk, H: Hasher>(
         beta: services.beta.steps(),
         gamma: services.gamma.steps(),
         threads: claimed.threads,
-    })
+    };
+    drop(claimed);
+    drop(heads);
+    Ok(summary)
 }
 
 /// Runs the services alpha, beta and gamma on disks in memory by the schedule that the number makes, and sums up what they hold, in one

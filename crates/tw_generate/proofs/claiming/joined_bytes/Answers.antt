@@ -10,12 +10,12 @@ use Rattle.tw_generate.proofs.claiming.joined_bytes.Goals as goal
 pub returns : goal.returns
 returns c =
     let proof = c.in_ok-proof.proof in
-    if-ok c.write_proof.result (λ bytes is. (
+    if-ok c.write_proof-written.result (λ bytes is. (
       proof,
       subst (λ (ps : List Proof). Joins ps (Ok proof)) c.as_slice.ensures
           (subst (λ (r : Result Proof JoinFault). Joins c.as_slice.result.now r) c.in_ok-proof.ensures c.join.ensures),
       is,
-    )) c.write_proof.ensures.bytes
+    )) c.write_proof-written.ensures.bytes
 
 pub whole_of-requires : goal.whole_of-requires
 whole_of-requires c =
