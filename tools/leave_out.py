@@ -7,8 +7,8 @@ doesn't stand.
 
 The prover checks a crate from nothing for a wrong body. A function is proved from the contracts of what it calls, so what it doesn't reach has no say in
 whether it meets its own: that gets `#[cfg(test)]`, by which it isn't compiled, and its name goes from the lists of `use`. It is found by names: what is
-turned, what a definition, a lemma or an impl of a trait names, and what these name in turn stays. Where too little stays, the gate says that the edit can't be read;
-`python3 tools/wrong_bodies.py --kept` shows that what stays is proved where no body is wrong.
+turned, what a definition, a lemma or an impl of a trait names, and what these name in turn stays. Where too little stays, the gate mostly says that the edit can't be
+read, but may take it for refused: `python3 tools/wrong_bodies.py --kept` shows whether what stays is proved where no body is wrong.
 """
 
 import re
