@@ -15,7 +15,7 @@ import build_library
 import build_page
 from build import prove, put
 from crate_copy import TOP, copy_crates
-from kit import archive
+from kit import anew, archive
 
 PROGRAMS = ("timeweave", "tree_pages")
 
@@ -45,7 +45,7 @@ def main():
     with tempfile.TemporaryDirectory(prefix="timeweave_build_") as folder:
         copy = Path(folder) / "tree"
         copy_crates([*PROGRAMS, build_library.NAME], copy, without=("must-fail", "wrong-bodies.txt"))
-        status = prove(copy, *words)
+        status = prove(copy, *(anew() if words else []))
         if status:
             return status
         build_parts(copy)

@@ -16,6 +16,12 @@ def kit_line():
     return subprocess.run(["rt", "version"], check=True, capture_output=True, text=True).stdout
 
 
+def anew():
+    """The word by which the gate takes nothing that an earlier run kept; none where the kit's gate keeps nothing, and so doesn't know it."""
+    told = subprocess.run(["rt"], capture_output=True, text=True, check=False)
+    return ["--anew"] if "--anew" in told.stdout + told.stderr else []
+
+
 def run(*words, **settings):
     """Runs a tool, which has to end with 0."""
     subprocess.run(words, check=True, **settings)

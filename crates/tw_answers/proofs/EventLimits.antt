@@ -1,15 +1,11 @@
 -- Events within the limits of a step.
 use Rattle.std.proofs.Common.{◌≡◌, ℕ, ◌*◌, ◌≤◌, List, [], ◌∷◌, length, refl, sym, ◌∙◌, arith, lit≤, Bool, true, false}
-use Rattle.std.proofs.Common.{subst}
-use Rattle.std.specs.Prelude.{Option, Some, None, nat_lt, if◌then◌else◌, slice_get}
+use Rattle.std.specs.Prelude.{Option, Some, None, nat_lt, if◌then◌else◌}
 use Rattle.std.specs.Option.{option_map}
 use Rattle.std.proofs.lemmas.Bool.{ltb-false}
 use Rattle.std.proofs.lemmas.List.Sums.{sum_by-cons}
-use Rattle.std.proofs.lemmas.Option.{get_or_from_slice_get}
 use Rattle.tw_base.specs.kinds.Lists.{Each}
-use Rattle.tw_base.proofs.lemmas.kinds.ListLemmas.{Each-get_or}
 use Rattle.tw_base.specs.declared.kinds.limits.TheConstants.{MOST_EVENT_BYTES}
-use Rattle.tw_base.specs.history.Limits.{MayRecord}
 use Rattle.tw_answers.specs.Limits.{events_size, first_long}
 
 -- where no event is longer than 1,024 bytes, each is at most so long
@@ -39,10 +35,3 @@ no_first (Some event) none = cc
 pub short_events : (events : List (List ℕ)) (o : Option ℕ) → o ≡ option_map (λ event. length event) (first_long events)
     → o ≡ None → Each (λ event. length event ≤ MOST_EVENT_BYTES) events
 short_events events o is none = none_long events (no_first (first_long events) (sym is ∙ none))
-
--- an event among events within the limits
-pub event_short : (events : List (List ℕ)) (index : ℕ) (event : List ℕ) → MayRecord events → slice_get events index
-    ≡ Some event → length event ≤ MOST_EVENT_BYTES
-event_short events index event limits there =
-    subst (λ e. length e ≤ MOST_EVENT_BYTES) (get_or_from_slice_get events index event [] there)
-    (Each-get_or (λ e. length e ≤ MOST_EVENT_BYTES) events index [] (lit≤ tt) limits.are.sizes)

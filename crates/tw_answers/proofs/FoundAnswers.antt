@@ -1,5 +1,5 @@
 -- Answers and refusals as what is found in pages.
-use Rattle.std.proofs.Common.{◌≡◌, ◌⊎◌, ℕ, true, ap, refl, sym, ◌∙◌, subst, inl, inr}
+use Rattle.std.proofs.Common.{◌≡◌, ◌⊎◌, true, ap, refl, sym, ◌∙◌, subst, inl}
 use Rattle.std.specs.Prelude.{Result, Ok, Err, IfErr, IsErrAnd}
 use Rattle.tw_skiplist.specs.declared.fault.ListFault.{ListFault}
 use Rattle.tw_skiplist.specs.declared.fault.ListFault.TheVariants as list
@@ -10,7 +10,7 @@ use Rattle.tw_disk.specs.Found.Found.{Is, Bad}
 use Rattle.tw_answers.specs.Finds.{IsRefusalFound}
 use Rattle.tw_answers.specs.Refusals.{IsBadPageRefusal, IsFault, IsNoEvent, OfBadPage, service_refusals}
 use Rattle.tw_base.specs.declared.history.refusal.Refusal.{Refusal}
-use Rattle.tw_base.specs.declared.history.refusal.Refusal.TheVariants.{NoEvent, BadPage, DiskFault, NoMemory}
+use Rattle.tw_base.specs.declared.history.refusal.Refusal.TheVariants.{BadPage, DiskFault, NoMemory}
 
 -- ---- faults of the list
 
@@ -81,41 +81,6 @@ module _ {X : Type 0} where
   fault_page NoMemory found fault bad = tt
   fault_page _ found fault bad = absurd fault
 
-  -- where a value is found, no refusal is, but for what is excepted
-  pub value_found : (refusal : Refusal) (found : Found (Result X Refusal)) (x : X) → found ≡ Is (Ok x) → IsRefusalFound
-      refusal found → (IsFault refusal ⊎ IsNoEvent refusal) → (IsBadPageRefusal refusal → ⊥) × (IsNoEvent refusal → ⊥)
-  value_found (BadPage page) found x is there of =
-      (let both : ◌≡◌ {A = Found (Result X Refusal)} (Is (Ok x)) (Bad page) = sym is ∙ there in absurd cc)
-  value_found (NoEvent count) found x is there of =
-      (let both : ◌≡◌ {A = Found (Result X Refusal)} (Is (Ok x)) (Is (Err (NoEvent count))) = sym is ∙ there in
-      absurd cc)
-  value_found DiskFault found x is there of = ((λ bad. bad), (λ none. none))
-  value_found NoMemory found x is there of = ((λ bad. bad), (λ none. none))
-  value_found _ found x is there (inl fault) = absurd fault
-  value_found _ found x is there (inr none) = absurd none
-
-  -- where a refusal of no event is found, no page is bad, and no other such refusal is told
-  pub no_event_found : (refusal : Refusal) (found : Found (Result X Refusal)) (n : ℕ) → found ≡ Is (Err (NoEvent n))
-      → IsRefusalFound refusal found → (IsFault refusal ⊎ IsNoEvent refusal)
-      → (IsBadPageRefusal refusal → ⊥) × (IsNoEvent refusal → refusal ≡ NoEvent n)
-  no_event_found (BadPage page) found n is there of =
-      (let both : ◌≡◌ {A = Found (Result X Refusal)} (Is (Err (NoEvent n))) (Bad page) = sym is ∙ there in absurd cc)
-  no_event_found (NoEvent count) found n is there of =
-      let both : ◌≡◌ {A = Found (Result X Refusal)} (Is (Err (NoEvent n))) (Is (Err (NoEvent count))) =
-      sym is ∙ there in
-      ((λ bad. bad), (λ none. let same : NoEvent n ≡ NoEvent count = cc in sym same))
-  no_event_found DiskFault found n is there of = ((λ bad. bad), (λ none. absurd none))
-  no_event_found NoMemory found n is there of = ((λ bad. bad), (λ none. absurd none))
-  no_event_found _ found n is there (inl fault) = absurd fault
-  no_event_found _ found n is there (inr none) = absurd none
-
 -- a disk fault tells of the disk
 pub of_disk_fault : (r : Refusal) → r ≡ DiskFault → is_of_disk (service_refusals r) ≡ true
 of_disk_fault r is = ap (λ (q : Refusal). is_of_disk (service_refusals q)) is
-
--- no page is bad where a value is found
-pub no_bad_found : {X : Type 0} (refusal : Refusal) (found : Found (Result X Refusal)) (x : X) → found ≡ Is (Ok x)
-    → IsRefusalFound refusal found → IsBadPageRefusal refusal → ⊥
-no_bad_found {X} (BadPage page) found x is there bad =
-    (let both : ◌≡◌ {A = Found (Result X Refusal)} (Is (Ok x)) (Bad page) = sym is ∙ there in absurd cc)
-no_bad_found _ found x is there bad = bad

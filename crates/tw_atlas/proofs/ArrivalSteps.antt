@@ -162,9 +162,6 @@ apart one other differ =
     is_eq-slice_cmp one other
     ∙ false_from_ne_true (bytes_eq one other) (λ same. differ (sym ((bytes_eq-Decides one other).0 same)))
 
-pub best-none : (kept : List ℕ → Option Arrival) → ((service : List ℕ) → kept service ≡ None) → AreBest [] kept
-best-none kept none service = subst (BestFor [] service) (sym (none service)) (λ n s is same. cc)
-
 -- ---- the list of them
 
 looked-up : {K X : Type 0} (t : K → Bool) (es : List (K × X)) (x : X) → lookup t es ≡ Some x

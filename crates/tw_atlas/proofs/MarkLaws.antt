@@ -74,19 +74,6 @@ module _ {H M : Type 0} (f g : H → M) where
   mixed-set (x ∷ hs) zero h within is = ap (λ y. f y ∷ map g hs) (sym is)
   mixed-set (x ∷ hs) (suc i) h within is = ap (λ ms. f x ∷ ms) (mixed-set hs i h (omega (arith, within)) is)
 
-  pub mixed-skip : (hs : List H) (i : ℕ) (h : H) → i < length hs → get_or hs i h ≡ h → f h ≡ g h → mixed hs i ≡ mixed hs
-      (suc i)
-  mixed-skip [] i h within is same = absurd (omega arith)
-  mixed-skip (x ∷ hs) zero h within is same = ap (λ m. m ∷ map g hs) (ap g is ∙ sym same ∙ ap f (sym is))
-  mixed-skip (x ∷ hs) (suc i) h within is same = ap (λ ms. f x ∷ ms) (mixed-skip hs i h (omega (arith, within)) is same)
-
-  pub mixed-none : (hs : List H) → mixed hs 0 ≡ map g hs
-  mixed-none hs = refl
-
-  pub mixed-all : (hs : List H) → mixed hs (length hs) ≡ map f hs
-  mixed-all [] = refl
-  mixed-all (x ∷ hs) = ap (λ ms. f x ∷ ms) (mixed-all hs)
-
 -- ---- the legs of a round
 
 filter-append : {X : Type 0} (p : X → Bool) (xs ys : List X) → filter p (xs ++ ys) ≡ filter p xs ++ filter p ys

@@ -49,15 +49,6 @@ pub record ReadSoFar (bytes : List ℕ) (before hops : List Hop) (at : ℕ) : Ty
   pub hops_are : hops ≡ before ++ map receipt_hop receipts
   pub few : length hops ≤ MOST_RECEIPTS
 
-pub read-none : (bytes : List ℕ) (before : List Hop) → length before ≤ MOST_RECEIPTS → ReadSoFar bytes before before 0
-read-none bytes before few = record {
-  receipts = [];
-  begins = record { split = refl; spelled = tt };
-  place = refl;
-  hops_are = sym (append-nil before);
-  few = few;
-}
-
 map-append : {X Y : Type 0} (f : X → Y) (xs ys : List X) → map f (xs ++ ys) ≡ map f xs ++ map f ys
 map-append f [] ys = refl
 map-append f (x ∷ xs) ys = ap (λ zs. f x ∷ zs) (map-append f xs ys)
@@ -65,17 +56,6 @@ map-append f (x ∷ xs) ys = ap (λ zs. f x ∷ zs) (map-append f xs ys)
 length-map : {X Y : Type 0} (f : X → Y) (xs : List X) → length (map f xs) ≡ length xs
 length-map f [] = refl
 length-map f (x ∷ xs) = let rest = length-map f xs in omega (arith, rest)
-
-within-place : (bytes : List ℕ) (receipts : List Receipt) (at : ℕ) → BeginsWith bytes receipts (drop at bytes)
-    → at ≡ length (receipts_bytes receipts) → at ≤ length bytes
-within-place bytes receipts at begins place =
-    let split : length bytes ≡ length (receipts_bytes receipts ++ drop at bytes) = ap (λ (bs : List ℕ). length bs)
-    begins.split in
-    omega (arith, split, place, length-append (receipts_bytes receipts) (drop at bytes))
-
-pub read-within : (bytes : List ℕ) (before hops : List Hop) (at : ℕ) → ReadSoFar bytes before hops at
-    → at ≤ length bytes
-read-within bytes before hops at s = within-place bytes s.receipts at s.begins s.place
 
 -- one receipt more
 pub read-more : (bytes : List ℕ) (before hops new : List Hop) (at size : ℕ) → ReadSoFar bytes before hops at
@@ -129,25 +109,6 @@ count-hops : (before hops : List Hop) (receipts : List Receipt) → hops ≡ bef
 count-hops before hops receipts are =
     let all : length hops ≡ length (before ++ map receipt_hop receipts) = ap (λ (hs : List Hop). length hs) are in
     omega (arith, all, length-append before (map receipt_hop receipts), length-map receipt_hop receipts)
-
-pub read-all : (bytes : List ℕ) (before hops : List Hop) (at : ℕ) → ReadSoFar bytes before hops at → length bytes ≤ at
-    → AddsHops bytes before hops (Ok tt)
-read-all bytes before hops at s end =
-    let count = count-hops before hops s.receipts s.hops_are in let few = s.few in
-    let none : drop at bytes ≡ [] = past bytes at end in (
-      s.receipts,
-      record {
-        begins = subst (λ (rest : List ℕ). BeginsWith bytes s.receipts rest) none s.begins;
-        few = omega (arith, count, few);
-      },
-      s.hops_are,
-    )
-  where
-    past : (bs : List ℕ) (n : ℕ) → length bs ≤ n → drop n bs ≡ []
-    past [] zero end = refl
-    past [] (suc n) end = refl
-    past (b ∷ bs) zero end = absurd (omega (arith, end))
-    past (b ∷ bs) (suc n) end = past bs n (omega (arith, end))
 
 -- ---- what stops it
 
@@ -254,12 +215,6 @@ read-stops bytes before hops new end at place s some below next = (
     bad (inr none) =
         inr (record
         { room = (let free = none.0 in omega (arith, free, count)); more = long; none = none.1; is_place = none.2 })
-
--- the hops of earlier files stay in front
-pub read-front : (bytes : List ℕ) (before hops : List Hop) (at : ℕ) → ReadSoFar bytes before hops at
-    → take (length before) hops ≡ before
-read-front bytes before hops at s = ap (take (length before)) s.hops_are ∙ take-append_seam before
-    (map receipt_hop s.receipts)
 
 -- ---- what the loop asks
 

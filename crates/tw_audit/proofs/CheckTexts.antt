@@ -5,7 +5,6 @@ use Rattle.std.specs.Prelude.{Option, Some, None, ◌==◌, if◌then◌else◌}
 use Rattle.std.specs.List.{flat_map}
 use Rattle.std.specs.Option.{option_to_list}
 use Rattle.std.proofs.lemmas.List.{append-nil}
-use Rattle.tw_base.specs.declared.events.event_part.EventPart.{EventPart}
 use Rattle.tw_base.specs.declared.history.thread.Thread.{Thread}
 use Rattle.tw_base.specs.declared.history.tree_proof.Ask.{Ask}
 use Rattle.tw_base.specs.declared.history.tree_proof.Ask.TheVariants as ask
@@ -19,9 +18,8 @@ use Rattle.tw_skipproof.specs.Openings.{opening_texts}
 use Rattle.tw_skipproof.specs.Paths.{path_texts}
 use Rattle.tw_treeproof.specs.Answers.{tree_proof_texts}
 use Rattle.tw_chain.specs.declared.proof.HopPart.{HopPart}
-use Rattle.tw_chain.specs.declared.proof.LinkProof.{LinkProof}
 use Rattle.tw_chain.specs.declared.proof.PrecedenceProof.{PrecedenceProof}
-use Rattle.tw_chain.specs.declared.proof.Proof.TheVariants.{Linked, Precedes}
+use Rattle.tw_chain.specs.declared.proof.Proof.TheVariants.{Precedes}
 use Rattle.tw_chain.specs.declared.proof.Tail.{Tail}
 use Rattle.tw_chain.specs.Accepting.{held, proof_texts}
 use Rattle.tw_chain.specs.Checks.{Check, bind_checks, bind_of, end_of_order, head_checks, hop_checks, hops_checks}
@@ -53,19 +51,11 @@ module _ (dig : List ℕ → List ℕ) where
   abbrev texts_of : List Check → List (List ℕ)
   texts_of cs = flat_map (check_texts dig) cs
 
-  pub texts-seen : (part : ℕ) (at : Part) (e : EventPart) → seen_texts dig at e ≡ texts_of
-      (under_anchor part at ++ EventOf part at.opening e ∷ [])
-  texts-seen part at e = ap (λ ts. part_texts dig at ++ ts)
-      (sym (append-nil (audit_texts dig at.opening.count e.index e.event e.path)))
-
   -- a step under a top, and a tree proof under its archive's root
   pub texts-answer : (at : Part) (asked : Ask) (shown : TreeProof)
       → part_texts dig at ++ tree_proof_texts dig asked shown ≡ texts_of
       (under_anchor 0 at ++ AnswerOf 0 at.opening.archive_root asked shown ∷ [])
   texts-answer at asked shown = ap (λ ts. part_texts dig at ++ ts) (sym (append-nil (tree_proof_texts dig asked shown)))
-
-  pub texts-link : (p : LinkProof) → path_texts dig p.path.links p.top p.step p.auth ≡ proof_texts dig (Linked p)
-  texts-link p = sym (append-nil (path_texts dig p.path.links p.top p.step p.auth))
 
   texts-opened : (part : ℕ) (t : Thread) (o : Option Opening) → texts_of (opening_checks part t o) ≡ opened_texts dig
       t.step o
@@ -179,6 +169,3 @@ module _ (anchors : List Thread) where
           ∙ append-nil (held_of (hops_checks 1 (start_of p).step (opening_root p.before) p.hops))
           ∙ gathered-hops (held_by anchors) (held_of_hop anchors) held-hop p.hops 1 (start_of p).step
           (opening_root p.before)
-
-  pub held-link : (p : LinkProof) → option_to_list (anchor_of anchors p.service p.top) ≡ held anchors (Linked p)
-  held-link p = sym (append-nil (option_to_list (anchor_of anchors p.service p.top)))

@@ -1,7 +1,7 @@
 -- What holding a proof against histories comes to.
-use Rattle.std.proofs.Common.{◌≡◌, ℕ, List, false, ap, ◌∙◌}
+use Rattle.std.proofs.Common.{◌≡◌, ℕ, List, false}
 use Rattle.std.specs.Prelude.{Option, Some, None, Result, Ok, Err, find, not}
-use Rattle.std.specs.Option.{option_map, option_map_or}
+use Rattle.std.specs.Option.{option_map_or}
 use Rattle.tw_base.specs.declared.history.report.Report.{Report}
 use Rattle.tw_base.specs.declared.history.thread.Thread.{Thread}
 use Rattle.tw_base.specs.history.History.{History}
@@ -17,41 +17,14 @@ use Rattle.tw_audit.specs.declared.finding.AuditFault.{AuditFault}
 use Rattle.tw_audit.specs.declared.finding.AuditFault.TheVariants.{NotHeld, NoMemory}
 use Rattle.tw_audit.specs.declared.finding.Finding.{Finding}
 use Rattle.tw_audit.specs.declared.finding.Finding.TheVariants.{Stands, Clash, NotAccepted}
-use Rattle.tw_audit.specs.declared.passing.Missing.{Missing}
 use Rattle.tw_audit.specs.Auditing.{IsAudit, IsAuditAnswer, agrees_with, audit_answer, audited_texts, auth_in, of_pair}
-use Rattle.tw_audit.specs.Stops.{missing_in}
 
 module _ (dig : List ℕ → List ℕ) (family : List History) (anchors : List Thread) (p : Proof) where
   abbrev told : Option Thread → Result Finding AuditFault → Result Finding AuditFault
   told o rest = option_map_or (λ (t : Thread). Err (NotHeld t (auth_in dig family t))) o rest
 
-  abbrev noted : Option Thread → Option Missing
-  noted o = option_map (λ (t : Thread). record { held = t; found = auth_in dig family t }) o
-
   abbrev first : Option Thread
   first = find (λ (t : Thread). not (agrees_with dig family t)) (held anchors p)
-
-  -- a thread is missing
-  pub answer-missing : (m : Missing) → Some m ≡ missing_in dig family (held anchors p) → Err (NotHeld m.held m.found)
-      ≡ audit_answer dig family anchors p
-  answer-missing m is = by first is
-    where
-      by : (o : Option Thread) → Some m ≡ noted o → (Err (NotHeld m.held m.found)) ≡ told o
-          (Ok (of_pair dig (report_of p) (clash_pair dig (audited_texts dig family p))))
-      by None e = cc
-      by (Some t) e = cc
-
-  -- none is
-  pub answer-found : (found : Finding) (report : Report) (pair : Option Pair) → None ≡ missing_in dig family
-      (held anchors p) → report ≡ report_of p
-      → pair ≡ clash_pair dig (audited_texts dig family p) → found ≡ of_pair dig report pair → Ok found ≡ audit_answer
-      dig family anchors p
-  answer-found found report pair none is_report is_pair is = by first none
-    where
-      by : (o : Option Thread) → None ≡ noted o
-          → (Ok found) ≡ told o (Ok (of_pair dig (report_of p) (clash_pair dig (audited_texts dig family p))))
-      by None e = ap (λ f. Ok f) is ∙ (λ k. Ok (of_pair dig (is_report k) (is_pair k)))
-      by (Some t) e = cc
 
   -- an answer is never that the proof isn't accepted
   never-rejected : (reason : Reason) → Ok (NotAccepted reason) ≡ audit_answer dig family anchors p → ⊥

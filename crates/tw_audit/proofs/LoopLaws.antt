@@ -1,8 +1,8 @@
 -- Loops over lists, one item more.
-use Rattle.std.proofs.Common.{◌≡◌, ℕ, suc, zero, ◌+◌, ◌<◌, ◌≤◌, List, [], ◌∷◌, ◌++◌, length, get_or, take, refl, ap}
+use Rattle.std.proofs.Common.{◌≡◌, ℕ, suc, zero, ◌+◌, ◌<◌, List, [], ◌∷◌, ◌++◌, length, get_or, take, refl, ap}
 use Rattle.std.proofs.Common.{sym, ◌∙◌, subst, arith}
 use Rattle.std.specs.List.{flat_map}
-use Rattle.std.proofs.lemmas.List.{append-nil, take_all, take_more}
+use Rattle.std.proofs.lemmas.List.{append-nil, take_more}
 use Rattle.tw_base.specs.history.Family.{family_texts}
 use Rattle.tw_base.specs.history.History.{History}
 use Rattle.tw_base.specs.history.HistoryTexts.{history_texts}
@@ -30,10 +30,6 @@ module _ {X : Type 0} where
       sym (ap (flat_map f) (take_more xs i d inside) ∙ gathered f (take i xs) (get_or xs i d ∷ [])
       ∙ ap (λ ys. flat_map f (take i xs) ++ ys) (append-nil (f (get_or xs i d))))
 
-  pub flat_map-all : {Y : Type 0} (f : X → List Y) (xs : List X) (i : ℕ) → length xs ≤ i → flat_map f (take i xs)
-      ≡ flat_map f xs
-  flat_map-all f xs i past = ap (flat_map f) (take_all i xs past)
-
 module _ (dig : List ℕ → List ℕ) where
   family-texts : (family : List History) → family_texts dig family ≡ flat_map (history_texts dig) family
   family-texts [] = refl
@@ -45,10 +41,6 @@ module _ (dig : List ℕ → List ℕ) where
   family-more family i d inside =
       ap (λ ts. ts ++ history_texts dig (get_or family i d)) (family-texts (take i family)) ∙ flat_map-more
       (history_texts dig) family i d inside ∙ sym (family-texts (take (i + 1) family))
-
-  pub family-all : (family : List History) (i : ℕ) → length family ≤ i → family_texts dig (take i family) ≡ family_texts
-      dig family
-  family-all family i past = ap (family_texts dig) (take_all i family past)
 
   turn-push : (held : List Thread) (hs : List History) (ps : List Passed) (h : History) (p : Passed)
       → AnswerInTurn dig held hs ps → AnswersForHeld dig held h p

@@ -64,7 +64,6 @@ pub use history::labels::genesis;
 pub use history::labels::link_label;
 pub use history::labels::no_events;
 pub use history::labels::step_datum;
-pub use history::labels::timed_datum;
 pub use history::labels::tree_node;
 pub use history::question::Question;
 pub use history::received_thread::ReceivedThread;

@@ -39,17 +39,6 @@ AreOf-lookup list kept number page are found pages told =
     let same : number ≡ entry.0 = eqb-true number entry.0 entry.2 in
     sym (get_or_from_slice_get pages (number - FIRST_PAGE) page.value [] (rw same is))
 
--- with one page more, which is that of its number
-pub AreOf-added : (list : Option Image) (old new : List (ℕ × Box Page)) (number : ℕ) (page : Page) → ArePagesOf list old
-    → AddsAtMost old new number page
-    → ((pages : Image) → list ≡ Some pages → (number - FIRST_PAGE < length pages)
-    × (page ≡ page_at pages (number - FIRST_PAGE))) → ArePagesOf list new
-AreOf-added list old new number page are adds is pages told k d lt = elim (adds k d lt) [
-  | inl was ↦ All-contains (IsKeptPageOf pages) old _ (are pages told) was
-  | inr one ↦ rw one.0 (rw one.1 (slice_get-get_or pages (number - FIRST_PAGE) [] (is pages told).0 ∙ ap (λ p. Some p)
-      (sym (is pages told).1)))
-]
-
 -- a page that is staged is behind all others
 IsPageOf-staged : (pages : Image) (page : Page) (e : ℕ × Box Page) → IsKeptPageOf pages e
     → IsKeptPageOf (pages ++ page ∷ []) e

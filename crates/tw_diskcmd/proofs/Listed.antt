@@ -25,7 +25,7 @@ use Rattle.tw_text.specs.declared.refusal.StoreCause.TheVariants.{BadPage}
 use Rattle.tw_diskcmd.specs.StoreFaults.{fault_of_store}
 use Rattle.tw_diskcmd.specs.FollowerDisks.{ReadsAsHeads, found_disk}
 use Rattle.tw_diskcmd.specs.FollowerFaults.{fault_of_follower}
-use Rattle.tw_diskcmd.specs.Heads.{HeadsComes, IsListed, ListsTo, TableLists, as_lines, head_lines}
+use Rattle.tw_diskcmd.specs.Heads.{HeadsComes, IsListed, TableLists, as_lines, head_lines}
 use Rattle.tw_diskcmd.proofs.Landings.{unopened_tells}
 
 -- a follower that was just opened hasn't to be opened anew
@@ -33,13 +33,6 @@ pub never_reopened : (is_broken : Bool) → is_broken ≡ false → (r : FollowR
     → ((◌≡◌ {A = Result (List Thread) FollowRefusal} (Err r) (Err follower.Reopen)) ↔ IsTrue is_broken)
     → r ≢ follower.Reopen
 never_reopened is_broken whole r reopen is = not_both is_broken whole (reopen.0 (ap (λ (x : FollowRefusal). Err x) is))
-
--- the lines that were written of heads that rise
-pub lists-to : (head : Thread) (heads : List Thread) (lines : Result (List ℕ) CommandFault) → RiseTo head heads
-    → IfOk lines (λ text. text ≡ head_lines heads)
-    → IfOk lines (λ text. ListsTo head text)
-lists-to head heads (Ok text) rises is = (heads, rises, is)
-lists-to head heads (Err why) rises is = tt
 
 module _ (found : Option Image) (before after : ℕ) where
   -- a follower was opened, with the list that the disk reads as, where it reads as one

@@ -85,14 +85,6 @@ pub no_never : (X : Type 0) (Else : Refusal → Type 0) (table : Option Refusal)
 no_never X Else None can others r is never = others r is never
 no_never X Else (Some q) can others r is never = can (subst IsNever (sym (same_err {X = X} r q is)) never)
 
--- of a call that has no refusals but the table's and faults
-pub only_faults : {X : Type 0} (table : Option Refusal) (result : Result X Refusal) → IsByTable (λ why. IsFault why ⊎ ⊥)
-    table result → IsByTable IsFault table result
-only_faults None (Ok x) is = tt
-only_faults None (Err r) (inl fault) = fault
-only_faults None (Err r) (inr other) = absurd other
-only_faults (Some q) result is = is
-
 pub table_refuses : {S : Type 0} (table : S → Option Refusal) (last : S) (r : Refusal) → table last ≡ Some r
     → TableRefuses table (fault_of_service r)
 table_refuses table last (service.BadPage page) is = tt

@@ -104,17 +104,6 @@ module _ (dig : List ℕ → List ℕ) (one other : Thread) (link : List ℕ) (s
 
 -- ---- the verdict on what both say
 
-module _ (dig : List ℕ → List ℕ) (one other : Facts) (link : List ℕ) (c : Conflict)
-    (is : conflict_of one other ≡ Some c) where
-  pub on-joined : IsJoining dig one.line other.line link joining.Joined → IsVerdictOn dig one other link (Yes c true)
-  on-joined j = (is, (j.0, j.1, j.2, λ some. refl))
-
-  pub on-apart : IsJoining dig one.line other.line link joining.Apart → IsVerdictOn dig one other link (Yes c false)
-  on-apart j = (is, (None, j.0, j.1, λ some. some))
-
-  pub on-bad : IsJoining dig one.line other.line link joining.BadLink → IsVerdictOn dig one other link (No BadLink)
-  on-bad j = (λ none. (let both : Some c ≡ None = sym is ∙ none in cc), j)
-
 module _ (dig : List ℕ → List ℕ) (size : (text : List ℕ) → length (dig text) ≡ 32) (are : (text : List ℕ)
     → AreBytes (dig text)) (anchors others : List Thread)
     (first second : List ℕ) where

@@ -1,5 +1,5 @@
 -- A verifier that is fed a file, piece by piece.
-use Rattle.std.proofs.Common.{◌≡◌, ℕ, ◌+◌, ◌≤◌, List, [], ◌++◌, length, take, drop, Bool, ap, sym, ◌∙◌, subst, refl}
+use Rattle.std.proofs.Common.{◌≡◌, ℕ, ◌+◌, ◌≤◌, List, ◌++◌, length, take, drop, Bool, ap, sym, ◌∙◌, subst}
 use Rattle.std.proofs.Common.{arith, inl, inr}
 use Rattle.std.specs.Prelude.{Option}
 use Rattle.std.proofs.lemmas.Bool.{cases_lt}
@@ -27,11 +27,6 @@ fed_told {file = file} {anchors = anchors} {strict = strict} {old = old} {new = 
     feeds
 
 module _ (told : Option Files) (file : List ℕ) (anchors : List Thread) (strict : Bool) where
-  -- no piece yet
-  pub fed_nothing : (v : Verifier Sha) → IsFed sha256 anchors strict v [] × (IsSpent v.fed → ⊥) → IsFedFront told file
-      anchors strict v 0
-  fed_nothing v is = record { front = []; size = refl; of_file = λ bytes tells. refl; fed = is.0; unspent = is.1 }
-
   -- one piece more
   pub fed_more : (old new : Verifier Sha) (at came : ℕ) (piece read : List ℕ)
       → ((pieces : List ℕ) → IsFed sha256 anchors strict old pieces → IsFed sha256 anchors strict new (pieces ++ piece))

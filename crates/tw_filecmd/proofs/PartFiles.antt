@@ -4,17 +4,13 @@ use Rattle.std.proofs.Common.{arith, inl, inr}
 use Rattle.std.specs.Prelude.{Option, Some, None, Result, Ok, Err, true, false, is_some}
 use Rattle.std.proofs.lemmas.Bool.{cases_lt}
 use Rattle.std.proofs.lemmas.List.{length-append, length-take, take-append-le, take_all}
-use Rattle.tw_base.specs.kinds.Faults.{Rose}
 use Rattle.tw_base.specs.format.Formats.{IsPlace, Spells, SpellsNothing}
 use Rattle.tw_base.specs.kinds.Lists.{Each}
 use Rattle.tw_base.proofs.lemmas.kinds.ListLemmas.{Each-append}
 use Rattle.tw_outside.specs.Asked.{Asked}
 use Rattle.tw_outside.specs.Files.{Files, IsReadTo, IsThere}
-use Rattle.tw_base.specs.declared.kinds.failure.InputFault.{InputFault as ReadingFault}
-use Rattle.tw_base.specs.declared.kinds.failure.InputFault.TheVariants.{Failed, NoMemory}
-use Rattle.tw_text.specs.Faults.{fault_of_input}
 use Rattle.tw_text.specs.declared.fault.CommandFault.{CommandFault}
-use Rattle.tw_text.specs.declared.fault.CommandFault.TheVariants.{NoMemory as WantedMemory, Unreadable}
+use Rattle.tw_text.specs.declared.fault.CommandFault.TheVariants.{NoMemory as WantedMemory}
 use Rattle.tw_text.specs.declared.refusal.BadInput.{BadInput}
 use Rattle.tw_text.specs.declared.refusal.BadInput.TheVariants.{BadByte, BadLine, Unsound}
 use Rattle.tw_chain.specs.declared.proof.Proof.{Proof}
@@ -28,7 +24,7 @@ use Rattle.tw_join.proofs.JoinedSpelling.{joined-spelled}
 use Rattle.tw_chain.proofs.ProofSizes.{proof-size}
 use Rattle.tw_filecmd.specs.Joining.{AreProofsOfFiles, HasBadPartFile, IsNoProof, IsProofOf, JoinComes, TellsJoined}
 use Rattle.tw_filecmd.specs.declared.joining.Joined.{Joined}
-use Rattle.tw_filecmd.specs.Parts.{AreFirstOf, ArePartsRead, PartsCome}
+use Rattle.tw_filecmd.specs.Parts.{AreFirstOf, ArePartsRead}
 use Rattle.tw_filecmd.specs.declared.parts.TheConstants.{MOST_KEPT}
 use Rattle.tw_filecmd.specs.declared.joining.Joined.TheVariants.{Whole, Unfit}
 use Rattle.tw_filecmd.proofs.AnchorFronts.{file_limit}
@@ -157,21 +153,6 @@ module _ (told : Option Files) where
 -- ---- from the files to what joining them comes to
 
 module _ (a : Asked) where
-  -- a fault of reading one of them
-  pub refuses_input : (files : List (List ℕ)) (fault : ReadingFault) (came : CommandFault) → (files ≡ [] → ⊥)
-      → (fault ≡ Failed → Rose a.before a.after) → came ≡ fault_of_input fault → PartsCome a files (Err came)
-  refuses_input files Failed came some rose is = subst (λ (f : CommandFault). PartsCome a files (Err f)) (sym is)
-      (some, rose refl)
-  refuses_input files NoMemory came some rose is = subst (λ (f : CommandFault). PartsCome a files (Err f)) (sym is) tt
-
-  -- one that holds no proof
-  pub refuses_part : (files : List (List ℕ)) (kept : List Proof) (bad : BadInput) → ArePartsRead a.told files kept
-      (Some bad)
-      → PartsCome a files (Err (Unreadable bad))
-  refuses_part files kept (BadByte named place) read = read
-  refuses_part files kept (BadLine named number) read = absurd read
-  refuses_part files kept (Unsound named step rule) read = absurd read
-
   spelled_parts : (files : List (List ℕ)) (parts : List Proof) → AreProofsOfFiles a.told files parts
       → Each (λ part. (bytes : List ℕ) × Spells proof_layout bytes part) parts
   spelled_parts [] [] are = tt

@@ -12,7 +12,7 @@ use Rattle.tw_disk.specs.Image.{Image}
 use Rattle.tw_disk.proofs.FoundLaws.{same_found}
 use Rattle.tw_follow.specs.declared.head_page.HeadPage.{HeadPage}
 use Rattle.tw_follow.specs.declared.root.RootRecord.{RootRecord}
-use Rattle.tw_follow.specs.HeadLists.{AreHeadsRising, Kept, RiseAbove, first_thread, last_from, last_head, no_heads}
+use Rattle.tw_follow.specs.HeadLists.{AreHeadsRising, Kept, RiseAbove, first_thread, last_from, last_head}
 use Rattle.tw_follow.specs.HeadLists.{with_head}
 use Rattle.tw_follow.specs.HeadPages.{earlier_page, found_heads, head_on, heads_below, heads_down, last_head_page}
 use Rattle.tw_follow.specs.Roots.{IsBegun}
@@ -44,9 +44,6 @@ rising-with dig kept head rising named above = record {
   named = Each-behind (λ h. h.from ≡ kept.name) kept.heads head rising.named named;
   rise = rise-behind 0 (first_thread dig kept.name) kept.heads head refl rising.rise above;
 }
-
-pub rising-none : (name : List ℕ) → AreHeadsRising (no_heads name)
-rising-none name = record { named = tt; rise = tt }
 
 -- the last one is one of them, where its step isn't 0
 last-in : (t : Thread) (h : Thread) (heads : List Thread) → In (last_from t (h ∷ heads)) (h ∷ heads)

@@ -14,7 +14,7 @@ use Rattle.tw_base.specs.history.Limits.{IsThread}
 use Rattle.tw_base.proofs.lemmas.format.CodecLaws.{spelled-fits, unambiguous}
 use Rattle.tw_msg.specs.declared.message.Message.{Message}
 use Rattle.tw_msg.specs.HistoryMessages.{IsMessageOf, thread_at_step}
-use Rattle.tw_msg.specs.Messages.{IsLinked, Leads, message_codec, message_layout}
+use Rattle.tw_msg.specs.Messages.{Leads, message_codec, message_layout}
 use Rattle.tw_msg.proofs.MessageCodec.{message-lawful, message-within}
 use Rattle.tw_msg.proofs.OwnMessages.{leads-own}
 use Rattle.tw_skipproof.specs.Paths.{climbed}
@@ -26,9 +26,6 @@ use Rattle.tw_base.specs.declared.history.refusal.FollowRefusal.TheVariants.{Bad
 use Rattle.tw_follow.specs.HeadLists.{HasHead}
 use Rattle.tw_follow.specs.Offers.{AnswersOffer, JudgesOffer, answer_to, judge_later, judge_same, judged_offer}
 use Rattle.tw_follow.specs.Offers.{leads_from_head}
-
-pub message-linked : (bytes : List ℕ) (m : Message) → Spells message_layout bytes m → IsLinked m
-message-linked bytes m s = (message-within m (spelled-fits message_codec message-lawful bytes m s)).0
 
 pub message-thread : (bytes : List ℕ) (m : Message) → Spells message_layout bytes m → IsThread m.thread
 message-thread bytes m s = (message-within m (spelled-fits message_codec message-lawful bytes m s)).1

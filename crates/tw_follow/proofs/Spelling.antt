@@ -30,10 +30,6 @@ unfolding root_codec seen pair name_codec number_codec bytes_codec
 root-fits r name short auth page = (name, ((omega arith, short), (auth, (omega arith, omega (arith, page)))))
 
 module _ (r : RootRecord) (fits : root_codec.Fits r) where
-  pub root-name : IsName r.head.from
-  unfolding root_codec seen pair name_codec
-  root-name = fits.0
-
   pub root-short : r.head.step ≤ LAST_STEP
   unfolding root_codec seen pair number_codec
   root-short = fits.1.0.1

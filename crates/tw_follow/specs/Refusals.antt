@@ -17,8 +17,3 @@ IsFollowerFault (BadPage _) = Unit {0}
 IsFollowerFault DiskFault = Unit {0}
 IsFollowerFault NoMemory = Unit {0}
 IsFollowerFault _ = ⊥
-
--- that a page isn't that of a head that may stand there
-abbrev pub IsBadPageOfFollower : FollowRefusal → Type 0
-IsBadPageOfFollower (BadPage _) = Unit {0}
-IsBadPageOfFollower _ = ⊥

@@ -252,9 +252,6 @@ module _ (dig : List ℕ → List ℕ) where
             (step.behind (before ++ texts_to dig h j) (on.behind before has)));
       }
 
-      pub handed-same : (a b : S) (i j k : ℕ) → j ≡ k → HandsOn dig h took a b i j → HandsOn dig h took a b i k
-      handed-same a b i j k same on = subst (HandsOn dig h took a b i) same on
-
     -- the links of the next step lead to what is kept
     pub HasPassed-reached : (i : ℕ) (d : Digests) → HasPassed dig h i d → suc i ≤ LAST_STEP
         → AreReached (suc i) (auths dig h i) d.latest

@@ -3,7 +3,7 @@ use Rattle.std.proofs.Common.{◌≡◌, ◌↔◌, ℕ, suc, zero, ◌+◌, ◌
 use Rattle.std.proofs.Common.{sym, subst, ◌∙◌, Option, Some, None, Bool, IsTrue, drop, add-one}
 use Rattle.std.specs.Prelude.{if◌then◌else◌, is_some, option_map, IsSome}
 use Rattle.std.proofs.lemmas.Bool.{le-leb, lt-leb}
-use Rattle.std.proofs.lemmas.List.{append-nil, append_assoc, get_or-map, length-map, length_push, map-append}
+use Rattle.std.proofs.lemmas.List.{append-nil, append_assoc, get_or-map, length_push, map-append}
 use Rattle.std.proofs.Math.Seq.{drop-cons}
 use Rattle.tw_base.specs.declared.history.thread.Entry.{Entry}
 use Rattle.tw_base.specs.declared.history.thread.Key.{Key}
@@ -110,9 +110,6 @@ module _ (h : History) (i : ℕ) (summaries : List Summary) (n : Node) (ns : Lis
 
   pub rises-of_node : (k : ℕ) → Rises (get_or p.trees k Empty)
   rises-of_node k = Each-get_or Rises p.trees k Empty tt p.rise
-
-  pub within-summaries : (k : ℕ) → k < length p.trees → k < length summaries
-  within-summaries k within = subst (λ m. k < m) (sym (ap length p.kept ∙ length-map p.trees summary_of)) within
 
   planted-more : (e : Entry) → entry_to h (suc i) n.entry ≡ Some e
       → planted (entry_to h (suc i)) p.trees (n ∷ ns) ≡ Branch left_of e right_of ∷ planted (entry_to h (suc i))

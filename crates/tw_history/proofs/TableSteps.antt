@@ -5,7 +5,6 @@ use Rattle.std.specs.Prelude.{Option, Some, None, slice_get, sum_by, option_and_
 use Rattle.std.proofs.lemmas.Bool.{le-leb, lt-leb}
 use Rattle.std.proofs.lemmas.List.{drop-drop, length-append, length-drop, length-map, length-take-le}
 use Rattle.std.proofs.lemmas.List.Sums.{sum_by-cons, sum_by_more, sum_by_more_le}
-use Rattle.std.proofs.lemmas.Option.{slice_get_past}
 use Rattle.tw_base.specs.declared.history.thread.Thread.{Thread}
 use Rattle.tw_base.specs.declared.history.thread.Entry.{Entry}
 use Rattle.tw_base.specs.kinds.Lists.{Each}
@@ -118,12 +117,6 @@ module _ (h : History) (steps : List Step) (nodes : List Node) (is : h.steps ≡
       )
 
 -- ---- entries of the steps up to one
-
--- there is no step 0, and none behind the last
-pub thread_at-none : (h : History) (step : ℕ) → (0 < step → length h.steps < step) → thread_of (step_at h step) ≡ None
-thread_at-none h zero past = refl
-thread_at-none h (suc i) past =
-    ap thread_of (slice_get_past h.steps i (let beyond = past (omega arith) in omega (arith, beyond)))
 
 pub entry_to-past : (h : History) (last k : ℕ) → last < k → entry_to h last k ≡ None
 unfolding entry_to

@@ -1,6 +1,6 @@
 -- An anchors file is read line by line.
 use Rattle.std.proofs.Common.{◌≡◌, ◌≢◌, ℕ, suc, ◌+◌, ◌<◌, ◌≤◌, List, [], ◌∷◌, ◌++◌, length, take, drop, map, get_or}
-use Rattle.std.proofs.Common.{refl, ap, ◌∙◌, sym, subst, arith, Bool, true, false, not, ◌&&◌, leb, leb-true, le-leb}
+use Rattle.std.proofs.Common.{refl, ap, ◌∙◌, sym, subst, arith, Bool, true, false, not, ◌&&◌, leb, leb-true}
 use Rattle.std.proofs.Common.{below_more, length-append}
 use Rattle.std.specs.List.{list_any, AllPairs}
 use Rattle.std.proofs.Math.Seq.{drop-cons, take-suc, take-length}
@@ -37,9 +37,6 @@ pub record IsRead (all remaining : List (List ℕ)) (anchors : List Thread) : Ty
   pub rest : remaining ≡ drop (length anchors) all
   pub good : (i : ℕ) → i < length anchors → is_good all i ≡ true
   pub few : length anchors ≤ MOST_ANCHORS
-
-pub none_read : (all : List (List ℕ)) → IsRead all all []
-none_read all = record { so_far = refl; rest = refl; good = λ i h. absurd (omega arith); few = omega arith }
 
 -- the next line
 record IsNext (all : List (List ℕ)) (n : ℕ) (line : List ℕ) (remaining : List (List ℕ)) : Type 0 where
@@ -159,12 +156,6 @@ number-pos word within =
     let outer = both (is_number word && leb 1 (word_number word)) (leb (word_number word) LAST_STEP) within in
     let inner = both (is_number word) (leb 1 (word_number word)) outer.0 in
     (inner.0, leb-true 1 (word_number word) inner.1, leb-true (word_number word) LAST_STEP outer.1)
-
-pub pos-number : (word : List ℕ) → is_number word ≡ true → 1 ≤ word_number word → word_number word ≤ LAST_STEP →
-    is_number_within 1 LAST_STEP word ≡ true
-pos-number word number low high =
-    join (is_number word && leb 1 (word_number word)) (leb (word_number word) LAST_STEP)
-    (join (is_number word) (leb 1 (word_number word)) number (le-leb _ _ low)) (le-leb _ _ high)
 
 -- ---- the words of a line
 

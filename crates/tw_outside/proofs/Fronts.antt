@@ -1,10 +1,9 @@
 -- The first bytes of a file, and one piece more.
 use Rattle.std.proofs.Common.{nat_lt, false, ◌≡◌, ℕ, ◌+◌, ◌-◌, ◌<◌, ◌≤◌, List, ◌++◌, length, take, take-add, drop, ap}
 use Rattle.std.proofs.Common.{sym, ◌∙◌, inl, inr, arith}
-use Rattle.std.proofs.lemmas.List.{length-append, length-drop, length-take, length-take-le, take_all}
+use Rattle.std.proofs.lemmas.List.{length-append, length-take-le, take_all}
 use Rattle.std.proofs.lemmas.Bool.{cases_lt}
 use Rattle.std.proofs.lemmas.Bool.Decides.{nat_tests}
-use Rattle.tw_outside.specs.Files.{Came}
 
 -- a piece that came after the first bytes makes more first bytes
 pub front_grows : (bytes front piece more : List ℕ) (n : ℕ) → front ≡ take (length front) bytes → n ≤ length piece
@@ -14,18 +13,6 @@ front_grows bytes front piece more n is fits came grown =
     ap length grown ∙ length-append front (take n piece) ∙ ap (λ k. length front + k) (length-take-le n piece fits) in
     grown ∙ ap (λ rest. front ++ rest) came ∙ ap (λ first. first ++ take n (drop (length front) bytes)) is
     ∙ sym (take-add (length front) n bytes) ∙ ap (λ k. take k bytes) (sym size)
-
--- no more bytes come than there are from that place on
-pub Came-length : (bytes : List ℕ) (at : ℕ) (piece : List ℕ) (n : ℕ) → Came bytes at piece n → n ≤ length piece
-    → n ≤ length bytes - at
-Came-length bytes at piece n came fits =
-    omega (
-      arith,
-      length-take-le n piece fits,
-      ap length came.given,
-      length-take n (drop at bytes),
-      length-drop at bytes,
-    )
 
 -- first bytes as many as the limit
 pub front_at_limit : (bytes front : List ℕ) (limit : ℕ) → front ≡ take (length front) bytes → length front ≡ limit

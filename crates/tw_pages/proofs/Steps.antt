@@ -1,14 +1,14 @@
 -- What one torn or good write does to an image that opens.
 use Rattle.std.proofs.Common.{◌≡◌, ◌≢◌, inl, inr, ◌⊎◌, ⊎_elim, ℕ, ◌+◌, ◌-◌, ◌<◌, ◌≤◌, List, length, take, get_or, []}
-use Rattle.std.proofs.Common.{◌++◌, length-append, slice_index, refl, sym, ◌∙◌, ap, subst, arith}
+use Rattle.std.proofs.Common.{◌++◌, length-append, slice_index, refl, sym, ◌∙◌, ap, arith}
 use Rattle.std.proofs.lemmas.Bool.{cases_eq, cases_lt}
 use Rattle.std.proofs.lemmas.List.{get_or-replicate, get_or_append_left, get_or-append_right, get_or-take}
 use Rattle.std.proofs.lemmas.List.{length-take-le}
 use Rattle.tw_disk.specs.Image.{Image, Torn, put, page_at}
 use Rattle.tw_disk.specs.PutSteps.{length-put, page_at-put_same, page_at-put_other}
 use Rattle.tw_disk.proofs.Puts.{torn_put}
-use Rattle.tw_pages.specs.Store.{Opening, StandsInImage, IsClosed, IsOlder, OpensAs, OpensAlone, OpensAboveOlder}
-use Rattle.tw_pages.specs.Store.{OpensAsEither, used_of, spare_of, body_page, open_gate_page, closed_gate_page, IsBody}
+use Rattle.tw_pages.specs.Store.{Opening, StandsInImage, IsClosed, OpensAs, OpensAlone, OpensAboveOlder}
+use Rattle.tw_pages.specs.Store.{used_of, spare_of, body_page, open_gate_page, closed_gate_page, IsBody}
 use Rattle.tw_pages.specs.CommitSteps.{IsReady, HoldsPages, IsNext}
 
 -- the same body on a disk of no fewer pages
@@ -46,32 +46,10 @@ module _ (o : Opening) (page : ℕ) (d c : Image) (torn : Torn page d c) where
   pub closed_elsewhere : (slot : ℕ) → slot < length d → slot ≢ page → IsClosed slot d → IsClosed slot c
   closed_elsewhere slot lt ne closed is = closed (ap (λ (p : List ℕ). get_or p 0 0) (sym (same slot lt ne)) ∙ is)
 
-  pub older_elsewhere : 4 ≤ length d → page ≢ 2 + spare_of o → IsOlder o d → IsOlder o c
-  older_elsewhere room ne older = record {
-    generation = older.generation;
-    used = older.used;
-    root = older.root;
-    body = body_moved (length d) (length c) (page_at d (2 + spare_of o)) (page_at c (2 + spare_of o)) older.generation
-        older.used older.root (same (2 + spare_of o) (omega arith) (λ is. ne (sym is))) torn.no_shorter older.body;
-    lower = older.lower;
-  }
-
   alone_elsewhere : IsElsewhere o page → page ≢ spare_of o → OpensAlone o d → OpensAlone o c
   alone_elsewhere elsewhere ne opens = let low : o.slot < 2 = opens.stands.which in record {
     stands = stands_elsewhere elsewhere opens.stands;
     closed = closed_elsewhere (spare_of o) (omega (arith, opens.stands.room)) (λ e. ne (sym e)) opens.closed;
-  }
-
-  -- a torn write of the spare gate
-  pub torn_gate : page ≡ spare_of o → OpensAboveOlder o d → OpensAboveOlder o c
-  torn_gate is opens = let low : o.slot < 2 = opens.stands.which in record {
-    stands = stands_elsewhere
-        (record {
-          no_gate = λ e. absurd (omega arith);
-          no_body = λ e. absurd (omega arith);
-          no_page = inl (omega arith);
-        }) opens.stands;
-    older = older_elsewhere (omega (arith, opens.stands.room)) (λ e. absurd (omega arith)) opens.older;
   }
 
   -- a torn write of the spare body
@@ -170,23 +148,6 @@ module _ (old new : Opening) (d c : Image) (ready : IsReady old new d) (torn : T
           lower = omega (arith, ready.next);
         };
       }
-
-  pub either : OpensAsEither old new c
-  either = elim (cases_eq (slice_index (page_at c new.slot) 0) 1) [
-    | inl is ↦ let above = opened is in inr (record { stands = above.stands; counts = inr above.older })
-    | inr closed ↦
-        let low : old.slot < 2 = ready.alone.stands.which in
-        let other = ready.other in
-        inl (record {
-          stands = stands_elsewhere old new.slot d c torn
-              (record {
-                no_gate = λ e. absurd (omega arith);
-                no_body = λ e. absurd (omega arith);
-                no_page = inl (omega arith);
-              }) ready.alone.stands;
-          counts = inl (subst (λ (k : ℕ). IsClosed k c) other closed);
-        })
-  ]
 
 pub opened_put : (old new : Opening) (d : Image) → IsReady old new d
     → OpensAboveOlder new (put new.slot open_gate_page d)

@@ -1,9 +1,9 @@
 -- A store that was only read and staged on keeps what it had: laws for the crates above.
-use Rattle.std.proofs.Common.{◌≡◌, ◌-◌, take, drop, sym, ◌∙◌, subst, Bool}
+use Rattle.std.proofs.Common.{◌≡◌, ◌-◌, take, drop}
 use Rattle.tw_disk.specs.Image.{Image}
-use Rattle.tw_disk.specs.Disk.{DiskView, LeavesOnly, IsAtRest}
+use Rattle.tw_disk.specs.Disk.{DiskView, LeavesOnly}
 use Rattle.tw_pages.specs.declared.store.Store.{Store}
-use Rattle.tw_pages.specs.Store.{Opening, IsAbove, OpensAs}
+use Rattle.tw_pages.specs.Store.{OpensAs}
 use Rattle.tw_pages.specs.StoreValue.{opening_of, IsKept}
 use Rattle.tw_pages.specs.Same.{IsSameStore}
 use Rattle.tw_disk.proofs.Moments.{same_leaves as disk_leaves}
@@ -23,18 +23,6 @@ module _ {D : Type 0} {g : _} (view : D → DiskView) where
         slot = same.slot i;
         pages = take (same.used i - 4) (drop 4 c);
       }
-
-  -- and it is still there for good
-  pub same_rests : (old new : Store D g) → IsSameStore view old new → IsAtRest (view old.disk) (IsKept old)
-      → IsAtRest (view new.disk) (IsKept new)
-  same_rests old new same rest = record {
-    image = rest.image;
-    told = same.disk.content ∙ rest.told;
-    only = λ c left. rest.only c ((same.disk.images c).0 left);
-    has = subst (λ (b : Bool). IsAbove b (opening_of new rest.image) rest.image) (sym same.spare)
-        (subst (λ (o : Opening). IsAbove old.is_spare_open o rest.image) (sym (same_opens old new same rest.image))
-        rest.has);
-  }
 
   -- a crash meanwhile leaves only what it might have left before
   pub same_leaves : ((d : D) (c : Image) → (view d).left_since (view d).moment c → (view d).may_leave c)

@@ -1,12 +1,11 @@
 -- Bytes that come in pieces: what stands behind what was taken, and a chain of segments.
 use Rattle.std.proofs.Common.{◌≡◌, ℕ, ◌+◌, ◌-◌, ◌<◌, ◌≤◌, List, [], ◌∷◌, ◌++◌, length, take, drop, ap, sym, ◌∙◌, subst}
 use Rattle.std.proofs.Common.{arith, append_assoc, inl, inr, refl}
-use Rattle.std.specs.Prelude.{Result, Ok, Err}
+use Rattle.std.specs.Prelude.{Ok, Err}
 use Rattle.std.proofs.lemmas.Bool.{cases_lt}
 use Rattle.std.proofs.lemmas.List.{append-nil, length-append, length-drop, length-take-le, take_all, take-append-drop}
 use Rattle.std.proofs.lemmas.List.{take-append-le}
 use Rattle.std.proofs.Math.Seq.{take-add, take-append-add}
-use Rattle.tw_base.specs.declared.kinds.failure.ReadFault.{ReadFault}
 use Rattle.tw_base.specs.declared.kinds.failure.ReadFault.TheVariants.{Malformed}
 use Rattle.tw_pieces.specs.declared.resumed.Resumed.{Resumed}
 use Rattle.tw_base.specs.kinds.Bytes.{AreBytes}
@@ -158,13 +157,6 @@ module _ {S X : Type 0} (rest : S → Format X) (whole : Format X) where
         stays = subst Q (sym is) (subst R (sym holds) (subst T (sym never) stays));
       }
 
-  -- no bytes yet
-  pub so_far-begins : (state : S) (r : Resumed S) → StaysFront (rest state) [] 0 → StandsBehind whole [] (rest state)
-      → r.state ≡ state → r.held ≡ [] → r.taken ≡ 0 → r.until ≡ 0
-      → IsSoFar rest whole r []
-  so_far-begins state r stays behind is none zero never = so_far-of r [] [] [] refl state is none zero behind 0 never
-      stays
-
   -- the pieces are a front
   pub so_far-front : (r : Resumed S) (pieces : List ℕ) → IsSoFar rest whole r pieces → IsFront whole pieces
   so_far-front r pieces s =
@@ -195,14 +187,6 @@ module _ {S X : Type 0} (rest : S → Format X) (whole : Format X) where
       all : IsSoFar rest whole next (pieces ++ piece)
       all = so_far-of next (pieces ++ piece) s.taken (r.held ++ piece) (ap (λ w. w ++ piece) s.are ∙ append_assoc
           s.taken r.held piece) r.state state held (taken ∙ s.count) s.behind r.until until stays
-
-  -- what goes on from what was taken and held goes on from the pieces
-  pub goes-again : (r : Resumed S) (pieces piece : List ℕ) (result : Result (Resumed S) ReadFault)
-      (s : IsSoFar rest whole r pieces)
-      → GoesInPieces rest whole (s.taken ++ (r.held ++ piece)) result → GoesInPieces rest whole (pieces ++ piece) result
-  goes-again r pieces piece result s g =
-      let P : List ℕ → Type 0 = λ w. GoesInPieces rest whole w result in
-      subst P (sym (ap (λ w. w ++ piece) s.are ∙ append_assoc s.taken r.held piece)) g
 
   module _ (first : Format X) (before held : List ℕ) (at count : ℕ) (state : S) (counts : count ≡ length before)
       (b : StandsBehind whole before first) (within : at ≤ length held)
@@ -293,9 +277,3 @@ module _ {S X : Type 0} (rest : S → Format X) (whole : Format X) where
         [] → SpellsNothing whole pieces × IsPlace whole pieces place
     ends-between place e none nothing = let P : List ℕ → Type 0 = SpellsNothing (rest r.state) in
         ends-short place e (subst P (sym (nil r.held none)) nothing)
-
-    -- with the whole
-    pub ends-whole : (x : X) → length r.held ≤ 0 → Spells (rest r.state) [] x → Spells whole pieces x
-    ends-whole x none spelled =
-        let P : List ℕ → Type 0 = λ w. Spells whole w x in
-        subst P (sym (s.are ∙ ap (λ w. s.taken ++ w) (nil r.held none))) (s.behind.back [] x spelled)

@@ -68,15 +68,6 @@ module _ {X Z : Type 0} (c : Codec X) (l : Lawful c) (next : X → Format Z) whe
         nil [] h = refl
         nil (x ∷ xs) h = let no = h (omega arith) in absurd (omega (arith, no))
 
--- no word is empty
-module _ {X Z : Type 0} (c : Codec X) (l : Lawful c) (next : X → Format Z) where
-  pub segment-nothing : ((x : X) → c.Fits x → 0 < length (c.write x)) → SpellsNothing (then_by c.format next) []
-  segment-nothing some z s =
-      let parts = then_spells c.format next [] z s in
-      let written = l.words parts.0 parts.2 parts.4 in
-      absurd (omega
-      (arith, some parts.2 written.1, ap length written.0, ap length parts.3, length-append parts.0 parts.1))
-
 -- a value has a byte or more where no bytes are no word
 module _ {X : Type 0} (c : Codec X) (l : Lawful c) (nothing : SpellsNothing c.format []) where
   pub some-bytes : (x : X) → c.Fits x → 0 < length (c.write x)

@@ -1,6 +1,6 @@
 -- A node more in the slots.
 use Rattle.std.proofs.Common.{◌≡◌, ◌≢◌, ℕ, ◌+◌, ◌-◌, ◌<◌, ◌≤◌, Bool, true, false, cond, Option, Some, refl, sym, ap}
-use Rattle.std.proofs.Common.{◌∙◌, subst, ◌⊎◌, inl, inr, arith, nat_le}
+use Rattle.std.proofs.Common.{◌∙◌, subst, inl, inr, arith, nat_le}
 use Rattle.std.proofs.lemmas.Option.{same_Some}
 use Rattle.std.proofs.lemmas.Bool.{le-leb, lt-leb}
 use Rattle.tw_rbnode.specs.declared.links.Link.{Link}
@@ -71,31 +71,6 @@ recoloured_at f g1 g2 g base (Node true a b) (Node true u v) at node left right 
 
 abbrev pub Grows : (f g : ℕ → Option Link) (low high : ℕ) (t : Shape) (place top : ℕ) → Type 0
 Grows f g low high t place top = IsTree g low (grown_shape (place - low) t) top × SameOutside f g low (high + 1)
-
--- the empty place itself
-pub grows_leaf : (f g : ℕ → Option Link) (low high : ℕ) (t : Shape) (at place : ℕ) → IsGap f low high t at place
-    → at ≡ 0 →
-    g (place + 1) ≡ Some (link true 0 0) → ((k : ℕ) → k ≢ place + 1 → g k ≡ f k) → Grows f g low high t place
-    (place + 1)
-grows_leaf f g low high Empty at place gap none there others =
-    let first : low ≤ place = gap.from_low in
-    let last : place ≤ high = gap.to_high in
-    let whole : high ≡ low + 0 = gap.high_is in
-    let e : place + 1 ≡ low + 0 + 1 = omega arith in (
-      record {
-        blank = others 0 (omega arith) ∙ gap.blank;
-        top_is = e;
-        at = at_node g low true Empty Empty (place + 1) 0 0 e refl refl there tt tt;
-      },
-      λ k. elim [ inl below ↦ others k (omega arith) | inr above ↦ others k (omega arith) ],
-    )
-grows_leaf f g low high (Node red l r) at place gap none there others =
-    absurd (let some : at ≡ bump place (low + size l + 1) = gap.top_is in
-    let cases : (low + size l + 1 ≤ place) ⊎ (place < low + size l + 1) = grind arith in
-    elim cases [
-      | inl before ↦ omega (arith, bump_before place (low + size l + 1) before)
-      | inr behind ↦ omega (arith, bump_behind place (low + size l + 1) behind)
-    ])
 
 -- what a node above the gap tells, where the place is on its left side
 pub record OnLeft (f : ℕ → Option Link) (low high : ℕ) (red : Bool) (l r : Shape) (at place : ℕ) (node : Link) : Type

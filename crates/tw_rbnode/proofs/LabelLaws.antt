@@ -66,11 +66,6 @@ module _ (dig : List ℕ → List ℕ) (es : List Entry) where
           ∙ ap (sides_at dig es ls slot low) (sym p.is)
 
     module _ (mark : ℕ) where
-      pub above-here : mark ≡ 2 * at → [] ≡ above_at dig es ls mark low t
-      unfolding above_at
-      above-here h = sym (rw (same mark (2 * (low + size p.left + 1)) (omega (arith, p.at_is, h))) refl)
-          ∙ ap (above_at dig es ls mark low) (sym p.is)
-
       abbrev with_node : List Ancestor → Entry → List ℕ → List Ancestor
       with_node up e label = up ++ record { entry = e; other = label } ∷ []
 

@@ -8,18 +8,6 @@ use Rattle.tw_rbnode.proofs.Places.{At-frame, at_node, seen}
 use Rattle.tw_rbnode.proofs.Growing.{bump_before, bump_behind}
 use Rattle.tw_rbnode.proofs.RedBlack.{size_grown}
 
-pub bump_apart : (place j k : ℕ) → j < k → bump place j < bump place k
-bump_apart place j k h =
-    let cases_j : (j ≤ place) ⊎ (place < j) = grind arith in
-    let cases_k : (k ≤ place) ⊎ (place < k) = grind arith in
-    elim cases_j [
-      | inl lj ↦ elim cases_k [
-        | inl lk ↦ omega (arith, bump_before place j lj, bump_before place k lk)
-        | inr gk ↦ omega (arith, bump_before place j lj, bump_behind place k gk)
-      ]
-      | inr gj ↦ omega (arith, bump_behind place j gj, bump_behind place k (omega arith))
-    ]
-
 -- the links of f stand in g, where the new slot leaves them
 abbrev pub Opens : (f g : ℕ → Option Link) → ℕ → Type 0
 Opens f g place = (k : ℕ) (x : Link) → k < 25 → f k ≡ Some x → x.left < 255 → x.right < 255 → g (bump place k) ≡ Some

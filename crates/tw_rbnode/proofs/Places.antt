@@ -1,6 +1,6 @@
 -- Trees in slots, as links change.
 use Rattle.std.proofs.Common.{not, ◌≡◌, ◌≢◌, ℕ, ◌+◌, ◌<◌, ◌≤◌, Bool, true, false, List, length, Option, Some, refl, sym}
-use Rattle.std.proofs.Common.{ap, ◌∙◌, subst, ◌⊎◌, inl, inr, arith, slice_get}
+use Rattle.std.proofs.Common.{ap, ◌∙◌, subst, inl, inr, arith, slice_get}
 use Rattle.std.proofs.lemmas.Option.{same_Some, slice_get_within}
 use Rattle.tw_rbnode.specs.declared.links.Link.{Link}
 use Rattle.tw_rbnode.specs.Shape.{Shape, Empty, Node, size, is_red, turned, over_red_left, join_left, over_red_right}
@@ -15,11 +15,6 @@ At-frame f g base (Node red l r) h same = (
   At-frame f g base l h.1 (λ k a b. same k a (omega arith)),
   At-frame f g (base + size l + 1) r h.2 (λ k a b. same k (omega arith) (omega arith)),
 )
-
-pub slot_within : (base : ℕ) (t : Shape) → (slot_of base t ≡ 0)
-    ⊎ ((base < slot_of base t) × (slot_of base t ≤ base + size t))
-slot_within base Empty = inl refl
-slot_within base (Node red l r) = inr (omega arith, omega arith)
 
 pub at_node : (f : ℕ → Option Link) (base : ℕ) (red : Bool) (l r : Shape) (p left right : ℕ) →
     p ≡ base + size l + 1 → left ≡ slot_of base l → right ≡ slot_of p r → f p ≡ Some (link red left right) → At f base l

@@ -154,9 +154,6 @@ module _ (dig : List ℕ → List ℕ) (ps : Image) (ask : Ask) where
     abbrev s : Sought
     s = seek ask 0 low high p.entries
 
-    abbrev lists : List (List Entry)
-    lists = map entries ts
-
     node : IsNode p
     node = there.may_stand.node
 

@@ -220,15 +220,6 @@ short_taken anchors h proofs a short is =
     subst (λ (b : Adopted). length (history_bytes b.history) ≤ MOST_HISTORY_BYTES) (sym is.3)
     (omega (arith, less, short))
 
--- a fault that is answered, other than want of memory, is the first
-pub first_fault : (anchors : List Thread) (h : History) (proofs : List (List ℕ)) (fault : AdoptFault)
-    → (fault ≡ NoMemory → ⊥)
-    → IsAdoption sha256 anchors h proofs (Err fault) → IsFirstFault sha256 anchors h 1 proofs fault
-first_fault anchors h proofs (Part number reason) other is = is
-first_fault anchors h proofs (Stranger number) other is = is
-first_fault anchors h proofs (Differs number step held found) other is = is
-first_fault anchors h proofs NoMemory other is = absurd (other refl)
-
 -- under the anchors of lines; want of memory is free there as well
 pub under_lines : (file lines : List ℕ) (h : History) (proofs : List (List ℕ)) (held : List Thread)
     (r : Result Taken CommandFault) → AreAnchorsOf lines held

@@ -11,10 +11,6 @@ module _ {V : Type 0} where
   abbrev pub behind : List V → Option (List V) → Option (List V)
   behind values more = option_map (λ rest. values ++ rest) more
 
-  behind-none : (more : Option (List V)) → behind [] more ≡ more
-  behind-none (Some rest) = refl
-  behind-none None = refl
-
   behind-one : (values : List V) (v : V) (more : Option (List V)) → behind values (option_map (λ rest. v ∷ rest) more)
       ≡ behind (values ++ v ∷ []) more
   behind-one values v (Some rest) = ap (λ (vs : List V). Some vs) (sym (append_assoc values (v ∷ []) rest))
@@ -24,9 +20,6 @@ module _ {V : Type 0} (part : List ℕ → Option V) where
   -- so many of all words are taken, as these values, and these are left
   pub record AreTaken (all left : List (List ℕ)) (values : List V) : Type 0 where
     pub are : all_values part all ≡ behind values (all_values part left)
-
-  pub none-taken : (all : List (List ℕ)) → AreTaken all all []
-  none-taken all = record { are = sym (behind-none (all_values part all)) }
 
   -- where a word is the first of those that are left
   module _ {all words left : List (List ℕ)} {values : List V} {word : List ℕ} (before : AreTaken all words values)

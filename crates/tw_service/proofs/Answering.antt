@@ -1,6 +1,6 @@
 -- From the answers of a call to steps of the machine.
 use Rattle.std.proofs.Common.{◌≡◌, ◌⊎◌, ℕ, List, refl, ap, sym, subst, inl, inr}
-use Rattle.std.specs.Prelude.{IfOk, Ok, Option, Some, None, Result, Err, MatchOption}
+use Rattle.std.specs.Prelude.{Option, Some, None, Result, Err, MatchOption}
 use Rattle.tw_base.specs.history.History.{History}
 use Rattle.tw_base.specs.declared.history.thread.Thread.{Thread}
 use Rattle.tw_answers.specs.Refusals.{IsBadPageRefusal, IsFault}
@@ -58,7 +58,3 @@ module _ (dig : List ℕ → List ℕ) (h : History) (events : List (List ℕ)) 
       (refl, ap OfThread same)
 
 -- ---- what holds of an answer
-
-pub if_ok : {T E : Type 0} (r : Result T E) (P Q : T → Type 0) → ((x : T) → P x → Q x) → IfOk r P → IfOk r Q
-if_ok (Ok x) P Q step is = step x is
-if_ok (Err e) P Q step is = tt

@@ -2,7 +2,6 @@ pub mod Contents
 pub mod Copying
 pub mod EventSpelling
 pub mod EventWords
-pub mod FewEvents
 pub mod Growing
 pub mod Kept
 pub mod KeptAppended

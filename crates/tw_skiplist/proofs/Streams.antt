@@ -8,16 +8,9 @@ use Rattle.std.proofs.lemmas.Bool.{cases_lt}
 use Rattle.std.proofs.lemmas.List.Sums.{sum_by-cons}
 use Rattle.std.proofs.lemmas.List.{length-append, take_all, take_more, length_push, get_or_push, get_or_append_left}
 use Rattle.std.proofs.lemmas.List.{append-nil}
-use Rattle.tw_base.specs.kinds.Lists.{Each}
 use Rattle.tw_disk.specs.Image.{Image, page_at}
 use Rattle.tw_steppage.specs.StepBytes.{event_page_bytes, event_pages, piece, stream}
 use Rattle.tw_steppage.specs.declared.limits.TheConstants.{MOST_PIECE_BYTES}
-
-pub Each-at : (P : List ℕ → Type 0) (xs : List (List ℕ)) (i : ℕ) (d : List ℕ) → Each P xs → i < length xs
-    → P (get_or xs i d)
-Each-at P [] i d all l = absurd (omega arith)
-Each-at P (x ∷ xs) zero d all l = all.0
-Each-at P (x ∷ xs) (suc i) d all l = Each-at P xs i d all.1 (omega arith)
 
 pub stream-append : (xs ys : List (List ℕ)) → stream (xs ++ ys) ≡ stream xs ++ stream ys
 stream-append [] ys = refl

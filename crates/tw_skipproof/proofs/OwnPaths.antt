@@ -1,10 +1,9 @@
 -- A history's own openings and paths compute its authenticators.
-use Rattle.std.proofs.Common.{◌≡◌, ℕ, suc, zero, ◌-◌, ◌<◌, ◌≤◌, ◌^◌, List, [], ◌∷◌, ◌++◌, length, get_or, drop, refl}
-use Rattle.std.proofs.Common.{ap, sym, ◌∙◌, subst, append_assoc, lit<, arith}
+use Rattle.std.proofs.Common.{◌≡◌, ℕ, suc, zero, ◌-◌, ◌<◌, ◌≤◌, ◌^◌, List, [], ◌∷◌, length, get_or, drop, refl}
+use Rattle.std.proofs.Common.{ap, sym, ◌∙◌, lit<, arith}
 use Rattle.std.specs.Prelude.{Bool, true, false, map, nat_le, remove}
 use Rattle.std.proofs.Math.Nat.{one-le-pow}
 use Rattle.std.proofs.lemmas.Bool.{leb-false, leb-true}
-use Rattle.std.proofs.lemmas.List.{append-nil}
 use Rattle.tw_base.specs.kinds.Texts.{authenticator_text, link_text, step_datum_text}
 use Rattle.tw_base.specs.history.History.{History}
 use Rattle.tw_base.specs.kinds.Levels.{top_level}
@@ -113,25 +112,6 @@ module _ (dig : List ℕ → List ℕ) (h : History) where
       )
 
   -- ---- a path that is made link by link, from the upper step downwards
-
-  -- links that lead down to a step: with a path from there on they are a path of the history
-  abbrev pub LeadsTo : List Link → (from step to : ℕ) → Type 0
-  LeadsTo links from step to = (rest : List Link) → IsPathOf dig h rest step to → IsPathOf dig h (links ++ rest) from to
-
-  pub leads-start : (from to : ℕ) → LeadsTo [] from from to
-  leads-start from to = λ rest is. is
-
-  pub leads-further : (links : List Link) (link : Link) (from step to : ℕ) → to < step
-      → link.datum ≡ dig (datum_text_at dig h step)
-      → link.others ≡ remove (labels_at dig h step) (hop_level step to) → LeadsTo links from step to
-      → LeadsTo (links ++ link ∷ []) from (hop step to) to
-  leads-further links link from step to below datum others so_far = λ rest is.
-      subst (λ ls. IsPathOf dig h ls from to) (sym (append_assoc links (link ∷ []) rest))
-      (so_far (link ∷ rest) (below, datum, others, is))
-
-  pub leads-end : (links : List Link) (from step to : ℕ) → step ≤ to → LeadsTo links from step to → IsPathOf dig h links
-      from to
-  leads-end links from step to end so_far = subst (λ ls. IsPathOf dig h ls from to) (append-nil links) (so_far [] end)
 
   -- ---- there is a path down to each step
 

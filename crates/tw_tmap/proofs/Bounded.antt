@@ -8,7 +8,6 @@ use Rattle.std.proofs.Math.Nat.{le-max_left, le-max_right, max-le}
 use Rattle.std.proofs.lemmas.Bool.{and_from, and_parts, both_ways, leb-true, le-leb}
 use Rattle.std.proofs.lemmas.Slice.Eq.{bytes_eq-Decides}
 use Rattle.tw_base.specs.declared.history.thread.Entry.{Entry}
-use Rattle.tw_base.specs.declared.history.thread.Key.{Key}
 use Rattle.tw_base.specs.declared.kinds.limits.TheConstants.{LAST_STEP}
 use Rattle.tw_base.specs.history.Asking.{IsGreatestBelow, IsLeastAbove, first_above, last_below}
 use Rattle.tw_base.specs.history.Entries.{KeyBelow, key_of}
@@ -145,9 +144,6 @@ module _ (h : History) (sound : IsSound h) (i : ℕ) (within : i ≤ length h.st
       → last_below archive (key peer (2 ^ 40)) ≡ found → step_if_of peer found ≡ greatest_step peer (received h i)
   low-is peer found small is = by found is
     where
-      limit : Key
-      limit = key peer (2 ^ 40)
-
       under : (f : Entry) → In f (received h i) → f.thread.from ≡ peer → KeyBelow (key_of f) (key peer (2 ^ 40))
       under f there same =
           let few = small f there in
@@ -202,9 +198,6 @@ module _ (h : History) (sound : IsSound h) (i : ℕ) (within : i ≤ length h.st
       step i
   high-is service step found some is = by found is
     where
-      asked : Key
-      asked = key service (step - 1)
-
       over : (f : Entry) → f.thread.from ≡ service → step ≤ f.thread.step → KeyBelow (key service (step - 1)) (key_of f)
       over f same late =
           subst (λ (from : List ℕ). KeyBelow (key service (step - 1)) (key from f.thread.step)) (sym same)

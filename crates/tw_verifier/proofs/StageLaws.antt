@@ -1,5 +1,5 @@
 -- The segments of a proof that comes in pieces are lawful and have a byte or more, and no front of what follows breaks.
-use Rattle.std.proofs.Common.{◌≡◌, ℕ, suc, zero, ◌-◌, ◌<◌, ◌≤◌, List, [], ◌∷◌, ◌++◌, length, take, lit≤, arith, refl}
+use Rattle.std.proofs.Common.{◌≡◌, ℕ, ◌-◌, ◌≤◌, List, [], ◌∷◌, ◌++◌, length, lit≤, arith, refl}
 use Rattle.std.specs.Prelude.{Bool, true, false, Option, Some, None, nat_lt, ◌==◌, if◌then◌else◌}
 use Rattle.tw_base.specs.declared.events.event_part.EventPart.{EventPart}
 use Rattle.tw_base.specs.declared.kinds.limits.TheConstants.{LAST_STEP, MOST_EVENTS, MOST_EVENT_BYTES, MOST_HOPS}
@@ -12,7 +12,7 @@ use Rattle.tw_base.specs.format.Codecs.{name_codec, number_codec, optional, pair
 use Rattle.tw_base.specs.format.Codecs.{variant}
 use Rattle.tw_base.specs.format.Fields.{byte_then, bytes, name, name_part, number, text}
 use Rattle.tw_base.specs.history.EntryCodec.{entry_codec}
-use Rattle.tw_base.specs.format.Formats.{Format, GoesOn, IsFront, IsPlace, SpellsNothing, then_by}
+use Rattle.tw_base.specs.format.Formats.{Format, GoesOn, SpellsNothing, then_by}
 use Rattle.tw_base.specs.format.Formats.Format.{Done, Byte}
 use Rattle.tw_pieces.specs.Resuming.{StaysFront}
 use Rattle.tw_base.specs.history.HistoryCodec.{thread_codec}
@@ -310,14 +310,6 @@ module _ {X : Type 0} (x : X) where
   done-stays [] e [] bytes none = (([], x, refl), λ some. absurd (omega (arith, some)))
   done-stays [] e (b ∷ more) bytes none = let no = none (omega arith) in absurd (omega (arith, no))
   done-stays (b ∷ held) e more bytes none = absurd (omega (arith, e))
-
-  pub done-breaks : (held : List ℕ) → 0 < length held → IsPlace (Done x) held 0
-  done-breaks [] some = absurd (omega (arith, some))
-  done-breaks (b ∷ held) some = record { within = omega arith; good = ([], x, refl); longest = longest }
-    where
-      longest : (n : ℕ) → n ≤ length (b ∷ held) → IsFront (Done x) (take n (b ∷ held)) → n ≤ 0
-      longest zero l f = omega arith
-      longest (suc n) l f = absurd f.2
 
 module _ {X Z : Type 0} where
   nothing-first : (f : Format X) (next : X → Format Z) → SpellsNothing f [] → SpellsNothing (then_by f next) []

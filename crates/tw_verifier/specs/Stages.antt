@@ -84,12 +84,6 @@ step_opened (opens.Part g under links) = under.step
 step_opened (opens.Before s) = s.head.part.step - 1
 step_opened (opens.Hop h links) = h.hop.entry.thread.step
 
--- the last step of the path
-abbrev pub last_of_way : Way → ℕ
-last_of_way (way.Part g under) = under.step
-last_of_way (way.Bind h) = h.hop.entry.thread.step
-last_of_way (way.Link l) = l.step
-
 -- the tree proof with more nodes above
 abbrev pub with_tree_nodes : TreeProof → List Ancestor → TreeProof
 with_tree_nodes (Present left right have) up = Present left right (have ++ up)

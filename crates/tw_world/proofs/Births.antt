@@ -40,11 +40,6 @@ module _ {X : Type 0} where
   numbered-left xs y zero x is = cc
   numbered-left xs y (suc i) x is = get-left xs y i x is
 
-  pub numbered-within : (xs : List X) (number : ℕ) (x : X) → numbered xs number ≡ Some x → (1 ≤ number)
-      × (number ≤ length xs)
-  numbered-within xs zero x is = cc
-  numbered-within xs (suc i) x is = (omega arith, omega (arith, slice_get_within xs i x is))
-
   pub numbered-there : (xs : List X) (number : ℕ) → 1 ≤ number → number ≤ length xs
       → (x : X) × (numbered xs number ≡ Some x)
   numbered-there xs zero some within = absurd (omega (arith, some))

@@ -1,5 +1,5 @@
 -- A history: a service's name and its steps, numbered from 1.
-use Rattle.std.specs.Prelude.{ℕ, suc, zero, List, [], ◌∷◌, ◌++◌, length, slice_get, Option, Some, None, option_and_then, nat_le, if◌then◌else◌}
+use Rattle.std.specs.Prelude.{ℕ, suc, zero, List, [], ◌∷◌, ◌++◌, slice_get, Option, Some, None, option_and_then, nat_le, if◌then◌else◌}
 use Rattle.std.specs.Option.{option_to_list}
 use Rattle.tw_base.specs.declared.history.content.Content.{Content}
 use Rattle.tw_base.specs.declared.history.content.Content.TheVariants.{Events, Received}
@@ -85,7 +85,3 @@ times h (suc i) = times h i ++ option_to_list (time_at h (suc i))
 -- the history with one more step
 abbrev pub plus : History → Step → History
 plus h s = record { name = h.name; steps = h.steps ++ s ∷ [] }
-
--- the history with one more step of these events: no time, no new node, and the root as before
-abbrev pub with_events : History → List (List ℕ) → History
-with_events h events = plus h (record { content = Events events; time = None; fresh = []; root = root_of (step_at h (length h.steps)) })

@@ -4,8 +4,8 @@ use Rattle.std.specs.Prelude.{Bool, true, false, Option, Some, None, MatchOption
 use Rattle.std.specs.Option.{option_map_or}
 use Rattle.std.proofs.lemmas.List.{length-append}
 use Rattle.std.proofs.Math.Nat.{mul-le-mul_right, suc-mul}
-use Rattle.tw_base.specs.format.Codecs.{Codec, HasBytes, before, behind, by_kind, bytes_codec, choose, counted}
-use Rattle.tw_base.specs.format.Codecs.{flag_codec, labels_codec, many, name_codec, nothing, number_codec, optional}
+use Rattle.tw_base.specs.format.Codecs.{Codec, HasBytes, behind, by_kind, bytes_codec, choose, counted}
+use Rattle.tw_base.specs.format.Codecs.{labels_codec, many, name_codec, nothing, number_codec, optional}
 use Rattle.tw_base.specs.format.Codecs.{present, pair, seen, sized_codec, variant}
 use Rattle.tw_base.specs.format.Fields.{number_bytes}
 use Rattle.tw_base.specs.format.Formats.{Spells}
@@ -29,10 +29,6 @@ at_most-bytes n x f = omega (arith, f.0)
 pub at_most-name : AtMost name_codec 16
 unfolding name_codec
 at_most-name x f = omega (arith, IsName-size x f)
-
-pub at_most-flag : AtMost flag_codec 1
-unfolding flag_codec
-at_most-flag set f = omega arith
 
 pub at_most-sized : (width least most : ℕ) → AtMost (sized_codec width least most) (width + most)
 unfolding sized_codec by_kind number_codec bytes_codec
@@ -83,10 +79,6 @@ module _ {X : Type 0} where
   pub at_most-behind : (magic : List ℕ) (c : Codec X) (n : ℕ) → AtMost c n → AtMost (behind magic c) (length magic + n)
   unfolding behind
   at_most-behind magic c n l x f = omega (arith, l x f, length-append magic (c.write x))
-
-  pub at_most-before : (last : List ℕ) (c : Codec X) (n : ℕ) → AtMost c n → AtMost (before last c) (n + length last)
-  unfolding before
-  at_most-before last c n l x f = omega (arith, l x f, length-append (c.write x) last)
 
   pub at_most-choose : (b : Bool) (one other : Codec X) (n : ℕ) → AtMost one n → AtMost other n
       → AtMost (choose b one other) n

@@ -225,10 +225,6 @@ text-word (c ∷ cs) (b ∷ bs) x s =
 abbrev pub TextReadTo : (t bs : List ℕ) (at i : ℕ) → Type 0
 TextReadTo t bs at i = front (text t) bs at ≡ with_front (take i t) (front (text (drop i t)) (drop i bs) (at + i))
 
-pub text-starts : (t bs : List ℕ) (at : ℕ) → TextReadTo t bs at 0
-text-starts t bs at = ap (front (text t) bs) (let e : at ≡ at + 0 = omega arith in e) ∙ with_front-nil
-    (front (text t) bs (at + 0))
-
 -- the text from its byte i on
 text_from : (t bs : List ℕ) (at i : ℕ) → i < length t → TextReadTo t bs at i
     → front (text t) bs at ≡ with_front (take i t)

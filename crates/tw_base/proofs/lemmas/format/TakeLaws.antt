@@ -102,9 +102,6 @@ module _ {A X : Type 0} (write : X → List ℕ) (f : A → Codec X) where
     pub read : read_at (each_format write f params) bytes start ≡ ahead xs (read_at (each_format write f left) bytes at)
     pub fits : (ys : List X) → EachFits write f left ys → EachFits write f params (xs ++ ys)
 
-  pub each-begins : (bytes : List ℕ) (at : ℕ) (params : List A) → EachTaken bytes at params params [] at
-  each-begins bytes at params = record { read = ahead-nil _; fits = λ ys fits. fits }
-
   module _ (h : (a : A) → Lawful (f a)) (bytes : List ℕ) (start at : ℕ) (params left : List A) (a : A)
       (xs : List X) where
     one_more : read_at (each_format write f (a ∷ left)) bytes at

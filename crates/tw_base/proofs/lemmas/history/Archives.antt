@@ -1,13 +1,12 @@
 -- The archive of a sound history has exactly the threads received so far.
-use Rattle.std.proofs.Common.{◌≡◌, ◌≢◌, ℕ, suc, zero, ◌≤◌, List, [], ◌∷◌, length, refl, ap, sym, ◌∙◌, subst, arith, inl}
+use Rattle.std.proofs.Common.{◌≡◌, ℕ, suc, zero, ◌≤◌, List, [], ◌∷◌, length, refl, ap, sym, ◌∙◌, subst, arith, inl}
 use Rattle.std.proofs.Common.{inr}
 use Rattle.std.specs.Prelude.{Option, Some, None, slice_get}
 use Rattle.std.specs.Option.{option_to_list}
 use Rattle.std.proofs.lemmas.Bool.{cases_lt}
 use Rattle.std.proofs.lemmas.Option.{slice_get_cases}
 use Rattle.tw_base.specs.declared.history.thread.Entry.{Entry}
-use Rattle.tw_base.specs.declared.history.thread.Key.{Key}
-use Rattle.tw_base.specs.kinds.Lists.{Each, In}
+use Rattle.tw_base.specs.kinds.Lists.{In}
 use Rattle.tw_base.specs.history.Entries.{KeyBelow, key_of}
 use Rattle.tw_base.specs.history.History.{History, Step, entry_at, received, step_at}
 use Rattle.tw_base.specs.history.Tree.{entries, forest, tree, IsRising}
@@ -59,12 +58,6 @@ module _ (h : History) (sound : IsSound h) where
       pigeonhole (entries (tree h i)) (received h i) (rising-apart _ (tree-rises h sound i))
       (Each-map _ _ (entries (tree h i)) (λ f a. received-has h i a.0 f a.1 a.2) (tree-archived h i))
       (same_length i inside) e (received-has h i k e within at)
-
-  -- where no entry of the archive has the key, no step so far received a thread of that key
-  pub tree-lacks : (i : ℕ) (key : Key) → i ≤ length h.steps → Each (λ f. key_of f ≢ key) (entries (tree h i))
-      → (k : ℕ) (e : Entry) → k ≤ i → entry_at h k ≡ Some e → key_of e ≢ key
-  tree-lacks i key inside absent k e within at = Each-in _ (entries (tree h i)) e absent
-      (tree-has i k e inside within at)
 
 -- what the list has was received at or below step i
 received-archived : (h : History) (i : ℕ) (e : Entry) → In e (received h i) → IsArchived h i e

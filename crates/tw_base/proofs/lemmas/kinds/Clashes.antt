@@ -21,12 +21,6 @@ Among-bytes [] text are p = absurd p
 Among-bytes (x ∷ xs) text are (inl e) = subst AreBytes (sym e) are.0
 Among-bytes (x ∷ xs) text are (inr p) = Among-bytes xs text are.1 p
 
--- texts of such a list
-pub Within-bytes : (xs ys : List (List ℕ)) → Within xs ys → Each AreBytes ys → Each AreBytes xs
-Within-bytes [] ys within are = tt
-Within-bytes (x ∷ xs) ys within are =
-    (Among-bytes ys x are (within x (inl refl)), Within-bytes xs ys (λ t p. within t (inr p)) are)
-
 -- two texts of a list of bytes that have one digest are one text, or the list clashes
 pub same_text : (dig : List ℕ → List ℕ) (texts : List (List ℕ)) → Each AreBytes texts → (x y : List ℕ) → Among x texts
     → Among y texts → dig x ≡ dig y → OrClash dig texts (x ≡ y)

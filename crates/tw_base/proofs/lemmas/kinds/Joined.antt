@@ -1,7 +1,6 @@
 -- Joined lists of parts.
 use Rattle.std.proofs.Common.{◌≡◌, ℕ, ◌+◌, ◌<◌, List, [], ◌∷◌, ◌++◌, length, get_or, take, ap, sym, ◌∙◌, append_assoc}
-use Rattle.std.proofs.Common.{subst, Bool, true, false}
-use Rattle.std.specs.Prelude.{if◌then◌else◌}
+use Rattle.std.proofs.Common.{subst}
 use Rattle.std.proofs.lemmas.List.{append-nil, take_more}
 use Rattle.tw_base.specs.kinds.Texts.{joined}
 use Rattle.tw_base.specs.kinds.Bytes.{HasBytes}
@@ -26,8 +25,3 @@ AllDigests-more ds i d h p n = subst AllDigests (sym (take_more ds i d h)) (AllD
     p n)
 
 pub ruleset more = (joined-more, AllDigests-more)
-
-pub AllDigests-pushed : (pushed : Bool) (parts : List (List ℕ)) (part : List ℕ) → AllDigests parts → HasBytes 32 part
-    → AllDigests (if pushed then parts ++ part ∷ [] else parts)
-AllDigests-pushed true parts part p n = AllDigests-push parts part p n
-AllDigests-pushed false parts part p n = p
