@@ -19,3 +19,4 @@ pub use limits::limit_laws;
 pub use planning::plan;
 pub use printing::print_atlas;
 pub use reading::{add_hops, receipt_hop};
+pub use tw_base::{Hop, HopList};

@@ -16,3 +16,4 @@ mod table;
 pub use finding::{AuditFault, Finding};
 pub use holding::{audit, audit_judged};
 pub use laws::audit_laws;
+pub use tw_base::{Claim, Hop, HopList, Report, Seen};

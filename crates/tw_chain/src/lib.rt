@@ -21,5 +21,7 @@ pub use proof::{
     AbsenceProof, HopPart, HopParts, LinkProof, PrecedenceProof, Proof, Tail, ThreadProof,
 };
 pub use reading::{read_first, read_proof, take_key, take_kind, take_link_body, take_thread_body};
+pub use tw_base::{Claim, EventPart, Hop, HopList, Report, Seen};
+pub use tw_skipproof::Part;
 pub use verdict::Verdict;
 pub use writing::{put_thread_body, write_proof};

@@ -8,6 +8,7 @@ pub mod KeptCalls
 pub mod LooseSteps
 pub mod MemDisk
 pub mod MemDiskSteps
+pub mod FickleDisk
 pub mod Pages
 pub mod Answers
 pub mod WalkFaults

@@ -2,8 +2,10 @@
 use Rattle.std.specs.Prelude.{ℕ, List, [], Option, Some, None, IsSome, nat_eq}
 use Rattle.std.specs.Global.{Box}
 use Rattle.std.specs.Map.{lookup}
-use Rattle.lru.specs.LruCache.{LruCache}
-use Rattle.tw_disk.specs.Image.{Page}
+use Rattle.std.proofs.lemmas.List.Elements.{All-nil}
+use Rattle.lru.specs.LruCache.{LruCache, lru_cache}
+use Rattle.tw_disk.specs.Image.{Image, Page}
+use Rattle.tw_disk.specs.Keeping.{ArePagesOf, IsKeptPageOf}
 use Rattle.tw_disk.specs.declared.shelf.Shelf.{Shelf}
 
 -- those in the room for them, where there was any
@@ -18,3 +20,21 @@ kept_on shelf = shelf_entries shelf.kept
 -- one of them has this number
 abbrev pub HoldsPage : Shelf → ℕ → Type 0
 HoldsPage shelf page = IsSome (lookup (nat_eq page) (kept_on shelf))
+
+-- the room with no page in it
+abbrev pub emptied_room : Option (LruCache ℕ (Box Page)) → Option (LruCache ℕ (Box Page))
+emptied_room None = None
+emptied_room (Some kept) = Some (lru_cache [] kept.cap)
+
+-- the shelf with no page on it
+abbrev pub emptied_shelf : Shelf → Shelf
+emptied_shelf shelf = record { kept = emptied_room shelf.kept }
+
+-- what is in such a room is of whatever pages
+none_in_room : (list : Option Image) (room : Option (LruCache ℕ (Box Page))) → ArePagesOf list (shelf_entries (emptied_room room))
+none_in_room list None = λ image _. All-nil (IsKeptPageOf image)
+none_in_room list (Some kept) = λ image _. All-nil (IsKeptPageOf image)
+
+-- what is on such a shelf is of whatever pages
+pub none_kept : (list : Option Image) (shelf : Shelf) → ArePagesOf list (kept_on (emptied_shelf shelf))
+none_kept list shelf = none_in_room list shelf.kept

@@ -1,5 +1,5 @@
 // A shelf: pages that are kept in memory by their numbers; `shelved.rt` reads pages over one.
-ghost use Rattle.std.specs.Prelude.{◌≡◌, ◌-◌, [], ℕ, IsTrue, Option, Some};
+ghost use Rattle.std.specs.Prelude.{◌≡◌, ◌-◌, [], ℕ, IfOk, IsTrue, Option, Some};
 ghost use Rattle.tw_disk.specs.Keeping.{AddsAtMost, ArePagesOf};
 ghost use Rattle.tw_disk.specs.Image.{Image, page_at};
 ghost use Rattle.tw_disk.specs.declared.limits.TheConstants.{FIRST_PAGE};
@@ -8,40 +8,38 @@ use crate::keep::keep;
 use lru::LruCache;
 use std::alloc::Global;
 use std::num::NonZeroUsize;
-use tw_base::Page;
+use tw_base::{NoMemory, Page};
 
 // How many pages are kept at most: 256 KiB of them.
 const MOST_KEPT: usize = 64;
 
-/// A shelf of pages, which are kept in memory by their numbers: those read last, at most 64, or all of them. Where there was no memory for the
-/// shelf itself, it keeps none; each page that is kept then takes memory of its own, where there is some.
+/// A shelf of pages, which are kept in memory by their numbers: those read last, at most 64. Where there was no memory for the shelf
+/// itself, it keeps none; each page that is kept then takes memory of its own, where there is some.
 #[derive(Drop)]
 pub struct Shelf {
     pub(crate) kept: Option<LruCache<u64, Box<Page>>>,
 }
 
 impl Shelf {
-    ghost use Rattle.tw_disk.specs.Shelves.{HoldsPage, kept_on};
+    ghost use Rattle.tw_disk.specs.Shelves.{HoldsPage, emptied_shelf, kept_on};
+
+    /// A shelf with no page on it. `NoMemory` where there is none for the shelf itself.
+    pub fn with_room(alloc: Global) -> Result<Shelf, NoMemory>
+        // No page is kept yet.
+        ensures { IfOk result (λ s. kept_on s ≡ []) }
+    {
+        let kept = LruCache::new(alloc, NonZeroUsize::new(MOST_KEPT).unwrap())?;
+        Ok(Shelf { kept: Some(kept) })
+    }
 
     /// A shelf with no page on it, whatever memory there is.
     pub fn new(alloc: Global) -> Shelf
         // No page is kept yet.
         ensures { kept_on result ≡ [] }
     {
-        match LruCache::new(alloc, NonZeroUsize::new(MOST_KEPT).unwrap()) {
-            Ok(kept) => Shelf { kept: Some(kept) },
-            Err(_) => Shelf { kept: None },
-        }
-    }
-
-    /// A shelf with no page on it, that keeps each page that is read, whatever their number, as long as there is memory for them.
-    pub fn unbounded(alloc: Global) -> Shelf
-        // No page is kept yet.
-        ensures { kept_on result ≡ [] }
-    {
-        match LruCache::unbounded(alloc) {
-            Ok(kept) => Shelf { kept: Some(kept) },
-            Err(_) => Shelf { kept: None },
+        match Shelf::with_room(alloc) {
+            Ok(shelf) => shelf,
+            Err(_none) => Shelf { kept: None },
         }
     }
 
@@ -69,6 +67,14 @@ impl Shelf {
     {
         if let Some(kept) = &mut self.kept {
             keep(kept, number, page);
+        }
+    }
+    /// Keeps none any more.
+    pub fn clear(&mut self)
+        ensures { self.new ≡ emptied_shelf self.old }
+    {
+        if let Some(kept) = &mut self.kept {
+            kept.clear();
         }
     }
 }

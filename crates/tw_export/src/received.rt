@@ -44,8 +44,9 @@ fn list_fault(fault: TreeFault) -> ListFault
     }
 }
 
-/// The nodes of the tree under the root that are new since this page. A page that was read is kept until they are listed, and isn't
-/// asked for again.
+/// The nodes of the tree under the root that are new since this page. Where reads agree, each new page is read once: its keys lie
+/// between those on either side of the way down to it. Where they contradict each other, a page that is met again is answered by the
+/// shelf, as long as it is among the 64 read last.
 fn list_once<P: Pages, H: Hasher>(
     alloc: Global,
     pages: &mut P,
@@ -54,7 +55,7 @@ fn list_once<P: Pages, H: Hasher>(
 ) -> Result<NewNodes, ListFault>
     ensures reads { ReadsPages list_faults P.view P.same pages.old pages.new (λ nodes. nodes) result (λ ps. listed H.dig ps since root.now) }
 {
-    let mut shelf = Shelf::unbounded(alloc);
+    let mut shelf = Shelf::new(alloc);
     let mut near = Shelved::over(pages, &mut shelf);
     match fresh::<Shelved<P>, H>(alloc, &mut near, root, since) {
         Ok(nodes) => Ok(nodes),
@@ -147,7 +148,7 @@ pub(crate) fn tell_bad<P: Pages>(pages: &mut P, page: u64) -> Result<(), ListFau
     }
 }
 
-/// Takes in the step of a record that received this thread. Its new tree pages are read, each once.
+/// Takes in the step of a record that received this thread. Its new tree pages are read, as [`list_once`] says.
 #[tactic(auto, unfolding(crate::specs::Received::received_on))]
 pub(crate) fn add_received<P: Pages, H: Hasher>(
     alloc: Global,

@@ -16,7 +16,7 @@ use tw_base::Hasher;
 use tw_disk::Pages;
 use tw_skiplist::{ListFault, StepRecord};
 
-/// Takes in the step of the record. Its event pages are read, or its new tree pages, each once.
+/// Takes in the step of the record. Its event pages are read, each once, or its new tree pages.
 fn add_step<P: Pages, H: Hasher>(
     alloc: Global,
     pages: &mut P,

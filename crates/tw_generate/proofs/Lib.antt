@@ -18,6 +18,5 @@ mod ReceivedSteps
 mod Results
 mod SixParts
 mod Standing
-mod SummaryValues
 mod ToldSteps
 mod Unrefused

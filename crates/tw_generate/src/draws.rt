@@ -11,7 +11,7 @@ use tw_base::{Bytes, EventList, NoMemory};
 const EVENT_BYTES: usize = 200;
 
 /// What numbers are drawn from: each draw sets the state by a linear congruence modulo 2^64, whose numbers are those of Knuth's
-/// MMIX. (A `FickleDisk` of tw_runtests draws so, too.)
+/// MMIX. (A `FickleDisk` of tw_disk draws so, too.)
 #[derive(Drop)]
 pub(crate) struct Draws {
     pub state: u64,

@@ -1,20 +1,28 @@
-//! Tests of what no command shows: values from outside under the weak hasher, public calls that take memory and that the program doesn't
-//! make, once each, a service that met a fault, and pages that are kept near.
+//! Tests of what no command shows: values from outside, public calls that take memory and that the program doesn't make, once each, stores,
+//! and pages that are kept near. Those of services and followers are in tw_servicetests.
 #![tactic(auto)]
 
 #[cfg(test)]
+mod atlases;
+#[cfg(test)]
 mod audits;
 #[cfg(test)]
-mod followers;
+mod caches;
 #[cfg(test)]
-mod labels;
+mod events;
+#[cfg(test)]
+mod leaf_pages;
 #[cfg(test)]
 mod openings;
 #[cfg(test)]
-mod services;
+mod paged_trees;
+#[cfg(test)]
+mod promised;
 #[cfg(test)]
 mod shelves;
 #[cfg(test)]
-mod trees;
+mod skip_lists;
 #[cfg(test)]
-mod weak;
+mod stores;
+#[cfg(test)]
+mod summaries;

@@ -4,16 +4,16 @@ use std::test::Fail;
 use tw_base::{Failed, NoMemory};
 use tw_disk::{MemPages, Pages, Shelf, Shelved};
 
-// Stages a page full of this byte, where there is a number left for it.
-fn stage_byte<P: Pages>(pages: &mut P, byte: u8) -> Result<u64, NoMemory> {
+/// Stages a page full of this byte, where there is a number left for it.
+pub(crate) fn stage_byte<P: Pages>(pages: &mut P, byte: u8) -> Result<u64, NoMemory> {
     if pages.used() >= (1 << 48) - 4 {
         return Err(NoMemory);
     }
     pages.stage(&[byte; 4096])
 }
 
-// The last byte of a page; none where the list has no such page.
-fn last_byte<P: Pages>(pages: &mut P, page: u64) -> Result<Option<u8>, Failed> {
+/// The last byte of a page; none where the list has no such page.
+pub(crate) fn last_byte<P: Pages>(pages: &mut P, page: u64) -> Result<Option<u8>, Failed> {
     if page < 4 || page >= pages.used() {
         return Ok(None);
     }

@@ -3,11 +3,12 @@ use Rattle.std.proofs.Common.{◌≡◌, ℕ, suc, zero, ◌<◌, List, [], ◌�
 use Rattle.std.proofs.Common.{slice_get, refl, subst, sym, ap}
 use Rattle.std.proofs.lemmas.Option.{none-some, same_Some}
 use Rattle.tw_base.specs.declared.history.thread.Entry.{Entry}
+use Rattle.tw_base.specs.declared.history.thread.Key.{Key}
 use Rattle.tw_base.specs.history.Entries.{KeyBelow, key_of}
 use Rattle.tw_base.specs.kinds.Lists.{Each}
 use Rattle.tw_base.specs.history.Tree.{IsRising}
 use Rattle.tw_base.proofs.lemmas.history.Keys.{KeyBelow-trans}
-use Rattle.tw_base.proofs.lemmas.kinds.ListLemmas.{Each-append}
+use Rattle.tw_base.proofs.lemmas.kinds.ListLemmas.{Each-append, Each-map}
 
 module _ {X : Type 0} (P : X → Type 0) where
   pub Each-take : (n : ℕ) (xs : List X) → Each P xs → Each P (take n xs)
@@ -57,6 +58,19 @@ Rising-with (f ∷ es) (suc place) e rising above below = (
   Each-with (λ g. KeyBelow (key_of f) (key_of g)) es place (e ∷ []) rising.0 (above.0, tt),
   Rising-with es place e rising.1 above.1 below,
 )
+
+-- behind an entry above the key all entries are above it
+pub above_rest : (es : List Entry) (i : ℕ) (x : Entry) (key : Key) → IsRising es → slice_get es i ≡ Some x
+    → KeyBelow key (key_of x) → Each (λ f. KeyBelow key (key_of f)) (drop i es)
+above_rest [] i x key rising e less = absurd (none-some x e)
+above_rest (y ∷ es) zero x key rising e less =
+    let here : KeyBelow key (key_of y) = subst (λ (z : Entry). KeyBelow key (key_of z)) (sym (same_Some _ _ e))
+    less in (
+      here,
+      Each-map _ (λ f. KeyBelow key (key_of f)) es (λ f more. KeyBelow-trans key (key_of y) (key_of f) here more)
+          rising.0,
+    )
+above_rest (y ∷ es) (suc i) x key rising e less = above_rest es i x key rising.1 e less
 
 module _ {X : Type 0} where
   pub read-get : (xs : List X) (i : ℕ) (x : X) → i < length xs → x ≡ get_or xs i x → slice_get xs i ≡ Some x

@@ -1,13 +1,28 @@
 -- What is found in a page, and what comes of one entry more.
-use Rattle.std.specs.Prelude.{◌≡◌, ℕ, ◌+◌, ◌<◌, ◌≤◌, List, [], ◌∷◌, ◌++◌, length, take, drop}
+use Rattle.std.specs.Prelude.{◌≡◌, ℕ, ◌+◌, ◌-◌, ◌<◌, ◌≤◌, List, [], ◌∷◌, ◌++◌, length, take, drop, slice_get, Some}
 use Rattle.tw_base.specs.declared.history.thread.Entry.{Entry}
+use Rattle.tw_base.specs.declared.history.thread.Key.{Key}
+use Rattle.std.specs.declared.cmp.Ordering.TheVariants.{Equal}
+use Rattle.tw_base.specs.history.Entries.{key_cmp, key_of}
 use Rattle.tw_rbnode.specs.declared.limits.TheConstants.{MOST_KEYS}
 use Rattle.tw_rbnode.specs.declared.child.Child.{Child}
 use Rattle.tw_rbnode.specs.declared.node.Added.{Added}
 use Rattle.tw_rbnode.specs.declared.node.Added.TheVariants.{One, Two}
 use Rattle.tw_rbnode.specs.declared.node.Found.{Found}
 use Rattle.tw_rbnode.specs.declared.node.Found.TheVariants.{At, Between}
-use Rattle.tw_rbnode.specs.Page.{TreePage}
+use Rattle.tw_rbnode.specs.Page.{TreePage, IsBetween}
+
+-- the slot has the key
+pub record HasKey (es : List Entry) (slot : ℕ) (key : Key) : Type 0 where
+  pub entry : Entry
+  pub counted : 0 < slot
+  pub there : slice_get es (slot - 1) ≡ Some entry
+  pub key_is : key_cmp key (key_of entry) ≡ Equal
+
+-- the slot that has the key, or the place where it would stand
+abbrev pub IsFound : List Entry → Key → Found → Type 0
+IsFound es key (At slot) = HasKey es slot key
+IsFound es key (Between place) = IsBetween es place key
 
 -- the slot is one of them, or the place one beside them
 abbrev pub IsThereAsFound : List Entry → Found → Type 0

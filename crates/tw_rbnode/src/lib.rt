@@ -19,7 +19,7 @@ pub use adding::{add, put_child, single};
 pub use child::Child;
 pub use labels::{label, sides};
 pub use laws::{page_spelling_laws, page_tree_laws};
-pub use node::{Added, Found, RbNode, below, child_at, entry_at, keys, level, top};
+pub use node::{Added, Found, RbNode, below, child_at, entry_at, find, keys, level, top};
 pub use reading::read_node;
 pub use tw_base::{Ancestor, Digest, Entry, Hasher, Key};
 pub use ways::{WayDown, way};

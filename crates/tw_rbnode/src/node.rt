@@ -1,6 +1,8 @@
 // A page of an archive's tree, and what it has.
 
-ghost use Rattle.std.specs.Prelude.{◌≡◌, ◌-◌, ◌<◌, ◌≤◌, length, slice_get, Some};
+ghost use Rattle.std.specs.Prelude.{◌≡◌, ◌+◌, ◌-◌, ◌<◌, ◌≤◌, ℕ, length, slice_get, Option, Some};
+ghost use Rattle.tw_base.specs.history.Tree.{IsRising};
+ghost use Rattle.tw_rbnode.specs.Answers.{IsFound};
 ghost use Rattle.tw_rbnode.specs.Page.{IsNode};
 ghost use Rattle.tw_rbnode.specs.Slots.{below_at, slot_of};
 
@@ -8,8 +10,9 @@ use crate::child::Child;
 use crate::kept::{Kept, entry_of};
 use crate::links::{Link, link_at};
 use arrayvec::ArrayVec;
+use std::cmp::Ordering;
 use std::marker::Model;
-use tw_base::Entry;
+use tw_base::{Entry, Key, compare_keys, entry_key};
 
 /// One page of an archive's tree: 1 to 24 entries whose keys rise, at the nodes of a red-black tree, and a child at each of that
 /// tree's empty places. Slots, which have the entries, are counted from 1, and places, which have the children, from 0.
@@ -109,4 +112,27 @@ pub fn below(node: &RbNode, slot: u8) -> (u8, u8)
 {
     let link = link_at(&node.links, slot);
     (link.left, link.right)
+}
+
+/// The slot that has the key, or the place where it would stand; `seek` of `tw_rbtree` looks so for what is asked of a tree.
+pub fn find(node: &RbNode, key: &Key) -> Found
+    // What is found is the slot that has the key, or the place between the keys below it and those above it.
+    ensures { IsFound node.now.entries key.now result }
+{
+    find_in(node.entries.as_slice(), key)
+}
+
+fn find_in(entries: &[Kept], key: &Key) -> Found
+    requires rising { IsRising entries.now }
+    requires few { length entries.now < 255 }
+    ensures { IsFound entries.now key.now result }
+{
+    for (place, kept) in entries.iter().enumerate() {
+        match compare_keys(key, &entry_key(&kept.entry)) {
+            Ordering::Less => return Found::Between(place as u8),
+            Ordering::Equal => return Found::At(place as u8 + 1),
+            Ordering::Greater => {}
+        }
+    }
+    Found::Between(entries.len() as u8)
 }

@@ -1,12 +1,11 @@
 // Runs of the commands with a folder over a disk whose reads contradict each other: each ends with a status that such a disk may bring
 // about.
 
-use crate::fickle_disk::FickleDisk;
 use crate::playing::{after_all, files, words};
 use std::alloc::Global;
 use std::process::Abort;
 use tw_app::run;
-use tw_disk::MemDisk;
+use tw_disk::{FickleDisk, MemDisk};
 use tw_outside::{MemInputs, MemSink};
 
 /// How many seeds are tried.

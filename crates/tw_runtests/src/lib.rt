@@ -5,11 +5,11 @@
 #[cfg(test)]
 mod disk_runs;
 #[cfg(test)]
-mod fickle_disk;
-#[cfg(test)]
 mod file_disks;
 #[cfg(test)]
 mod folders;
+#[cfg(test)]
+mod generated;
 #[cfg(test)]
 mod hostile_runs;
 #[cfg(test)]

@@ -237,13 +237,13 @@ impl<D: Disk, H: Hasher> Service<D, H> {
     /// answered `DiskFault`; `NoStep` where 1 <= step <= top <= the last step doesn't hold, with the last step; `NoThread` where no step
     /// up to that one received a thread of the key. `BadPage` tells the first page met that isn't of its kind, or the root's page of an
     /// archive whose pages don't fit one another; it never comes where a history is served. It writes nothing.
-    pub fn prove_thread(&mut self, step: u64, key: &Key, top: u64) -> Result<Bytes, Refusal>
-        requires { IsStep key.now.step }
-        ensures { AsksFor H.dig D.view (ThreadOf step key.now (Some top)) self.old self.new result }
+    pub fn prove_thread(&mut self, step: u64, key: Key, top: u64) -> Result<Bytes, Refusal>
+        requires { IsStep key.step }
+        ensures { AsksFor H.dig D.view (ThreadOf step key (Some top)) self.old self.new result }
     {
         self.ask(&Question::Thread {
             step,
-            key: *key,
+            key,
             top: Some(top),
         })
     }
@@ -253,13 +253,13 @@ impl<D: Disk, H: Hasher> Service<D, H> {
     ///
     /// Condition and refusals are those of `prove_thread`, but for `HasThread` in place of `NoThread`, where a step up to that one
     /// received a thread of the key, with that step.
-    pub fn prove_absent(&mut self, step: u64, key: &Key, top: u64) -> Result<Bytes, Refusal>
-        requires { IsStep key.now.step }
-        ensures { AsksFor H.dig D.view (Absent step key.now (Some top)) self.old self.new result }
+    pub fn prove_absent(&mut self, step: u64, key: Key, top: u64) -> Result<Bytes, Refusal>
+        requires { IsStep key.step }
+        ensures { AsksFor H.dig D.view (Absent step key (Some top)) self.old self.new result }
     {
         self.ask(&Question::Absent {
             step,
-            key: *key,
+            key,
             top: Some(top),
         })
     }

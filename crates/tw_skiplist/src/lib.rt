@@ -22,3 +22,4 @@ pub use info::{StepInfo, StepLink, StepProof};
 pub use laws::{keeping_laws, reading_laws};
 pub use reading::{events, events_of, link, path, prove, step};
 pub use step_records::{StepRecord, copy_events, read_records};
+pub use tw_base::{Content, Root};

@@ -25,6 +25,7 @@ pub use path::{Link, LinkList, Path};
 pub use reading::{
     next_step, read_opening, read_path, take_count, take_link, take_opening, take_path,
 };
+pub use tw_base::ReadFault;
 pub use writing::{
     put_event, put_existence_body, put_opening, put_part, put_path, write_existence, write_opening,
     write_path,

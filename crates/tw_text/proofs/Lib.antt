@@ -1,2 +1,4 @@
 pub mod Numerals
 pub mod FieldLaws
+pub mod NameBytes
+pub mod SummaryLaws

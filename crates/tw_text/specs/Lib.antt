@@ -3,3 +3,4 @@ pub mod Lines
 pub mod Refusals
 pub mod Faults
 pub mod Reports
+pub mod Summaries

@@ -12,6 +12,7 @@ mod number;
 mod path;
 mod refusal;
 mod report;
+mod summary;
 
 pub use anchor::{AnchorLine, anchor_line};
 pub use bad_input::{bad_byte, bad_line};
@@ -24,3 +25,5 @@ pub use number::{read_digest, read_number};
 pub use path::FilePath;
 pub use refusal::{BadInput, StoreCause, refusal_name};
 pub use report::{print_gap, print_rejected, print_report, print_stands};
+pub use summary::{print_generated, print_replayed};
+pub use tw_base::{Claim, Hop, HopList, KeyList, Report, Seen};

@@ -1,5 +1,4 @@
 pub mod Members
-pub mod NameBytes
 pub mod Opened
 pub mod Births
 pub mod Ordered
@@ -9,7 +8,6 @@ pub mod LineSteps
 pub mod Leading
 pub mod Closing
 pub mod Together
-pub mod CountedSteps
 pub mod PlayedTexts
 pub mod Resting
 pub mod AnsweredCalls

@@ -1,20 +1,19 @@
 -- The text of what was played, by what its printers tell.
-use Rattle.std.proofs.Common.{◌≡◌, ℕ, suc, ◌+◌, ◌<◌, List, [], ◌∷◌, ◌++◌, length, drop, get_or, refl, ap, sym, ◌∙◌}
-use Rattle.std.proofs.Common.{codes, add-one}
+use Rattle.std.proofs.Common.{◌≡◌, ℕ, suc, ◌+◌, ◌<◌, List, [], ◌∷◌, ◌++◌, length, drop, get_or, map, refl, ap, sym, ◌∙◌}
+use Rattle.std.proofs.Common.{add-one}
 use Rattle.std.proofs.Math.Seq.{drop-cons}
-use Rattle.serde_json.specs.Data.{Data, Members, member, no_members, number, object, put, unsigned}
-use Rattle.serde_json.specs.Written.{compact_text}
 use Rattle.tw_base.specs.history.History.{History}
-use Rattle.tw_base.specs.kinds.Names.{name_text}
+use Rattle.tw_base.specs.declared.history.thread.Key.{Key}
 use Rattle.tw_script.specs.declared.script.NumberedLine.{NumberedLine}
-use Rattle.tw_world.specs.Hosts.{hosts_summary, with_counted}
+use Rattle.tw_text.specs.Summaries.{replayed_line}
+use Rattle.tw_world.specs.Hosts.{host_key, hosts_line}
 use Rattle.tw_world.specs.Playing.{counts_of}
-use Rattle.tw_world.specs.Telling.{replayed_text, told_line, told_lines, with_steps}
+use Rattle.tw_world.specs.Telling.{history_key, replayed_text, told_line, told_lines}
 use Rattle.tw_world.specs.declared.counts.Counts.{Counts}
 use Rattle.tw_world.specs.declared.host.Host.{Host}
 use Rattle.tw_world.specs.declared.told.Told.{Told}
 
--- ---- the numbers of steps
+-- ---- the services and their numbers of steps
 
 -- the services have these histories' names and numbers of steps, one after another
 abbrev pub AreCounted : List Host → List History → Type 0
@@ -22,35 +21,34 @@ AreCounted [] [] = Unit {0}
 AreCounted (host ∷ hosts) (h ∷ fam) = (host.name ≡ h.name) × (host.steps ≡ length h.steps) × AreCounted hosts fam
 AreCounted _ _ = ⊥
 
-pub counted-steps : (hosts : List Host) (fam : List History) (named : Members) → AreCounted hosts fam
-    → with_counted named hosts ≡ with_steps named fam
-unfolding with_counted with_steps
-counted-steps [] [] named are = refl
-counted-steps [] (h ∷ fam) named are = absurd are
-counted-steps (host ∷ hosts) [] named are = absurd are
-counted-steps (host ∷ hosts) (h ∷ fam) named are =
-    ap (λ (name : List ℕ). with_counted (put (name_text name) (number (unsigned host.steps)) named) hosts) are.0
-    ∙ ap (λ (n : ℕ). with_counted (put (name_text h.name) (number (unsigned n)) named) hosts) are.1
-    ∙ counted-steps hosts fam (put (name_text h.name) (number (unsigned (length h.steps))) named) are.2
+abbrev key : List ℕ → ℕ → Key
+key name steps = record { from = name; step = steps }
+
+counted-keys : (hosts : List Host) (fam : List History) → AreCounted hosts fam → map host_key hosts ≡ map history_key fam
+counted-keys [] [] are = refl
+counted-keys [] (h ∷ fam) are = absurd are
+counted-keys (host ∷ hosts) [] are = absurd are
+counted-keys (host ∷ hosts) (h ∷ fam) are =
+    ap (λ (name : List ℕ). key name host.steps ∷ map host_key hosts) are.0
+    ∙ ap (λ (n : ℕ). key h.name n ∷ map host_key hosts) are.1
+    ∙ ap (λ (ks : List Key). history_key h ∷ ks) (counted-keys hosts fam are.2)
+
+pub keys-drop : (hosts : List Host) (i : ℕ) (host : Host) → i < length hosts → get_or hosts i host ≡ host
+    → map host_key (drop i hosts) ≡ host_key host ∷ map host_key (drop (i + 1) hosts)
+keys-drop hosts i host within at =
+    ap (λ (hs : List Host). map host_key hs) (drop-cons hosts i host within ∙ ap (λ h. h ∷ drop (suc i) hosts) at)
+    ∙ ap (λ (j : ℕ). host_key host ∷ map host_key (drop j hosts)) (sym (add-one i))
 
 -- ---- the text
 
 pub played-text : (script : List NumberedLine) (told : List Told) (counts : Counts) (hosts : List Host)
     (fam : List History) (text : List ℕ) → AreCounted hosts fam
-    → counts ≡ counts_of told → text ≡ told_lines script told ++ compact_text (hosts_summary counts hosts) ++ codes "\n"
+    → counts ≡ counts_of told → text ≡ told_lines script told ++ hosts_line counts hosts
     → text ≡ replayed_text script told fam
 played-text script told counts hosts fam text are same is =
-    is ∙ ap (λ (cs : Counts). told_lines script told ++ compact_text (hosts_summary cs hosts) ++ codes "\n") same
-    ∙ ap (λ (ms : Members). told_lines script told ++ compact_text (of_members ms) ++ codes "\n")
-    (counted-steps hosts fam no_members are)
-  where
-    of_members : Members → Data
-    of_members ms =
-        object (member (codes "accepted") (number (unsigned (counts_of told).accepted))
-        (member (codes "none") (number (unsigned (counts_of told).none))
-        (member (codes "refused") (number (unsigned (counts_of told).refused))
-        (member (codes "rejected") (number (unsigned (counts_of told).rejected))
-        (member (codes "services") (object ms) no_members)))))
+    is ∙ ap (λ (cs : Counts). told_lines script told ++ hosts_line cs hosts) same
+    ∙ ap (λ (ks : List Key). told_lines script told ++ replayed_line (counts_of told).accepted (counts_of told).none
+    (counts_of told).refused (counts_of told).rejected ks) (counted-keys hosts fam are)
 
 -- ---- line after line
 

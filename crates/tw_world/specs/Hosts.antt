@@ -1,10 +1,9 @@
 -- Services on disks in memory, as they are played: which histories they have, and what lines make of them.
-use Rattle.std.specs.Prelude.{◌≡◌, ◌⊎◌, ℕ, List, [], ◌∷◌, codes, length, Bool, true, Option, Some, None, is_none, Result, Ok, Err}
-use Rattle.serde_json.specs.Data.{Data, Members, member, no_members, number, object, put, unsigned}
+use Rattle.std.specs.Prelude.{◌≡◌, ◌⊎◌, ℕ, List, length, map, Bool, true, Option, Some, None, is_none, Result, Ok, Err}
 use Rattle.sha2.specs.Sha256.{sha256}
 use Rattle.tw_base.specs.declared.history.question.Question.{Question}
 use Rattle.tw_base.specs.history.History.{History}
-use Rattle.tw_base.specs.kinds.Names.{name_text}
+use Rattle.tw_base.specs.declared.history.thread.Key.{Key}
 use Rattle.tw_base.specs.declared.history.refusal.Refusal.{Refusal}
 use Rattle.tw_base.specs.declared.history.refusal.Refusal.TheVariants.{DiskFault, NoMemory}
 use Rattle.tw_disk.specs.Disk.{IsAtRest}
@@ -17,6 +16,7 @@ use Rattle.tw_service.specs.Machine.Reply.{OfBytes as ReplyBytes, Refused}
 use Rattle.tw_service.specs.Serves.{Serves, disk_of}
 use Rattle.tw_service.specs.Stands.{StandsFor}
 use Rattle.tw_service.specs.declared.service.Service.{Service}
+use Rattle.tw_text.specs.Summaries.{replayed_line}
 use Rattle.tw_world.specs.Runs.{Appending, Receiving, TellsLine, answer_to_reply, receipt_step}
 use Rattle.tw_world.specs.declared.counts.Counts.{Counts}
 use Rattle.tw_world.specs.declared.host.Host.{Host}
@@ -128,18 +128,12 @@ IsGiven (Err DiskFault) given = ⊥
 IsGiven (Err NoMemory) given = ⊥
 IsGiven reply given = given ≡ reply
 
--- ---- the summary
+-- ---- the last line
 
--- the numbers of their steps, by their names, beside what is there
-unfoldable pub with_counted : Members → List Host → Members
-with_counted named [] = named
-with_counted named (host ∷ hosts) = with_counted (put (name_text host.name) (number (unsigned host.steps)) named) hosts
+-- the service's name and the number of its steps
+abbrev pub host_key : Host → Key
+host_key host = record { from = host.name; step = host.steps }
 
--- the summary of these counts and services
-abbrev pub hosts_summary : Counts → List Host → Data
-hosts_summary counts hosts =
-    object (member (codes "accepted") (number (unsigned counts.accepted))
-    (member (codes "none") (number (unsigned counts.none))
-    (member (codes "refused") (number (unsigned counts.refused))
-    (member (codes "rejected") (number (unsigned counts.rejected))
-    (member (codes "services") (object (with_counted no_members hosts)) no_members)))))
+-- the line of these counts and services
+abbrev pub hosts_line : Counts → List Host → List ℕ
+hosts_line counts hosts = replayed_line counts.accepted counts.none counts.refused counts.rejected (map host_key hosts)

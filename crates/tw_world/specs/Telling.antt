@@ -1,14 +1,13 @@
 -- The text of what is told of a schedule's lines.
-use Rattle.std.specs.Prelude.{ℕ, List, [], ◌∷◌, ◌++◌, codes, decimal, length, Bool, false, Option, Some, None}
+use Rattle.std.specs.Prelude.{ℕ, List, [], ◌∷◌, ◌++◌, codes, decimal, length, map, Bool, false, Option, Some, None}
 use Rattle.std.specs.List.{count_by}
 use Rattle.std.specs.Str.{bytes_eq}
-use Rattle.serde_json.specs.Data.{Data, Members, member, no_members, number, object, put, unsigned}
-use Rattle.serde_json.specs.Written.{compact_text}
 use Rattle.tw_base.specs.history.History.{History}
-use Rattle.tw_base.specs.kinds.Names.{name_text}
+use Rattle.tw_base.specs.declared.history.thread.Key.{Key}
 use Rattle.tw_script.specs.declared.script.NumberedLine.{NumberedLine}
 use Rattle.tw_text.specs.Lines.{line}
 use Rattle.tw_text.specs.Refusals.{refusal_name}
+use Rattle.tw_text.specs.Summaries.{replayed_line}
 use Rattle.tw_text.specs.declared.field.Field.{Field}
 use Rattle.tw_text.specs.declared.field.Field.TheVariants.{Number, Word}
 use Rattle.tw_world.specs.declared.told.Answer.{Answer}
@@ -64,22 +63,12 @@ begins_with word _ = false
 abbrev pub told_count_of : (word : List ℕ) → List Told → ℕ
 told_count_of word told = count_by (λ (t : Told). begins_with word (told_fields t)) told
 
--- the numbers of steps of histories, by their names, beside what is there
-unfoldable pub with_steps : Members → List History → Members
-with_steps named [] = named
-with_steps named (h ∷ family) = with_steps (put (name_text h.name) (number (unsigned (length h.steps))) named) family
-
-abbrev pub steps_by_name : List History → Members
-steps_by_name family = with_steps no_members family
-
-abbrev pub replay_summary : List Told → List History → Data
-replay_summary told family =
-    object (member (codes "accepted") (number (unsigned (told_count_of (codes "accepted") told)))
-    (member (codes "none") (number (unsigned (told_count_of (codes "none") told)))
-    (member (codes "refused") (number (unsigned (told_count_of (codes "refused") told)))
-    (member (codes "rejected") (number (unsigned (told_count_of (codes "rejected") told)))
-    (member (codes "services") (object (steps_by_name family)) no_members)))))
+-- the history's name and the number of its steps
+abbrev pub history_key : History → Key
+history_key h = record { from = h.name; step = length h.steps }
 
 -- all that is written of a script's lines, what is told of them, and the histories at the end
 abbrev pub replayed_text : List NumberedLine → List Told → List History → List ℕ
-replayed_text lines told family = told_lines lines told ++ compact_text (replay_summary told family) ++ codes "\n"
+replayed_text lines told family =
+    told_lines lines told ++ replayed_line (told_count_of (codes "accepted") told) (told_count_of (codes "none") told)
+    (told_count_of (codes "refused") told) (told_count_of (codes "rejected") told) (map history_key family)

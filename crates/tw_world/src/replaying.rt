@@ -1,9 +1,8 @@
 // The call that plays a script: all lines are read, each is played (`player.rt`), and what they are told is printed. The
 // command is in tw_app/src/replaying.rt.
 
-ghost use Rattle.std.specs.Prelude.{◌≡◌, ◌++◌, codes, length, IfOk, OnOk};
-ghost use Rattle.serde_json.specs.Written.{compact_text};
-ghost use Rattle.tw_world.specs.Hosts.{hosts_summary};
+ghost use Rattle.std.specs.Prelude.{◌≡◌, ◌++◌, length, IfOk, OnOk};
+ghost use Rattle.tw_world.specs.Hosts.{hosts_line};
 ghost use Rattle.tw_world.specs.Telling.{told_lines};
 ghost use Rattle.tw_world.specs.PlayedLines.{AreHostDisks, AreLinesRead, AreSorted};
 ghost use Rattle.tw_world.specs.Playing.{IsPlayed, Replays};
@@ -83,11 +82,10 @@ fn print_all(
     hosts: &[Host],
 ) -> Result<Bytes, NoMemory>
     requires { length told.now ≡ length script.now }
-    ensures { IfOk result (λ text. text ≡ told_lines script.now told.now ++ compact_text (hosts_summary counts.now hosts.now) ++ codes "\n") }
+    ensures { IfOk result (λ text. text ≡ told_lines script.now told.now ++ hosts_line counts.now hosts.now) }
 {
     let mut text = print_lines(alloc, script, told)?;
-    text.extend_from_slice(print_summary(alloc, counts, hosts)?.as_bytes())?;
-    text.extend_from_slice(b"\n")?;
+    text.extend_from_slice(print_summary(alloc, counts, hosts)?.as_slice())?;
     Ok(text)
 }
 

@@ -1,89 +1,42 @@
-// The last line of a script that was played: how many answers began with which word, and the steps of each service;
-// tw_generate/src/summary.rt has that of a schedule.
+// The last line of a script that was played, by the numbers of answers and the services at the end; tw_text prints it.
 
-ghost use Rattle.std.specs.Prelude.{◌≡◌, codes, string_bytes, IfOk, OnOk};
-ghost use Rattle.serde_json.specs.Data.{member, no_members, number, object, put as with_member, unsigned};
-ghost use Rattle.serde_json.specs.View.{members_view, view};
-ghost use Rattle.serde_json.specs.Written.{compact_text};
-ghost use Rattle.tw_base.specs.kinds.Names.{name_text};
-ghost use Rattle.tw_world.specs.Hosts.{hosts_summary, with_counted};
+ghost use Rattle.std.specs.Prelude.{◌≡◌, map, IfOk};
+ghost use Rattle.tw_world.specs.Hosts.{host_key, hosts_line};
 
 use crate::counts::Counts;
 use crate::host::Host;
-use serde_json::{Map, Value, json};
-use std::alloc::{AllocError, Global};
-use tw_base::{Name, NoMemory};
+use std::alloc::Global;
+use tw_base::{Bytes, Key, KeyList, NoMemory};
+use tw_text::print_replayed;
 
-/// The number of a service's steps, by its name, more.
-fn put_steps(
-    alloc: Global,
-    named: &mut Map<String, Value>,
-    name: &Name,
-    steps: u64,
-) -> Result<(), NoMemory>
-    ensures { OnOk result (members_view named.new.entries
-        ≡ with_member (name_text name.now) (number (unsigned steps)) (members_view named.old.entries)) }
+/// The services, each as a key of its name and the number of its steps.
+fn services(alloc: Global, hosts: &[Host]) -> Result<KeyList, NoMemory>
+    ensures { IfOk result (λ services. services ≡ map host_key hosts.now) }
 {
-    match std::str::from_utf8(name.text()) {
-        Ok(name) => {
-            serde_json::put(named, alloc, name, Value::from(steps))?;
-            Ok(())
-        }
-        Err(_) => unreachable!(),
-    }
-}
-
-/// The numbers of steps of services, by their names.
-fn steps_by_name(alloc: Global, hosts: &[Host]) -> Result<Map<String, Value>, NoMemory>
-    ensures { IfOk result (λ named. members_view named.entries ≡ with_counted no_members hosts.now) }
-{
-    let mut named = Map::new(alloc);
+    let mut services = KeyList::new(alloc);
     for host in hosts {
-        put_steps(alloc, &mut named, &host.name, host.steps)?;
+        services.push(Key {
+            from: host.name,
+            step: host.steps,
+        })?;
     }
-    Ok(named)
+    Ok(services)
 }
 
-/// The numbers of steps of services, by their names, as a value.
-fn services(alloc: Global, hosts: &[Host]) -> Result<Value, NoMemory>
-    ensures { IfOk result (λ v. view v ≡ object (with_counted no_members hosts.now)) }
+/// The last line of these counts and services.
+pub(crate) fn print_summary(
+    alloc: Global,
+    counts: &Counts,
+    hosts: &[Host],
+) -> Result<Bytes, NoMemory>
+    ensures { IfOk result (λ text. text ≡ hosts_line counts.now hosts.now) }
 {
-    let named = steps_by_name(alloc, hosts)?;
-    Ok(Value::Object(named))
-}
-
-/// The summary as a value.
-fn summary(alloc: Global, counts: &Counts, services: &Value) -> Result<Value, AllocError>
-    ensures { IfOk result (λ v. view v ≡ object (member (codes "accepted") (number (unsigned counts.now.accepted))
-        (member (codes "none") (number (unsigned counts.now.none))
-        (member (codes "refused") (number (unsigned counts.now.refused))
-        (member (codes "rejected") (number (unsigned counts.now.rejected))
-        (member (codes "services") (view services.now) no_members)))))) }
-{
+    let services = services(alloc, hosts)?;
     let Counts {
         accepted,
         none,
         refused,
         rejected,
     } = *counts;
-    json!(in alloc; {
-        "accepted": accepted,
-        "none": none,
-        "refused": refused,
-        "rejected": rejected,
-        "services": services
-    })
-}
-
-/// The summary as compact text, with sorted keys.
-pub(crate) fn print_summary(
-    alloc: Global,
-    counts: &Counts,
-    hosts: &[Host],
-) -> Result<String, NoMemory>
-    ensures { IfOk result (λ text. string_bytes text ≡ compact_text (hosts_summary counts.now hosts.now)) }
-{
-    let services = services(alloc, hosts)?;
-    let value = summary(alloc, counts, &services)?;
-    Ok(value.to_string(alloc)?)
+    print_replayed(alloc, accepted, none, refused, rejected, &services)
 }

@@ -25,6 +25,35 @@ pub fn read_name(bytes: &[u8], at: u64) -> Result<Name, u64>
     }
 }
 
+/// The number of `width` bytes (at most 8) at a place, from `least` to `most`.
+pub fn read_number(bytes: &[u8], at: u64, width: u8, least: u64, most: u64) -> Result<u64, u64>
+    requires width { width ≤ 8 }
+    requires within { at ≤ length bytes.now }
+    requires range { least ≤ most }
+    requires fits { most < 256 ^ width }
+    // A number is read from a place on exactly where the bytes there spell one within its range; else the place of the
+    // first bad byte is told.
+    ensures read { Gives (λ n. n) result (at + width) (read_at (number width least most) bytes.now at) }
+    ensures within { IfOk result (λ _. at + width ≤ length bytes.now) }
+    ensures range { IfOk result (λ n. (least ≤ n) × (n ≤ most)) }
+{
+    number_at(bytes, at as usize, width, least, most)
+}
+
+/// The digest at a place: 32 bytes, whatever they are.
+pub fn read_digest(bytes: &[u8], at: u64) -> Result<Digest, u64>
+    requires { at ≤ length bytes.now }
+    // A digest is read from a place on exactly where 32 bytes stand there; else the place at which the bytes end is
+    // told.
+    ensures read { Gives (λ d. d) result (at + 32) (read_at digest bytes.now at) }
+    ensures within { IfOk result (λ _. at + 32 ≤ length bytes.now) }
+{
+    if bytes.len() as u64 - at < 32 {
+        return Err(bytes.len() as u64);
+    }
+    Ok(digest_at(bytes, at))
+}
+
 /// The digest at a place that has 32 bytes.
 pub(crate) fn digest_at(bytes: &[u8], at: u64) -> Digest
     requires { at + 32 ≤ length bytes.now }
@@ -89,13 +118,7 @@ fn eight_at(bytes: &[u8], at: usize) -> Option<u64>
 }
 
 /// The number at a place: eight bytes at once where they are within the range, and else byte by byte.
-pub(crate) fn number_at(
-    bytes: &[u8],
-    at: usize,
-    width: u8,
-    least: u64,
-    most: u64,
-) -> Result<u64, u64>
+fn number_at(bytes: &[u8], at: usize, width: u8, least: u64, most: u64) -> Result<u64, u64>
     requires width { width ≤ 8 }
     requires within { at ≤ length bytes.now }
     requires range { least ≤ most }

@@ -7,7 +7,7 @@ ghost use Rattle.std.specs.Prelude.{◌≡◌, ◌≢◌, ◌^◌, ◌<◌, ◌�
 ghost use Rattle.tw_base.specs.format.Codecs.{bytes_codec, digest_codec, labels_codec, name_codec, number_codec, sized_codec, text_codec};
 ghost use Rattle.tw_base.specs.format.Taking.{Takes};
 
-use crate::format::fields::{check_text, digest_at, number_at, read_name};
+use crate::format::fields::{check_text, digest_at, read_digest, read_name, read_number};
 use crate::kinds::digest::Digest;
 use crate::kinds::failure::ReadFault;
 use crate::kinds::label_list::Labels;
@@ -34,7 +34,7 @@ pub fn take_number(
     // `NoMemory` is never answered.
     ensures memory { IfErr result (λ fault. fault ≢ ReadFault.NoMemory) }
 {
-    match number_at(bytes, *at as usize, width, least, most) {
+    match read_number(bytes, *at, width, least, most) {
         Ok(found) => {
             *at += width as u64;
             Ok(found)
@@ -51,14 +51,13 @@ pub fn take_digest(bytes: &[u8], at: &mut u64) -> Result<Digest, ReadFault>
     // `NoMemory` is never answered.
     ensures memory { IfErr result (λ fault. fault ≢ ReadFault.NoMemory) }
 {
-    if bytes.len() as u64 - *at < 32 {
-        return Err(ReadFault::Malformed {
-            place: bytes.len() as u64,
-        });
+    match read_digest(bytes, *at) {
+        Ok(found) => {
+            *at += 32;
+            Ok(found)
+        }
+        Err(place) => Err(ReadFault::Malformed { place }),
     }
-    let found = digest_at(bytes, *at);
-    *at += 32;
-    Ok(found)
 }
 
 /// Takes a service's name.

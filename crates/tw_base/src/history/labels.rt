@@ -2,7 +2,7 @@
 
 ghost use Rattle.std.specs.Prelude.{◌≡◌, ◌^◌, ◌<◌, ◌≤◌, length, IfSome};
 ghost use Rattle.tw_base.specs.declared.kinds.limits.TheConstants.{MOST_EVENT_BYTES};
-ghost use Rattle.tw_base.specs.kinds.Texts.{authenticator_text, datum_text, empty_tree_text, event_leaf_text, event_node_text, genesis_text, link_text, no_events_text, step_datum_text};
+ghost use Rattle.tw_base.specs.kinds.Texts.{authenticator_text, datum_text, empty_tree_text, event_leaf_text, event_node_text, genesis_text, link_text, no_events_text, step_datum_text, timed_datum_text};
 ghost use Rattle.tw_base.specs.history.Entries.{IsFit, entry_text};
 ghost use Rattle.tw_base.specs.kinds.Bytes.{HasBytes};
 ghost use Rattle.tw_base.specs.kinds.Digests.{AllDigests};
@@ -10,7 +10,8 @@ ghost use Rattle.tw_base.specs.kinds.Digests.{AllDigests};
 use crate::history::thread::Entry;
 use crate::history::told_labels::{
     authenticator_told, datum_told, empty_tree_told, event_leaf_told, event_node_told,
-    genesis_told, link_label_told, no_events_told, step_datum_told, tree_node_told,
+    genesis_told, link_label_told, no_events_told, step_datum_told, timed_datum_told,
+    tree_node_told,
 };
 use crate::kinds::digest::Digest;
 use crate::kinds::hasher::Hasher;
@@ -45,6 +46,28 @@ pub fn datum<H: Hasher>(event_root: &Digest, archive_root: &Digest, count: u32) 
     ensures archive_root_size { length archive_root.now ≡ 32 }
 {
     datum_told(event_root, archive_root, count, &mut Unwritten::<H>::new())
+}
+
+/// The datum of a step with a time: over the same and the time in seconds that its maker claims.
+pub fn timed_datum<H: Hasher>(
+    event_root: &Digest,
+    archive_root: &Digest,
+    count: u32,
+    time: u64,
+) -> Digest
+    // The label is the digest of the text of the datum with the time.
+    ensures label { result ≡ H.dig (timed_datum_text event_root.now archive_root.now count time) }
+    ensures event_root_size { length event_root.now ≡ 32 }
+    ensures archive_root_size { length archive_root.now ≡ 32 }
+    ensures time_size { time < 2 ^ 64 }
+{
+    timed_datum_told(
+        event_root,
+        archive_root,
+        count,
+        time,
+        &mut Unwritten::<H>::new(),
+    )
 }
 
 /// The datum of a step, which has a time or none.

@@ -37,6 +37,9 @@ pub struct Key {
     pub step: u64,
 }
 
+/// Keys, in some order.
+pub type KeyList = Sequence<Key>;
+
 /// Where an event stands: the service, its step (from 1) and the index among the step's events
 /// (from 0).
 #[derive(Clone, Copy, PartialEq, Eq, Debug, Drop)]

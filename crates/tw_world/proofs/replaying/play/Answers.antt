@@ -1,9 +1,8 @@
-use Rattle.std.proofs.Common.{◌≡◌, ◌∙◌, ◌++◌, List, length, ap, codes, subst, sym}
+use Rattle.std.proofs.Common.{◌≡◌, ◌∙◌, ◌++◌, List, length, ap, subst, sym}
 use Rattle.std.proofs.lemmas.List.{length-map}
-use Rattle.serde_json.specs.Written.{compact_text}
 use Rattle.sha2.specs.Sha256.{sha256}
 use Rattle.tw_script.specs.declared.script.NumberedLine.{NumberedLine}
-use Rattle.tw_world.specs.Hosts.{claims_none, hosts_summary}
+use Rattle.tw_world.specs.Hosts.{claims_none, hosts_line}
 use Rattle.tw_world.specs.PlayedLines.{HasPlayed}
 use Rattle.tw_world.specs.Players.{AreHostsOf}
 use Rattle.tw_world.specs.Playing.{counts_of, script_lines}
@@ -38,10 +37,10 @@ returns c =
       runs = played.1;
       text = played-text c.args.script.now told c.of-counts.result hosts (family end) c.in_ok-text.text
           (hosts-counted hosts end.members are) counts
-          (c.in_ok-text.ensures ∙ ap (λ (ts : List Told). told_lines c.args.script.now ts ++ compact_text
-          (hosts_summary c.of-counts.result c.deref.result.now) ++ codes "\n") c.as_slice-2.ensures
-          ∙ ap (λ (hs : List Host). told_lines c.args.script.now told ++ compact_text
-          (hosts_summary c.of-counts.result hs) ++ codes "\n") c.deref.ensures.value);
+          (c.in_ok-text.ensures ∙ ap (λ (ts : List Told). told_lines c.args.script.now ts ++ hosts_line c.of-counts.result
+          c.deref.result.now) c.as_slice-2.ensures
+          ∙ ap (λ (hs : List Host). told_lines c.args.script.now told ++ hosts_line c.of-counts.result hs)
+          c.deref.ensures.value);
       counts = counts;
       disks = disks-are end.members hosts c.in_ok-disks.disks are (own-histories (script_lines c.args.script.now) told
           end played.1) c.in_ok-disks.ensures;

@@ -1,0 +1,48 @@
+// Services on disks in memory, under any hasher, and what they tell.
+
+use std::alloc::Global;
+use tw_base::{Bytes, Digest, EventList, Hasher, Name, NoMemory, Question};
+use tw_disk::MemDisk;
+use tw_service::Service;
+
+/// One event of these bytes.
+pub(crate) fn one_event(alloc: Global, bytes: &[u8]) -> Result<EventList, NoMemory> {
+    let event = Bytes::from_slice(alloc, bytes)?;
+    let mut events = EventList::new(alloc);
+    events.push(event)?;
+    Ok(events)
+}
+
+/// A new service of this name.
+pub(crate) fn init<H: Hasher>(alloc: Global, name: &[u8]) -> Option<Service<MemDisk, H>> {
+    match Service::<MemDisk, H>::init(alloc, MemDisk::new(alloc), Name::read(name)?) {
+        Ok(service) => Some(service),
+        Err((_, _)) => None,
+    }
+}
+
+/// The service on this disk.
+pub(crate) fn open<H: Hasher>(alloc: Global, disk: MemDisk) -> Option<Service<MemDisk, H>> {
+    match Service::<MemDisk, H>::open(alloc, disk) {
+        Ok(service) => Some(service),
+        Err((_, _)) => None,
+    }
+}
+
+/// The authenticator of one more step, of one event of these bytes.
+pub(crate) fn add<H: Hasher>(
+    alloc: Global,
+    service: &mut Service<MemDisk, H>,
+    event: &[u8],
+) -> Option<Digest> {
+    let events = one_event(alloc, event).ok()?;
+    let thread = service.append(&events).ok()?;
+    Some(thread.auth)
+}
+
+/// The message of the first step of a service of this name, which is of one event of these bytes.
+pub(crate) fn told<H: Hasher>(alloc: Global, name: &[u8], event: &[u8]) -> Option<Bytes> {
+    let mut service = init::<H>(alloc, name)?;
+    add(alloc, &mut service, event)?;
+    service.ask(&Question::ThreadOut { since: 0 }).ok()
+}
