@@ -1,11 +1,11 @@
 #!/usr/bin/env python3
 """Writes into each wrong body of the gate, crates/*/must-fail, what it leaves out: the modules and functions of its crate on which what it turns
-doesn't stand.
+doesn't stand. Where the gate tries several of a crate, none leaves out anything: it proves the crate once, and tries each over that.
 
     python3 tools/leave_out.py [NAME ..]      into those of these crates, or of all
     python3 tools/leave_out.py --list [..]    writes nothing, and tells how many functions each leaves in
 
-The prover checks a crate from nothing for a wrong body. A function is proved from the contracts of what it calls, so what it doesn't reach has no say in
+The prover checks a crate from nothing for its only wrong body. A function is proved from the contracts of what it calls, so what it doesn't reach has no say in
 whether it meets its own: that gets `#[cfg(test)]`, by which it isn't compiled, and its name goes from the lists of `use`. It is found by names: what is
 turned, what a definition, a lemma or an impl of a trait names, and what these name in turn stays. Where too little stays, the gate mostly says that the edit can't be
 read, but may take it for refused: `python3 tools/wrong_bodies.py --kept` shows whether what stays is proved where no body is wrong.
@@ -304,17 +304,33 @@ def leave_out(crate, text, more=()):
     return edit.lines(), len(kept.functions)
 
 
+def body_of(text):
+    """What an edit turns, without what it leaves out."""
+    return text.partition(BEGINS)[0].rstrip("\n") + "\n"
+
+
+def edits(name):
+    """The wrong bodies of a crate that the gate tries."""
+    return sorted((TOP / "crates" / name / "must-fail").glob("*.edit"))
+
+
+def whole(path):
+    """The file of a wrong body of the gate as it is to be."""
+    name, body = path.parent.parent.name, body_of(path.read_text())
+    lines = [] if len(edits(name)) > 1 else (leave_out(Crate(name), body) or [[]])[0]
+    return body + ("\n".join(["", BEGINS, *lines]) + "\n" if lines else "")
+
+
 def main():
     is_list = "--list" in sys.argv
     for name in [word for word in sys.argv[1:] if word != "--list"] or crates():
-        for path in sorted((TOP / "crates" / name / "must-fail").glob("*.edit")):
-            body, crate = path.read_text().partition(BEGINS)[0].rstrip("\n") + "\n", Crate(name)
-            found = leave_out(crate, body)
-            lines, count = found or ([], len(crate.functions))
+        for path in edits(name):
             if is_list:
+                crate = Crate(name)
+                lines, count = leave_out(crate, body_of(path.read_text())) or ([], len(crate.functions))
                 print(f"{name}/{path.name}: {count} of {len(crate.functions)} functions, {len(lines)} lines")
             else:
-                path.write_text(body + ("\n".join(["", BEGINS, *lines]) + "\n" if lines else ""))
+                path.write_text(whole(path))
 
 
 if __name__ == "__main__":

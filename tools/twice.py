@@ -24,6 +24,7 @@ from pathlib import Path
 from typing import NamedTuple
 
 from crate_copy import TOP
+from wrong_bodies import TRIED, digest_of_crates, untried
 
 BUILT = ("bin", "lib", "web")
 DIST = TOP / "dist"
@@ -68,23 +69,26 @@ def prepare(place, room, commit):
     return folder, home
 
 
-def make(place, room, commit="HEAD", is_packs=False):
-    """Builds and packs a commit at a place; answers its dist/."""
+def make(place, room, commit="HEAD", is_packs=False, log=None):
+    """Builds and packs a commit at a place, and makes a release of it where a gate's log is named; answers its dist/."""
     folder, home = prepare(place, room, commit)
+    if log:
+        shutil.copyfile(log, home / "gate.log")
+    packing = ["tools/release.py", "--gate", str(home / "gate.log")] if log else ["tools/package.py"]
     if is_packs:
         for name in BUILT:
             shutil.copytree(TOP / name, folder / name, symlinks=True, dirs_exist_ok=True)
     for path in (folder, home):
         give(path, place)
-    for words in ([] if is_packs else [["tools/build_all.py", "--anew"]]) + [["tools/package.py"]]:
+    for words in ([] if is_packs else [["tools/build_all.py", "--anew"]]) + [packing]:
         print(f"{' '.join(words)} in {folder}, as {place.user}", flush=True)
         subprocess.run(["python3", *words], cwd=folder, check=True, **settings(place, room))
     return folder / "dist"
 
 
 def compare(one, other):
-    """Tells each file with its digest; answers whether all are the same. A signature is made once."""
-    names = sorted({path.name for folder in (one, other) for path in folder.iterdir() if path.suffix != ".sig"})
+    """Tells each file with its digest; answers whether all are the same. A signature is made once, and so is a log's proof."""
+    names = sorted({path.name for folder in (one, other) for path in folder.iterdir() if path.suffix not in (".sig", ".proof", ".line")})
     digests = [[hashlib.sha256((folder / name).read_bytes()).hexdigest() if (folder / name).exists() else "-" for folder in (one, other)] for name in names]
     for name, (first, second) in zip(names, digests):
         print(f"same {first} {name}" if first == second else f"DIFFERENT {first} {second} {name}")
@@ -99,6 +103,12 @@ def commit_of(dist):
     if subprocess.run(["git", "cat-file", "-e", f"{told[1]}^{{commit}}"], cwd=TOP, capture_output=True).returncode:
         sys.exit(f"twice: {dist}/BUILD is of the commit {told[1]}, which isn't in this repository")
     return told[1]
+
+
+def why_not_packed(commit):
+    """Why `make package` would take nothing of a commit, after hours; or nothing. (Before docs/wrong-bodies-tried.txt it asked for no trial.)"""
+    told = subprocess.run(["git", "show", f"{commit}:{TRIED.relative_to(TOP)}"], cwd=TOP, capture_output=True, text=True)
+    return untried(told.stdout, digest_of_crates(commit)) if told.returncode == 0 else None
 
 
 def read_words():
@@ -117,11 +127,14 @@ def main():
     if words.processors:
         os.sched_setaffinity(0, sorted(os.sched_getaffinity(0))[: words.processors])
     commit = commit_of(DIST) if words.beside else "HEAD"
+    if why := why_not_packed(commit):
+        sys.exit(f"twice: {why}")
+    log = DIST / "gate.log" if words.beside and (DIST / "gate.log").exists() else None
     with tempfile.TemporaryDirectory(prefix="timeweave_twice_") as name:
         room = Path(name)
         room.chmod(0o755)
         try:
-            made = [make(place, room, commit, words.packs) for place in (PLACES[1:] if words.beside else PLACES)]
+            made = [make(place, room, commit, words.packs, log) for place in (PLACES[1:] if words.beside else PLACES)]
         except subprocess.CalledProcessError as failed:
             return failed.returncode
         return 0 if compare(*([DIST] if words.beside else []), *made) else 1

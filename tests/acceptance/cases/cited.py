@@ -8,7 +8,7 @@ from harness.places import TOP
 from harness.rooms import checked
 
 DOCUMENTS = [TOP / "README.md", TOP / "reference/README.md", TOP / "web/README.md", TOP / "vectors/README.md", *sorted((TOP / "docs").glob("*.md")), *sorted((TOP / "bench").glob("*.md"))]
-SOURCES = ("crates/*/src/**/*.rt", "crates/*/specs/**/*.antt", "crates/*/proofs/**/*.antt", "tests/acceptance/**/*.py", "reference/**/*.py", "weft/**/*.py", "web/tests/*.*", "tools/*.*", "bench/*.py", "docs/*.txt")
+SOURCES = ("crates/*/src/**/*.rt", "crates/*/specs/**/*.antt", "crates/*/proofs/**/*.antt", "tests/**/*.py", "tests/acceptance/cases/promised.txt", "reference/**/*.py", "weft/**/*.py", "web/tests/*.*", "tools/*.*", "bench/*.py", "docs/*.txt")
 CRATE = re.compile(r"`(tw_\w+|timeweave(?:_c)?)\b")
 NAMES = r"(?:`\w+`(?:,\s+|\s+and\s+)?)+"
 PATH = re.compile(r"(?<![\w/.$])(?:crates|tests|tools|specs|docs|bench|examples|reference|proofs|src|must-fail|cases|harness|tw_\w+)/[\w.*/-]*\w")
@@ -109,6 +109,20 @@ def paths(program):
     return "\n".join(wrong) or None
 
 
+def tried(program):
+    """The cases and tests that docs/parties.md names and that aren't there; and the rows of its tables that name none."""
+    text = (TOP / "docs/parties.md").read_text()
+    wrong = []
+    for name in re.findall(r"`((?:weft_\w+|reference)\.\w+|test_\w+|audits)`", text):
+        module, _, function = name.partition(".")
+        path = TOP / ("tests/deciding" if module.startswith("test_") else "tests/acceptance/cases") / f"{module}.py"
+        if not path.exists() or function and f"\ndef {function}(" not in path.read_text():
+            wrong.append(f"  {name}")
+    rows = [line for line in text.splitlines() if line.startswith("| ") and not line.startswith(("| he can", "| it can"))]
+    wrong += [f"  nothing tries: {row}" for row in rows if not re.search(r"\| (?:`|the proved theorem)[^|]*\|$", row)]
+    return "\n".join(wrong) or None
+
+
 def cases():
     checks = {
         "members": of_owners,
@@ -116,5 +130,6 @@ def cases():
         "theorems": theorems,
         "code names": code_names,
         "paths": paths,
+        "what each party can't do": tried,
     }
     yield from checked("cited", checks)

@@ -19,6 +19,7 @@ from timeweave_reference.events_files import MOST_BYTES as MOST_EVENTS_FILE, eve
 from timeweave_reference.histories import Step, history_to_bytes
 from timeweave_reference.services import service_of
 from timeweave_reference.timelines import Timeline
+from timeweave_reference.tree_pages import PAGE
 
 # ---- closed standard streams
 
@@ -112,6 +113,43 @@ def linked_store(room):
         synced = syncs_before_writes([call for call in calls if call.path != str(room.folder / "d")], room.folder / "there")
         expect((status, output, synced), (0, line, True), f"timeweave {words}, and whether the target's folder is synced first")
     expect((room.folder / "there/other").read_bytes(), store.file(), "the link's target")
+
+
+# ---- the calls of an append
+
+# The pages of a store before its first step: two gates and two bodies, of which the second ones are the next step's.
+GATE, BODY, FIRST_PAGE = 1, 3, 4
+
+
+def commit_calls(count):
+    """The calls that commit so many pages to a new store: syncs, and the pages that are written, gates with their first byte."""
+    pages = range(FIRST_PAGE, FIRST_PAGE + count)
+    return [(GATE, 0), "sync", *pages, BODY, "sync", (GATE, 1), "sync"]
+
+
+def store_calls(calls, store):
+    """The syncs and writes on the store, as `commit_calls` has them."""
+    for call in calls:
+        if call.path == store and call.name in ("fsync", "fdatasync"):
+            yield "sync"
+        elif call.path == store and call.name == "pwrite64":
+            page = int(call.words[3]) // PAGE
+            yield (page, call.data[0]) if page < BODY - 1 else page
+
+
+def append_calls(room):
+    """the calls of a first append on the store, in their order: eight of one event, 24 of 64 events of 1,024 bytes"""
+    path = room.folder / "d/timeline.tw"
+    (room.folder / "d").mkdir()
+    for events, pages, count in (([b"x"], 2, 8), ([bytes([k]) * 1024 for k in range(64)], 17 + 1, 24)):
+        path.unlink(missing_ok=True)
+        room.expect("init d calls", 0, service_of("calls", []).anchor(0))
+        room.put("e", events_to_bytes(events))
+        status, line, calls = calls_of(room.program, ["append", "d", "e"], room.folder)
+        store, wanted = service_of("calls", [events]), commit_calls(pages)
+        expect((status, line, len(wanted)), (0, store.anchor(1), count), "timeweave append d e, and how many calls are wanted")
+        expect(list(store_calls(calls, os.path.realpath(path))), ["sync", *wanted], "the syncs and writes of timeweave append d e")
+        room.expect_store(store.file())
 
 
 # ---- stores that may only be read
@@ -311,7 +349,7 @@ def interruptible(calls, folder):
 
 def cases():
     works = (
-        no_devices, no_devices_closed_output, folder_synced, linked_store, only_read, read_only_mount, no_file_left, opened_once, pipes,
-        substituted, replaced, waiting_pipe, open_pipe, interrupted,
+        no_devices, no_devices_closed_output, folder_synced, linked_store, append_calls, only_read, read_only_mount, no_file_left, opened_once,
+        pipes, substituted, replaced, waiting_pipe, open_pipe, interrupted,
     )
     return [case(work, "edges") for work in works]

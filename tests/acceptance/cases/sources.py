@@ -1,16 +1,21 @@
 """The sources keep the project's own rules: long functions say why they are, attributes fit on a line, files of lemmas say what they are
 of, tests stand in crates of their own, crates are small, no chain of crates is long, a definition's name stands for one thing, little
-stands twice, want of memory has a cause, and the gate tries one wrong body of a crate."""
+stands twice, want of memory has a cause, the gate tries one wrong body of a crate and those that are named here, and each worked example has its
+tests."""
 
+import json
 import re
 import shutil
 import subprocess
 from pathlib import Path
 
+import leave_out
 import twins
+import wrong_bodies
 from pictures import crates, height
 
-from harness.places import TOP
+from cases.worked import ROWS
+from harness.places import ACCEPTANCE, TOP
 from harness.rooms import checked
 
 LONGEST = 40
@@ -27,9 +32,9 @@ MOST_TWINS = 38
 # The crates that have more, and how much at most: no crate comes in, no number rises but for a reason that docs/DECISIONS.md tells, and one
 # that has no more than the others goes.
 LARGE = {
-    "tw_base": (3127, 157),
+    "tw_base": (3156, 159),
     "tw_history": (2124, 108),
-    "tw_skiplist": (1581, 100),
+    "tw_skiplist": (1582, 100),
     "tw_verifier": (1994, 100),
 }
 
@@ -265,10 +270,136 @@ def memory(program):
     return "\n".join(wrong + [f"  {place} doesn't, and is in WANTS" for place in sorted(allowed - said)]) or None
 
 
-def wrong_bodies(program):
-    """The crates of which the gate tries more than one wrong body: a second one has the whole crate proved again."""
-    counts = {name: len([path for path in files("*.edit") if path.relative_to(TOP).parts[:2] == ("crates", name)]) for name in crates()}
-    return "\n".join(f"  {name} has {count}, one is allowed" for name, count in counts.items() if count > 1) or None
+# The wrong bodies that the gate always tries, by crate and edit, each with what it does: what a reader of the promises would try first.
+NAMED = {
+    # What a proof shows.
+    "tw_verifier/hop_later_than_its_archive": "a hop may be archived at a later step than the one whose archive shows it",
+    "tw_verifier/first_event_above_its_thread": "the first event may stand at a later step than the thread that tells of it",
+    "tw_verifier/first_hop_in_the_archive_of_the_second_event": "the hop nearest to the second event is shown by that event's own step, not by the one before it",
+    "tw_verifier/pieces_unread": "a proof that comes in pieces is judged without them",
+    "tw_verifier/one_may_be_carried": "the strict form takes a proof that carries a thread",
+    "tw_chain/anchor_not_compared": "a path may end at another authenticator than the one held",
+    "tw_chain/opening_not_checked": "an opening may belong to another authenticator",
+    "tw_chain/wrong_tree_proof_taken": "a tree proof that shows nothing is taken",
+    "tw_chain/kind_5_is_malformed": "a proof of a link isn't read",
+    "tw_chain/last_hop_written_twice": "a proof is written with one hop more than it has",
+    "tw_events/path_length_of_the_path": "an event's path may be shorter than the count of the step's events says",
+    "tw_treeproof/absence_past_the_asked_key": "a search for an absent key goes on at the entry that has it",
+    "tw_base/bytes_after_the_end_ignored": "a reader takes bytes behind a word's end",
+    "tw_base/name_with_letters_after_zeros": "a name has a second spelling",
+    "tw_base/number_written_from_its_high_bytes": "a number is written otherwise than it is read",
+    "tw_base/datum_ignores_the_count": "the text of a step's datum doesn't have the count of its events",
+    "tw_base/top_level_one_too_low": "a step has fewer links than its number gives",
+    # What an audit, an atlas, map files, evidence and a history taken over show.
+    "tw_audit/always_stands": "an audit never finds a clash",
+    "tw_audit/a_repeated_text_is_a_clash": "an audit tells one text as two",
+    "tw_audit/two_texts_of_its_own_making": "an audit tells two texts that stand nowhere in the files",
+    "tw_tmap/step_of_any_neighbour": "a thread of another service is told as the peer's",
+    "tw_atlas/only_the_first_round": "an atlas goes over the receipts once",
+    "tw_atlas/one_leg_to_a_service": "an atlas keeps one way to each service",
+    "tw_evidence/path_not_climbed": "the path between two threads isn't climbed",
+    "tw_evidence/bottom_not_compared": "the path may begin at the first thread's own authenticator",
+    "tw_adopt/the_whole_history_handed_out": "a history is taken over further than its peers hold it",
+    # What a store and a service keep.
+    "tw_pages/answered_before_the_last_barrier": "a commit answers before the barrier behind the gate",
+    "tw_pages/committed_page_rewritten": "a commit writes over a page that stands",
+    "tw_pages/spare_body_before_its_gate_is_closed_for_good": "a commit writes a body whose gate may still read open",
+    "tw_pages/opened_without_the_first_barrier": "a store is opened without a barrier",
+    "tw_pages/good_store_refused": "a good store is opened as none",
+    "tw_rbnode/a_split_with_another_middle": "the entry between two halves of a full page is lost",
+    "tw_archive/second_authenticator_of_a_step_archived": "another authenticator of a known step may be archived",
+    "tw_service/second_authenticator_archived": "a service archives another authenticator of a known step",
+    "tw_service/message_answered_by_a_bad_page": "a good message is answered by a bad page",
+    "tw_service/always_a_disk_fault": "each append is answered by a disk fault",
+    "tw_service/received_though_the_commit_failed": "a receipt is given for a step that may not stand",
+    "tw_service/proof_under_the_last_step": "a proof is made under another step than the one asked for",
+    "tw_follow/link_not_climbed": "a follower moves without climbing the link",
+    "tw_follow/head_told_before_it_is_kept": "a follower answers before its head is kept",
+    "tw_world/new_disks_handed_back": "a script is played without the stores that are handed back",
+    "tw_generate/new_disks_handed_back": "histories are generated without the stores that are handed back",
+    # How a run ends.
+    "tw_app/rejected_with_status_0": "a rejected proof ends with status 0",
+    "tw_app/always_an_input_fault": "each run ends with a fault of its files",
+    "tw_app/always_an_output_fault": "each run ends with a fault of its output",
+    "tw_app/always_a_disk_fault": "each run ends with a fault of its disk",
+    "tw_app/reason_that_does_not_stand": "a proof is rejected for a reason that doesn't stand",
+    "tw_app/done_though_a_barrier_failed": "a run is done though a barrier failed",
+    "tw_app/committed_page_rewritten_behind_the_run": "a run writes over a page that stands",
+}
+
+# Those that a test refuses, each with the file and the test: want of memory is always allowed, and how many barriers there are no clause of a run says.
+TESTED = {
+    "each run ends for want of memory": ("crates/tw_runtests/src/runs.rt", "each_command_is_done"),
+    "a run opens its store without a barrier": ("crates/tw_runtests/src/disk_runs.rt", "each_page_of_a_way_is_read_once"),
+}
+
+
+def bodies_of_gate(program):
+    """The crates of which the gate tries more than one wrong body that isn't named, and what is named and not there."""
+    there = {f"{name}/{edit}" for name in crates() for edit in wrong_bodies.bodies_of_gate(name)}
+    others = [body.split("/")[0] for body in there - set(NAMED)]
+    wrong = [f"  {name} has {others.count(name)} besides those that are named, one is allowed" for name in sorted(set(others)) if others.count(name) > 1]
+    wrong += [f"  crates/{body.replace('/', '/must-fail/')}.edit isn't there" for body in NAMED if body not in there]
+    wrong += [f"  {path} has no test {test}" for path, test in TESTED.values() if f"#[test]\nfn {test}(" not in (TOP / path).read_text()]
+    return "\n".join(wrong) or None
+
+
+def fitting_bodies(program):
+    """The wrong bodies that don't fit the sources, and those of the gate that leave out something else than tools/leave_out.py would have them leave out."""
+    unfit = wrong_bodies.unfit_bodies(crates())
+    if unfit:
+        return "\n".join(f"  {why}" for why in unfit)
+    edits = [path for name in crates() for path in leave_out.edits(name)]
+    stale = [path.relative_to(TOP) for path in edits if path.read_text() != leave_out.whole(path)]
+    return "\n".join(f"  {path}: `python3 tools/leave_out.py {path.parts[1]}`" for path in stale) or None
+
+
+# What says how many wrong bodies the gate tries, and how many it doesn't.
+COUNTING = ("README.md", "Makefile", ".ci/run", "docs/glossary.md", "docs/proving.md", "docs/claims.md")
+COUNTED = (re.compile(r"(\d+)\schosen\swrong\s+bod"), re.compile(r"(\d+)\sother\swrong\s+bod"))
+
+
+def counted_bodies(program):
+    """The documents that don't say how many wrong bodies the gate tries, or that tell another number of these or of the others."""
+    wrong = []
+    for name in COUNTING:
+        found = [{int(number) for number in pattern.findall((TOP / name).read_text())} for pattern in COUNTED]
+        if not found[0] or any(told - {count} for told, count in zip(found, wrong_bodies.counts(crates()))):
+            wrong.append(f"  {name} tells of {found[0] or 'no'} chosen wrong bodies and of {found[1] or 'no'} others; `python3 tools/wrong_bodies.py --list` counts them")
+    return "\n".join(wrong) or None
+
+
+def trials(program):
+    """What is wrong with the file that tells when all wrong bodies were tried, or with what is said of it"""
+    text = wrong_bodies.TRIED.read_text()
+    told = dict(line.split(" ", 1) for line in text.splitlines() if not line.startswith("#"))
+    if list(told) != ["day", "commit", "crates", "tried"]:
+        return f"  it tells {list(told)}"
+    if wrong_bodies.untried(text, told["crates"]) is not None or "make wrong-bodies" not in (wrong_bodies.untried(text, "0" * 40) or ""):
+        return "  packages of the crates that were tried are refused, or of others aren't"
+    return None
+
+
+def is_there(place, name):
+    """Whether there is this test of a file of a crate, this function of a module of cases, which another one calls, this case of a table, or this
+    file of a crate."""
+    kind = Path(place).suffix
+    if kind == ".rt":
+        crate, file = place.split("/")
+        return f"#[test]\nfn {name}(" in (TOP / "crates" / crate / "src" / file).read_text()
+    if kind == ".py":
+        text = (ACCEPTANCE / "cases" / place).read_text()
+        return f"\ndef {name}(" in text and len(re.findall(rf"\b{name}\b", text)) > 1
+    if kind == ".json":
+        return name in (case["name"] for case in json.loads((ACCEPTANCE / "cases" / place).read_text()))
+    return (TOP / "crates" / place / name).is_file()
+
+
+def worked_examples(program):
+    """The tests and cases of worked examples that aren't there."""
+    named = [(example, place, name) for example, places in ROWS.items() for place, *names in places for name in names]
+    wrong = [f"  {example}: {place} has no {name}" for example, place, name in named if not is_there(place, name)]
+    return "\n".join(wrong) or None
 
 
 def heights(program):
@@ -294,7 +425,11 @@ def cases():
         "what is handed out": handed_out,
         "the header for C": header,
         "where memory is wanted": memory,
-        "wrong bodies of the gate": wrong_bodies,
+        "worked examples": worked_examples,
+        "wrong bodies of the gate": bodies_of_gate,
+        "wrong bodies and the sources": fitting_bodies,
+        "the number of wrong bodies": counted_bodies,
+        "when wrong bodies were tried": trials,
         "heights": heights,
         "names of definitions": names_twice,
         "what stands twice": what_stands_twice,

@@ -151,7 +151,9 @@ def refusals(room):
         ([b""] * 1025, "TooMany 1025"),
         ([bytes(1025)] * 1000 + [b""] * 25, "TooMany 1025"),
         ([b"", bytes(1025), bytes(2000)], "TooLong 1025"),
+        ([bytes(1025)], "TooLong 1025"),
         ([bytes(1024)] * 64 + [b"x"], "TooLong 65537"),
+        ([bytes(1024)] * 65, "TooLong 66560"),
         ([bytes(1024)] * 65 + [bytes(1030)], "TooLong 1030"),
     ):
         room.put("f", events_to_bytes(events))
