@@ -7,6 +7,7 @@ which is killed amid; prints the rows of a table.
 For the cluster it needs Debian's python3-distributed, and leaves it out where that isn't there."""
 
 import argparse
+import hashlib
 import os
 import resource
 import shutil
@@ -75,7 +76,7 @@ def over_cluster(folder: Path, program: str, python: str, is_killed: bool) -> Ru
         worker = [python, "-m", "distributed.cli.dask_worker", f"tcp://127.0.0.1:{port}", "--no-dashboard", "--no-nanny", "--nthreads", "1"]
         running += [subprocess.Popen(worker, cwd=folder, env=env, stderr=subprocess.DEVNULL) for _ in range(OF_CLUSTER)]
         time.sleep(10)  # (until all have come)
-        began, part = time.monotonic(), folder / "tc.part"
+        began, part = time.monotonic(), own_rows(folder)
         judge = subprocess.Popen(words_for(python, "tc", "--dask", f"tcp://127.0.0.1:{port}"), cwd=folder, env=env, stdout=subprocess.DEVNULL)
         wanted = len(os.listdir(folder / "many")) // 3
         while is_killed and judge.poll() is None and not (part.exists() and part.read_bytes().count(b"\n") > wanted):
@@ -88,6 +89,11 @@ def over_cluster(folder: Path, program: str, python: str, is_killed: bool) -> Ru
         for it in running:
             it.kill()
             it.wait()
+
+
+def own_rows(folder: Path) -> Path:
+    """The file among the user's own in which the rows of the cluster's table are kept while it is made, and behind that."""
+    return folder / ".local/share/weft/judged" / f"{hashlib.sha256(os.fsencode(folder / 'tc')).hexdigest()}.rows"
 
 
 def rows_once(table: Path, count: int) -> bool:
@@ -120,7 +126,7 @@ def main() -> int:
             assert rows_once(folder / f"t{workers}", given.histories)
             print(f"| {workers} | {took.seconds:.1f} | {took.processor:.1f} | {os.getloadavg()[0]:.1f} |", flush=True)
         for is_killed in (False, True) if python else ():
-            (folder / "tc").unlink(missing_ok=True)
+            own_rows(folder).unlink(missing_ok=True)
             took = over_cluster(folder, program, python or "", is_killed)
             assert rows_once(folder / "tc", given.histories)
             told = "a Dask cluster of 3, one killed amid" if is_killed else "a Dask cluster of 3"

@@ -45,8 +45,9 @@ PIECES = 16
 class Network:
     """The network in a folder, and what became of it."""
 
-    def __init__(self, folder: Path, program: str, plan: Plan, seed: int, nights: int, executor: Executor):
+    def __init__(self, folder: Path, program: str, plan: Plan, seed: int, nights: int, executor: Executor, appended: float = 0):
         self.folder, self.program, self.plan, self.seed, self.nights, self.executor = folder, program, plan, seed, nights, executor
+        self.appended = appended
         self.truth = truth.Truth()
         self.wrong: list[str] = []
         self.found = found.Found(plan)
@@ -101,8 +102,8 @@ class Network:
         """Whether a peer of a service with an old store hands back a later line of it, which wasn't damaged on its way."""
         for peer in self.plan.peers[name]:
             path = self.folder / f"box-{name}/{peer}/in/yours"
-            signed = signatures.split(path.read_bytes()) if path.exists() else None
-            if signed and signed.line.step > self.saved[name] and signatures.checked_by(signed, self.folder / f"{name}.key.pub"):
+            signed = signatures.read_signed_line(path.read_bytes()) if path.exists() else None
+            if signed and signed.line.step > self.saved[name] and signatures.checked_by(signed, signatures.public_key(self.folder / f"{name}.key.pub")):
                 return True
         return False
 
@@ -139,7 +140,7 @@ class Network:
         """The other histories of the liars go on, up to as many steps as the first ones have."""
         lying = [name for name, begin in self.plan.liars.items() if begin < night]
         for name in lying:
-            files.go_on_lying(self.folder, self.program, name, self.truth.last(name))
+            files.go_on_lying(self.folder, self.program, name, self.truth.last(name) + self.plan.is_ahead(name))
         tasks = [Task(str(self.folder / "false"), self.program, name, None, None, {}, tuple(self.plan.peers[name])) for name in lying]
         for turn in self.executor.map(turns.turn, tasks):
             self.found.note_other(turn.name, turn.lines)
@@ -159,7 +160,8 @@ class Network:
         """Carries what was put out."""
         links = [self.link(night, name, peer) for name in self.plan.names if self.plan.is_at_work(night, name) for peer in self.plan.peers[name]]
         size = len(links) // PIECES + 1
-        loads = [Load(self.seed, night, is_calm, str(self.folder / "late"), links[at : at + size]) for at in range(0, len(links), size)]
+        late, appended = str(self.folder / "late"), 0 if is_calm else self.appended
+        loads = [Load(self.seed, night, is_calm, late, links[at : at + size], appended) for at in range(0, len(links), size)]
         for _ in self.executor.map(carry, loads):
             pass
 
@@ -169,7 +171,7 @@ class Network:
         if self.plan.is_shown_other(night, name, peer):
             out = self.folder / f"false/box-{name}/{peer}/out"
         if self.plan.is_shown_other(night, peer, name):
-            return Link(f"{name}-{peer}", str(out), str(self.folder / f"false/box-{peer}/{name}/in"), ("receipt", "refusal"))
+            return Link(f"{name}-{peer}", str(out), str(self.folder / f"false/box-{peer}/{name}/in"), ("receipt", "refusal", "requests"))
         return Link(f"{name}-{peer}", str(out), str(into))
 
     # ---- the end
@@ -202,9 +204,9 @@ class Network:
         )  # fmt: skip
 
 
-def played(folder: Path, program: str, services: int, nights: int, seed: int, executor: Executor) -> tuple[list[str], told.Figures]:
+def played(folder: Path, program: str, services: int, nights: int, seed: int, executor: Executor, appended: float = 0) -> tuple[list[str], told.Figures]:
     """Plays a network over an executor; answers what was wrong, and the figures."""
-    network = Network(folder, os.path.abspath(program), plan_of(services, nights, seed), seed, nights, executor)
+    network = Network(folder, os.path.abspath(program), plan_of(services, nights, seed), seed, nights, executor, appended)
     network.play()
     return network.wrong, network.check(MOST_PAIRS)
 
@@ -221,6 +223,7 @@ def read_words() -> argparse.Namespace:
     words.add_argument("--folder", metavar="FOLDER", help="an empty folder for all files, which stays; of a cluster one that its machines share")
     words.add_argument("--seconds", metavar="N", type=float, default=float("inf"), help="no night begins after so many seconds, once each part has begun; else none is left out")
     words.add_argument("--pairs", metavar="N", type=int, default=MOST_PAIRS, help=f"so many pairs of events at most; else {MOST_PAIRS:,}")
+    words.add_argument("--appended", metavar="SHARE", type=float, default=0, help="to this share of the signed lines a made-up one is appended on the way; else none")
     words.add_argument("--write", action="store_true", help="writes the figures into bench/RESULTS.md, and the picture bench/NETWORK.svg")
     given = words.parse_args()
     if given.services < LEAST_SERVICES or given.nights < LEAST_NIGHTS:
@@ -242,7 +245,7 @@ def main() -> int:
         assert folder is not None
         place = Path(folder).absolute()
         plan = plan_of(words.services, words.nights, words.seed)
-        network = Network(place, os.path.abspath(words.program), plan, words.seed, words.nights, executor)
+        network = Network(place, os.path.abspath(words.program), plan, words.seed, words.nights, executor, words.appended)
         network.play(words.seconds, progress=sys.stderr.isatty() or words.write)
         figures = network.check(words.pairs)
     print(json.dumps({**figures.as_json(), "seconds": round(time.monotonic() - began, 1)}))

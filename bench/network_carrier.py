@@ -1,4 +1,5 @@
-"""The carrier between the boxes of a network: it loses, doubles, delays and damages files by a seed."""
+"""The carrier between the boxes of a network: it loses, doubles, delays and damages files by a seed; and where it is told to, it appends to signed lines
+others that it made up."""
 
 import os
 import random
@@ -6,6 +7,8 @@ from pathlib import Path
 from typing import NamedTuple
 
 from network_files import put
+
+from weft.deciding.signatures import BEGIN, END
 
 LOST, LATE, DAMAGED = 0.2, 0.1, 0.02
 
@@ -27,6 +30,7 @@ class Load(NamedTuple):
     is_calm: bool
     late: str
     links: list[Link]
+    appended: float = 0
 
 
 def carry(load: Load) -> None:
@@ -54,9 +58,17 @@ def names_in(folder: str) -> list[str]:
     return sorted(found)
 
 
+def made_up_line(data: bytes) -> bytes:
+    """A line of the step behind that of a signed line, with the armour of a signature and no signature in it: whoever has no key can make it."""
+    name, step, _ = data.split(b"\n")[0].split(b" ")
+    return b"%s %d %s\n%s\nAAAA\n%s\n" % (name, int(step) + 1, b"f" * 64, BEGIN, END)
+
+
 def carry_file(load: Load, link: Link, name: str, drawn: random.Random) -> None:
     """Carries a file, or not."""
     data, to = Path(link.out, name).read_bytes(), Path(link.into, name)
+    if name == "line" and random.Random(f"{load.seed} {load.night} {link.name} appended").random() < load.appended:
+        data += made_up_line(data)
     if not load.is_calm:
         if drawn.random() < LOST:
             return

@@ -1,5 +1,6 @@
 """Small devices: a process goes on while a folder lies on a file system of a few pages, in a mount namespace of its own."""
 
+import contextlib
 import ctypes
 import os
 import shutil
@@ -7,6 +8,8 @@ import sys
 import tempfile
 from pathlib import Path
 from typing import Optional
+
+from weft import files
 
 LIBC = ctypes.CDLL(None, use_errno=True)
 NEW_MOUNTS = 0x00020000
@@ -60,6 +63,21 @@ def copied(source: str, target: str, left_out: str) -> None:
             shutil.copyfile(one, other)
 
 
+def reseal(folder: str) -> None:
+    """Lets services that were copied into a folder count as being where they were written."""
+    for path in Path(folder).glob("*.seal"):
+        _, _, line = path.read_text().partition(" ")
+        files.renew(path, lambda identity, line=line: f"{identity} {line}".encode())
+
+
+def unseal(folder: str) -> None:
+    """Takes away what tells that a box, or a service beside it, is a copy: here it is to be the same one."""
+    for name in (".turn", ".seal"):
+        with contextlib.suppress(FileNotFoundError):
+            os.unlink(os.path.join(folder, name))
+    reseal(folder)
+
+
 def move_to(folder: Path, pages: int, left_out: str = "") -> None:
     """From here on the process goes on as a child, for which the folder lies on a file system that has so many free pages; folders of the name that is left
     out stay where they are. This one waits, puts back what is there then, and ends with the child's status, or with 99 where that ended otherwise."""
@@ -68,6 +86,7 @@ def move_to(folder: Path, pages: int, left_out: str = "") -> None:
     below = f"/proc/self/fd/{under}"
     mount("tmpfs", str(folder), "tmpfs", 0)
     copied(below, str(folder), left_out)
+    unseal(str(folder))
     for place, names, _ in os.walk(folder):
         for name in [name for name in names if name == left_out]:
             path = os.path.join(place, name)
@@ -82,4 +101,5 @@ def move_to(folder: Path, pages: int, left_out: str = "") -> None:
         return
     status = os.waitpid(child, 0)[1]
     copied(str(folder), below, left_out)
+    unseal(below)
     os._exit(os.WEXITSTATUS(status) if os.WIFEXITED(status) else 99)

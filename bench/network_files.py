@@ -6,6 +6,7 @@ import subprocess
 from pathlib import Path
 from typing import NamedTuple, Optional
 
+from network_devices import reseal
 from network_turns import run_program
 from timeweave_reference.archives import Entry
 from timeweave_reference.events_files import events_to_bytes
@@ -41,18 +42,19 @@ def put(path: Path, data: bytes) -> None:
 def copy(folder: Path, name: str, to: Path, with_box: bool = False) -> None:
     """Copies a service's store with what stands beside it, and its box."""
     (to / "tmp").mkdir(parents=True, exist_ok=True)
-    for part in (name, f"{name}.lines", f"{name}.anchor", *([f"box-{name}"] if with_box else [])):
+    for part in (name, f"{name}.lines", f"{name}.anchor", f"{name}.seal", *([f"box-{name}"] if with_box else [])):
         path = folder / part
         if path.is_dir():
             shutil.rmtree(to / part, ignore_errors=True)
             shutil.copytree(path, to / part)
         elif path.exists():
             shutil.copy2(path, to / part)
+    reseal(str(to))
 
 
 def put_back(folder: Path, name: str, copied: Path) -> None:
     """Puts a copy of a service's store in the place of it, with what stands beside it."""
-    for part in (name, f"{name}.lines", f"{name}.anchor"):
+    for part in (name, f"{name}.lines", f"{name}.anchor", f"{name}.seal"):
         path = folder / part
         shutil.rmtree(path) if path.is_dir() else path.unlink(missing_ok=True)
     copy(copied, name, folder)
@@ -61,6 +63,8 @@ def put_back(folder: Path, name: str, copied: Path) -> None:
 def begin_lying(folder: Path, name: str) -> None:
     """Copies a service into the folder of the other histories, where it signs by the same key."""
     copy(folder, name, folder / "false", with_box=True)
+    for note in (".turn", ".seal"):
+        (folder / f"false/box-{name}" / note).unlink(missing_ok=True)
     put(folder / f"false/box-{name}/box.conf", f"key = {folder}/{name}.key\n".encode())
 
 
@@ -117,7 +121,7 @@ def replayed(name: str, steps: list[Step]) -> Service:
         entry = Entry(step.thread.service, step.thread.step, step.thread.authenticator, number)
         service.archive.insert(entry)
         service.entries[entry.key] = service.last_of[entry.service] = entry
-        service._add((), entry, step.time, 0, 0)
+        service.add_step((), entry, step.time, 0, 0)
     return service
 
 

@@ -33,6 +33,7 @@ class Found:
         self.plan = plan
         self.evidence: dict[str, int] = {}
         self.old: set[str] = set()
+        self.held_back = 0
         self.untold: set[tuple[int, str]] = set()
         self.taken_over: set[str] = set()
         self.floods: set[str] = set()
@@ -55,6 +56,8 @@ class Found:
         wrong += self.note_floods(night, turn)
         if turn.status == OLD_STORE and plan.is_old(night, turn.name):
             self.old.add(turn.name)
+        elif turn.status == OLD_STORE and "unsigned" in turn.told:
+            self.held_back += 1  # (a receipt that was damaged on its way told a later step; the next night's tells the true one)
         elif turn.fault is None and not plan.is_lying(night, turn.name):
             if plan.is_old(night, turn.name):
                 wrong.append(f"{turn.name} wasn't told that its store is old: {turn}")
@@ -79,6 +82,7 @@ class Found:
         plan, made_up = self.plan, made_up_lines(histories)
         wrong = [f"nobody found that {name} shows two histories" for name in plan.forkers if name not in self.evidence]
         wrong += [f"nobody found that {name} shows two histories to {plan.victim(name)}" for name in plan.hiders if name not in self.evidence and plan.can_be_found(name)]
+        wrong += [f"nobody found that {name} shows a history of other steps to {plan.victim(name)}" for name in plan.skippers if name not in self.evidence and plan.can_be_found(name)]
         could = {name for name, begin in plan.old.items() if any((night, name) not in self.untold for night in range(begin, begin + plan.old_nights))}
         wrong += [f"the old store of {name} wasn't told" for name in could if name not in self.old]
         wrong += [f"a line that nobody made was received: {it}" for it in made_up]
@@ -89,6 +93,7 @@ class Found:
         counts = [
             Count("another history shown to one peer for six nights, then to all", len(plan.forkers), self.count(plan.forkers)),
             Count("another history shown to one peer for good", len(plan.hiders), self.count(plan.hiders), "that peer exchanges with no other peer of the liar"),
+            Count("another history, of other step numbers, shown to one peer for good", len(plan.skippers), self.count(plan.skippers), "that peer exchanges with no other peer of the liar"),
             Count("an old store put back: no step was made", len(plan.old), len(self.old), "no peer handed back a later line that wasn't damaged on its way"),
             Count("a message made up in somebody's name: held back", len(plan.squatted), len(plan.squatted) - len(made_up)),
             Count("a peer's folder flooded: told, and the turn went on", len(plan.flooders), len(self.floods)),

@@ -138,8 +138,10 @@ def turn(task: Task) -> Turn:
             lines.append(output.decode().strip())
     for peer, known in task.known.items():
         accept(task, peer, known)
-    despite = [word for peer in task.despite for word in ("--despite", peer)]
-    status, told = weft(task.folder, task.program, "exchange", task.name, f"box-{task.name}", *despite, fault=task.fault)
+    more = [word for peer in task.despite for word in ("--despite", peer)]
+    if lines and not Path(task.folder, f"{task.name}.lines").exists():
+        more += ["--adopt-store", lines[-1]]
+    status, told = weft(task.folder, task.program, "exchange", task.name, f"box-{task.name}", *more, fault=task.fault)
     last = told.splitlines()[-1:] if status in DONE else []
     lines += [line for line in last if line.startswith(f"{task.name} ")]
     return Turn(task.name, status, told, lines, task.fault, processor_time() - began)
@@ -162,7 +164,7 @@ def accept(task: Task, peer: str, known: frozenset[str]) -> None:
     except ValueError:
         return
     if f"{found.service} {found.step} {found.authenticator.hex()}" in known:
-        weft(task.folder, task.program, "accept", f"box-{task.name}", peer, "--yes")
+        weft(task.folder, task.program, "accept", f"box-{task.name}", peer, "--yes", found.authenticator.hex())
 
 
 def is_accepted(box: Path) -> bool:

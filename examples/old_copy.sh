@@ -38,14 +38,16 @@ run "weft log --no-time files shop"
 # They were set back as well: the peer tells, by the signed line that it hands back.
 run "cp copy/shop.lines copy/shop.anchor copy/shop.entries ."
 run "weft exchange shop box-shop"
-# The log doesn't ask the peer, and goes on: from here on there are two histories. The lines that were kept elsewhere tell, and the peer again.
-run "weft log --no-time files shop; weft log --no-time files shop; weft log --no-time files shop"
+# The log tells it too, by the seal of its last step. Somebody takes the seal away, asks nobody, and names the old line as the last one: from here on
+# there are two histories. The lines that were kept elsewhere tell, and the peer again.
+run "weft log --no-time files shop"
+run "rm shop.seal && weft log --no-time files shop --adopt-store \"\$(weft line shop)\"; weft log --no-time files shop; weft log --no-time files shop"
 run "weft check shop"
 run "weft exchange shop box-shop"
 # The line of the other history, signed and handed to the peer past weft: it has both now, and they are evidence.
 run "weft line shop --sign shop.key --out line > told && cat line line.sig > box-bank/shop/in/line"
 run "weft exchange bank box-bank"
 # The right one is put back, and all goes on.
-run "cp right/timeline.tw shop/timeline.tw && cp right.lines shop.lines && cp right.anchor shop.anchor"
-run "weft log --no-time files shop"
+run "cp right/timeline.tw shop/timeline.tw && cp right.lines shop.lines && cp right.anchor shop.anchor && rm shop.seal"
+run "weft log --no-time files shop --adopt-store right.anchor"
 run "weft check shop > told && head -n 1 told"

@@ -15,19 +15,20 @@ export PATH WEFT_KEPT="$PWD/kept" here
 run "mkdir deeds entries notary box && timeweave init notary notary"
 run "echo 'The house is sold to Ann.' > deeds/deed && weft log --no-time deeds register register"
 run "timeweave thread register 0 > message && timeweave receive notary message > receipt"
-run "echo 'Seen.' > entries/entry && weft log --no-time entries notary"
+# (weft asks once for the last line of a store whose steps it didn't make.)
+run "echo 'Seen.' > entries/entry && weft log --no-time entries notary --adopt-store \"\$(weft line notary)\""
 run "weft prove register deed > told && weft prove notary entry > told"
 # What goes into the box: the record, the chain, the lines with signatures and keys, and what judges them.
 run "cp deeds/deed box && weft chain deed.proof entry.proof --store register --store notary --out box/chain > told && head -n 1 told"
 run "for name in register notary; do ssh-keygen -q -t ed25519 -N '' -C \$name -f \$name.key; weft line \$name --sign \$name.key --out box/\$name.line > told; done"
 run "cat box/register.line box/notary.line > box/lines"
 run "for name in register notary; do echo \"\$name \$(cut -d ' ' -f 1,2 \$name.key.pub)\" >> box/signers; done"
-run "cp -r \$here/../reference/timeweave_reference \$here/../docs/formats.md \$here/../docs/definitions.md box"
-run "if test -e \$here/../web/timeweave.html; then cp \$here/../web/timeweave.html box; fi"
+run "cp -r \"\$here/../reference/timeweave_reference\" \"\$here/../docs/formats.md\" \"\$here/../docs/definitions.md\" box"
+run "if test -e \"\$here/../web/timeweave.html\"; then cp \"\$here/../web/timeweave.html\" box; fi"
 # The renewal: digests by SHA-512 of what rests on SHA-256, recorded in a third service, which others hold a line of.
 run "timeweave export register > box/register.history"
 run "cd box && sha512sum deed chain lines register.history > ../digests"
-run "mkdir keeper && timeweave init keeper keeper > told && xargs -d '\\n' python3 \$here/events_file.py < digests > events && timeweave append keeper events"
+run "mkdir keeper && timeweave init keeper keeper > told && xargs -d '\\n' python3 \"\$here/events_file.py\" < digests > events && timeweave append keeper events"
 run "for index in 0 1 2 3; do timeweave prove keeper event 1 \$index 1 > box/renewal.\$index; done"
 run "ssh-keygen -q -t ed25519 -N '' -C keeper -f keeper.key && weft line keeper --sign keeper.key --out box/keeper.line > told"
 run "echo \"keeper \$(cut -d ' ' -f 1,2 keeper.key.pub)\" >> box/signers"
@@ -36,13 +37,13 @@ What is in this box shows that the file deed stood in the register before the no
 whoever has the keys in the file signers from the register, the notary and the keeper themselves. It takes Python 3.9 or later, and ssh-keygen.
 
 The chain of events, under the lines (accepted precedes):
-    $ python3 -m timeweave_reference strict chain lines
+    $ python3 -I timeweave_reference strict chain lines
 The event of the register in words; behind its digest stands the file's name, and the digest is that of sha256sum:
-    $ python3 -m timeweave_reference strict chain lines | sed -n 's/^event register 1 0 //p' | python3 -c 'print(bytes.fromhex(input()).decode())' | sha256sum -c
+    $ python3 -I timeweave_reference strict chain lines | sed -n 's/^event register 1 0 //p' | python3 -c 'print(bytes.fromhex(input()).decode())' | sha256sum -c
 The signatures of the lines:
     $ for name in register notary keeper; do ssh-keygen -Y verify -n timeweave-line -f signers -I $name -s $name.line.sig < $name.line; done
 The renewal: SHA-512 digests of these files, as the keeper recorded them:
-    $ for index in 0 1 2 3; do python3 -m timeweave_reference strict renewal.$index keeper.line | sed -n 's/^event keeper 1 . //p' | python3 -c 'print(bytes.fromhex(input()).decode())'; done | sha512sum -c
+    $ for index in 0 1 2 3; do python3 -I timeweave_reference strict renewal.$index keeper.line | sed -n 's/^event keeper 1 . //p' | python3 -c 'print(bytes.fromhex(input()).decode())'; done | sha512sum -c
 If no Python is left that runs it, formats.md and definitions.md say how the digests are computed: with SHA-256 alone.
 END
 # Opened by somebody who has nothing else: a folder of its own, and neither Timeweave nor weft on the path.

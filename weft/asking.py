@@ -97,6 +97,11 @@ def known(peer: Peer, request: str) -> Optional[bytes]:
     return files.read_if_there(peer.kept / "answers" / id_of(request), MOST_ANSWER)
 
 
+def forget_answer(peer: Peer, request: str) -> None:
+    """Takes an answer away that is of no use, so that another one is taken in its place."""
+    files.remove(peer.kept / "answers" / id_of(request))
+
+
 def take_answers(peer: Peer) -> int:
     """Takes the answers that came to what was asked; answers how many."""
     pending = read_requests(peer.read("asked"))

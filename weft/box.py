@@ -1,6 +1,6 @@
 """A box: for each peer a folder of its name, in which whatever carries files finds and leaves them.
 
-    BOX/box.conf            settings, `name = value`: key, unsigned, files, bytes
+    BOX/box.conf            settings, `name = value`: key, unsigned, files, bytes, silent
     BOX/allowed_signers     whose keys are whose, as ssh-keygen(1) has it
     BOX/PEER/in             what the peer put out for this service; nobody but the carrier writes it
     BOX/PEER/out            what is to be carried to the peer
@@ -12,28 +12,30 @@ from __future__ import annotations
 import os
 import re
 from pathlib import Path
-from typing import Container, NamedTuple, Optional
+from typing import NamedTuple, Optional
 
-from weft import files, signatures
+from weft import files
+from weft.deciding.signatures import Signed, cut_torn, read_signed_lines
+from weft.deciding.silence import Came, Heard, weigh_failure
+from weft.deciding.worst import worst_of
 from weft.lines import NAME, Kept, Line, read_kept, read_line
-from weft.signatures import Signed
 from weft.statuses import Status
 from weft.texts import name_of
 from weft.trouble import Trouble
 
-MOST_SIGNED = 48
 MOST_SETTINGS = 65_536
-MOST_KEPT = 8 << 20
+MOST_KEPT = 256 << 20
 
 
 class Settings(NamedTuple):
     """What box.conf says: the key that own lines are signed with; whether unsigned messages are taken; how many files and bytes are read a night and
-    peer."""
+    peer; and after how many turns in which nothing new came a peer's silence is told, 0 for never."""
 
     key: Optional[Path] = None
     is_unsigned: bool = False
     files: int = 64
     bytes: int = 4 << 20
+    silent: int = 3
 
 
 def read_settings(box: Path) -> Settings:
@@ -52,33 +54,32 @@ def read_settings(box: Path) -> Settings:
             found = found._replace(files=int(value))
         elif name == "bytes" and re.fullmatch("[1-9][0-9]{0,9}", value):
             found = found._replace(bytes=int(value))
+        elif name == "silent" and re.fullmatch("0|[1-9][0-9]{0,3}", value):
+            found = found._replace(silent=int(value))
         else:
             told = f"line {number} of {name_of(box / 'box.conf')} is no setting"
-            raise Trouble(Status.UNREADABLE, told, "They are: key = FILE, unsigned = yes, files = 64, bytes = 4194304.")
+            raise Trouble(Status.UNREADABLE, told, "They are: key = FILE, unsigned = yes, files = 64, bytes = 4194304, silent = 3.")
     return found
 
 
-def split_signed(data: bytes, services: Optional[Container[str]] = None) -> list[Signed]:
-    """The signed lines of a file that has them one after another, all or those of these services; what is none is left out."""
-    end = signatures.END.encode() + b"\n"
-    pieces = [piece for piece in data.split(end)[:-1] if services is None or piece.partition(b" ")[0].decode("ascii", "replace") in services]
-    return [signed for signed in (signatures.split(piece + end) for piece in pieces) if signed]
-
-
-def opened_folder(folder: Path, below: list[str]) -> Optional[int]:
-    """The number of a folder that is opened, or of one below it, through no link; None where there is none."""
+def opened_folder(folder: Path, below: list[str]) -> int:
+    """The number of a folder that is opened, or of one below it, through no link; raises OSError where it can't be."""
     flags = os.O_RDONLY | os.O_DIRECTORY | os.O_NOFOLLOW | os.O_CLOEXEC
-    number = None
-    try:
-        number = os.open(folder, flags)
-        for name in below:
-            upper, number = number, os.open(name, flags, dir_fd=number)
+    number = os.open(folder, flags)
+    for name in below:
+        upper = number
+        try:
+            number = os.open(name, flags, dir_fd=upper)
+        finally:
             os.close(upper)
-        return number
-    except OSError:
-        if number is not None:
-            os.close(number)
-        return None
+    return number
+
+
+def why_unopened(path: Path, failure: OSError) -> str:
+    """Why a folder can't be opened, as a sentence's end."""
+    if path.is_symlink():
+        return "it is a link, and no link is followed there"
+    return f"it can't be opened: {os.strerror(failure.errno or 0)}"
 
 
 class Peer:
@@ -89,43 +90,89 @@ class Peer:
         self.incoming, self.out, self.kept = (self.folder / part for part in ("in", "out", "kept"))
         self.files, self.bytes = 0, 0
         self.told: list[str] = []
+        self.status = Status.DONE
+        self.unopened: set[str] = set()
+        self.line_heard, self.message_heard = Heard.NOTHING, Heard.NOTHING
+        self.has_message = False
+        self.once: dict[str, Optional[bytes]] = {}
         self.seen: list[Signed] = []
         self.signed: Optional[list[Signed]] = None
+        self.steps: dict[int, list[Signed]] = {}
         self.known: dict[str, bytes] = {}
 
     def make(self) -> None:
-        """Makes its folders."""
-        for part in (self.incoming, self.out, self.out / "answers", self.kept, self.kept / "answers", self.kept / "forks"):
+        """Makes its folders. What the carrier put in the place of `in` is left as it is, and told where it is read."""
+        if not os.path.lexists(self.incoming):
+            files.make_folder(self.incoming)
+        for part in (self.out, self.out / "answers", self.kept, self.kept / "answers", self.kept / "forks"):
             files.make_folder(part)
 
     def say(self, text: str) -> None:
         """Notes what is to be said of it."""
         self.told.append(text)
 
+    def need(self, text: str, status: Status = Status.LOOK) -> None:
+        """Notes what is to be said of it, and that it counts; what is worst counts."""
+        self.say(text)
+        self.status = worst_of((self.status, status))
+
     # ---- what came
 
     def take(self, name: str, most: int) -> Optional[bytes]:
-        """A file of `in`, or None where it isn't there, is no regular file, is too long, or tonight's share is used up. No link is followed."""
+        """A file of `in`, or None where there is no such file. No link is followed. One that is there and can't be read, isn't regular, is too long, or is beyond
+        tonight's share, is told and counts."""
         if self.files >= self.settings.files or self.bytes >= self.settings.bytes:
-            self.say(f"its share of tonight is used up, and {name} wasn't read")
+            self.need(f"its share of tonight is used up, and {name} wasn't read")
             return None
-        *above, last = name.split("/")
-        within = opened_folder(self.incoming, above)
+        within = self.open_within(name)
         if within is None:
             return None
+        last = name.split("/")[-1]
         try:
             os.stat(last, dir_fd=within, follow_symlinks=False)
             data = files.read(last, min(most, self.settings.bytes - self.bytes), follow=False, within=within)
-        except OSError:
+        except OSError as failure:
+            if weigh_failure(failure.errno) is Came.UNREAD:
+                self.need(f"in/{name} wasn't taken: {os.strerror(failure.errno or 0)}")
             return None
         except Trouble as trouble:
-            self.say(f"in/{name} wasn't taken: {trouble.sentence}")
+            self.need(f"in/{name} wasn't taken: {trouble.sentence}")
             return None
         finally:
             os.close(within)
         self.files += 1
         self.bytes += len(data)
         return data
+
+    def take_once(self, name: str, most: int) -> Optional[bytes]:
+        """The same of a file that is asked for more than once a turn; it is read once."""
+        if name not in self.once:
+            self.once[name] = self.take(name, most)
+        return self.once[name]
+
+    def open_within(self, name: str) -> Optional[int]:
+        """The number of the folder of a file of `in`, or None where there is no such folder; one that is there and can't be opened is told once, and counts."""
+        above = name.split("/")[:-1]
+        try:
+            return opened_folder(self.incoming, above)
+        except OSError as failure:
+            path = self.incoming.joinpath(*above)
+            if weigh_failure(failure.errno) is Came.UNREAD and path.name not in self.unopened:
+                self.unopened.add(path.name)
+                self.need(f"nothing of {name_of(path)} was read: {why_unopened(path, failure)}. Let the carrier leave a folder there that this user may read")
+            return None
+
+    def came(self, name: str) -> Optional[int]:
+        """When a file of `in` was last changed on this device, in seconds since 1970, which no carrier sets back; None where it can't be told."""
+        within = self.open_within(name)
+        if within is None:
+            return None
+        try:
+            return int(os.stat(name.split("/")[-1], dir_fd=within, follow_symlinks=False).st_ctime)
+        except OSError:
+            return None
+        finally:
+            os.close(within)
 
     # ---- what is kept
 
@@ -151,16 +198,37 @@ class Peer:
         return read_kept(self.read("accepted").decode("utf-8", "replace").split("\n")[0])
 
     def signed_lines(self) -> list[Signed]:
-        """Its last signed lines, oldest first; the file is read once."""
+        """All lines that it signed, in the order in which they came, and none of another name; the file is read once. That a signature was good when it came
+        says nothing of now: whatever rests on one has it checked anew."""
         if self.signed is None:
-            self.signed = split_signed(self.read("signed"))
+            self.signed = read_signed_lines(self.read("signed"), [self.name])
+            for signed in self.signed:
+                self.steps.setdefault(signed.line.step, []).append(signed)
         return self.signed
 
+    def signed_at(self, step: int) -> list[Signed]:
+        """Those of this step: one, or where it signed several, each."""
+        self.signed_lines()
+        return self.steps.get(step, [])
+
     def add_signed(self, signed: Signed) -> None:
-        """Keeps one more."""
-        lines = [it for it in self.signed_lines() if it.line != signed.line][-MOST_SIGNED + 1 :]
-        self.signed = [*lines, signed]
-        self.renew("signed", b"".join(it.data for it in self.signed))
+        """Keeps one more behind all others. One whose writing was stopped amid it is cut off first."""
+        lines, old = self.signed_lines(), self.read("signed")
+        whole = cut_torn(old)
+        self.renew("signed", whole)
+        files.append(os.path.join(self.kept, "signed"), signed.data)
+        self.known["signed"] = whole + signed.data
+        lines.append(signed)
+        self.steps.setdefault(signed.line.step, []).append(signed)
+
+    def fork_names(self) -> list[str]:
+        """The names of the files by which two histories of it were shown; where the folder can't be read, that is trouble."""
+        try:
+            return sorted(name for name in os.listdir(self.kept / "forks") if not name.endswith(".new"))
+        except FileNotFoundError:
+            return []
+        except OSError as failure:
+            raise files.unread(self.kept / "forks", failure) from None
 
     def taken_line(self) -> Optional[Line]:
         """The line of its last message that was taken."""
@@ -183,10 +251,18 @@ class Peer:
         files.renew_if_other(os.path.join(self.out, name), data)
 
 
+def is_folder(entry: os.DirEntry[str]) -> bool:
+    """Whether it is a folder, or a link to one or to what can't be looked at."""
+    try:
+        return entry.is_dir()
+    except OSError:
+        return True
+
+
 def peers_of(box: Path, own: str, settings: Settings) -> tuple[list[Peer], list[str]]:
-    """The peers of a box, and the names of folders that are none."""
+    """The peers of a box, and the names of folders and of links to folders that are none."""
     if not box.is_dir():
         raise Trouble(Status.DISK, f"{name_of(box)} is no folder", "Make it, and in it a folder for each peer: weft accept BOX PEER does.")
-    names = sorted(it.name for it in os.scandir(box) if it.is_dir(follow_symlinks=False) and not it.name.startswith("."))
-    good = [name for name in names if NAME.fullmatch(name) and name != own]
-    return [Peer(box, name, settings) for name in good], [name for name in names if name not in good]
+    found = [it for it in os.scandir(box) if is_folder(it) and not it.name.startswith(".")]
+    good = sorted(it.name for it in found if not it.is_symlink() and NAME.fullmatch(it.name) and it.name != own)
+    return [Peer(box, name, settings) for name in good], sorted(it.name for it in found if it.name not in good)

@@ -1,13 +1,12 @@
 """Many proofs judged into a table, over all processors. A run that was stopped is gone on with.
 
-The table is text, its fields apart by tabs: file, bytes, when it was modified, verdict, reason, lines that it rests on. While it is made it stands
-in a file of its name with `.part` behind; its first line says by whom and under which kept lines was judged."""
+The table is text, its fields apart by tabs; `weft.deciding.rows` has its fields, and when a row of an earlier run stands for a file. Rows
+of earlier runs are read from the user's own files alone, and not from the table, which may lie beside what somebody sent."""
 
 from __future__ import annotations
 
 import argparse
 import functools
-import hashlib
 import os
 from collections import Counter
 from concurrent.futures import Executor, ProcessPoolExecutor, as_completed
@@ -15,10 +14,15 @@ from concurrent.futures.process import BrokenProcessPool
 from pathlib import Path
 from typing import Iterator, NamedTuple, Optional
 
-from weft import choosing, clusters, files, formats, judges, locks, reports
+from weft import choosing, clusters, files, formats, judges, lines, locks, outcomes, packages
 from weft.choosing import Judgement
+from weft.deciding import rows
+from weft.deciding.choosing import Headline
+from weft.deciding.rows import HEAD, NO_DIGEST, Row
+from weft.deciding.worst import worst_of
 from weft.judges import Bench
 from weft.lines import KeptLines
+from weft.outcomes import Named
 from weft.output import say, say_json
 from weft.progress import Progress
 from weft.statuses import Status
@@ -27,36 +31,26 @@ from weft.trouble import Trouble
 
 PIECE, PIECES = 500, 64
 MOST_ROUNDS = 4
-HEAD = "file\tbytes\tmodified\tverdict\treason\tlines"
-SHOWN, NOT_SHOWN, LACKS, UNJUDGED, DIFFER = "shown", "not shown", "lacks a line", "not judged", "judges differ"
-
-
-class Row(NamedTuple):
-    """A row of the table: the path within the folder, its size in bytes and its time in nanoseconds, the verdict, why, and the lines. Its texts are
-    printable."""
-
-    file: str
-    bytes: int
-    modified: int
-    verdict: str
-    reason: str
-    lines: str
-
-    @property
-    def text(self) -> str:
-        """Its line."""
-        return "\t".join(map(str, self))
+MOST_ROWS = 1 << 32
 
 
 class Task(NamedTuple):
-    """What a worker needs to judge some files of a folder."""
+    """What a worker needs to judge some files of a folder: their names, and the rows that earlier runs made under these names."""
 
     folder: str
     files: list[str]
+    known: dict[str, Row]
     kept: bytes
     allow_carried: bool
     is_by_reference: bool
     by: str
+
+
+class Made(NamedTuple):
+    """The row of a file, and whether an earlier run made it."""
+
+    row: Row
+    is_taken: bool
 
 
 @functools.lru_cache(maxsize=2)
@@ -73,67 +67,66 @@ def bench_of(is_by_reference: bool) -> Bench:
     return judges.bench(is_by_reference)
 
 
-def worked(task: Task) -> list[Row]:
+def worked(task: Task) -> list[Made]:
     """Judges the files of a task, in their order; what a worker does."""
     kept, judge = kept_of(task.kept), bench_of(task.is_by_reference)
     by = told_by(judge, task.allow_carried)
     if by != task.by:
         raise Trouble(Status.NO_JUDGE, f"a worker has other judges than this machine ({by})", "Give all the same program and library.")
     with judge.working():
-        return [row_of(task.folder, name, kept, judge, task.allow_carried) for name in task.files]
+        return [row_of(task, name, kept, judge) for name in task.files]
 
 
-def row_of(folder: str, name: str, kept: KeptLines, judge: Bench, allow_carried: bool) -> Row:
-    """The row of a file."""
-    path = os.path.join(folder, name)
+def row_of(task: Task, name: str, kept: KeptLines, judge: Bench) -> Made:
+    """The row of a file, which is read once: its digest and its verdict are of the same bytes."""
     try:
-        about = os.lstat(path)
-        size, modified = about.st_size, about.st_mtime_ns
-    except OSError:
-        size, modified = 0, 0
-    try:
-        judgement = judgement_of(formats.read_file(path, follow=False), kept, judge, allow_carried)
+        data = formats.read_file(os.path.join(task.folder, name), follow=False)
     except Trouble as trouble:
-        verdict = DIFFER if trouble.status == Status.DIFFER else UNJUDGED
-        return Row(printable(name), size, modified, verdict, printable(trouble.sentence), "")
-    lines = "; ".join(f"{line.service} {line.step}" for line in judgement.lines)
-    verdict, reason = verdict_of(judgement)
-    return Row(printable(name), size, modified, verdict, printable(reason), lines)
+        return Made(row_of_trouble(name, 0, NO_DIGEST, trouble), False)
+    digest, known = rows.digest_of(data), task.known.get(printable(name))
+    if known is not None and rows.may_take_row(known, digest, Status.DIFFER):
+        return Made(known, True)
+    try:
+        named = Named(name, data, formats.kind_of(data))
+        judgement = outcomes.judgement_of(judge, kept, [named], task.allow_carried)
+        outcome = outcomes.outcome_of(judge, kept, [named], judgement)
+    except Trouble as trouble:
+        return Made(row_of_trouble(name, len(data), digest, trouble), False)
+    resting = "; ".join(f"{line.service} {line.step}" for line in judgement.lines)
+    reason = printable(reason_of(judgement, outcome))
+    return Made(Row(printable(name), len(data), digest, outcome.headline.value, int(outcome.status), reason, resting), False)
 
 
-def judgement_of(data: bytes, kept: KeptLines, judge: Bench, allow_carried: bool) -> Judgement:
-    """The judgement of a proof, of evidence or of a history."""
-    kind = formats.kind_of(data)
-    if kind == "evidence":
-        return choosing.judge_evidence(judge, data, kept)
-    if kind == "history":
-        return choosing.judge_history(judge, data, kept)
-    if kind in ("low map", "high map", "message", "receipts", "events"):
-        raise Trouble(Status.UNREADABLE, f"it is no proof that is judged by itself: {kind}")
-    return choosing.judge_proof(judge, data, kept, allow_carried)
+def row_of_trouble(name: str, size: int, digest: str, trouble: Trouble) -> Row:
+    """The row of a file that wasn't judged."""
+    return Row(printable(name), size, digest, Headline.NOT_JUDGED.value, int(trouble.status), printable(trouble.sentence), "")
 
 
-def verdict_of(judgement: Judgement) -> tuple[str, str]:
-    """The verdict and the reason of a row."""
+def reason_of(judgement: Judgement, outcome: outcomes.Outcome) -> str:
+    """Why, in short: the kept lines that it contradicts, the lines that are missing, the judge's own words of what is shown, else the
+    first sentence."""
+    if outcome.contradicted:
+        return "TWO LINES: " + "; ".join(f"{line.service} {line.step}" for line in outcome.contradicted)
     if judgement.missing:
-        return LACKS, "; ".join(f"{needed.service} {needed.step}" for needed in judgement.missing)
+        return "missing: " + "; ".join(f"{needed.service} {needed.step}" for needed in judgement.missing)
     if judgement.verdict is None:
-        return UNJUDGED, judgement.hindrance
+        return outcome.told[0]
     if judgement.is_shown:
-        return SHOWN, " | ".join(judgement.verdict.text.splitlines()[1:3])
-    words = judgement.verdict.reason or judgement.verdict.text.split()
-    return NOT_SHOWN, f"{' '.join(words)}: {reports.reason_sentence(judgement.verdict)[0]}"
+        return " | ".join(judgement.verdict.text.splitlines()[1:3])
+    return f"{' '.join(judgement.verdict.reason or judgement.verdict.text.split())}: {outcome.told[0]}"
 
 
 def found_files(folder: Path) -> list[str]:
-    """The paths of all files in the folder and those below it, as they stand there; no link is followed."""
+    """The paths of all files in the folder and those below it, as they stand there, and of what can't be looked into: folders that can't be read, and links
+    to folders, none of which is followed. Each gets a row, so nothing is passed over."""
     if not folder.is_dir():
         raise Trouble(Status.NO_INPUT, f"{name_of(folder)} is no folder", "Name the folder of the proofs.")
+    unread: list[OSError] = []
     found = []
-    for place, _, names in os.walk(folder):
-        within = os.path.relpath(place, folder)
-        found += names if within == "." else [os.path.join(within, name) for name in names]
-    return sorted(found)
+    for place, below, names in os.walk(folder, onerror=unread.append):
+        links = [name for name in below if os.path.islink(os.path.join(place, name))]
+        found += [os.path.relpath(os.path.join(place, name), folder) for name in [*names, *links]]
+    return sorted({*found, *(os.path.relpath(failure.filename, folder) for failure in unread)})
 
 
 def told_by(judge: Bench, allow_carried: bool) -> str:
@@ -141,38 +134,29 @@ def told_by(judge: Bench, allow_carried: bool) -> str:
     return judge.told("verify" if allow_carried else "strict")
 
 
-def title_of(judge: Bench, kept: bytes, options: argparse.Namespace) -> str:
-    """The first line of a table: what its rows hold under."""
-    return f"# {told_by(judge, options.carried)}; kept lines, SHA-256 {hashlib.sha256(kept).hexdigest()}; carried lines {'accepted' if options.carried else 'refused'}"
+def state_of(table: Path) -> Path:
+    """The file of the user's own in which the rows of this table are kept."""
+    return lines.own_files() / "judged" / rows.name_state(os.fsencode(os.path.abspath(table)))
 
 
-def earlier(path: Path, title: str) -> dict[str, Row]:
-    """The rows of a table that was made by the same judges under the same lines, by what stands for their files."""
-    if not path.exists():
+def earlier(state: Path, title: str) -> dict[str, Row]:
+    """The rows that earlier runs of this user made by the same judges under the same lines."""
+    if not files.is_there(state):
         return {}
-    head, *lines = files.read(path, 1 << 32).decode("utf-8", "replace").split("\n")
-    rows = {}
-    for line in lines[1:-1] if head == title else []:
-        fields = line.split("\t")
-        if len(fields) == 6 and fields[1].isdigit() and fields[2].isdigit():
-            rows[fields[0]] = Row(fields[0], int(fields[1]), int(fields[2]), *fields[3:])
-    return rows
-
-
-def is_same(folder: Path, name: str, row: Optional[Row]) -> bool:
-    """Whether the file is as it was when its row was made."""
-    if row is None:
-        return False
+    number = files.opened(state, follow=False)
     try:
-        about = os.lstat(folder / name)
-    except OSError:
-        return False
-    return row.verdict != DIFFER and (row.bytes, row.modified) == (about.st_size, about.st_mtime_ns)
+        about = os.fstat(number)
+        if not rows.is_own_state(about.st_uid, about.st_mode, os.geteuid()):
+            raise Trouble(Status.DISK, f"{name_of(state)} isn't your own, or others may write it", "Remove it: all files are judged anew then.")
+        data = files.read_up_to(number, MOST_ROWS)
+    finally:
+        os.close(number)
+    return rows.read_rows(data.decode("utf-8", "replace"), title)
 
 
-def judged_rows(tasks: list[Task], workers: int, executor: Optional[Executor] = None) -> Iterator[dict[str, Row]]:
-    """The rows of the tasks by their files, as they come: over an executor of concurrent.futures, else over so many processes. What an executor loses,
-    since a worker of it died, is done again."""
+def judged_rows(tasks: list[Task], workers: int, executor: Optional[Executor] = None) -> Iterator[dict[str, Made]]:
+    """The rows of the tasks by their files, as they come: over an executor of concurrent.futures, else over so many processes. What an
+    executor loses, since a worker of it died, is done again."""
     if workers == 1 and executor is None:
         yield from (dict(zip(task.files, worked(task))) for task in tasks)
         return
@@ -182,13 +166,13 @@ def judged_rows(tasks: list[Task], workers: int, executor: Optional[Executor] = 
             work, left = {own.submit(worked, task): task for task in left}, []
             for future in as_completed(work):
                 try:
-                    rows = future.result()
+                    made = future.result()
                 except Exception as failure:  # noqa: BLE001 - what a cluster loses it tells in many ways
                     if executor is None or isinstance(failure, Trouble):
                         raise
                     left.append(work[future])
                 else:
-                    yield dict(zip(work[future].files, rows))
+                    yield dict(zip(work[future].files, made))
             if not left:
                 return
         raise Trouble(Status.NO_MEMORY, "workers of the cluster ended early, again and again", "Run it again: it goes on.")
@@ -214,43 +198,73 @@ def judged(options: argparse.Namespace, kept: KeptLines, judge: Bench, executor:
     workers = len(os.sched_getaffinity(0)) if options.workers is None else options.workers
     if workers < 1:
         raise Trouble(Status.USAGE, "--workers is 1 at least", "Leave it out for one a processor.")
-    text = "".join(f"{it.line.text}\n" for it in sorted(kept.all())).encode()
-    title, names = title_of(judge, text, options), found_files(folder)
-    part = beside(table, ".part")
-    with locks.held(beside(table, ".lock"), 0, table):
-        known = earlier(part, title) or earlier(table, title)
-        rows = {name: known[printable(name)] for name in names if is_same(folder, name, known.get(printable(name)))}
-        files.renew(part, ("\n".join([title, HEAD, *(row.text for row in rows.values())]) + "\n").encode())
-        left = [name for name in names if name not in rows]
-        by = told_by(judge, options.carried)
-        size = max(1, min(PIECE, len(left) // PIECES))  # (few files are spread over many workers too)
-        tasks = [Task(str(folder), left[at : at + size], text, options.carried, options.reference, by) for at in range(0, len(left), size)]
-        progress = Progress("judging", len(left))
-        try:
-            for new in judged_rows(tasks, workers, executor):
-                files.add(part, "\n".join(row.text for row in new.values()))
-                rows.update(new)
-                progress.add(len(new))
-        finally:
-            progress.end()
-        files.renew(table, ("\n".join([title, HEAD, *(rows[name].text for name in names)]) + "\n").encode())
-        files.remove(part)
-    return told(options, table, [rows[name] for name in names], len(names) - len(left), judge)
+    text = kept.text.encode()
+    title, names = rows.title_of(told_by(judge, options.carried), packages.digest(), text, options.carried), found_files(folder)
+    files.make_folder(state_of(table).parent)
+    with locks.held(beside(state_of(table), ".lock"), 0, table):
+        made = judge_folder(options, judge, executor, Folder(folder, names, text, title, state_of(table), workers))
+        files.renew(table, table_of(title, [made[name].row for name in names]), files.BY_UMASK, follow=False)  # (a link there may be the sender's)
+    return tell(options, table, [made[name] for name in names], judge)
 
 
-def told(options: argparse.Namespace, table: Path, rows: list[Row], taken: int, judge: Bench) -> Status:
-    """Says what came of it."""
-    counts = Counter(row.verdict for row in rows)
+class Folder(NamedTuple):
+    """A folder that is judged: the paths of its files within it; the text of the kept lines; the title of the table; the file of its rows;
+    and by how many processes."""
+
+    path: Path
+    names: list[str]
+    kept: bytes
+    title: str
+    state: Path
+    workers: int
+
+
+def table_of(title: str, made: list[Row]) -> bytes:
+    """The bytes of a table."""
+    return ("\n".join([title, HEAD, *(row.text for row in made)]) + "\n").encode()
+
+
+def judge_folder(options: argparse.Namespace, judge: Bench, executor: Optional[Executor], it: Folder) -> dict[str, Made]:
+    """The rows of all files, which are noted in the state as they come."""
+    known = earlier(it.state, it.title)
+    present = {printable(name) for name in it.names}
+    files.renew(it.state, table_of(it.title, [row for name, row in known.items() if name in present]), follow=False)
+    size = max(1, min(PIECE, len(it.names) // PIECES))  # (few files are spread over many workers too)
+    pieces = [it.names[at : at + size] for at in range(0, len(it.names), size)]
+    fixed = it.kept, options.carried, options.reference, told_by(judge, options.carried)
+    tasks = [Task(str(it.path), piece, {name: known[name] for name in map(printable, piece) if name in known}, *fixed) for piece in pieces]
+    made: dict[str, Made] = {}
+    progress = Progress("judging", len(it.names))
+    try:
+        for new in judged_rows(tasks, it.workers, executor):
+            fresh = [each.row.text for each in new.values() if not each.is_taken]
+            if fresh:
+                files.add(it.state, "\n".join(fresh))
+            made.update(new)
+            progress.add(len(new))
+    finally:
+        progress.end()
+    return made
+
+
+def tell(options: argparse.Namespace, table: Path, made: list[Made], judge: Bench) -> Status:
+    """Says what came of it; the worst status counts."""
+    status = worst_of([judge.status(True), *(Status(it.row.status) for it in made)])
+    counts = Counter(it.row.verdict for it in made)
+    lacking, two = (sum(it.row.status == status for it in made) for status in (Status.MISSING, Status.CONTRADICTION))
+    taken = sum(it.is_taken for it in made)
     if options.json:
-        say_json({"table": str(table), "files": len(rows), "taken": taken, **{verdict.replace(" ", "_"): count for verdict, count in counts.items()}})
-    else:
-        parts = [f"{count:,} {verdict}" for verdict, count in counts.most_common()]
-        say(f"{count_of(len(rows), 'file')}: {', '.join(parts) or 'nothing'}; the table is {name_of(table)}.")
-        if taken:
-            say(f"{count_of(taken, 'row')} of an earlier run {'was' if taken == 1 else 'were'} taken over.")
-        say(told_by(judge, options.carried))
-    if counts[DIFFER]:
-        return Status.DIFFER
-    if counts[NOT_SHOWN]:
-        return judge.status(False)
-    return Status.UNREADABLE if counts[UNJUDGED] else Status.MISSING if counts[LACKS] else judge.status(True)
+        found = {verdict.replace(" ", "_"): count for verdict, count in counts.items()}
+        told = {"lacking_a_line": lacking, "two_lines": two, "status": int(status), "judged_by": told_by(judge, options.carried)}
+        say_json({"table": str(table), "files": len(made), "taken": taken, **found, **told})
+        return status
+    parts = [f"{count:,} {verdict}" for verdict, count in counts.most_common()]
+    say(f"{count_of(len(made), 'file')}: {', '.join(parts) or 'nothing'}; the table is {name_of(table)}.")
+    if lacking:
+        say(f"{count_of(lacking, 'file')} {'lacks' if lacking == 1 else 'lack'} a line that you don't hold: the table says which. {choosing.ONLY_NOW}")
+    if two:
+        say(f"TWO LINES: {count_of(two, 'file')} {'contradicts' if two == 1 else 'contradict'} a line that you kept: weft judge tells which, of that file.")
+    if taken:
+        say(f"{count_of(taken, 'row')} of an earlier run {'was' if taken == 1 else 'were'} taken over, of files with the same SHA-256 digest.")
+    say(told_by(judge, options.carried))
+    return status

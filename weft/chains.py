@@ -3,6 +3,7 @@ isn't is asked for. Nothing here judges: what is joined is judged as any proof i
 
 from __future__ import annotations
 
+import copy
 import functools
 import tempfile
 from bisect import bisect_left
@@ -11,8 +12,10 @@ from typing import Iterable, NamedTuple, Optional
 
 from weft import asking, box, formats, program
 from weft.box import Peer
+from weft.choosing import ONLY_NOW
+from weft.deciding.doubting import find_doubted, list_trusted
 from weft.judges import Bench
-from weft.lines import KeptLines, Line, kept_now
+from weft.lines import KeptLines, kept_now
 from weft.own import OwnLines
 from weft.statuses import Status
 from weft.stores import Store
@@ -21,6 +24,10 @@ from weft.trouble import Trouble
 
 MOST_HOPS = 64
 MOST_ASKED = 2
+# So many further ways are asked for beside the shortest one; a peer passes on somewhat more requests at a time.
+MOST_WAYS = 15
+# Who tells what stores and named files have: never doubted.
+AT_HAND = ""
 
 
 class Event(NamedTuple):
@@ -51,6 +58,12 @@ class Part(NamedTuple):
     def command(self) -> str:
         """The command by which its service makes it."""
         return f"timeweave prove DIR {self.request}"
+
+
+    def refutes(self, hop: Hop) -> bool:
+        """Whether a hop isn't so, where the service can't prove this part, a thread."""
+        _, received, service, step, _ = self.request.split(" ")
+        return (hop.by, hop.service, hop.step) == (self.service, service, int(step)) and hop.archived <= int(received)
 
 
 class Graph:
@@ -125,6 +138,16 @@ def matches(data: bytes, part: Part) -> bool:
     return False
 
 
+def hops_of(data: bytes) -> list[Hop]:
+    """What receipts or the proof of a thread tell."""
+    if formats.kind_of(data) == "receipts":
+        return [Hop(it.service, it.step, it.recorder, it.archived) for it in formats.read_receipts(data)]
+    proof = formats.read_proof(data) if formats.kind_of(data) == "thread" else None
+    if isinstance(proof, formats.proofs.ThreadProof):
+        return [Hop(proof.entry.service, proof.entry.step, proof.service, proof.entry.archived)]
+    return []
+
+
 class Sources:
     """What is at hand: stores, boxes with what peers handed out, files; and the lines that are held."""
 
@@ -132,7 +155,8 @@ class Sources:
         self.stores = {store.last().line.service: store for store in stores}
         self.judge, self.kept, self.hand = judge, kept, hand
         self.refused: set[Part] = set()
-        self.graphs: dict[bool, Graph] = {}
+        self.graphs: dict[tuple[bool, bool], Graph] = {}
+        self.doubted: set[str] = set()
         self.made: dict[Part, bytes] = {}
         self.peers: dict[str, list[Peer]] = {}
         for place in boxes:
@@ -150,34 +174,41 @@ class Sources:
         """The peers of all boxes."""
         return (peer for peers in self.peers.values() for peer in peers)
 
-    def graph(self, is_bound: bool) -> Graph:
+    def graph(self, is_bound: bool, is_trusted: bool) -> Graph:
         """What is known to have been received, by receipts and by the stores, but for what its receiver couldn't prove. All of it, or what a held line can
-        bind."""
-        if is_bound not in self.graphs:
-            found = Graph(hop for hop in self.told_hops if not is_bound or self.top(hop.service, hop.step) is not None)
+        bind; told by anybody, or by somebody of whom no receipt failed."""
+        if (is_bound, is_trusted) not in self.graphs:
+            hops = list_trusted(self.tellers, self.doubted) if is_trusted else list(self.tellers)
+            found = Graph(hop for hop in hops if not is_bound or self.top(hop.service, hop.step) is not None)
             for part in self.refused:
                 found.refute(part)
-            self.graphs[is_bound] = found
-        return self.graphs[is_bound]
+            self.graphs[is_bound, is_trusted] = found
+        return self.graphs[is_bound, is_trusted]
+
+    def way(self, first: Event, second: Event, shunned: frozenset[tuple[str, str]]) -> Optional[list[Hop]]:
+        """The fewest hops from one event to another: of those that a held line can bind first, and of those whose tellers aren't doubted; None where there
+        are none."""
+        for is_trusted in (True, False):
+            for is_bound in (True, False):
+                found = self.graph(is_bound, is_trusted).way(first, second, shunned)
+                if found is not None:
+                    return found
+        return None
 
     @functools.cached_property
-    def told_hops(self) -> set[Hop]:
-        """What receipts and the stores tell."""
-        found: set[Hop] = set()
-        kept = [peer.read(name) for peer in self.all_peers() for name in ("heard", "given", "got")]
-        pieces = {piece for data in kept for piece in formats.receipt_pieces(data)}
-        for data in [*self.hand, *pieces]:
-            if formats.kind_of(data) == "receipts":
-                found |= {Hop(it.service, it.step, it.recorder, it.archived) for it in formats.read_receipts(data)}
-            proof = formats.read_proof(data) if formats.kind_of(data) == "thread" else None
-            if isinstance(proof, formats.proofs.ThreadProof):
-                found.add(Hop(proof.entry.service, proof.entry.step, proof.service, proof.entry.archived))
+    def tellers(self) -> dict[Hop, set[str]]:
+        """What receipts and the stores tell, and who told it: a peer by its name, AT_HAND of stores and of files that were named."""
+        found: dict[Hop, set[str]] = {}
+        pieces = {(peer.name, piece) for peer in self.all_peers() for name in ("heard", "given", "got") for piece in formats.receipt_pieces(peer.read(name))}
+        for teller, data in [*((AT_HAND, data) for data in self.hand), *sorted(pieces)]:
+            for hop in hops_of(data):
+                found.setdefault(hop, set()).add(teller)
         for name, store in self.stores.items():
             answer = store.ask("export")
             if answer.status == 0:
                 for step, recorded in enumerate(formats.read_history(answer.output), 1):
                     if recorded.thread:
-                        found.add(Hop(recorded.thread.service, recorded.thread.step, name, step))
+                        found.setdefault(Hop(recorded.thread.service, recorded.thread.step, name, step), set()).add(AT_HAND)
         return found
 
     def part(self, part: Part) -> Optional[bytes]:
@@ -192,7 +223,7 @@ class Sources:
             answer = asking.known(peer, request)
             if answer is not None and matches(answer, part):
                 return answer
-            if answer is not None and answer.startswith(b"refused NoThread"):
+            if answer is not None and answer.startswith(b"refused NoThread") and part.request.startswith("thread "):
                 self.refuse(part)
         return None
 
@@ -201,7 +232,7 @@ class Sources:
         handed out to known peers alone."""
         if part.request.startswith("event") or part.service in self.peers:
             return []
-        beside = {hop.by for hop in self.told_hops if hop.service == part.service} | {hop.service for hop in self.told_hops if hop.by == part.service}
+        beside = {hop.by for hop in self.tellers if hop.service == part.service} | {hop.service for hop in self.tellers if hop.by == part.service}
         return [(peer, f"of {part.service} {part.request}") for name in sorted(beside & self.peers.keys()) for peer in self.peers[name]][:MOST_ASKED]
 
     def of_store(self, store: Store, part: Part) -> Optional[bytes]:
@@ -217,7 +248,26 @@ class Sources:
         return self.made[part]
 
     def refuse(self, part: Part) -> None:
-        """Notes that the receiver of a line can't prove that it had received it by a step."""
+        """Notes that the receiver of a line can't prove that it had received it by a step, and doubts who told so."""
+        self.refused.add(part)
+        new = find_doubted(filter(part.refutes, self.tellers), self.tellers) - self.doubted - {AT_HAND}
+        if new:
+            self.doubted |= new
+            self.graphs.clear()
+        for graph in self.graphs.values():
+            graph.refute(part)
+
+    def copied(self) -> Sources:
+        """The same, of which other parts may be supposed to be refused."""
+        other = copy.copy(self)
+        other.refused, other.doubted, other.graphs = set(self.refused), set(self.doubted), {}
+        return other
+
+    def suppose_refused(self, part: Part, is_missing: bool) -> None:
+        """Goes on as if a thread were refused: who told of one that is missing would be doubted then; one that is at hand is only left aside."""
+        if is_missing:
+            self.refuse(part)
+            return
         self.refused.add(part)
         for graph in self.graphs.values():
             graph.refute(part)
@@ -238,11 +288,19 @@ class Sources:
             return f"{part.service} is asked for it over {names}, by the next weft exchange ({part.request}); it takes a night more each way"
         return f"ask {part.service} for {part.command}, and name the file by --hand"
 
+    def ask_peers(self, part: Part) -> bool:
+        """Asks those peers for a part who haven't answered; answers whether there are any."""
+        asked = [*((peer, part.request) for peer in self.peers.get(part.service, [])), *self.passed_on(part)]
+        left = [(peer, request) for peer, request in asked if asking.known(peer, request) is None]
+        for peer, request in left:
+            asking.ask(peer, request)
+        return bool(left)
+
     def top(self, service: str, step: int) -> Optional[int]:
-        """The least step, from this one on, of which a line is held."""
+        """The least step, from this one on, of which a line is held that counts; where lines of each contradict, the least of those."""
         steps = self.kept.steps(service)
-        place = bisect_left(steps, step)
-        return steps[place] if place < len(steps) else None
+        places = range(bisect_left(steps, step), len(steps))
+        return next((steps[place] for place in places if not self.kept.is_disputed(service, steps[place])), steps[places[0]] if places else None)
 
 
 # ---- the way
@@ -269,15 +327,15 @@ def lines_needed(hops: list[Hop], second: Event, top: Optional[int]) -> dict[str
 
 
 def planned(sources: Sources, hops: list[Hop], first: Event, second: Event) -> Plan:
-    """The parts of a way; raises Trouble where a line is missing."""
+    """The parts of a way; raises Trouble where a line is missing, or lines of a step contradict and none was chosen."""
     given = formats.read_proof(second.proof) if second.proof is not None else None
-    tops: dict[str, int] = {}
-    for service, step in lines_needed(hops, second, given.top if given else None).items():
-        held = sources.top(service, step)
-        if held is None:
-            told = f"no line of {service} from step {step} on is held"
-            raise Trouble(Status.MISSING, told, f"Ask {service} for one, and keep it: weft keep.")
-        tops[service] = held
+    wanted = lines_needed(hops, second, given.top if given else None)
+    held = {service: sources.top(service, step) for service, step in wanted.items()}
+    tops = {service: step for service, step in held.items() if step is not None}
+    if len(tops) < len(wanted):
+        raise no_lines([f"{service} from step {step} on" for service, step in wanted.items() if service not in tops])
+    for service, step in tops.items():
+        sources.kept.one(service, step)
     if given:
         tops[second.service] = given.top
     parts = [Part(second.service, f"event {second.step} {second.place} {tops[second.service]}")]
@@ -290,6 +348,13 @@ def planned(sources: Sources, hops: list[Hop], first: Event, second: Event) -> P
     return Plan(parts, hops)
 
 
+def no_lines(missing: list[str]) -> Trouble:
+    """That lines are missing, all of them, and from whom each may come."""
+    told = f"you hold no line of {listed(missing)}"
+    advice = f"Ask for each somebody who kept it, and not its service alone: a notary, another reader. Then keep it: weft keep. {ONLY_NOW}"
+    return Trouble(Status.MISSING, told, advice)
+
+
 def expect_held(sources: Sources, second: Event) -> None:
     """Raises Trouble where a proof of the second event is given, and is under a line that isn't held: then no part is worth asking for."""
     given = formats.read_proof(second.proof) if second.proof is not None else None
@@ -298,7 +363,7 @@ def expect_held(sources: Sources, second: Event) -> None:
     held = sources.top(given.service, given.step)
     wanted = f"under a line that you hold (weft prove .. --top {'N' if held is None else held})"
     told = f"the later event is proved under step {given.top} of {given.service}, whose line you don't hold"
-    raise Trouble(Status.MISSING, told, f"Ask {given.service} for it, and keep it (weft keep), or for the proof {wanted}.")
+    raise Trouble(Status.MISSING, told, f"Ask {given.service} for the proof {wanted}, or somebody else who kept it for that line. {ONLY_NOW}")
 
 
 def plan(sources: Sources, first: Event, second: Event, shunned: frozenset[tuple[str, str]]) -> Plan:
@@ -306,7 +371,7 @@ def plan(sources: Sources, first: Event, second: Event, shunned: frozenset[tuple
     for each."""
     if first.service == second.service and first.step < second.step:
         return planned(sources, [], first, second)
-    found = sources.graph(True).way(first, second, shunned) or sources.graph(False).way(first, second, shunned)
+    found = sources.way(first, second, shunned)
     if found is None:
         told = (
             f"no way is known from step {first.step} of {first.service} to step {second.step} of {second.service}: no receipts show that {second.service} "
@@ -357,6 +422,25 @@ def gathered(sources: Sources, first: Event, second: Event) -> Gathered:
         if not gone_round:
             return shortest
         shunned |= gone_round
+
+
+def further_parts(sources: Sources, first: Event, second: Event, found: Plan) -> list[Part]:
+    """The threads that further ways need and that aren't at hand: each way is the one that would be next if what is missing of those before were refused. A
+    receipt may be made up, so several are asked for in one night."""
+    supposed, missing = sources.copied(), list[Part]()
+    for _ in range(MOST_WAYS):
+        for part in found.parts:
+            if part.request.startswith("thread"):
+                supposed.suppose_refused(part, is_missing=sources.part(part) is None)
+        hops = supposed.way(first, second, frozenset())
+        if hops is None:
+            break
+        try:
+            found = planned(sources, hops, first, second)
+        except Trouble:
+            break
+        missing += [part for part in found.parts if part.request.startswith("thread") and sources.part(part) is None]
+    return list(dict.fromkeys(missing))
 
 
 class Misfit(Trouble):

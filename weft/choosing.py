@@ -1,127 +1,219 @@
-"""Which of the kept lines a proof needs, and the verdict under them. The judge says which line it lacks, until it lacks none."""
+"""The verdict on a file under the kept lines that it needs. Which these are stands in `weft.deciding.choosing`; the judge says which line
+it lacks."""
 
 from __future__ import annotations
 
-from typing import NamedTuple, Optional
+from typing import Iterable, NamedTuple, Optional
 
 from weft import formats
-from weft.formats import Needed
+from weft.deciding import choosing
+from weft.deciding.choosing import Extent, HeldHistory
+from weft.files import AnyPath
+from weft.formats import Needed, ReadHistory
 from weft.judges import Bench, Verdict
 from weft.lines import MOST_ANCHORS, KeptLines, Line, anchors
-from weft.texts import count_of
+from weft.statuses import Status
+from weft.texts import count_of, listed, name_of
+from weft.trouble import Trouble
+
+# Of how many kept lines that differ from a history the program is asked as well.
+MOST_AUDITED = 8
+ONLY_NOW = "A line that you get only now shows nothing about the time before."
+
+
+class BoundHistory(NamedTuple):
+    """A history beside the kept lines of its service, the step up to which it is asked about, and its last step."""
+
+    service: str
+    held: HeldHistory
+    wanted: int
+    last: int
+
+    @property
+    def extent(self) -> Extent:
+        """How far it is bound."""
+        return choosing.measure_extent(self.held, self.wanted)
 
 
 class Judgement(NamedTuple):
-    """A verdict, the call that it is of, and the lines that it rests on; where lines are missing, which, and where they can't be held together,
-    why not; then there is no verdict."""
+    """A verdict, the call that it is of, and the lines that it rests on; where lines are missing, which, and where they can't be held
+    together, why not; then there is no verdict. Of a history how far it is bound."""
 
     call: str
     verdict: Optional[Verdict]
     lines: list[Line]
     missing: list[Needed]
     hindrance: str = ""
+    history: Optional[BoundHistory] = None
 
     @property
     def is_shown(self) -> bool:
-        """Whether it is accepted."""
-        return self.verdict is not None and self.verdict.is_accepted
+        """Whether it is accepted, a history as far as is asked."""
+        is_whole = self.history is None or self.history.extent is Extent.WHOLE
+        return self.verdict is not None and self.verdict.is_accepted and is_whole
 
 
-def asked(judge: Bench, call: str, parts: tuple[bytes, ...], kept: KeptLines, lines: dict[str, Line]) -> Judgement:
-    """The judgement, from these lines on."""
+def kept_for(needed: Iterable[Needed], kept: KeptLines) -> dict[Needed, Line]:
+    """The kept lines of these steps; raises Trouble where two of one step contradict."""
+    found = {it: kept.one(*it) for it in needed}
+    return {it: line for it, line in found.items() if line is not None}
+
+
+def ask_judge(judge: Bench, call: str, parts: tuple[bytes, ...], kept: KeptLines, needed: list[Needed]) -> Judgement:
+    """The judgement under the kept ones of the lines that a file says it needs. The judge has the last word on what it lacks."""
+    chosen = choosing.choose_lines(needed, kept_for(needed, kept))
+    lines = {line.service: line for line in chosen.lines[:MOST_ANCHORS]}
     while True:
         verdict = judge.judge(call, *parts, anchors(lines.values()))
         if verdict.reason[:2] != ["3", "NotHeld"]:
             return Judgement(call, verdict, list(lines.values()), [])
-        service, step = verdict.reason[2], int(verdict.reason[3])
-        held = lines.get(service)
+        lacked = Needed(verdict.reason[2], int(verdict.reason[3]))
+        held, line = lines.get(lacked.service), kept.one(*lacked)
         if held is not None:
-            text = f"it needs the lines of two steps of {service}, {held.step} and {step}, and is judged under one a service"
-            return Judgement(call, None, list(lines.values()), [], text)
-        line = kept.one(service, step)
+            return Judgement(call, None, list(lines.values()), [], two_steps(lacked.service))
         if line is None:
-            return Judgement(call, None, list(lines.values()), [Needed(service, step)])
+            return Judgement(call, None, list(lines.values()), list(dict.fromkeys([*chosen.missing, lacked])))
         if len(lines) == MOST_ANCHORS:
             return Judgement(call, None, list(lines.values()), [], f"it needs more than {MOST_ANCHORS} lines")
-        lines[service] = line
+        lines[lacked.service] = line
+
+
+def two_steps(service: str) -> str:
+    """Why a file can't be judged that needs two lines of one service."""
+    return f"it needs the lines of two steps of {service}, and is judged under one a service"
 
 
 def judge_proof(judge: Bench, data: bytes, kept: KeptLines, allow_carried: bool) -> Judgement:
-    """That of a proof of a kind from 1 to 5. It begins with the line that the proof says it is under, where that one was kept."""
-    top = formats.top_of(data)
-    line = kept.one(*top) if top is not None else None
-    return asked(judge, "verify" if allow_carried else "strict", (data,), kept, {} if line is None else {line.service: line})
-
-
-def judge_history(judge: Bench, data: bytes, kept: KeptLines) -> Judgement:
-    """That of a history's file: the proof of its last event is made from it, which finds out whether the history keeps the rules, and judged under the
-    line of its last step."""
-    shown = judge.show(data, *formats.last_event(data))
-    if shown.status:
-        return Judgement("strict", Verdict(shown.status, shown.data.decode("ascii", "replace")), [], [])
-    return judge_proof(judge, shown.data, kept, allow_carried=False)
+    """That of a proof of a kind from 1 to 5."""
+    return ask_judge(judge, "verify" if allow_carried else "strict", (data,), kept, formats.needed_by_proof(data))
 
 
 def judge_map(judge: Bench, low: bytes, high: bytes, kept: KeptLines) -> Judgement:
     """That of two map files."""
-    return asked(judge, "checkmap", (low, high), kept, {})
+    return ask_judge(judge, "checkmap", (low, high), kept, formats.needed_by_maps(low, high))
 
 
 def judge_evidence(judge: Bench, data: bytes, kept: KeptLines) -> Judgement:
     """That of evidence of a fork, whose judge doesn't say which lines it lacks."""
-    lines: dict[str, Line] = {}
-    missing = []
-    for needed in formats.needed_by_evidence(data):
-        line = kept.one(needed.service, needed.step)
-        held = lines.get(needed.service)
-        if held is not None and held.step != needed.step:
-            text = f"it needs the lines of two steps of {needed.service}, and is judged under one a service"
-            return Judgement("checkfork", None, list(lines.values()), [], text)
-        if line is None:
-            missing.append(needed)
-        else:
-            lines[needed.service] = line
-    if missing:
-        return Judgement("checkfork", None, list(lines.values()), missing)
-    return Judgement("checkfork", judge.judge("checkfork", data, anchors(lines.values())), list(lines.values()), [])
+    needed = formats.needed_by_evidence(data)
+    chosen = choosing.choose_lines(needed, kept_for(needed, kept))
+    if chosen.clashing is not None:
+        return Judgement("checkfork", None, chosen.lines, [], two_steps(chosen.clashing))
+    if chosen.missing:
+        return Judgement("checkfork", None, chosen.lines, chosen.missing)
+    return Judgement("checkfork", judge.judge("checkfork", data, anchors(chosen.lines)), chosen.lines, [])
+
+
+# ---- histories
+
+
+def judge_history(judge: Bench, data: bytes, kept: KeptLines, top: Optional[int] = None) -> Judgement:
+    """That of a history's file, up to its last step or to the step `top`. Its authenticators are computed from the file itself, and every
+    kept line of its service is held against them; each that counts for the verdict is held against the file by the program as well."""
+    history = formats.timeline_of(data)
+    if history is None:
+        shown = judge.show(data, 1, 0)
+        return Judgement("audit", Verdict(shown.status, shown.data.decode("ascii", "replace")), [], [])
+    if not history.last:
+        raise Trouble(Status.UNREADABLE, "it is a history without steps, so there is nothing to judge", "weft tell says what it has.")
+    if top is not None and not 1 <= top <= history.last:
+        raise Trouble(Status.USAGE, f"the history's last step is {history.last}, and --top is {top}", f"Name a step from 1 to {history.last}.")
+    held = choosing.hold_history(history.authenticators, lines_of(kept, history.service))
+    bound = BoundHistory(history.service, held, top or history.last, history.last)
+    return judge_bound(judge, data, history, bound)
+
+
+def lines_of(kept: KeptLines, service: str) -> list[Line]:
+    """The kept lines of a service, of each step those that count; of a step of which lines contradict, and none was chosen, all that were
+    ever seen."""
+    found: list[Line] = []
+    for step in sorted({*kept.steps(service), *(step for name, step in kept.marks if name == service)}):
+        standing = kept.standing(service, step)
+        if standing.is_disputed:
+            found += [Line(service, step, one) for one in standing.authenticators]
+        elif standing.line is not None:
+            found.append(standing.line)
+    return found
+
+
+def judge_bound(judge: Bench, data: bytes, history: ReadHistory, bound: BoundHistory) -> Judgement:
+    """The judgement of a sound history of which it is known which kept lines agree and which differ."""
+    refused = [audit(judge, data, line, False) for line in bound.held.differing[:MOST_AUDITED] if line.step]
+    line = bound.held.bound
+    if bound.extent is Extent.CONTRADICTED:
+        return Judgement("audit", next(iter(refused), Verdict(1, "")), [], [], history=bound)
+    missing = [] if bound.extent is Extent.WHOLE else [Needed(bound.service, bound.wanted)]
+    if line is None or bound.extent is Extent.UNBOUND:
+        return Judgement("audit", None, [], missing, history=bound)
+    audit(judge, data, line, True)
+    verdict = judge.judge("strict", formats.proof_under(history, line.step), anchors([line]))
+    return Judgement("strict", verdict, [line], missing, history=bound)
+
+
+def audit(judge: Bench, data: bytes, line: Line, is_same: bool) -> Verdict:
+    """Has the judge hold a line against a history's file; raises Trouble where it doesn't find what the reference computed: the same, or
+    another one."""
+    verdict = judge.audit(formats.link_to_itself(line), anchors([line]), data)
+    if verdict.is_accepted == is_same and verdict.text.startswith("stands" if is_same else "unheld "):
+        return verdict
+    told = f"the reference computes that the line of step {line.step} of {line.service} is {'' if is_same else 'not '}of this history"
+    raise Trouble(Status.DIFFER, f"two judges differ: {told}, and {judge.told('audit')} says otherwise", "This is a bug: trust neither, and report it.")
+
+
+# ---- what is told of lines
+
+
+def told_kept(paths: Iterable[AnyPath]) -> str:
+    """Which files of kept lines were named in the place of the user's own one."""
+    return f"Under the lines of {listed([name_of(path) for path in paths])} (--kept), and not under those of your own file:"
+
+
+def missing_sentences(missing: list[Needed], kept: KeptLines, proof: bytes = b"") -> list[str]:
+    """Which lines are missing, all of them, what would do in their place, and who may have them."""
+    told = [missing_sentence(needed, kept, proof) for needed in missing]
+    return [*told, ONLY_NOW] if told else []
 
 
 def missing_sentence(needed: Needed, kept: KeptLines, proof: bytes = b"") -> str:
-    """Which line is missing, and whom to ask; of a proof that is under it, whether one under a line that was kept is to be asked for."""
-    steps = kept.steps(needed.service)
-    later = [step for step in steps if step > needed.step]
+    """That a line is missing: which ones are held, under which of these the same can be proved, else who may have kept it."""
+    steps = [step for step in kept.steps(needed.service) if not kept.is_disputed(needed.service, step)]
+    have = f"The line of step {needed.step} of {needed.service} is missing. {told_held(needed.service, steps)}"
+    older, later = older_ask(needed, steps, proof), choosing.choose_later_step(steps, needed.step)
+    if older:
+        return f"{have}: {older}."
+    if later is not None:
+        return f"{have}: ask for the proof under its step {later}, which its keeper may make: that line binds him. Or {ask_others(needed.service, proof)}."
+    return f"{have}. {ask_others(needed.service, proof)[0].upper()}{ask_others(needed.service, proof)[1:]}."
+
+
+def told_held(service: str, steps: list[int]) -> str:
+    """Of which steps of a service lines are held."""
     if not steps:
-        have = f"You hold none of {needed.service}"
-    elif len(steps) > 4:
-        have = f"You hold {count_of(len(steps), 'line')} of it, of the steps {steps[0]} to {steps[-1]}, and not this one"
-    else:
-        have = f"You hold its {'line of step' if len(steps) == 1 else 'lines of the steps'} {', '.join(map(str, steps))} alone"
-    older = held_before(needed, steps, proof)
-    if older is not None:
-        ask = f"ask {needed.service} for the proof under its step {older.step} ({older.command})"
-        return f"The line of step {needed.step} of {needed.service} is missing. {have}: {ask}. A line that you get only now shows nothing about the time before."
-    ask = f"ask {needed.service} for that line" + (f", or for the proof under its step {later[0]}" if later else "")
-    return f"The line of step {needed.step} of {needed.service} is missing. {have}: {ask}."
+        return f"You hold none of {service}"
+    if len(steps) > 4:
+        return f"You hold {count_of(len(steps), 'line')} of it, of the steps {steps[0]} to {steps[-1]}, and not this one"
+    return f"You hold its {'line of step' if len(steps) == 1 else 'lines of the steps'} {', '.join(map(str, steps))} alone"
 
 
-class Older(NamedTuple):
-    """A step of which a line was kept before the proof was made, and the command that makes the proof under it."""
+def ask_others(service: str, proof: bytes) -> str:
+    """Whom to ask for a line: never the service itself, nor who sent the file."""
+    names = choosing.choose_whom_to_ask(service, formats.recorders_in(proof, service))
+    named = f"{listed(names)}, which received it by this file; " if names else ""
+    return f"ask somebody who kept it, and is neither {service} nor whoever sent you this file: {named}a notary, another reader of {service}"
 
-    step: int
-    command: str
 
-
-def held_before(needed: Needed, steps: list[int], proof: bytes) -> Optional[Older]:
-    """The first of these steps, of which lines were kept, that is below the one needed, and under which what the proof shows can be proved too."""
+def older_ask(needed: Needed, steps: list[int], proof: bytes) -> str:
+    """The advice to ask for the proof under a line that was kept before it was made, where that can be; else nothing."""
     found = formats.read_proof(proof)
     if found is None or (found.service, found.top) != needed:
-        return None
-    step = next((step for step in steps if found.step <= step < needed.step), None)
+        return ""
+    step = choosing.choose_older_step(steps, found.step, needed.step)
     if step is None:
-        return None
+        return ""
+    command = f"weft prove .. --top {step}, then weft chain" if formats.kind_of(proof) == "precedence" else f"timeweave prove DIR .. {step}"
     if isinstance(found, formats.proofs.ExistenceProof):
-        return Older(step, f"weft prove SERVICE FILE --top {step}")
-    return Older(step, f"weft prove .. --top {step}, then weft chain" if formats.kind_of(proof) == "precedence" else f"timeweave prove DIR .. {step}")
+        command = f"weft prove SERVICE FILE --top {step}"
+    return f"ask {needed.service} for the proof under its step {step} ({command}), which you hold"
 
 
 def resting(judgement: Judgement, kept: KeptLines) -> list[str]:

@@ -7,16 +7,25 @@ import re
 from pathlib import Path
 from typing import NamedTuple, Optional
 
-from weft import asking, files, formats, own, signatures
-from weft.box import Peer, Settings, peers_of, split_signed
+from weft import asking, files, formats, hearing, looking, own, signatures
+from weft.box import Peer, Settings, peers_of
+from weft.deciding.forks import FILE_NAME, Finding, Fork, find_contradicting, may_write_fork, name_fork_file, read_forks, weigh_contradiction
+from weft.deciding.linking import read_link_files
+from weft.deciding.recording import may_note_recorded
+from weft.deciding.restoring import DAY, Go, Told, Word, judge_turn, must_look
+from weft.deciding.sharing import choose_names, choose_receipts, move_cursor, order_lines
+from weft.deciding.signatures import PublicKey, Signed, read_signed_line, read_signed_lines
+from weft.deciding.silence import weigh_heard
+from weft.deciding.worst import worst_of
 from weft.formats import Message
 from weft.judges import Bench
 from weft.lines import Kept, Line, keep, kept_now, read_line
+from weft.links import Links
+from weft.looking import Note, Notes
 from weft.own import OwnLines
-from weft.signatures import Signed
 from weft.statuses import Status
 from weft.stores import Store
-from weft.texts import beside, name_of, printable
+from weft.texts import beside, name_of, now, printable
 from weft.trouble import Trouble
 
 MOST_SEEN = 128
@@ -26,65 +35,120 @@ UNFIT_TURNS = 3
 SIGNED_BYTES = 8_192
 REFUSAL = re.compile(r"refused BadLink ([0-9]{1,13}) ([0-9a-f]{64})\nmessage ([0-9]{1,13}) since ([0-9]{1,13})\n")
 HALF = formats.MOST_HISTORY // 2
+# So many seconds after a look began a peer's word counts.
+SETTLED = DAY
 
 
-class Contradiction(NamedTuple):
-    """Two signed lines of one step of a service."""
+class Refusal(NamedTuple):
+    """A peer's refusal of a message: the line of this service that it recorded last, and the step since which the refused message was made."""
 
-    first: Signed
-    second: Signed
+    line: Line
+    since: int
 
 
 class Turn:
     """A turn of the service of a store with the peers of a box, which goes on despite lines that some of them hand back."""
 
-    def __init__(self, store: Store, box: Path, settings: Settings, judge: Bench, despite: list[str]):
-        self.store, self.box, self.settings, self.judge, self.despite = store, box, settings, judge, despite
+    def __init__(self, store: Store, box: Path, settings: Settings, judge: Bench, despite: list[str], named: Optional[Line] = None):
+        self.store, self.box, self.settings, self.judge, self.despite, self.named = store, box, settings, judge, despite, named
         self.lines = OwnLines(store.folder)
         self.signers = box / "allowed_signers"
         self.last = store.last().line
         self.peers, self.strange = peers_of(box, self.last.service, settings)
+        self.notes = Notes(box)
+        self.note = self.notes.read()
+        self.returned: dict[str, Line] = {}
         self.known: dict[int, Line] = {}
         self.messages: dict[int, bytes] = {}
+        self.keys: dict[Signed, Optional[str]] = {}
+        self.own: dict[Signed, bool] = {}
         self.status = Status.DONE
+        self.is_made = True
         self.told: list[str] = []
 
     def look(self, status: Status = Status.LOOK) -> None:
         """Something needs a look; what is worst counts."""
-        self.status = max(self.status, status)
+        self.status = worst_of([self.status, status])
 
     # ---- the own service
 
-    def begin(self) -> None:
-        """Opens the service, and makes a first step where it has none. Raises Trouble where the store isn't the one whose lines went out."""
+    def begin(self, is_look: bool) -> bool:
+        """Whether the turn may be made: it waits for peers' words where somebody looks, and where the store or the box may come from a backup. Raises Trouble
+        where the store isn't the one whose lines went out."""
+        if self.named is not None:
+            self.lines.adopt(self.store, self.judge, self.last, self.named)
         self.lines.check(self.store, self.judge, self.last)
+        returned = []
         for peer in self.peers:
             peer.make()
-            self.check_returned(peer)
-        if self.last.step == 0:
-            self.last = self.store.append(formats.events_file([]), None)
-        self.lines.note(self.last)
+            returned += [] if peer.name in self.despite else [(peer, told) for told in self.told_by(peer)]
+        since = self.begin_look(is_look)
+        accepted = [peer for peer in self.peers if peer.accepted() and peer.name not in self.despite]
+        words: list[Word] = [] if since is None else [looking.word_of(peer) for peer in accepted]
+        told = [it for _, it in returned]
+        answer = judge_turn(self.last, own.proved_lines(self.store, self.judge, self.last, told), told, words, since, SETTLED)
+        if answer.lacking is not None:
+            raise self.old_store(answer.lacking, next(peer for peer, it in returned if it is answer.lacking))
+        if is_look or answer.go is Go.WAIT:
+            self.tell_look(accepted, answer.waiting, since)
+        if since is not None and answer.go is Go.ON:
+            if not accepted:
+                self.lines.expect_no_copy(self.store, self.last)
+            self.lines.end_look(self.last)
+        return answer.go is Go.ON and not is_look
 
-    def check_returned(self, peer: Peer) -> None:
-        """Holds the store against lines of its own that a peer hands back: those signed by its own key; in a box that takes unsigned messages those
-        of its peers' word too."""
-        returned = peer.take("yours", SIGNED_BYTES)
+    def begin_look(self, is_look: bool) -> Optional[int]:
+        """Since when peers' words are waited for; None where they aren't."""
+        moment, since = looking.now(), self.lines.look_since()
+        is_old = since is None and self.named is None and (self.notes.is_copy() or self.lines.is_copy(self.last) or must_look(False, self.note.moment, moment))
+        if not is_look and not is_old:
+            return since
+        self.lines.begin_look(moment)
+        return moment
+
+    def tell_look(self, accepted: list[Peer], waiting: tuple[str, ...], since: Optional[int]) -> None:
+        """Tells of each peer what it says of this service, and for whose word is waited."""
+        for peer in accepted:
+            peer.say(looking.describe_word(peer, self.returned.get(peer.name)))
+            if peer.name in waiting and since is not None:
+                peer.need(f"{looking.describe_waiting(since)}. If the carrier leaves out what is the same, empty {name_of(peer.incoming)} then; if "
+                          f"{peer.name} is gone for good: weft exchange --despite {peer.name} ..")  # fmt: skip
+        self.told.append("No step was made, and nothing was put out.")
+
+    def told_by(self, peer: Peer) -> list[Told]:
+        """The lines of this service that a peer's folder tells and the store lacks: those signed by its own key, handed back or put out before; and by the
+        peer's unsigned word later ones than the store has, in a box that takes unsigned messages others too."""
         services = {self.last.service, *(it.name for it in self.peers)}
-        peer.seen = split_signed(peer.take("seen", SIGNED_BYTES * MOST_SEEN) or b"", services)[:MOST_SEEN]
-        seen = [signed for signed in peer.seen if signed.line.service == self.last.service]
-        signed = signatures.split(returned or b"")
-        plain = read_line((returned or b"").decode("utf-8", "replace").split("\n")[0])
-        if peer.name in self.despite:
-            return
-        for it in [*([signed] if signed else []), *seen]:
-            if it.line.service == self.last.service and not self.is_of_store(it.line) and self.is_own(it):
-                own.held_against(self.store, self.judge, self.last, it.line, f"signed by its key, and handed back by {peer.name}")
-        if self.settings.is_unsigned and peer.accepted() and plain and plain.service == self.last.service and not self.is_of_store(plain):
-            try:
-                own.held_against(self.store, self.judge, self.last, plain, f"as {peer.name} says, unsigned")
-            except Trouble as trouble:
-                advice = f"{trouble.advice} Ask {peer.name} by another way; if it is wrong: weft exchange --despite {peer.name} .."
-                raise Trouble(trouble.status, trouble.sentence, advice) from None
+        returned = peer.take("yours", SIGNED_BYTES) or b""
+        peer.seen = read_signed_lines(peer.take("seen", SIGNED_BYTES * MOST_SEEN) or b"", services)[:MOST_SEEN]
+        put_out = files.read_if_there(peer.out / "line", SIGNED_BYTES) or b""
+        signed = [(read_signed_line(returned), f"handed back by {peer.name}"), (read_signed_line(put_out), f"put out for {peer.name} before")]
+        signed += [(it, f"handed back by {peer.name}") for it in peer.seen]
+        found = [Told(it.line, f"signed by its key, and {whence}") for it, whence in signed if it and self.is_lacking(it.line) and self.is_own(it)]
+        return found + [Told(line, f"as {peer.name} says, unsigned") for line in self.unsigned_words(peer, returned)]
+
+    def unsigned_words(self, peer: Peer, returned: bytes) -> list[Line]:
+        """The lines of this service that a peer tells without a signature, and that the store lacks. Somebody on the way can make them up, and a file may be
+        damaged: so but for a later step than the store has nothing is concluded of them, where the box takes signed messages."""
+        line = read_line(returned.decode("utf-8", "replace").split("\n")[0])
+        if line is not None and line.service == self.last.service:
+            self.returned[peer.name] = line
+        told = [line] if line is not None and self.settings.is_unsigned and peer.accepted() else []
+        receipt, refusal = self.receipt_of(peer), self.refused(peer)
+        later = [it for it in (receipt[0] if receipt else None, refusal.line if refusal else None) if it is not None and it.step > self.last.step]
+        return [it for it in [*told, *later] if self.is_lacking(it)]
+
+    def is_lacking(self, line: Line) -> bool:
+        """Whether a line is of this service, and not of the store."""
+        return line.service == self.last.service and not self.is_of_store(line)
+
+    def old_store(self, lacking: Told, peer: Peer) -> Trouble:
+        """The store lacks a line that was told of it."""
+        trouble = own.lacking(self.store.path, self.last, lacking)
+        if not lacking.whence.endswith("unsigned"):
+            return trouble
+        advice = f"{trouble.advice} Ask {peer.name} by another way; if it is wrong: weft exchange --despite {peer.name} .."
+        return Trouble(trouble.status, trouble.sentence, advice)
 
     def is_of_store(self, line: Line) -> bool:
         """Whether the store has this line, as its own. One that was noted beside it is: each was noted behind the one before, and the last of them is held
@@ -100,12 +164,17 @@ class Turn:
         return self.known[line.step] == line
 
     def is_own(self, signed: Signed) -> bool:
-        """Whether the line is signed by the key of this box."""
+        """Whether the line is signed by the key of this box; checked once a turn."""
+        if signed not in self.own:
+            self.own[signed] = self.own_key is not None and signatures.checked_by(signed, self.own_key) is not None
+        return self.own[signed]
+
+    @functools.cached_property
+    def own_key(self) -> Optional[PublicKey]:
+        """The public key of this box, where there is a file of it."""
         key = self.settings.key
         public = key if key is None or key.suffix == ".pub" else beside(key, ".pub")
-        if public is None or not public.exists():
-            return False
-        return signatures.checked_by(signed, public) is not None
+        return signatures.public_key(public) if public is not None and public.exists() else None
 
     # ---- what came
 
@@ -117,8 +186,11 @@ class Turn:
         self.take_receipt(peer)
         self.take_refusal(peer)
         self.compare_seen(peer)
+        before, had = hearing.read_kept_silence(peer), (hearing.last_signed_step(peer), hearing.last_taken_step(peer))
         signed = self.take_signed(peer)
         self.take_message(peer, signed)
+        peer.line_heard = weigh_heard(before[hearing.LINES], had[0], hearing.last_signed_step(peer), signed is not None)
+        peer.message_heard = weigh_heard(before[hearing.MESSAGES], had[1], hearing.last_taken_step(peer), peer.has_message)
         self.take_receipts(peer)
         asking.take_answers(peer)
 
@@ -126,19 +198,26 @@ class Turn:
         """Whether a key of the peer is known, without which nothing that it signs is taken."""
         return bool(signatures.key_lines(self.signers, peer.name))
 
-    def take_receipt(self, peer: Peer) -> None:
-        """Takes its receipt of a step of this service: it says since which step the next message is to be."""
-        data = peer.take("receipt", formats.RECEIPT_SIZE)
+    def receipt_of(self, peer: Peer) -> Optional[tuple[Line, bytes]]:
+        """The line of this service that the peer's receipt tells, and the receipt."""
+        data = peer.take_once("receipt", formats.RECEIPT_SIZE)
         receipt = formats.read_receipt(data) if data is not None else None
         if receipt is None or (receipt.recorder, receipt.service) != (peer.name, self.last.service):
+            return None
+        return Line(receipt.service, receipt.step, receipt.authenticator.hex()), receipt.to_bytes()
+
+    def take_receipt(self, peer: Peer) -> None:
+        """Takes its receipt of a step of this service: it says since which step the next message is to be."""
+        receipt, has = self.receipt_of(peer), peer.has()
+        if receipt is None:
             return
-        line, has = Line(receipt.service, receipt.step, receipt.authenticator.hex()), peer.has()
+        line = receipt[0]
         if not self.is_of_store(line):
             peer.say(f"its receipt is of step {line.step}, which this store doesn't have so; nothing is concluded from that")
             return
-        if has is None or line.step > has.step:
+        if may_note_recorded(has.step if has else None, line.step, None):
             peer.renew("has", f"{line.text}\n".encode())
-        self.add_receipt(peer, "got", receipt.to_bytes())
+        self.add_receipt(peer, "got", receipt[1])
 
     def add_receipt(self, peer: Peer, name: str, receipt: bytes) -> None:
         """Keeps a receipt among the last ones."""
@@ -156,14 +235,19 @@ class Turn:
         if all(piece in known or formats.read_receipt(piece) for piece in formats.receipt_pieces(heard)):
             peer.renew("heard", heard)
 
-    def take_refusal(self, peer: Peer) -> None:
-        """Takes its refusal of a message: it says what it has recorded."""
-        text = (peer.take("refusal", 2_048) or b"").decode("ascii", "replace")
+    def refused(self, peer: Peer) -> Optional[Refusal]:
+        """The peer's refusal of a message."""
+        text = (peer.take_once("refusal", 2_048) or b"").decode("ascii", "replace")
         found = REFUSAL.match(text)
         line = read_line(f"{self.last.service} {found[1]} {found[2]}") if found else None
-        has = peer.has()
-        if found is None or line is None or (has is not None and int(found[3]) <= has.step):
+        return Refusal(line, int(found[4])) if found and line else None
+
+    def take_refusal(self, peer: Peer) -> None:
+        """Takes its refusal of a message: it says what it has recorded."""
+        refusal, has = self.refused(peer), peer.has()
+        if refusal is None or not may_note_recorded(has.step if has else None, refusal.line.step, refusal.since):
             return
+        line = refusal.line
         if self.is_of_store(line):
             peer.renew("has", f"{line.text}\n".encode())
         else:
@@ -175,21 +259,29 @@ class Turn:
 
     def take_signed(self, peer: Peer) -> Optional[Signed]:
         """Takes its signed line, and holds it against those that it signed before; None where it is none or not signed by the key that is kept."""
-        signed = signatures.split(peer.take("line", SIGNED_BYTES) or b"")
-        if signed is None or signed.line.service != peer.name:
+        data = peer.take("line", SIGNED_BYTES)
+        signed = read_signed_line(data or b"")
+        if signed is None:
+            if data and read_line(data.decode("ascii", "replace").removesuffix("\n")) is None:
+                self.unfit(peer, "what is in its folder as its line is no line with one signature and nothing behind it: not taken")
             return None
-        known = {it.line: it for it in peer.signed_lines()}
-        if signed.line in known:
-            return known[signed.line]
-        key = signatures.checked(signed, self.signers)
-        if key is None and not self.has_key(peer):
+        if signed.line.service != peer.name:
+            self.unfit(peer, f"the line in its folder is of {signed.line.service}: not taken")
             return None
+        key = self.key_of(signed)
         if key is None:
-            self.unfit(peer, f"the line in its folder isn't signed by the key that {name_of(self.signers)} has for it: not taken")
+            if self.has_key(peer):
+                self.unfit(peer, f"the line in its folder isn't signed by the key that {name_of(self.signers)} has for it: not taken")
             return None
         peer.remove("unfit")
-        self.note_signed(peer, signed, key)
+        self.note_signed(peer, signed, f"signed by {key}, by exchange")
         return signed
+
+    def key_of(self, signed: Signed) -> Optional[str]:
+        """The key that is noted now for the line's service, and by which it is signed, checked once a turn; None where it isn't so."""
+        if signed not in self.keys:
+            self.keys[signed] = signatures.checked(signed, self.signers)
+        return self.keys[signed]
 
     def unfit(self, peer: Peer, text: str) -> None:
         """Something of the peer didn't fit; after some turns in a row it needs a look."""
@@ -200,30 +292,66 @@ class Turn:
             self.look()
 
     def note_signed(self, peer: Peer, signed: Signed, how: str) -> None:
-        """Keeps a signed line of a peer; two of one step that differ are evidence."""
-        for it in peer.signed_lines():
-            if it.line.step == signed.line.step and it.line != signed.line:
-                self.note_contradiction(peer, Contradiction(it, signed))
-                return
+        """Keeps a line of a peer whose signature is good, and holds it against those that it signed for the same step. Its place among the signed ones is
+        written last: a turn that was stopped before does all anew."""
+        held = peer.signed_at(signed.line.step)
+        if any(it.line == signed.line and self.key_of(it) is not None for it in held):
+            return
+        found = [self.weigh(peer, it, signed) for it in find_contradicting(signed.line, held)]
+        self.keep(peer, kept_now(signed.line, how), is_told=Finding.EVIDENCE in found)
         peer.add_signed(signed)
-        self.keep(peer, kept_now(signed.line, f"signed by {how}, by exchange"))
 
-    def keep(self, peer: Peer, kept: Kept) -> None:
-        """Keeps a line of a peer among its lines; one that contradicts is told."""
-        try:
-            keep(peer.kept / "lines", [kept])
-        except Trouble as trouble:
-            peer.say(trouble.told())
-            self.look(Status.CONTRADICTION)
+    def keep(self, peer: Peer, kept: Kept, is_told: bool = False) -> None:
+        """Keeps a line of a peer among its lines; that it contradicts others is told, where it wasn't yet."""
+        for placed in keep(peer.kept / "lines", [kept]):
+            if placed.trouble is not None:
+                self.look(Status.CONTRADICTION)
+                if not is_told:
+                    peer.say(placed.trouble.told())
 
-    def note_contradiction(self, peer: Peer, found: Contradiction) -> None:
-        """Keeps two signed lines of one step as evidence, and tells it."""
-        step = found.first.line.step
-        for signed in found:
-            files.renew(peer.kept / "forks" / f"{step}-{signed.line.authenticator[:16]}", signed.data)
+    def weigh(self, peer: Peer, held: Signed, new: Signed) -> Finding:
+        """What two lines of a peer show that contradict: they are remembered where both signatures are good now; that the held one's isn't is told."""
+        found = weigh_contradiction(held.line, new.line, self.key_of(held) is not None, self.key_of(new) is not None)
+        if found is Finding.EVIDENCE:
+            for signed in (held, new):
+                self.remember(peer, signed)
+        elif found is Finding.DIFFERENT:
+            peer.say(
+                f"its line of step {new.line.step} is another one than that which was kept as signed, whose signature isn't good by a key that "
+                f"{name_of(self.signers)} has now: that shows nothing against it"
+            )
+            self.look()
+        return found
+
+    def remember(self, peer: Peer, signed: Signed) -> None:
+        """Keeps one of two signed lines that contradict, for good."""
+        path = peer.kept / "forks" / name_fork_file(signed.line)
+        found = files.read_if_there(path, signatures.MOST_BYTES)
+        before = read_signed_line(found or b"")
+        if may_write_fork(found, signed, before is not None and self.key_of(before) is not None):
+            files.renew(path, signed.data)
+
+    def tell_forks(self, peer: Peer) -> None:
+        """Tells that a peer signed two lines of a step, each night while both are remembered; before it says so it has both signatures checked."""
+        folder = peer.kept / "forks"
+        found = [(path.name, files.read(path, signatures.MOST_BYTES)) for path in sorted(folder.iterdir()) if FILE_NAME.fullmatch(path.name)]
+        forks = read_forks(peer.name, found)
+        proved = next((it for it in forks if sum(self.key_of(signed) is not None for signed in it.lines) > 1), None)
+        if proved is not None:
+            self.tell_evidence(peer, proved, len(forks))
+        elif forks:
+            peer.say(
+                f"{name_of(folder)} has different lines of its step {forks[0].step}, of which not two are signed by a key that {name_of(self.signers)} has now: "
+                f"that shows nothing against it. Ask {peer.name}"
+            )
+            self.look()
+
+    def tell_evidence(self, peer: Peer, fork: Fork, steps: int) -> None:
+        """Tells two lines of a step whose signatures are good."""
+        others = f", with those of {steps - 1} more of its steps" if steps > 1 else ""
         peer.say(
-            f"EVIDENCE: there are two lines of its step {step}, both signed by its key: it has shown two histories, or somebody else has its key. "
-            f"Both are kept in {name_of(peer.kept / 'forks')}; show them to all who hold its lines"
+            f"EVIDENCE: there are two lines of its step {fork.step}, both signed by its key: it has shown two histories, or somebody else has its key. "
+            f"Both are kept in {name_of(peer.kept / 'forks')}{others}; show them to all who hold its lines"
         )
         self.look(Status.CONTRADICTION)
 
@@ -232,12 +360,8 @@ class Turn:
         by_name = {it.name: it for it in self.peers}
         for signed in peer.seen:
             other = by_name.get(signed.line.service)
-            if other is None:
-                continue
-            for it in other.signed_lines():
-                is_other = it.line.step == signed.line.step and it.line != signed.line
-                if is_other and signatures.checked(signed, self.signers):
-                    self.note_contradiction(other, Contradiction(it, signed))
+            if other is not None and find_contradicting(signed.line, other.signed_at(signed.line.step)) and self.key_of(signed) is not None:
+                self.note_signed(other, signed, f"signed by {self.key_of(signed)}, handed on by {peer.name}")
 
     # ---- messages
 
@@ -249,6 +373,7 @@ class Turn:
         if data is None:
             return
         message = formats.read_message(data)
+        peer.has_message = message is not None and message.service == peer.name
         if message is None:
             peer.say("its message is damaged: not taken")
         elif message.service != peer.name:
@@ -265,13 +390,15 @@ class Turn:
             self.receive(peer, message, data, None if first else peer.take("next", formats.MOST_MESSAGE))
 
     def may_take(self, peer: Peer, message: Message, signed: Optional[Signed]) -> bool:
-        """Whether the message is signed by its line, or the box takes unsigned ones."""
+        """Whether the message's line is signed, by a key that is noted now, or the box takes unsigned ones."""
         line = formats.line_of(message)
-        if signed is not None and signed.line == line or any(it.line == line for it in peer.signed_lines()):
+        same = [it for it in [*([signed] if signed else []), *peer.signed_at(line.step)] if it.line == line]
+        if self.settings.is_unsigned or any(self.key_of(it) is not None for it in same):
             return True
-        if self.settings.is_unsigned:
-            return True
-        if signed is not None and signed.line.step == line.step:
+        if same:
+            peer.say(f"its message of step {line.step} rests on a line that isn't signed by a key that {name_of(self.signers)} has now: not taken")
+            self.look()
+        elif signed is not None and signed.line.step == line.step:
             peer.say(f"its message tells another authenticator of step {line.step} than the line that it signed: not taken")
             self.look()
         else:
@@ -292,13 +419,17 @@ class Turn:
         if answer.status == 0:
             self.note_step(answer.output)
             before = peer.taken_line()
+            if before is not None and line.step < before.step:
+                # an old message came again: what is handed back stays the last line, by which an old store that was put back there is found
+                peer.remove("first")
+                return
             peer.renew("taken", f"{line.text}\n".encode())
             self.add_receipt(peer, "given", answer.output)
             peer.put("receipt", answer.output)
             files.remove(peer.out / "refusal")
             if before != line:
                 peer.say(f"its step {line.step} is recorded")
-            if self.settings.is_unsigned and not any(it.line == line for it in peer.signed_lines()):
+            if self.settings.is_unsigned and not any(it.line == line for it in peer.signed_at(line.step)):
                 self.keep(peer, kept_now(line, "unsigned, by exchange"))
         elif words[:1] == ["refused"]:
             self.refuse(peer, message, words[1], words[2:])
@@ -336,10 +467,10 @@ class Turn:
         peer.put("line", signed.data if signed else f"{self.last.text}\n".encode())
         taken = peer.taken_line()
         if taken is not None:
-            returned = next((it.data for it in peer.signed_lines() if it.line == taken), f"{taken.text}\n".encode())
+            returned = next((it.data for it in peer.signed_at(taken.step) if it.line == taken), f"{taken.text}\n".encode())
             peer.put("yours", returned)
         peer.put("seen", self.seen_by(peer))
-        peer.put("receipts", self.known_receipts)
+        peer.put("receipts", self.receipts_for(peer))
         peer.put("requests", peer.read("asked"))
 
     def message(self, since: int) -> bytes:
@@ -348,11 +479,16 @@ class Turn:
             self.messages[since] = self.store.done("thread", str(since))
         return self.messages[since]
 
+    @functools.cached_property
+    def shared(self) -> dict[str, list[Signed]]:
+        """The signed lines that are handed on in this turn: of each peer whose turn it is, the newest first."""
+        holders = [peer for peer in self.peers if peer.signed_lines()]
+        chosen = set(choose_names([peer.name for peer in holders], MOST_SEEN, self.note.cursor))
+        return {peer.name: sorted(peer.signed_lines(), key=lambda it: -it.line.step)[:MOST_SEEN] for peer in holders if peer.name in chosen}
+
     def seen_by(self, peer: Peer) -> bytes:
-        """The last signed lines of the other peers, of each as many as there is room for."""
-        others = [other.signed_lines() for other in self.peers if other is not peer]
-        each = max(1, MOST_SEEN // max(1, len(others)))
-        return b"".join(it.data for it in [it for lines in others for it in lines[-each:]][:MOST_SEEN])
+        """The signed lines of other peers that are handed on to a peer."""
+        return b"".join(it.data for it in order_lines([lines for name, lines in self.shared.items() if name != peer.name], MOST_SEEN))
 
     def put_next(self, peer: Peer, since: int) -> None:
         """Puts out the message since the step of the one before, which the peer may have recorded by now though its receipt is still on its way."""
@@ -366,24 +502,88 @@ class Turn:
             files.remove(peer.out / "next")
 
     @functools.cached_property
-    def known_receipts(self) -> bytes:
-        """The last receipts that were made here, came here, or were heard of, each once."""
+    def known_receipts(self) -> list[bytes]:
+        """The receipts that were made here, came here, or were heard of, each once."""
         parts = [peer.read(name) for name in ("heard", "given", "got") for peer in self.peers]
-        pieces = dict.fromkeys(piece for part in parts for piece in formats.receipt_pieces(part))
-        return b"".join(list(pieces)[-MOST_RECEIPTS:])
+        return list(dict.fromkeys(piece for part in parts for piece in formats.receipt_pieces(part)))
 
-    def run(self) -> Status:
-        """The whole turn."""
-        self.begin()
+    def receipts_for(self, peer: Peer) -> bytes:
+        """The receipts that a peer gets."""
+        return b"".join(choose_receipts(self.known_receipts, set(formats.receipt_pieces(peer.read("heard"))), MOST_RECEIPTS))
+
+    def run(self, is_look: bool = False) -> Status:
+        """The whole turn, or where somebody only looks, or peers' words are waited for, what is known of the store."""
+        self.tell_strange()
+        if self.begin(is_look):
+            self.notes.begin()
+            self.make_turn()
+            self.notes.end(self.next_note())
+        else:
+            self.is_made = False
+        return worst_of([self.status, *(peer.status for peer in self.peers)])
+
+    def make_turn(self) -> None:
+        """Takes what came, and puts out what is to go."""
+        if self.last.step == 0:
+            self.last = self.store.append(formats.events_file([]), None)
+        self.lines.note(self.last)
         for peer in self.peers:
             self.take(peer)
+        for peer in self.peers:
+            self.tell_forks(peer)
         self.lines.note(self.last)
+        self.settle_links()
+        for peer in self.peers:
+            hearing.listen(peer, not self.settings.is_unsigned and self.has_key(peer), peer.accepted() is not None, self.last.step, now()[:10])
         signed = self.signed_last()
         for peer in self.peers:
             asking.answer_peer(self.store, self.peers, peer, peer.take("requests", asking.MOST_BYTES) if peer.accepted() else None)
             self.put(peer, signed)
+            self.recall_links(peer)
+            self.tell_end(peer)
         self.told += [*self.unsigned(), *self.share()]
-        return self.status
+
+    def next_note(self) -> Note:
+        """What this turn leaves to the next one."""
+        holders = sum(bool(peer.signed_lines()) for peer in self.peers)
+        return Note(self.note.turn + 1, move_cursor(self.note.cursor, holders, MOST_SEEN, self.note.turn), looking.now())
+
+    def settle_links(self) -> None:
+        """Asks peers for the links between their lines that were kept here or handed on by others, and takes their answers."""
+        links = Links(self.judge, self.key_of, self.settings.silent, self.note.turn)
+        for peer in self.peers:
+            if peer.accepted() and not peer.fork_names():
+                others = ([it for it in other.seen if it.line.service == peer.name] for other in self.peers if other is not peer)
+                links.settle(peer, [signed for signed in others if signed])
+
+    def recall_links(self, peer: Peer) -> None:
+        """Tells again that a link showed two histories of a peer: what was seen once isn't forgotten. Before it says so it has both signatures checked."""
+        links = read_link_files(peer.fork_names())
+        if not links or any("EVIDENCE" in text for text in peer.told):
+            return
+        folder, (earlier, later) = peer.kept / "forks", links[-1]
+        found = [read_signed_line(files.read(folder / name, signatures.MOST_BYTES)) for name in peer.fork_names() if FILE_NAME.fullmatch(name)]
+        good = {it.line.step for it in found if it and it.line.service == peer.name and self.key_of(it) is not None}
+        what = "EVIDENCE" if {earlier, later} <= good else "a sign, not both lines of which are signed by its key of now,"
+        peer.need(
+            f"{what} of two histories of it, by its lines of step {earlier} and of step {later} and the link that it gave, is kept in {name_of(folder)}: show that "
+            "to all who hold its lines",
+            Status.CONTRADICTION,
+        )
+
+    def tell_end(self, peer: Peer) -> None:
+        """Tells until when two histories that were found count."""
+        if any("EVIDENCE" in text for text in peer.told):
+            peer.say(f"each turn ends with 11 until you move {name_of(peer.kept / 'forks')} out of the box")
+
+    def tell_strange(self) -> None:
+        """Tells what stands in the box and is no peer's folder; a link counts, since a peer may be meant by it."""
+        for name in self.strange:
+            is_link = (self.box / name).is_symlink()
+            why = "is a link, and no link is followed there" if is_link else "is no peer's folder"
+            self.told.append(f"{printable(name)} in {name_of(self.box)} {why}.")
+            if is_link:
+                self.look()
 
     def unsigned(self) -> list[str]:
         """That nothing signs the lines that go out, where the box has neither a key nor takes unsigned ones: then no peer takes them."""
@@ -397,8 +597,8 @@ class Turn:
         if self.settings.key is None:
             return None
         for peer in self.peers:
-            signed = signatures.split(files.read_if_there(peer.out / "line", SIGNED_BYTES) or b"")
-            if signed is not None and signed.line == self.last:
+            signed = read_signed_line(files.read_if_there(peer.out / "line", SIGNED_BYTES) or b"")
+            if signed is not None and signed.line == self.last and self.is_own(signed):
                 return signed
         return signatures.sign(self.last, self.settings.key)
 

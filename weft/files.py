@@ -1,12 +1,19 @@
-"""Files: read where they are regular and not too long, and written whole or not at all."""
+"""Files: read where they are regular and not too long, and written whole or not at all.
+
+What weft makes is for the user who runs it alone, whatever the umask: folders have the mode 0700 and files 0600 from the start. What
+that user names to be handed out is made as the umask says, and what is put into a folder to be carried is as readable as that folder.
+Who gives a file another mode keeps it."""
 
 from __future__ import annotations
 
 import errno
+import fcntl
 import os
+import secrets
 import stat
+import sys
 from pathlib import Path
-from typing import Optional, Union
+from typing import Callable, Optional, Union
 
 from weft.statuses import Status
 from weft.texts import name_of
@@ -15,6 +22,16 @@ from weft.trouble import Trouble
 AnyPath = Union[str, "os.PathLike[str]"]
 
 PIECE = 1 << 20
+GET_GENERATION = 0x80087601
+PRIVATE, BY_UMASK, PRIVATE_FOLDER = 0o600, 0o666, 0o700
+READABLE, GROUP = 0o044, 0o070
+MOST_LINKS = 40
+MOST_FRONT = 60
+
+# What to do where a file can't be written, by the reason.
+NO_ROOM = "What was there before stands; run it again once there is room."
+NO_RIGHT = "What was there before stands. Look who may write there, and run it as a user who may."
+NO_REASON = "What was there before stands. Look at the device, and run it again."
 
 
 def unread(path: AnyPath, failure: OSError) -> Trouble:
@@ -30,12 +47,15 @@ def unread(path: AnyPath, failure: OSError) -> Trouble:
 def unwritten(path: AnyPath, failure: OSError) -> Trouble:
     """The sentence of a file that can't be written."""
     reason = os.strerror(failure.errno or 0)
-    return Trouble(Status.DISK, f"{name_of(path)} can't be written: {reason}", "What was there before stands; run it again once there is room.")
+    is_full = failure.errno in (errno.ENOSPC, errno.EDQUOT, errno.EFBIG)
+    is_forbidden = failure.errno in (errno.EACCES, errno.EPERM, errno.EROFS)
+    advice = NO_ROOM if is_full else NO_RIGHT if is_forbidden else NO_REASON
+    return Trouble(Status.DISK, f"{name_of(path)} can't be written: {reason}", advice)
 
 
 def opened(path: AnyPath, follow: bool = True, within: Optional[int] = None) -> int:
-    """The number of a regular file that is opened to be read, from the open folder `within` on where one is given; raises Trouble where it is none.
-    A pipe isn't waited for."""
+    """The number of a regular file that is opened to be read, from the open folder `within` on where one is given; raises Trouble where
+    it is none. A pipe isn't waited for."""
     flags = os.O_RDONLY | os.O_NONBLOCK | os.O_CLOEXEC | os.O_NOCTTY | (0 if follow else os.O_NOFOLLOW)
     try:
         number = os.open(path, flags, dir_fd=within)
@@ -52,8 +72,8 @@ def opened(path: AnyPath, follow: bool = True, within: Optional[int] = None) -> 
 
 
 def read(path: AnyPath, most: int, follow: bool = True, within: Optional[int] = None) -> bytes:
-    """The bytes of a regular file. Raises Trouble where it can't be read, or has more bytes than `most`: its size is looked at before a byte
-    is read, and no more is read of one that grows."""
+    """The bytes of a regular file. Raises Trouble where it can't be read, or has more bytes than `most`: its size is looked at before a
+    byte is read, and no more is read of one that grows."""
     number = opened(path, follow, within)
     try:
         size = os.fstat(number).st_size
@@ -82,8 +102,21 @@ def read_up_to(number: int, most: int) -> bytes:
 
 
 def read_if_there(path: AnyPath, most: int, follow: bool = True) -> Optional[bytes]:
-    """The same, or None where there is no such file."""
-    return read(path, most, follow) if os.path.lexists(path) else None
+    """The same, or None where the system says that there is no such file. What can't be looked up is trouble."""
+    return read(path, most, follow) if is_there(path) else None
+
+
+def is_there(path: AnyPath) -> bool:
+    """Whether there is something of this name, a link too; raises Trouble where the system doesn't say."""
+    try:
+        os.lstat(path)
+    except FileNotFoundError:
+        return False
+    except OSError as failure:
+        raise unread(path, failure) from None
+    except ValueError:
+        return True
+    return True
 
 
 def sync_folder(path: AnyPath) -> None:
@@ -102,46 +135,163 @@ def write_all(number: int, data: bytes) -> None:
         view = view[os.write(number, view[:PIECE]) :]
 
 
-def renew(path: AnyPath, data: bytes, mode: int = 0o666) -> None:
-    """Makes the file anew: at each moment it is the old one or the new one, whole, after a loss of power too. The new one is written beside it
-    first, under its name with `.new` behind."""
+def target_of(path: AnyPath) -> str:
+    """The path to which a link of this name leads, over others too, or the path itself. A link that somebody else put into a folder
+    where all may write isn't followed, as the system itself follows none there."""
     whole = os.fspath(path)
-    new = f"{whole}.new"
-    flags = os.O_WRONLY | os.O_CREAT | os.O_TRUNC | os.O_CLOEXEC | os.O_NOFOLLOW
-    try:
-        number = os.open(new, flags, mode)
+    for _ in range(MOST_LINKS):
         try:
-            write_all(number, data)
-            os.fsync(number)
-        finally:
-            os.close(number)
-        os.replace(new, whole)
-        sync_folder(os.path.dirname(whole) or ".")
+            link = os.lstat(whole)
+        except FileNotFoundError:
+            return whole
+        if not stat.S_ISLNK(link.st_mode):
+            return whole
+        folder = os.stat(os.path.dirname(whole) or ".")
+        if folder.st_mode & stat.S_ISVTX and folder.st_mode & stat.S_IWOTH and link.st_uid not in (os.geteuid(), folder.st_uid):
+            raise PermissionError(errno.EACCES, os.strerror(errno.EACCES))
+        whole = os.path.join(os.path.dirname(whole), os.readlink(whole))
+    raise OSError(errno.ELOOP, os.strerror(errno.ELOOP))
+
+
+def new_beside(path: str, mode: int) -> tuple[int, str]:
+    """The number and the name of a new file in the folder of another one: that nobody has, and that ends with `.new`."""
+    folder, name = os.path.split(path)
+    flags = os.O_WRONLY | os.O_CREAT | os.O_EXCL | os.O_CLOEXEC | os.O_NOFOLLOW
+    while True:
+        new = os.path.join(folder, f".{name[:MOST_FRONT]}.{secrets.token_hex(8)}.new")
+        try:
+            return os.open(new, flags, mode), new
+        except FileExistsError:
+            continue
+
+
+def take_rights(number: int, old: Optional[os.stat_result], mode: int) -> None:
+    """Gives the new file the mode, the owner and the group of the one in whose place it comes; where there is none, the mode as it was
+    wanted. Where the system lets this user set no such group, nobody but the owner may read what only the group could."""
+    if old is None:
+        if mode != BY_UMASK:
+            os.fchmod(number, mode)
+        return
+    kept, now = stat.S_IMODE(old.st_mode), os.fstat(number)
+    for owner, group in ((-1, old.st_gid), (old.st_uid, -1)):
+        if (owner in (-1, now.st_uid)) and (group in (-1, now.st_gid)):
+            continue
+        try:
+            os.fchown(number, owner, group)
+        except PermissionError:
+            kept &= ~GROUP if owner == -1 else ~0
+    os.fchmod(number, kept)
+
+
+def renew(path: AnyPath, data: Union[bytes, Callable[[str], bytes]], mode: int = PRIVATE, follow: bool = True) -> None:
+    """Makes the file anew: at each moment it is the old one or the new one, whole, after a loss of power too. It keeps its mode and its
+    owner; one that wasn't there gets the mode, that of BY_UMASK as the umask says. A link is followed, and stays; without `follow` the
+    file comes in its place. The new one is written beside it first, under a name of its own that begins with a dot and ends with `.new`,
+    which a run that is killed leaves behind. What is written may be a function of the new file's identity."""
+    try:
+        target = target_of(path) if follow else os.fspath(path)
+        old = old_file(target, path)
+        number, new = new_beside(target, mode)
+        try:
+            try:
+                take_rights(number, old, mode)
+                write_all(number, data if isinstance(data, bytes) else data(identity_of_open(number)))
+                os.fsync(number)
+            finally:
+                os.close(number)
+            os.replace(new, target)
+        except BaseException:
+            remove_quietly(new)
+            raise
+        sync_folder(os.path.dirname(target) or ".")
     except OSError as failure:
         raise unwritten(path, failure) from None
 
 
-def renew_if_other(path: AnyPath, data: bytes) -> None:
-    """The same, but where the file has these bytes already, it is left as it is."""
+def old_file(target: str, path: AnyPath) -> Optional[os.stat_result]:
+    """The file that is to be made anew, or None where there is none or a link; raises Trouble where something else has the name."""
+    try:
+        old = os.lstat(target)
+    except FileNotFoundError:
+        return None
+    if stat.S_ISLNK(old.st_mode):
+        return None
+    if not stat.S_ISREG(old.st_mode):
+        what = "a folder" if stat.S_ISDIR(old.st_mode) else "no regular file"
+        raise Trouble(Status.DISK, f"{name_of(path)} is {what}, and isn't written over", "Name another file.")
+    return old
+
+
+def identity_of_open(number: int) -> str:
+    """Which file an open one is: its number on its device, and the generation of that number, by which file systems tell a file from an
+    earlier one of the same number (FS_IOC_GETVERSION of Linux; 0 where a file system tells none)."""
+    generation = bytearray(8)
+    try:
+        fcntl.ioctl(number, GET_GENERATION, generation)
+    except OSError:
+        generation = bytearray(8)
+    return f"{os.fstat(number).st_ino}.{int.from_bytes(generation[:4], sys.byteorder)}"
+
+
+def identity_of(path: AnyPath) -> Optional[str]:
+    """Which file has this name, as a copy of it hasn't; None where there is none."""
+    if not is_there(path):
+        return None
+    number = opened(path)
+    try:
+        return identity_of_open(number)
+    finally:
+        os.close(number)
+
+
+def remove_quietly(path: str) -> None:
+    """Removes what was begun, as far as that goes: what stopped it is what is told."""
+    try:
+        os.unlink(path)
+    except OSError:
+        pass
+
+
+def hand_out(path: AnyPath, data: bytes) -> None:
+    """Makes a file that the user named, to be handed out: a new one as the umask says."""
+    renew(path, data, BY_UMASK)
+
+
+def renew_if_other(path: AnyPath, data: bytes, mode: Optional[int] = None) -> None:
+    """Makes a file that is to be carried anew, but where it has these bytes already, it is left as it is. No link is followed. One that
+    wasn't there gets the mode, or where none is wanted may be read by those who may read its folder."""
     try:
         number = os.open(path, os.O_RDONLY | os.O_NONBLOCK | os.O_CLOEXEC | os.O_NOFOLLOW)
     except OSError:
-        return renew(path, data)
+        return renew(path, data, mode_below(path) if mode is None else mode, follow=False)
     try:
         is_same = os.fstat(number).st_size == len(data) and read_up_to(number, len(data) + 1) == data
     finally:
         os.close(number)
     if not is_same:
-        renew(path, data)
+        renew(path, data, mode_below(path) if mode is None else mode, follow=False)
+
+
+def mode_below(path: AnyPath) -> int:
+    """The mode of a new file that may be read by those who may read its folder."""
+    try:
+        return PRIVATE | os.stat(os.path.dirname(os.fspath(path)) or ".").st_mode & READABLE
+    except OSError as failure:
+        raise unwritten(path, failure) from None
 
 
 def add(path: AnyPath, text: str) -> None:
     """Adds a line to a file that grows, as a log; it is on the disk before this returns."""
+    append(path, (text + "\n").encode("utf-8", "surrogateescape"))
+
+
+def append(path: AnyPath, data: bytes) -> None:
+    """Adds bytes to a file that grows; they are on the disk before this returns. Where it is stopped, a part of them may stand there."""
     flags = os.O_WRONLY | os.O_CREAT | os.O_APPEND | os.O_CLOEXEC | os.O_NOFOLLOW
     try:
-        number = os.open(path, flags, 0o666)
+        number = os.open(path, flags, PRIVATE)
         try:
-            write_all(number, (text + "\n").encode("utf-8", "surrogateescape"))
+            write_all(number, data)
             os.fsync(number)
         finally:
             os.close(number)
@@ -160,18 +310,42 @@ def remove(path: AnyPath) -> None:
 
 
 def make_folder(path: AnyPath) -> None:
-    """Makes the folder, and those above it, where they aren't there."""
+    """Makes the folder, and those above it, where they aren't there, for this user alone; one that is there is left as it is."""
     whole = Path(path)
     if whole.is_dir():
         return
     try:
-        whole.mkdir(parents=True, exist_ok=True)
-        sync_folder(whole.parent)
+        for folder in [*reversed(whole.parents), whole]:
+            if not folder.is_dir():
+                folder.mkdir(PRIVATE_FOLDER, exist_ok=True)
+                sync_folder(folder.parent)
     except OSError as failure:
         raise unwritten(path, failure) from None
+
+
+def home() -> Path:
+    """The user's own folder; raises Trouble where the system knows of none, as of a user of a container."""
+    try:
+        return Path.home()
+    except RuntimeError:
+        raise Trouble(Status.DISK, "the system tells no folder of this user's own", "Name one by the variable HOME, or the files themselves.") from None
 
 
 def expect_folder(path: AnyPath, what: str) -> None:
     """Raises Trouble where there is no such folder, before anything is made there."""
     if not os.path.isdir(path):
         raise Trouble(Status.DISK, f"{name_of(path)} is no folder", f"Name {what}.")
+
+
+def folder_named(word: AnyPath) -> Path:
+    """The path of a service's folder, however it is typed. `.`, `..`, `x/.`, a slash at the end and links lead to the folder's own name,
+    beside which its files stand: so each folder has one lock and one file of lines. Raises Trouble of the root, beside which nothing can
+    stand."""
+    try:
+        typed, true = Path(os.path.normpath(word)), Path(os.path.realpath(word))
+        is_plain = typed.name not in ("", "..") and ".." not in Path(word).parts and not typed.is_symlink()
+    except (OSError, ValueError):
+        raise Trouble(Status.USAGE, f"{name_of(word)} is no name of a folder") from None
+    if not true.name:
+        raise Trouble(Status.USAGE, f"{name_of(word)} is the root, and a service's files stand beside its folder", "Name a folder below it.")
+    return typed if is_plain else true

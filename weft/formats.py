@@ -2,9 +2,11 @@
 
 from __future__ import annotations
 
+import functools
 from typing import NamedTuple, Optional
 
 from weft import files, packages
+from weft.deciding.choosing import Needed as Needed
 from weft.files import AnyPath
 from weft.kinds import kind_of as kind_of
 from weft.lines import Line
@@ -22,8 +24,10 @@ from timeweave_reference import fields as fields  # noqa: E402
 from timeweave_reference import histories as histories  # noqa: E402
 from timeweave_reference import proofs as proofs  # noqa: E402
 from timeweave_reference.fields import Malformed as Malformed  # noqa: E402
+from timeweave_reference.hashed_texts import EMPTY_ARCHIVE as EMPTY_ARCHIVE  # noqa: E402
 from timeweave_reference.messages import Message as Message  # noqa: E402
 from timeweave_reference.receipts import Receipt as Receipt  # noqa: E402
+from timeweave_reference.timelines import Timeline  # noqa: E402
 
 MOST_PROOF = precedence.MOST_BYTES
 MOST_MESSAGE = messages.MOST_BYTES
@@ -69,17 +73,22 @@ def receipt_pieces(data: bytes) -> list[bytes]:
     return [data[at : at + RECEIPT_SIZE] for at in range(0, len(data) - RECEIPT_SIZE + 1, RECEIPT_SIZE)]
 
 
-class Needed(NamedTuple):
-    """A service and the step of which a line is needed."""
-
-    service: str
-    step: int
-
-
-def top_of(data: bytes) -> Optional[Needed]:
-    """The service and step under whose line a proof of a kind from 1 to 5 says that it is, or None where the bytes are none."""
+def needed_by_proof(data: bytes) -> list[Needed]:
+    """The lines that a proof of a kind from 1 to 5 says it is judged under; none where the bytes are none."""
     proof = read_proof(data)
-    return Needed(proof.service, proof.top) if proof is not None else None
+    if proof is None:
+        return []
+    hops = proof.hops if isinstance(proof, precedence.PrecedenceProof) else ()
+    return list(dict.fromkeys([Needed(proof.service, proof.top), *(Needed(hop.entry.service, hop.bind) for hop in hops if hop.bind)]))
+
+
+def needed_by_maps(low: bytes, high: bytes) -> list[Needed]:
+    """The lines that two map files say they are judged under; none where the bytes are none."""
+    try:
+        first, second = map_files.read_low(low), map_files.read_high(high)
+    except fields.Malformed:
+        return []
+    return [Needed(first.service, first.top), Needed(second.peer, second.top)]
 
 
 def needed_by_evidence(data: bytes) -> list[Needed]:
@@ -89,6 +98,17 @@ def needed_by_evidence(data: bytes) -> list[Needed]:
     except fields.Malformed:
         return []
     return [Needed(proof.service, proof.top) for proof in (found.first, found.second)]
+
+
+def recorders_in(data: bytes, service: str) -> list[str]:
+    """The services that received lines of this one, as a proof tells it."""
+    proof = read_proof(data)
+    if isinstance(proof, proofs.ThreadProof):
+        return [proof.service] if proof.entry.service == service else []
+    if not isinstance(proof, precedence.PrecedenceProof):
+        return []
+    by = [proof.service, *(hop.entry.service for hop in proof.hops)]
+    return [name for name, hop in zip(by, proof.hops) if hop.entry.service == service]
 
 
 class MapHead(NamedTuple):
@@ -133,19 +153,38 @@ def read_history(data: bytes) -> list[histories.Step]:
         return []
 
 
-def last_event(data: bytes) -> tuple[int, int]:
-    """The last step of a history's file that has events, and the index of its first one; step 1 where the bytes are none. Raises Trouble where no step
-    has events."""
-    found, read = 0, fields.Reader(data, MOST_HISTORY)
+class ReadHistory(NamedTuple):
+    """A sound history, as the reference reads it: its service, its last step, and the authenticators of its steps from 0 on."""
+
+    service: str
+    last: int
+    authenticators: list[str]
+    timeline: Timeline
+
+
+@functools.lru_cache(maxsize=1)
+def timeline_of(data: bytes) -> Optional[ReadHistory]:
+    """What the reference computes from a history's file; None where the bytes are none, or break a rule."""
     try:
-        histories.take_name(read)
-        for number, step in enumerate(histories.take_steps(read), 1):
-            found = number if step.events else found
-    except fields.Malformed:
-        return 1, 0
-    if not found:
-        raise Trouble(Status.UNREADABLE, "it is a history without events, and is judged by one of them", "weft tell says what it has.")
-    return found, 0
+        name, steps = histories.read_history(data)
+        line = histories.timeline_of(name, steps)
+    except (fields.Malformed, histories.Unsound):
+        return None
+    return ReadHistory(name, len(steps), [auth.hex() for auth in line.auths], line)
+
+
+def proof_under(history: ReadHistory, top: int) -> bytes:
+    """The proof of the last event up to this step, under its line; where there is none up to there, that of the step's own authenticator."""
+    line = history.timeline
+    step = next((step for step in range(top, 0, -1) if line.events(step)), 0)
+    if step:
+        return histories.existence_proof(line, step, 0, top).to_bytes()
+    return proofs.LinkProof(history.service, top, top, line.auths[top], ()).to_bytes()
+
+
+def link_to_itself(line: Line) -> bytes:
+    """The proof that a step from 1 on has the authenticator of its line, under that line: whoever holds it accepts that. An audit holds it against a file."""
+    return proofs.LinkProof(line.service, line.step, line.step, bytes.fromhex(line.authenticator), ()).to_bytes()
 
 
 def read_file(path: AnyPath, follow: bool = True) -> bytes:

@@ -74,6 +74,8 @@ class LibraryJudge:
 
     def has(self, call: str) -> bool:
         """Whether the library has the call."""
+        if call == "audit":
+            return False
         return call in ("verify", "strict") or (hasattr(self.library, "ask") and hasattr(self.library.functions, f"timeweave_{call}"))
 
     def judge(self, call: str, files: tuple[bytes, ...]) -> Verdict:
@@ -109,7 +111,7 @@ class ProgramJudge:
 
     def has(self, call: str) -> bool:
         """The program has these commands."""
-        return call in ("verify", "strict", "checkmap", "checkfork")
+        return call in ("verify", "strict", "checkmap", "checkfork", "audit")
 
     def judge(self, call: str, files: tuple[bytes, ...]) -> Verdict:
         """Runs the program; what fails otherwise than by a verdict is trouble."""
@@ -122,6 +124,16 @@ class ProgramJudge:
                 raise program.trouble(answer, folder)
             return Verdict(answer.status, answer.text.replace(folder + "/", ""))
 
+    def audit(self, proof: bytes, anchors: bytes, history: bytes) -> Verdict:
+        """Has the program hold a proof against a history's file."""
+        with self.working() as folder:
+            names = {LOW: proof, "anchors": anchors, HISTORY: history}
+            for name, data in names.items():
+                (Path(folder) / name).write_bytes(data)
+            answer = program.run("audit", *(str(Path(folder) / name) for name in names))
+            if answer.status not in (ACCEPTED, REJECTED, UNREADABLE):
+                raise program.trouble(answer, folder)
+            return Verdict(answer.status, answer.text.replace(folder + "/", ""))
 
     def show(self, history: bytes, step: int, index: int) -> Shown:
         """Has the program make the proof of an event of a history's file."""
@@ -146,6 +158,11 @@ class ReferenceJudge:
     def judge(self, call: str, files: tuple[bytes, ...]) -> Verdict:
         """Asks the reference."""
         answer = getattr(importlib.import_module("timeweave_reference"), call)(*files)
+        return Verdict(answer.status, answer.text.decode("ascii"))
+
+    def audit(self, proof: bytes, anchors: bytes, history: bytes) -> Verdict:
+        """Has the reference hold a proof against a history's file."""
+        answer = importlib.import_module("timeweave_reference").audit(proof, anchors, [history])
         return Verdict(answer.status, answer.text.decode("ascii"))
 
     def show(self, history: bytes, step: int, index: int) -> Shown:
@@ -210,6 +227,15 @@ class Bench:
             raise Trouble(Status.DIFFER, "the program and the reference make two proofs of one event of this history", "This is a bug: keep it, and report it.")
         return found[0]
 
+    def audit(self, proof: bytes, anchors: bytes, history: bytes) -> Verdict:
+        """A proof held against a history's file by the first judge that does it. (The reference computed all authenticators of the file before.)"""
+        if not self.is_by_reference:
+            program.needed()
+        first = self.seated("audit")[0]
+        if not isinstance(first, (ProgramJudge, ReferenceJudge)):
+            raise nobody(self.is_by_reference)
+        return first.audit(proof, anchors, history)
+
     def told(self, call: str) -> str:
         """The line behind a verdict."""
         names = [judge.name for judge in self.seated(call)]
@@ -269,6 +295,7 @@ def library_path() -> Optional[str]:
 def bench(is_by_reference: bool = False) -> Bench:
     """The judges at hand."""
     proved: list[Judge] = []
+    is_by_reference = is_by_reference or program.is_second(program.found())
     if not is_by_reference:
         own = library()
         if own:

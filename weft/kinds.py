@@ -5,7 +5,7 @@ from __future__ import annotations
 from typing import Optional
 
 from weft import signatures
-from weft.lines import read_kept
+from weft.lines import read_kept, read_mark
 from weft.texts import count_of
 
 PROOF_KINDS = {1: "event", 2: "precedence", 3: "thread", 4: "absence", 5: "link", 6: "low map", 7: "high map"}
@@ -25,11 +25,11 @@ def kind_of(data: bytes) -> str:
 
 def text_named(data: bytes) -> Optional[str]:
     """What a text is, as a sentence has it: a line, some lines or a signature; None where it is none of these."""
-    if signatures.split(data):
+    if signatures.read_signed_line(data):
         return "a signed line"
     if data.startswith(signatures.BEGIN.encode()):
         return "a signature"
     texts = [text for text in data.decode("utf-8", "replace").splitlines() if text.strip() and not text.startswith("#")]
-    if not texts or any(read_kept(text) is None for text in texts):
+    if not texts or any(read_kept(text) is None and read_mark(text) is None for text in texts):
         return None
     return "a line" if len(texts) == 1 else count_of(len(texts), "line")

@@ -4,84 +4,54 @@ A file of kept lines is plain text, a line in each of its lines, and behind it t
 
     shop 2 5585fc74c8b89378088d61ce37d82efe4c25f9ab0bbeb79b20a4618dce62a486 2026-11-29T09:40:00Z by mail from Anna
 
-Empty lines and those that begin with # are skipped. A line with nothing behind it counts as well, as one of which nothing is told."""
+Empty lines and those that begin with # are skipped. A line with nothing behind it counts as well, as one of which nothing is told. What is told of a step
+whose lines contradict stands in lines of its own (deciding/keeping.py)."""
 
 from __future__ import annotations
 
 import os
-import re
+import time
+from contextlib import contextmanager
 from pathlib import Path
-from typing import Iterable, NamedTuple, Optional
+from typing import Iterable, Iterator, NamedTuple, Optional, Sequence, Union
 
 from weft import files, locks
+from weft.deciding import keeping
+from weft.deciding import lines as deciding
+from weft.deciding.keeping import Mark, Outcome, Standing, choose_line, find_standing_choice, place_line, standing_of
+from weft.deciding.lines import LAST_STEP as LAST_STEP
+from weft.deciding.lines import NAME as NAME
+from weft.deciding.lines import NAME_RULE as NAME_RULE
+from weft.deciding.lines import Kept as Kept
+from weft.deciding.lines import Line as Line
+from weft.deciding.lines import read_line as read_line
 from weft.files import AnyPath
 from weft.statuses import Status
 from weft.texts import beside, name_of, now, printable
 from weft.trouble import Trouble
 
-NAME = re.compile(r"[a-z0-9-]{1,16}")
-LINE = re.compile(r"([a-z0-9-]{1,16}) (0|[1-9][0-9]{0,12}) ([0-9a-fA-F]{64})")
-LAST_STEP = 2**40 - 1
 MOST_BYTES = 64 << 20
 MOST_ANCHORS = 64
-NAME_RULE = "a name has 1 to 16 of the letters a-z, the digits 0-9 and -"
-
-
-class Line(NamedTuple):
-    """A service, a step of it from 0 on, and its authenticator there, 64 hexadecimal digits in small letters."""
-
-    service: str
-    step: int
-    authenticator: str
-
-    @property
-    def text(self) -> str:
-        """The line as it is handed out, without its line end."""
-        return f"{self.service} {self.step} {self.authenticator}"
-
-
-class Kept(NamedTuple):
-    """A line that was kept, when, and how it came; both may be empty."""
-
-    line: Line
-    date: str
-    how: str
-
-    @property
-    def text(self) -> str:
-        """Its line in the file."""
-        return " ".join(word for word in (self.line.text, self.date, self.how) if word)
-
-    @property
-    def told(self) -> str:
-        """How it came, as a sentence's end."""
-        if not self.date:
-            return "nothing is told of how it came"
-        return f"kept {self.date[:10]}, {self.how or 'nothing is told of how it came'}"
+ONE_SECOND = 1.0
 
 
 def checked_name(name: str) -> str:
-    """The name; raises Trouble where no service can have it."""
-    if not NAME.fullmatch(name):
+    """The name; raises Trouble where none that is made or accepted here can have it."""
+    if not deciding.may_take_name(name):
         raise Trouble(Status.USAGE, f"{printable(name)!r} is no name of a service: {NAME_RULE}")
     return name
 
 
-def read_line(text: str) -> Optional[Line]:
-    """The line that stands in these words, or None where they are none."""
-    fields = LINE.fullmatch(text)
-    if not fields or int(fields[2]) > LAST_STEP:
-        return None
-    return Line(fields[1], int(fields[2]), fields[3].lower())
-
-
 def read_kept(text: str) -> Optional[Kept]:
-    """A line of a file of kept lines, or None where it has none."""
-    words = text.split(" ", 4)
-    line = read_line(" ".join(words[:3]))
-    if line is None:
-        return None
-    return Kept(line, printable(words[3]) if len(words) > 3 else "", printable(words[4]) if len(words) > 4 else "")
+    """A line of a file of kept lines, with nothing raw in its date and in how it came; or None where it has none."""
+    kept = deciding.read_kept(text)
+    return kept and Kept(kept.line, printable(kept.date), printable(kept.how))
+
+
+def read_mark(text: str) -> Optional[Mark]:
+    """What a line of a file of kept lines tells of a step whose lines contradict, with nothing raw in it; or None where it tells none."""
+    mark = keeping.read_mark(text)
+    return mark and mark._replace(date=printable(mark.date), how=printable(mark.how))
 
 
 def lines_of(data: bytes, what: str) -> list[Line]:
@@ -110,14 +80,15 @@ def default_kept() -> Path:
 def own_files() -> Path:
     """The folder of weft among the user's own files."""
     data = os.environ.get("XDG_DATA_HOME")
-    return (Path(data) if data else Path.home() / ".local/share") / "weft"
+    return (Path(data) if data else files.home() / ".local/share") / "weft"
 
 
 class KeptLines:
-    """The kept lines of files, by service and step."""
+    """The kept lines of files, by service and step, and what is told of steps of which lines contradict."""
 
     def __init__(self, paths: Iterable[AnyPath] = (), more: Iterable[Kept] = ()):
         self.found: dict[str, dict[int, list[Kept]]] = {}
+        self.marks: dict[tuple[str, int], list[Mark]] = {}
         self.rising: dict[str, list[int]] = {}
         for path in paths:
             data = files.read_if_there(path, MOST_BYTES)
@@ -129,27 +100,67 @@ class KeptLines:
         """Adds all lines of a file's text; raises Trouble at one that is none."""
         for number, line in enumerate(text.split("\n"), 1):
             if line.strip() and not line.startswith("#"):
-                kept = read_kept(line.rstrip("\r"))
-                if kept is None:
+                found = read_kept(line.rstrip("\r")) or read_mark(line.rstrip("\r"))
+                if found is None:
                     advice = "Put # in front of what is no line, or take it out."
                     raise Trouble(Status.UNREADABLE, f"line {number} of {name_of(path)} is no line of a service", advice)
-                self.add(kept)
+                self.add(found)
 
-    def add(self, kept: Kept) -> None:
-        """Adds one."""
-        self.found.setdefault(kept.line.service, {}).setdefault(kept.line.step, []).append(kept)
-        self.rising.pop(kept.line.service, None)
+    def add(self, found: Union[Kept, Mark]) -> None:
+        """Adds a line, or what is told of a step."""
+        if isinstance(found, Mark):
+            self.marks.setdefault((found.service, found.step), []).append(found)
+            return
+        self.found.setdefault(found.line.service, {}).setdefault(found.line.step, []).append(found)
+        self.rising.pop(found.line.service, None)
 
-    def at(self, service: str, step: int) -> list[Kept]:
+    def all_at(self, service: str, step: int) -> list[Kept]:
         """All that were kept of this step."""
         return self.found.get(service, {}).get(step, [])
 
+    def marks_at(self, service: str, step: int) -> list[Mark]:
+        """What is told of this step, where its lines contradict."""
+        return self.marks.get((service, step), [])
+
+    def standing(self, service: str, step: int) -> Standing:
+        """Which line of this step counts."""
+        return standing_of(self.all_at(service, step), self.marks_at(service, step))
+
+    def at(self, service: str, step: int) -> list[Kept]:
+        """Those of this step that count, each with how it came: all of them, or where one was chosen over others, that one, and that it was."""
+        choice = self.standing(service, step).choice
+        if choice is None:
+            return self.all_at(service, step)
+        own = [it for it in self.all_at(service, step) if it.line == choice.chosen]
+        return [*own, Kept(choice.chosen, choice.date, "chosen over another line of that step")] if own else []
+
     def one(self, service: str, step: int) -> Optional[Line]:
-        """The line of this step, or None where there is none; raises Trouble where there are two that contradict."""
-        kept = self.at(service, step)
-        if len({it.line for it in kept}) > 1:
-            raise contradiction(kept)
-        return kept[0].line if kept else None
+        """The line of this step that counts, or None where there is none; raises Trouble where lines contradict and none was chosen."""
+        found = self.standing(service, step)
+        if found.is_disputed:
+            raise self.contradiction(service, step)
+        return found.line
+
+    def contradiction(self, service: str, step: int, path: Optional[Path] = None) -> Trouble:
+        """That lines of this step contradict, and where each came from; where one file has them all, which."""
+        ways: dict[str, dict[str, None]] = {one: {} for one in self.standing(service, step).authenticators}
+        for it in self.all_at(service, step):
+            ways[it.line.authenticator][it.told] = None
+        came = "; ".join(f"{one} {', '.join(told) or 'was seen, and is no more in the file'}" for one, told in ways.items())
+        return Trouble(
+            Status.CONTRADICTION,
+            f"there are {'two' if len(ways) == 2 else len(ways)} lines of step {step} of {service}, and at most one is of {service}'s history",
+            f"Ask {service}, and look where each came from: {came}. Nothing is judged under any of them until you choose one: {choose_command(path)}.",
+        )
+
+    def is_disputed(self, service: str, step: int) -> bool:
+        """Whether lines of this step contradict, and none was chosen."""
+        return self.standing(service, step).is_disputed
+
+    def disputes(self) -> list[tuple[str, int]]:
+        """The services and steps of which lines contradict, and none was chosen."""
+        places = {(it.line.service, it.line.step) for it in self.all()} | self.marks.keys()
+        return sorted(place for place in places if self.is_disputed(*place))
 
     def steps(self, service: str) -> list[int]:
         """The steps of which lines were kept, rising; the list is sorted once."""
@@ -165,39 +176,109 @@ class KeptLines:
         """All kept lines."""
         return [kept for steps in self.found.values() for same in steps.values() for kept in same]
 
-
-def contradiction(kept: Iterable[Kept]) -> Trouble:
-    """Two lines of one step that differ."""
-    different = list({it.line: it for it in kept}.values())
-    service, step = different[0].line.service, different[0].line.step
-    came = "; ".join(f"{it.line.authenticator[:16]}.. {it.told}" for it in different)
-    return Trouble(
-        Status.CONTRADICTION,
-        f"there are two lines of step {step} of {service}, and at most one is of {service}'s history",
-        f"Ask {service}, and look where each came from: {came}.",
-    )
+    @property
+    def text(self) -> str:
+        """What counts of all kept lines, as the text of a file, in an order of its own: the lines without how they came, and the marks."""
+        marks = sorted(mark.text for marks in self.marks.values() for mark in marks)
+        return "".join(f"{it}\n" for it in [*(kept.line.text for kept in sorted(self.all())), *marks])
 
 
-def keep(path: Path, new: Iterable[Kept]) -> list[Kept]:
-    """Adds lines to a file of kept lines, and answers those that weren't there; raises Trouble where one contradicts what is there or another
-    new one, and then adds none."""
+# ---- the file
+
+
+class Placed(NamedTuple):
+    """A line that was to be kept, and what became of it; where it contradicts others and doesn't count, the sentence of that; and where it was chosen, the
+    authenticators over which it was."""
+
+    kept: Kept
+    outcome: Outcome
+    trouble: Optional[Trouble] = None
+    others: tuple[str, ...] = ()
+
+
+def keep(path: Path, new: Iterable[Kept]) -> list[Placed]:
+    """Adds lines to a file of kept lines, and answers what became of each. One that contradicts others is added too, and marked."""
+    with kept_file(path) as (known, added):
+        return [place(path, known, added, it) for it in new]
+
+
+def choose(path: Path, new: Kept) -> Placed:
+    """Adds a line to a file of kept lines, and lets it count, of all lines of its step that differ; answers what became of it, and over which it was
+    chosen, now or before."""
+    service, step = new.line.service, new.line.step
+    with kept_file(path) as (known, added):
+        placed = place(path, known, added, new)
+        mark = choose_line(new.line, known.all_at(service, step), known.marks_at(service, step), new.date, new.how)
+        if mark is not None:
+            mark = dated_behind(mark, known.marks_at(service, step), path)
+            added.append(mark)
+            known.add(mark)
+        others = tuple(one for one in known.standing(service, step).authenticators if one != new.line.authenticator)
+        return Placed(new, Outcome.KNOWN if placed.outcome is Outcome.KNOWN else Outcome.NEW, None, others)
+
+
+@contextmanager
+def kept_file(path: Path) -> Iterator[tuple[KeptLines, list[Union[Kept, Mark]]]]:
+    """The lines of a file, under its lock, and a list to which those are to be added that are written behind them."""
     files.make_folder(path.parent)
     with locks.held(beside(path, ".lock"), 30, path):
         old = files.read_if_there(path, MOST_BYTES) or b""
         known = KeptLines()
         known.add_text(path, old.decode("utf-8", "replace"))
-        added = []
-        for kept in new:
-            same = known.at(kept.line.service, kept.line.step)
-            if any(it.line != kept.line for it in same):
-                raise contradiction([*same, kept])
-            if not any(it.how == kept.how for it in same):
-                added.append(kept)
-                known.add(kept)
+        added: list[Union[Kept, Mark]] = []
+        yield known, added
         if added:
             end = b"" if not old or old.endswith(b"\n") else b"\n"
-            files.renew(path, old + end + b"".join(f"{kept.text}\n".encode() for kept in added))
-    return added
+            files.renew(path, old + end + b"".join(f"{it.text}\n".encode() for it in added))
+
+
+def place(path: Path, known: KeptLines, added: list[Union[Kept, Mark]], new: Kept) -> Placed:
+    """Adds a line to those that are known, and to those that are to be written; answers what became of it."""
+    service, step = new.line.service, new.line.step
+    placement = place_line(new, known.all_at(service, step), known.marks_at(service, step))
+    for it in placement.added:
+        known.add(it)
+        added.append(it)
+    if placement.outcome is Outcome.CONTRADICTING:
+        return Placed(new, placement.outcome, known.contradiction(service, step, path))
+    if placement.outcome is Outcome.NOT_CHOSEN:
+        return Placed(new, placement.outcome, not_chosen(new, known.at(service, step), path))
+    return Placed(new, placement.outcome)
+
+
+def dated_behind(mark: Mark, marks: Sequence[Mark], path: Path) -> Mark:
+    """A new choice with the date by which it counts: one that is made within the second of an earlier one waits for the next. Raises Trouble where an earlier
+    one has a later date, and would stand; nothing is written then."""
+    standing = find_standing_choice(mark, marks)
+    if standing is not None and standing.date == mark.date:
+        time.sleep(ONE_SECOND)
+        mark = mark._replace(date=now())
+        standing = find_standing_choice(mark, marks)
+    if standing is None:
+        return mark
+    raise Trouble(
+        Status.LOOK,
+        f"{name_of(path)} has a choice of step {mark.step} of {mark.service} with the date {standing.date}, and by the clock it is {mark.date} now. Nothing "
+        "was chosen",
+        "The later date counts. Look at the clock, and run it again once that date is past; if that date is wrong, take its line out of the file.",
+    )
+
+
+def choose_command(path: Optional[Path]) -> str:
+    """What is typed to choose a line, of this file of kept lines."""
+    return "weft keep --choose FILE" + ("" if path is None or path == default_kept() else f" --kept {name_of(path)}")
+
+
+def not_chosen(new: Kept, chosen: Iterable[Kept], path: Path) -> Trouble:
+    """A line came over which another one was chosen."""
+    service, step = new.line.service, new.line.step
+    ways = list(chosen)
+    came = f"{ways[0].line.authenticator} {', '.join(dict.fromkeys(it.told for it in ways))}" if ways else "it is no more in the file"
+    return Trouble(
+        Status.CONTRADICTION,
+        f"this line of step {step} of {service}, {new.line.authenticator}, is one over which you chose another ({came})",
+        f"It is kept, and doesn't count. If it is the right one: {choose_command(path)}.",
+    )
 
 
 def kept_now(line: Line, how: str) -> Kept:

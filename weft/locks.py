@@ -8,7 +8,7 @@ import time
 from contextlib import contextmanager
 from typing import Iterator
 
-from weft.files import AnyPath, unwritten
+from weft.files import PRIVATE, AnyPath, unwritten
 from weft.statuses import Status
 from weft.texts import name_of
 from weft.trouble import Trouble
@@ -18,10 +18,10 @@ PAUSE = 0.05
 
 @contextmanager
 def held(path: AnyPath, wait: float, of: AnyPath) -> Iterator[None]:
-    """Holds the lock of this file, which is made where it isn't there; waits so many seconds for another run that has it, and then raises
-    Trouble."""
+    """Holds the lock of this file, which is made where it isn't there, for this user alone: whoever may open it can hold it. Waits so
+    many seconds for another run that has it, and then raises Trouble."""
     try:
-        number = os.open(path, os.O_RDWR | os.O_CREAT | os.O_CLOEXEC | os.O_NOFOLLOW, 0o666)
+        number = os.open(path, os.O_RDWR | os.O_CREAT | os.O_CLOEXEC | os.O_NOFOLLOW, PRIVATE)
     except OSError as failure:
         raise unwritten(path, failure) from None
     try:

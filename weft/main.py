@@ -5,6 +5,7 @@ from __future__ import annotations
 import argparse
 import functools
 import os
+import re
 import sys
 import traceback
 from types import ModuleType
@@ -17,9 +18,13 @@ from weft.trouble import Trouble
 from weft.words import WORDS, module_of
 
 ABOUT = (
-    "The companion of timeweave: lines, proofs, logs and exchanges in sentences. It decides nothing: verdicts are the proved library's or the "
-    "proved program's."
+    "The companion of timeweave: lines, proofs, logs and exchanges in sentences. Verdicts on files are the proved library's or the proved "
+    "program's; whose a line is, and what is kept or told, weft decides, or asks you."
 )
+
+# A word was taken for an option that isn't one, or wasn't taken for the word of an option.
+OPTION_MISTAKEN = re.compile("unrecognized arguments: .*-|expected ")
+OPTIONS = "A word that begins with - is an option: name a file as ./-FILE, or put -- in front of the words."
 
 
 class Parser(argparse.ArgumentParser):
@@ -27,7 +32,8 @@ class Parser(argparse.ArgumentParser):
 
     def error(self, message: str) -> NoReturn:
         """The words are no command."""
-        raise Trouble(Status.USAGE, printable(message), f"See {self.prog} --help.")
+        advice = f" {OPTIONS}" if OPTION_MISTAKEN.search(message) else ""
+        raise Trouble(Status.USAGE, printable(message), f"See {self.prog} --help.{advice}")
 
 
 class Version(argparse.Action):

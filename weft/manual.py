@@ -21,7 +21,7 @@ it judges alone.
 .PP
 Sentences go to standard output, troubles with what to do to standard error; with
 .B \\-\\-json
-there is JSON in their place. On a terminal long work shows how far it is. At each moment a file that is written is the old one or the new one, whole.
+there is JSON in their place. On a terminal long work shows how far it is. At each moment a file that is written is the old one or the new one, whole; one that only grows may end amid what was added last, which counts for nothing.
 Runs on one service or one box wait for one another by a lock, 30 seconds or those of
 .BR \\-\\-wait .
 What a stopped run left undone, the next one does. No file is read that isn't
@@ -36,7 +36,8 @@ BOX = """A box has a folder for each peer, named as its service:
 .I BOX/PEER/in
 What the peer put out, as it was carried here: what stands in the peer's own
 .IR out .
-It may be lost, late, repeated or damaged. No link in it is followed, and at most 64 files of 4 MiB together are read a turn.
+It may be lost, late, repeated or damaged. No link in it is followed, and at most 64 files of 4 MiB together are read a turn. What is there and can't be
+read is told, and counts.
 .TP
 .I BOX/PEER/out
 What is to be carried to the peer's
@@ -63,11 +64,11 @@ and
 .IR answers .
 .TP
 .I BOX/PEER/kept
-What is kept of it: its lines, receipts, answers; in
+What is kept of it: its lines, all that it signed, receipts, answers. In
 .I forks
-two signed lines of one step, which are evidence; in
+are two signed lines that no one history has, with the link that shows it where their steps differ: evidence, while both signatures are good by a key that is noted. In
 .I answered
-what it was answered, and when.
+stands what it was answered, and when.
 .TP
 .I BOX/PEER/events
 Made by hand: the events whose proofs the peer may ask for, as
@@ -82,10 +83,12 @@ Settings, as
 .BR "key = FILE" ,
 the key by which lines are signed;
 .BR "unsigned = yes" ,
-messages without a signed line are taken;
+messages without a signed line are taken. So much is read of a peer in a turn:
 .B files = 64
 and
 .BR "bytes = 4194304" .
+After so many turns in which nothing new came of a peer that is told, 0 for never:
+.BR "silent = 3" .
 .TP
 .I BOX/allowed_signers
 Whose keys are whose, as of
@@ -94,17 +97,26 @@ Whose keys are whose, as of
 adds to it."""
 
 KEPT = """Plain text: a line of a service, the day on which it was kept, and how it came. Empty lines and those that begin with # are skipped; a line with nothing
-behind it counts as well.
+behind it counts as well. Of a step of which lines differ the file has marks, which name the authenticators: all that were seen, and where one was chosen, that one
+first, when, and how it was found.
 .PP
 .nf
 shop 2 5585fc74c8b89378088d61ce37d82efe4c25f9ab0bbeb79b20a4618dce62a486 2026\\-11\\-29T09:40:00Z by letter
+contradiction: shop 2 5585fc74.. 16b1a2c0.. 2026\\-11\\-30T10:12:00Z
+chosen: shop 2 5585fc74.. 16b1a2c0.. 2026\\-12\\-01T08:30:00Z asked shop by telephone
 .fi
 .PP
 A signature of a line is made by
 .B ssh\\-keygen \\-Y sign \\-n timeweave\\-line
 over its exact text with its line end, and checked by
 .BR "ssh\\-keygen \\-Y verify" ,
-the principal being the service's name."""
+the principal being the service's name. In one file the line stands in front, and behind the signature's end nothing. A public key is read of a file of one
+line, type, key and comment.
+.PP
+A file whose name begins with \\- is named as
+.I ./\\-FILE
+or behind
+.BR \\-\\- ."""
 
 # The options that several words have; the description tells them.
 COMMON = {"--json", "--reference", "--wait"}

@@ -8,6 +8,7 @@ import sys
 from typing import Any
 
 from weft.statuses import Status
+from weft.texts import escaped
 from weft.trouble import Trouble
 
 
@@ -27,11 +28,11 @@ def failed(failure: OSError) -> Trouble:
 
 
 def say(text: str) -> None:
-    """Writes a line to standard output; raises Trouble where that fails."""
+    """Writes a line to standard output, in which nothing stands raw; raises Trouble where that fails."""
     if sys.stdout is None:
         raise Trouble(Status.OUTPUT, "standard output is closed", "What was done stands.")
     try:
-        sys.stdout.write(text + "\n")
+        sys.stdout.write(escaped(text) + "\n")
     except OSError as failure:
         raise failed(failure) from None
 
@@ -52,11 +53,11 @@ def finish() -> None:
 
 
 def complain(text: str) -> None:
-    """Writes a trouble to standard error, as far as that goes."""
+    """Writes a trouble to standard error, in which nothing stands raw, as far as that goes."""
     try:
         if sys.stderr is not None:
             finish_quietly()
-            sys.stderr.write(f"weft: {text}\n")
+            sys.stderr.write(f"weft: {escaped(text)}\n")
             sys.stderr.flush()
     except OSError:
         pass

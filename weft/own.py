@@ -1,25 +1,34 @@
-"""The lines of one's own service, kept beside its folder: DIR.lines has those that went out or may have, DIR.anchor the last one to hand out.
+"""The lines of one's own service, kept beside its folder: DIR.lines has those that went out or may have, DIR.anchor the last one to hand
+out.
 
-By them an old store that was put back is found before it makes a step."""
+By them an old store that was put back is found before it makes a step. DIR.look stands there while peers' words are waited for after a
+restore; it has the moment when that began. What follows from all of that is decided in weft.deciding.restoring."""
 
 from __future__ import annotations
 
+import argparse
 import functools
+import os
 from pathlib import Path
-from typing import Optional
+from typing import Optional, Sequence
 
 from weft import files, judges
+from weft.deciding.restoring import Beside, Missing, Named, Seal, Told, compare_named, find_lacking, find_missing, is_copied, list_steps_to_prove, read_seal
 from weft.judges import Bench
-from weft.lines import MOST_BYTES, Line, anchors, lines_of
+from weft.lines import MOST_BYTES, Line, anchors, lines_of, read_line
 from weft.reports import read_report
 from weft.statuses import Status
 from weft.stores import Store
-from weft.texts import beside, name_of
+from weft.texts import beside, count_of, date_of, name_of, printable
 from weft.trouble import Trouble
+
+MOST_MOMENT = 32
+MOST_SEAL = 200
 
 
 def proved(store: Store, judge: Bench, top: Line, *words: str) -> list[list[str]]:
-    """The lines of the report of a proof that the store makes, judged under its own line of the top; raises Trouble where it isn't accepted."""
+    """The lines of the report of a proof that the store makes, judged under its own line of the top; raises Trouble where it isn't
+    accepted."""
     proof = store.done("prove", *words, str(top.step))
     verdict = judge.judge("strict", proof, anchors([top]))
     if not verdict.is_accepted:
@@ -52,15 +61,73 @@ def old_store(path: str, line: Line, found: str, whence: str) -> Trouble:
     )
 
 
+def proved_lines(store: Store, judge: Bench, last: Line, told: Sequence[Told]) -> dict[int, Line]:
+    """The store's own line of each step that is told and that it has to prove."""
+    return {step: line_at(store, judge, step, last) for step in list_steps_to_prove(last, told)}
+
+
+def lacking(path: str, last: Line, told: Told) -> Trouble:
+    """The store lacks a line that is told of it."""
+    found = f"its last step is {last.step}" if last.step < told.line.step else "it has another step of that number"
+    return old_store(path, told.line, found, told.whence)
+
+
 def held_against(store: Store, judge: Bench, last: Line, held: Line, whence: str) -> None:
     """Raises Trouble where the store, whose last line this is, hasn't the step of a line of its own that is held."""
     if held.service != last.service:
         raise Trouble(Status.USAGE, f"the service in {name_of(store.path)} is called {last.service}, and not {held.service}")
-    if last.step < held.step:
-        raise old_store(store.path, held, f"its last step is {last.step}", whence)
-    found = last if last.step == held.step or last.step == 0 else line_at(store, judge, held.step, last)
-    if found.step == held.step and found != held:
-        raise old_store(store.path, held, "it has another step of that number", whence)
+    told = [Told(held, whence)]
+    if find_lacking(last, proved_lines(store, judge, last, told), told):
+        raise lacking(store.path, last, told[0])
+
+
+def add_adopt(parser: argparse.ArgumentParser) -> None:
+    """The word by which a person says that a store is the right one."""
+    text = (
+        "takes the store for the right one although its lines or entries don't stand beside it: LINE, a line or a file that has it, has to "
+        "be its last one"
+    )
+    parser.add_argument("--adopt-store", metavar="LINE", help=text)
+
+
+def named_line(word: str) -> Line:
+    """The line of a word: the line itself, or a file that has one; raises Trouble where it is neither."""
+    line = read_line(word.strip())
+    if line is not None:
+        return line
+    if not files.is_there(word):
+        told = f"{printable(word)} is no line, and there is no such file"
+        raise Trouble(Status.USAGE, told, "A line is a name, a step and 64 hexadecimal digits, in one word: 'shop 2 5585fc74..'.")
+    found = lines_of(files.read(word, MOST_BYTES), name_of(word))
+    if len(found) > 1:
+        raise Trouble(Status.UNREADABLE, f"{name_of(word)} has {len(found):,} lines", "Name a file that has the last one alone.")
+    return found[0]
+
+
+def adopting(store: Store) -> str:
+    """How a person names the last line of a store."""
+    return f"--adopt-store LINE (weft line {name_of(store.path)} prints it; compare it with what others hold of it)"
+
+
+def unnamed(store: Store, last: Line, what: str, missing: str) -> Trouble:
+    """Nothing beside a store with steps tells whether it is the right one."""
+    steps = count_of(last.step, "step")
+    return Trouble(
+        Status.OLD_STORE,
+        f"the store in {name_of(store.path)} has {steps}, and {what}: it may be an old one. No step was made",
+        f"Was it copied without {missing}? Put {missing} beside it. If no later line went out than its last one, name that: {adopting(store)}.",
+    )
+
+
+def not_named(store: Store, last: Line, named: Line, found: Named) -> Trouble:
+    """The line by which a person names a store isn't its last one."""
+    if found is Named.OTHER_SERVICE:
+        return Trouble(Status.USAGE, f"the service in {name_of(store.path)} is called {last.service}, and not {named.service}")
+    if found is Named.OLDER:
+        told = f"the last line of the store in {name_of(store.path)} is that of step {last.step}, and the named one is of step {named.step}"
+        told += ". No step was made"
+        return Trouble(Status.OLD_STORE, told, f"If the steps behind it are yours too, name the last one: {last.text}")
+    return lacking(store.path, last, Told(named, "named by --adopt-store"))
 
 
 def step_of(line: Line) -> int:
@@ -73,7 +140,8 @@ class OwnLines:
 
     def __init__(self, folder: Path):
         self.folder = folder
-        self.lines, self.anchor = beside(folder, ".lines"), beside(folder, ".anchor")
+        self.lines, self.anchor, self.look = beside(folder, ".lines"), beside(folder, ".anchor"), beside(folder, ".look")
+        self.seal = beside(folder, ".seal")
 
     @functools.cached_property
     def known(self) -> dict[Line, None]:
@@ -87,20 +155,99 @@ class OwnLines:
 
     def last(self) -> Optional[Line]:
         """The last line that was kept."""
-        found = [*self.known, *self.read(self.anchor)]
+        seal = self.sealed()
+        found = [*self.known, *self.read(self.anchor), *([seal.line] if seal else [])]
         return max(found, key=step_of) if found else None
 
-    def check(self, store: Store, judge: Bench, last: Line) -> None:
+    def sealed(self) -> Optional[Seal]:
+        """The seal, or None where there is none."""
+        return read_seal((files.read_if_there(self.seal, MOST_SEAL) or b"").decode("ascii", "replace"))
+
+    def is_copy(self, last: Line) -> bool:
+        """Whether the store and what stands beside it are a copy, as a backup that was put back is."""
+        return self.is_there and is_copied(last, self.sealed(), files.identity_of(self.seal))
+
+    def put_seal(self, line: Line) -> None:
+        """Says that the files are where they were written, and which line was noted last."""
+        files.renew(self.seal, lambda identity: f"{identity} {line.text}\n".encode())
+
+    def expect_no_copy(self, store: Store, last: Line) -> None:
+        """Raises Trouble where the store is a copy, and no peer can tell whether it is an old one: no step is made until a person says so."""
+        if self.is_copy(last):
+            what = f"it and the files beside it are a copy, since {name_of(self.seal)} isn't the file that it was"
+            raise Trouble(
+                Status.OLD_STORE,
+                f"the store in {name_of(store.path)} has {count_of(last.step, 'step')}, and {what}: it may be an old one. No step was made",
+                f"Was it put back, or moved? With peers: weft exchange, which asks them. Else, if no later line went out than its last one, name that: "
+                f"{adopting(store)}.",
+            )
+
+    @property
+    def is_there(self) -> bool:
+        """Whether one of the two files has a line."""
+        return self.last() is not None
+
+    def compare(self, store: Store, judge: Bench, last: Line) -> None:
         """Raises Trouble where the store isn't the one of the last line that was kept."""
         held = self.last()
         if held is not None:
             held_against(store, judge, last, held, f"kept in {name_of(self.lines)}")
 
+    def check(self, store: Store, judge: Bench, last: Line) -> None:
+        """Raises Trouble where the store may make no step: it has some, and isn't the one of the last line that was kept, or none was
+        kept."""
+        if find_missing(last, Beside(self.is_there, False, False)) is Missing.LINES:
+            raise unnamed(store, last, f"neither {name_of(self.lines)} nor {name_of(self.anchor)} stands beside it", "them")
+        self.compare(store, judge, last)
+
+    def adopt(self, store: Store, judge: Bench, last: Line, named: Line) -> None:
+        """Takes the store for the right one, since a person has named its last line; the line is kept, and a look is at its end. Raises
+        Trouble where the named line isn't its last one, or lines beside it are of another store."""
+        proved = proved_lines(store, judge, last, [Told(named, "")]).get(named.step)
+        found = compare_named(last, proved, named)
+        if found is not Named.LAST:
+            raise not_named(store, last, named, found)
+        self.compare(store, judge, last)
+        self.note(last)
+        self.end_look(last)
+
+    def look_since(self) -> Optional[int]:
+        """Since when peers' words are waited for, in seconds since 1970; None where they aren't."""
+        data = files.read_if_there(self.look, MOST_MOMENT)
+        if data is None:
+            return None
+        if not data.strip().isdigit():
+            raise Trouble(Status.UNREADABLE, f"{name_of(self.look)} has no moment", "It is made by weft exchange --look: run that again.")
+        return int(data)
+
+    def begin_look(self, now: int) -> None:
+        """Begins to wait for peers' words, at this moment."""
+        files.renew(self.look, b"%d\n" % now)
+
+    def end_look(self, last: Line) -> None:
+        """Peers' words have come, or a person said that the store is the right one."""
+        self.put_seal(last)
+        files.remove(self.look)
+
+    def expect_no_look(self, store: Store) -> None:
+        """Raises Trouble while peers' words are waited for: no step is made until then."""
+        since = self.look_since()
+        if since is not None:
+            told = f"since {date_of(since)} the words of peers on the store in {name_of(store.path)} are waited for, and no step was made"
+            advice = f"weft exchange says for whom, and ends it. Without peers name its last line: {adopting(store)}."
+            raise Trouble(Status.OLD_STORE, told, advice)
+
     def note(self, line: Line) -> None:
         """Keeps a line of one's own among the others, and as the one to hand out where it is the last."""
         if line not in self.known:
             old = files.read_if_there(self.lines, MOST_BYTES) or b""
+            self.put_seal(max(line, self.last() or line, key=step_of))
             files.renew(self.lines, old + f"{line.text}\n".encode())
             self.known[line] = None
         if all(line.step >= it.step for it in self.known):
-            files.renew_if_other(self.anchor, f"{line.text}\n".encode())
+            self.put_anchor(f"{line.text}\n".encode())
+
+    def put_anchor(self, data: bytes) -> None:
+        """Makes the file of the line to hand out anew, where it has another one; a link in its place is followed."""
+        if files.read_if_there(os.path.realpath(self.anchor), MOST_BYTES) != data:
+            files.renew(self.anchor, data)

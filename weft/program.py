@@ -18,6 +18,7 @@ from weft.trouble import Trouble
 BESIDE = Path(__file__).resolve().parent.parent / "bin/timeweave"
 ILLEGAL_INSTRUCTION = -4
 STOPPING = (-1, -2, -9, -15)
+PRIVATE_UMASK = 0o077
 
 
 class Answer(NamedTuple):
@@ -41,6 +42,10 @@ class Answer(NamedTuple):
 # What `logic_of` answers of a file that tells no logic.
 UNTOLD = "not told"
 
+# What stands in the starter of the second implementation, which answers as the program does and isn't proved.
+SECOND = b"NOT PROVED: second implementation"
+MOST_STARTER = 4_096
+
 
 @functools.lru_cache(maxsize=None)
 def found() -> Optional[str]:
@@ -48,6 +53,25 @@ def found() -> Optional[str]:
     named = os.environ.get("TIMEWEAVE_PROGRAM")
     path = shutil.which(named or "timeweave") or (str(BESIDE) if not named and BESIDE.exists() else None)
     return os.path.realpath(path) if path else None
+
+
+@functools.lru_cache(maxsize=None)
+def is_second(path: Optional[str]) -> bool:
+    """Whether the program of this path is the second implementation."""
+    if path is None or os.path.getsize(path) > MOST_STARTER:
+        return False
+    with open(path, "rb") as file:
+        return SECOND in file.read(MOST_STARTER)
+
+
+def refuse_second(is_wanted: bool) -> None:
+    """Raises Trouble where the program at hand is the second implementation and it wasn't asked for: what makes steps is to be proved."""
+    if is_second(found()) and not is_wanted:
+        raise Trouble(
+            Status.NO_JUDGE,
+            f"{printable(found() or '')} is the second implementation, which isn't proved: no step is made by it",
+            "Name the proved program by TIMEWEAVE_PROGRAM; to try the second one all the same: --unproved.",
+        )
 
 
 def needed() -> str:
@@ -61,10 +85,11 @@ def needed() -> str:
 
 
 def run(*words: str) -> Answer:
-    """Runs the program with these words. Raises Trouble where it can't be started or ended by a signal."""
+    """Runs the program with these words; a store that it makes may be read by this user alone. Raises Trouble where it can't be started
+    or ended by a signal."""
     try:
         done = subprocess.run(
-            [needed(), *words], stdin=subprocess.DEVNULL, stdout=subprocess.PIPE, stderr=subprocess.PIPE, check=False
+            [needed(), *words], stdin=subprocess.DEVNULL, stdout=subprocess.PIPE, stderr=subprocess.PIPE, check=False, umask=PRIVATE_UMASK
         )
     except OSError as failure:
         raise Trouble(Status.NO_JUDGE, f"timeweave can't be started: {os.strerror(failure.errno or 0)}") from None
@@ -135,8 +160,8 @@ def logic_of(path: str) -> str:
 
 
 def judge_name(kind: str, path: Optional[str]) -> str:
-    """How the program or the library of this path is named behind a verdict: as proved where the file has the prover's mark, and by its digest. (Whoever
-    makes a file can put the mark into it: the digest is to be compared with that of the release.)"""
+    """How the program or the library of this path is named behind a verdict: as proved where the file has the prover's mark, and by its
+    digest. (Whoever makes a file can put the mark into it: the digest is to be compared with that of the release.)"""
     if path is None:
         return f"{kind}, not known to be proved"
     return f"{kind + ', not known to be proved' if logic_of(path) == UNTOLD else 'proved ' + kind}, SHA-256 {digest_of(path)}"

@@ -2,6 +2,7 @@
 
 from __future__ import annotations
 
+import re
 from dataclasses import dataclass
 from typing import NamedTuple, Optional
 
@@ -32,33 +33,72 @@ class Hop(NamedTuple):
 
 
 class Report(NamedTuple):
-    """What an accepted verdict says: its kind, the word behind `accepted`; events, hops, and the words of its other lines."""
+    """What an accepted verdict says: its kind, the word behind `accepted`; events, hops, and the words of its other lines; and the lines that it carries,
+    which their receivers alone vouch for."""
 
     kind: str
     events: list[Event]
     hops: list[Hop]
     others: list[list[str]]
+    carried: tuple[Line, ...] = ()
 
     def other(self, word: str) -> list[str]:
         """The words behind the first line of this word."""
         return next((line[1:] for line in self.others if line[0] == word), [])
 
 
+# What stands in the lines of a report, by their first words.
+NAME, NUMBER, DIGEST = "[a-z0-9-]{1,16}", "(?:0|[1-9][0-9]{0,19})", "[0-9a-f]{64}"
+LINES = {
+    "event": f"{NAME} {NUMBER} {NUMBER} (?:-|(?:[0-9a-f]{{2}}){{1,1024}})",
+    "time": f"{NAME} {NUMBER} {NUMBER}",
+    "hop": f"{NAME} {NUMBER} {NAME} {NUMBER}",
+    "carried": f"{NAME} {NUMBER} {DIGEST}",
+    "thread": f"{NAME} {NUMBER} {NAME} {NUMBER} {DIGEST} {NUMBER}",
+    "absent": f"{NAME} {NUMBER} {NAME} {NUMBER}",
+    "link": f"{NAME} {NUMBER} {NUMBER} {DIGEST}",
+    "low": NUMBER,
+    "high": f"(?:{NUMBER}|none)",
+    "upto": NUMBER,
+    "first": f"{NAME} {NUMBER} {DIGEST} {NAME} {NUMBER}",
+    "second": f"{NAME} {NUMBER} {DIGEST} {NAME} {NUMBER}",
+}
+
+
+def is_line(words: list[str]) -> bool:
+    """Whether these are the words of a line of a report: names, numbers and hexadecimal digits where they belong."""
+    return bool(words) and words[0] in LINES and re.fullmatch(LINES[words[0]], " ".join(words[1:])) is not None
+
+
 def read_report(verdict: Verdict) -> Report:
-    """The report of an accepted verdict."""
+    """The report of an accepted verdict; raises ValueError where a line of it is none."""
     head, *lines = verdict.lines
+    if head[:1] != ["accepted"] or len(head) != 2 or not all(map(is_line, lines)):
+        raise ValueError("a line of the report is none")
     times = {(words[1], words[2]): int(words[3]) for words in lines if words[0] == "time"}
-    carried = {(words[1], words[2]) for words in lines if words[0] == "carried"}
+    carried = tuple(Line(words[1], int(words[2]), words[3]) for words in lines if words[0] == "carried")
+    loose = {(line.service, line.step) for line in carried}
     events = [
         Event(words[1], int(words[2]), int(words[3]), b"" if words[4] == "-" else bytes.fromhex(words[4]), times.get((words[1], words[2])))
         for words in lines
         if words[0] == "event"
     ]
     hops = [
-        Hop(words[1], int(words[2]), words[3], int(words[4]), (words[1], words[2]) in carried) for words in lines if words[0] == "hop"
+        Hop(words[1], int(words[2]), words[3], int(words[4]), (words[1], int(words[2])) in loose) for words in lines if words[0] == "hop"
     ]
     others = [words for words in lines if words[0] not in ("event", "hop", "time", "carried")]
-    return Report(head[1], events, hops, others)
+    return Report(head[1], events, hops, others, carried)
+
+
+def told_lines(report: Report) -> list[Line]:
+    """The lines of other steps than those that it is judged under, which it tells: that of a link, of a received thread, and those that it carries."""
+    link, thread = report.other("link"), report.other("thread")
+    found = list(report.carried)
+    if link:
+        found.append(Line(link[0], int(link[1]), link[3]))
+    if thread:
+        found.append(Line(thread[2], int(thread[3]), thread[4]))
+    return found
 
 
 def event_sentence(event: Event) -> str:
@@ -113,11 +153,6 @@ def map_sentences(report: Report, service: str, step: str, peer: str) -> list[st
     return [f"Before its step {step} {service} {before}.", f"{after[0].upper()}{after[1:]}."]
 
 
-def history_sentence(lines: list[Line]) -> str:
-    """What an accepted history says, which was judged under the line of its last step."""
-    return f"It is a history of {lines[0].service} that keeps the rules, up to step {lines[0].step}, of which you hold the line."
-
-
 def fork_sentences(report: Report) -> list[str]:
     """What accepted evidence says."""
     first, second = report.other("first"), report.other("second")
@@ -161,10 +196,10 @@ def sentences(report: Report) -> list[str]:
 REASONS = {
     "Malformed": ("the file is no proof: it is cut short or was changed at byte {0}", "Ask for it again."),
     "BadOrder": ("its steps aren't in order", "Ask for it again."),
-    "NotHeld": ("you hold no line of {0} at step {1}", "Ask {0} for that line, or for the proof under a step of which you do."),
+    "NotHeld": ("you hold no line of {0} at step {1}", "Ask for the proof under a step of which you do, or for that line somebody who is neither {0} nor the sender."),
     "BadPath": (
         "it isn't of the history of your lines (part {0}): it was changed, or a line isn't its service's, or the service has two histories",
-        "Ask the service, by another way, for its line of that step, and for the proof again.",
+        "Ask others who hold lines of that service which line of that step they have, and ask for the proof again.",
     ),
     "BadOpening": ("it was changed, or its store is damaged (part {0})", "Ask for it again."),
     "BadEvent": ("the event isn't the one of that step (part {0}): it was changed, or its store is damaged", "Ask for it again."),

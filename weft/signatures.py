@@ -12,33 +12,26 @@ import subprocess
 import tempfile
 from fnmatch import fnmatchcase
 from pathlib import Path
-from typing import NamedTuple, Optional
+from typing import Optional
 
-from weft import files
+from weft import files, locks
+from weft.deciding import signatures as deciding
+from weft.deciding.signatures import MOST_BYTES as MOST_BYTES
+from weft.deciding.signatures import NAMESPACE as NAMESPACE
+from weft.deciding.signatures import Addition, KeyFault, PublicKey, read_armour, read_public_key
+from weft.deciding.signatures import Signed as Signed
+from weft.deciding.signatures import read_signed_line as read_signed_line
 from weft.files import AnyPath
-from weft.lines import Line, read_line
+from weft.lines import Line
 from weft.statuses import Status
-from weft.texts import name_of, printable
+from weft.texts import beside, name_of, printable
 from weft.trouble import Trouble
 
-NAMESPACE = "timeweave-line"
-BEGIN, END = "-----BEGIN SSH SIGNATURE-----", "-----END SSH SIGNATURE-----"
-MOST_BYTES = 65_536
+BEGIN, END = deciding.BEGIN.decode(), deciding.END.decode()
+split = read_signed_line
 MOST_SIGNERS = 1 << 20
 MOST_SECONDS = 120
 PATTERN = re.compile(rb"[*?\[]")
-
-
-class Signed(NamedTuple):
-    """A line with its signature, in the armour of ssh-keygen."""
-
-    line: Line
-    signature: bytes
-
-    @property
-    def data(self) -> bytes:
-        """Both in one file: the line, and behind it the signature."""
-        return f"{self.line.text}\n".encode() + self.signature
 
 
 def default_signers() -> Path:
@@ -47,7 +40,7 @@ def default_signers() -> Path:
     if named:
         return Path(named)
     settings = os.environ.get("XDG_CONFIG_HOME")
-    return (Path(settings) if settings else Path.home() / ".config") / "weft/allowed_signers"
+    return (Path(settings) if settings else files.home() / ".config") / "weft/allowed_signers"
 
 
 def keygen(*words: str, given: bytes = b"") -> tuple[int, str, bytes]:
@@ -72,63 +65,51 @@ def sign(line: Line, key: AnyPath) -> Signed:
     if not os.path.exists(key):
         raise Trouble(Status.NO_INPUT, f"there is no key {name_of(key)}", "Make one: ssh-keygen -t ed25519 -f FILE.")
     files.read(key, MOST_BYTES)  # ssh-keygen would read a file of any size to its end
-    text = f"{line.text}\n".encode()
-    status, told, signature = keygen("-Y", "sign", "-q", "-n", NAMESPACE, "-f", os.fspath(key), given=text)
-    if status or BEGIN.encode() not in signature:
+    status, told, output = keygen("-Y", "sign", "-q", "-n", NAMESPACE, "-f", os.fspath(key), given=f"{line.text}\n".encode())
+    armour = read_armour(output)
+    if status or armour is None:
         raise Trouble(Status.NO_INPUT, f"ssh-keygen couldn't sign with {name_of(key)}: {told}")
-    return Signed(line, signature)
+    return Signed(line, armour)
 
 
-def split(data: bytes) -> Optional[Signed]:
-    """The line and the signature of a file that has both, or None where it hasn't."""
-    text, mark, rest = data.partition(b"\n")
-    line = read_line(text.decode("utf-8", "replace"))
-    if line is None or not mark or not rest.startswith(BEGIN.encode()) or len(data) > MOST_BYTES:
-        return None
-    return Signed(line, rest)
+# ---- what is checked
 
 
 def checked(signed: Signed, signers: AnyPath) -> Optional[str]:
     """The key, as ssh-keygen tells it, by which the line is signed, where the file of signers has that key for the line's service; None where it
-    isn't so."""
+    isn't so. What is handed to ssh-keygen is the line and the signature that are kept, byte for byte."""
     if not os.path.exists(signers):
         return None
     with tempfile.NamedTemporaryFile(prefix="weft-", suffix=".sig") as file:
         file.write(signed.signature)
         file.flush()
         status, _, told = keygen(
-            "-Y", "verify", "-n", NAMESPACE, "-f", os.fspath(signers), "-I", signed.line.service, "-s", file.name,
-            given=f"{signed.line.text}\n".encode(),
+            "-Y", "verify", "-n", NAMESPACE, "-f", os.fspath(signers), "-I", signed.line.service, "-s", file.name, given=signed.text,
         )  # fmt: skip
     key = re.search(rb"with (\S+) key (SHA256:\S+)", told)
     return f"{key[1].decode()} {key[2].decode()}" if status == 0 and key else None
 
 
-def checked_by(signed: Signed, key: AnyPath) -> Optional[str]:
-    """The same, of the public key of a file alone."""
+def checked_by(signed: Signed, key: PublicKey) -> Optional[str]:
+    """The same, of this public key alone."""
     with tempfile.NamedTemporaryFile(prefix="weft-", suffix=".signers") as file:
-        file.write(public_key(signed.line.service, key).line)
+        file.write(key.signers_line(signed.line.service))
         file.flush()
         return checked(signed, file.name)
 
 
-class PublicKey(NamedTuple):
-    """A public key of a file: its line in a file of signers as that of a service, and its fingerprint."""
+def public_key(path: AnyPath) -> PublicKey:
+    """The public key of a file, which is read once; raises Trouble where the file has none, or ssh-keygen doesn't take it, or takes it for another one."""
+    found = read_public_key(files.read(path, MOST_BYTES))
+    if isinstance(found, KeyFault):
+        raise Trouble(Status.UNREADABLE, f"{name_of(path)} has no public key: {found.value}", "Name the file that ends in .pub, of one line: type key comment.")
+    status, told, output = keygen("-l", "-f", "-", given=f"{found.text}\n".encode())
+    if status or output.split()[1:2] != [found.fingerprint.encode()]:
+        raise Trouble(Status.UNREADABLE, f"{name_of(path)} has no public key that ssh-keygen takes: {told}", "Ask for it again.")
+    return found
 
-    line: bytes
-    fingerprint: str
 
-
-def public_key(service: str, key: AnyPath) -> PublicKey:
-    """The public key of a file, as that of a service; raises Trouble where the file has none."""
-    words = files.read(key, MOST_BYTES).decode("utf-8", "replace").split()
-    if len(words) < 2 or not re.fullmatch(r"[a-z0-9@.-]+", words[0]) or not re.fullmatch(r"[A-Za-z0-9+/=]+", words[1]):
-        raise Trouble(Status.UNREADABLE, f"{name_of(key)} has no public key", "Name the file that ends in .pub.")
-    status, told, output = keygen("-l", "-f", os.fspath(key))
-    if status:
-        raise Trouble(Status.UNREADABLE, f"{name_of(key)} has no public key: {told}")
-    line = f'{service} namespaces="{NAMESPACE}" {words[0]} {words[1]}\n'.encode()
-    return PublicKey(line, printable(output.decode("utf-8", "replace").split()[1]))
+# ---- the file of signers
 
 
 def key_lines(signers: AnyPath, service: str) -> list[bytes]:
@@ -139,23 +120,29 @@ def key_lines(signers: AnyPath, service: str) -> list[bytes]:
 
 
 def is_noted(signers: AnyPath, service: str, key: PublicKey) -> bool:
-    """Whether the file of signers has this key for the service's name. Raises Trouble where it has others alone: a second one is never added silently."""
-    known = key_lines(signers, service)
-    if any(key.line.split()[-1] in line.split() for line in known):
-        return True
-    if known:
+    """Whether the file of signers has this key for the service's name. Raises Trouble where it has others alone: a second one is never added silently; and
+    where it has this one with options under which it may not count."""
+    found = deciding.place_key(key, key_lines(signers, service))
+    if found is Addition.LIMITED:
+        raise Trouble(
+            Status.LOOK,
+            f"{name_of(signers)} has {key.fingerprint} as the key of {service}, with options (cert-authority, valid-.., namespaces) under which it may not count",
+            f"Nothing was noted. Look at its line there: to have it count for lines, take the options or the line out of {name_of(signers)}.",
+        )
+    if found is Addition.OTHER:
         raise Trouble(
             Status.LOOK,
             f"{name_of(signers)} has another key of {service} already, and {key.fingerprint} wasn't noted",
             f"Ask {service}, by another way, which one is its own. To replace the old one, take its line out of {name_of(signers)}, and run this again.",
         )
-    return False
+    return found is Addition.KNOWN
 
 
-def add_signer(signers: Path, service: str, key: AnyPath) -> str:
-    """Adds the public key of a file as that of a service; answers its fingerprint. Raises Trouble where the file of signers has another one of that name."""
-    new = public_key(service, key)
-    if not is_noted(signers, service, new):
-        old = files.read_if_there(signers, MOST_SIGNERS) or b""
-        files.renew(signers, old + (b"" if not old or old.endswith(b"\n") else b"\n") + new.line)
-    return new.fingerprint
+def add_signer(signers: Path, service: str, key: PublicKey) -> None:
+    """Adds a public key as that of a service, under the lock of the file: of several that are added at one time none is lost. Raises Trouble where the file
+    has another one of that name."""
+    files.make_folder(signers.parent)
+    with locks.held(beside(signers, ".lock"), 30, signers):
+        if not is_noted(signers, service, key):
+            old = files.read_if_there(signers, MOST_SIGNERS) or b""
+            files.renew(signers, old + (b"" if not old or old.endswith(b"\n") else b"\n") + key.signers_line(service))

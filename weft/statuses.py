@@ -48,7 +48,10 @@ MEANINGS = {
     Status.NO_JUDGE: "There is neither the proved library nor the proved program, so nothing is judged.",
     Status.BUSY: "Another run of weft is at work there.",
     Status.FEWER: "The folder is empty, or has lost more than half of its files: what is gone wasn't logged as gone.",
-    Status.OLD_STORE: "The store isn't the one whose lines went out: an old one was put back, or it has another history. No step was made.",
+    Status.OLD_STORE: (
+        "The store isn't the one whose lines went out, or nothing shows that it is: an old one was put back, it has another history, or its lines or "
+        "entries don't stand beside it. No step was made."
+    ),
     Status.SHOWN_BY_REFERENCE: "Shown, as 0, but by the Python reference, which is tested and not proved.",
     Status.NOT_SHOWN_BY_REFERENCE: "Not shown, as 1, but by the Python reference, which is tested and not proved.",
     Status.BUG: "weft itself failed. That is a bug: report what standard error says.",

@@ -83,8 +83,8 @@ class Store:
         return Last(formats.line_of(message), answer.output)
 
     def append(self, events: bytes, time: Optional[int]) -> Line:
-        """Appends a step of the events of an events file, and answers its line. Where the time is refused since an earlier step claims a later
-        one, raises ClockBack, and no step is made."""
+        """Appends a step of the events of an events file, and answers its line. Where the time is refused since an earlier step claims a
+        later one, raises ClockBack, and no step is made."""
         with tempfile.NamedTemporaryFile(prefix="weft-") as file:
             file.write(events)
             file.flush()

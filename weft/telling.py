@@ -2,12 +2,13 @@
 
 from __future__ import annotations
 
+import io
 import itertools
 from typing import Any, Iterable, Iterator
 
 from weft import formats, reports, signatures
 from weft.judges import Verdict
-from weft.lines import KeptLines, read_line
+from weft.lines import KeptLines, read_kept, read_line, read_mark
 from weft.progress import with_progress
 from weft.texts import count_of, date_of, printable, shown_event
 from weft.trouble import Trouble
@@ -16,6 +17,12 @@ from timeweave_reference import events_files, evidence, fields, histories, map_f
 
 MOST_EVENTS = 20
 MOST_LINES = 20
+
+# The most bytes of a line that is looked at, and of a report: the longest one has two events, 64 hops and 64 carried lines.
+MOST_FIRST, MOST_REPORT = 8_192, 65_536
+
+# The most bytes of a file of lines in which those that contradict are looked for.
+MOST_COMPARED = 1 << 20
 NO_FORMAT = "it is of no format of Timeweave"
 
 
@@ -134,28 +141,59 @@ REPORTS = ("accepted ", "rejected ", "refused ", "stands", "unheld ", "unreadabl
 
 def tell_text(data: bytes) -> tuple[str, list[str]]:
     """Lines, signed lines, kept lines, or the text of a command; raises Trouble where it is none of these."""
-    signed = signatures.split(data)
+    signed = signatures.read_signed_line(data)
     if signed:
         return "signed line", [f"line: {signed.line.text}", "its signature isn't checked here: weft keep does"]
-    text = data.decode("utf-8", "replace")
-    first = text.split("\n", 1)[0]
-    if text.startswith(signatures.BEGIN):
+    first = data[:MOST_FIRST].decode("utf-8", "replace").split("\n", 1)[0]
+    if first.startswith(signatures.BEGIN):
         return "signature by ssh-keygen", ["it is of the line in the file without .sig: weft keep checks it"]
     if first.startswith("accepted ") and first != "accepted map":
-        try:
-            return "report of timeweave", reports.sentences(reports.read_report(Verdict(0, text)))
-        except (ValueError, IndexError):
-            raise ValueError("it begins as a report of timeweave, and a line of it is none") from None
+        return tell_report(data)
     if first.startswith(REPORTS):
-        told = text.splitlines()
-        return "text of a command of timeweave", list(several(map(printable, told), len(told), "lines", MOST_LINES))
-    kept = KeptLines()
-    kept.add_text("it", text)
-    found = kept.all()
-    if not found:
+        told = data[:MOST_REPORT].decode("utf-8", "replace").split("\n")
+        return "text of a command of timeweave", list(several(map(printable, told), data.rstrip(b"\n").count(b"\n") + 1, "lines", MOST_LINES))
+    return tell_lines(data)
+
+
+def tell_report(data: bytes) -> tuple[str, list[str]]:
+    """A report of the program: names, numbers and digits as they are, and nothing else."""
+    try:
+        if len(data) > MOST_REPORT:
+            raise ValueError("it is longer than a report")
+        return "report of timeweave", reports.sentences(reports.read_report(Verdict(0, data.decode("ascii"))))
+    except (ValueError, IndexError):
+        raise ValueError("it begins as a report of timeweave, and a line of it is none") from None
+
+
+def tell_lines(data: bytes) -> tuple[str, list[str]]:
+    """A file of lines, which are read one after another."""
+    shown: list[str] = []
+    count = 0
+    for line in io.BytesIO(data):
+        text = line[:MOST_FIRST].decode("utf-8", "replace").rstrip("\r\n")
+        if not text.strip() or text.startswith("#"):
+            continue
+        if read_mark(text) is not None:
+            continue
+        it = read_kept(text)
+        if it is None:
+            raise ValueError(NO_FORMAT)
+        count += 1
+        if count <= MOST_LINES:
+            shown.append(f"{it.line.text}{'' if not it.date else f' ({it.told})'}")
+    if not count:
         raise ValueError(NO_FORMAT)
-    plain = (f"{it.line.text}{'' if not it.date else f' ({it.told})'}" for it in found)
-    return "line" if len(found) == 1 else count_of(len(found), "line"), list(several(plain, len(found), "lines", MOST_LINES))
+    more = disputes_in(data)
+    return "line" if count == 1 else count_of(count, "line"), [*several(shown, count, "lines", MOST_LINES), *several(more, len(more), "such steps", MOST_LINES)]
+
+
+def disputes_in(data: bytes) -> list[str]:
+    """The steps of which a file of lines has some that contradict; of a long file, that they aren't looked for here."""
+    if len(data) > MOST_COMPARED:
+        return ["whether some of them contradict isn't looked at here in so long a file: weft keep does"]
+    kept = KeptLines()
+    kept.add_text("it", data.decode("utf-8", "replace"))
+    return [f"of step {step} of {service} there are lines that contradict, and none was chosen" for service, step in kept.disputes()]
 
 
 TELLERS = {

@@ -3,25 +3,59 @@
 from __future__ import annotations
 
 import os
+import re
 from datetime import datetime, timezone
 from pathlib import Path
 from typing import Sequence, Union
 
+from weft.statuses import Status
+from weft.trouble import Trouble
+
 MOST_SHOWN = 4096
+
+# Letters that Python calls printable and that nobody sees: those that Unicode lets be ignored by default, and the blank of Braille.
+UNSEEN = re.compile("[\u034f\u115f\u1160\u17b4\u17b5\u180b-\u180d\u180f\u2800\u3164\ufe00-\ufe0f\uffa0\U000e0100-\U000e01ef]")
+
+# What could end a quoted text, or look as if it did; a backslash, which begins an escape; and each blank behind two others, since many could fill a line.
+IN_QUOTES = re.compile("[\"\\\\\u201c-\u201f\u2033\u2036\u301d-\u301f\uff02]|(?<=  ) ")
+
+
+# What lets a file's name read as a sentence of its own: a blank behind a mark that ends a part of one, two blanks, and what looks like quotes.
+SPEAKING = re.compile("[:;,.!?] |  |[\"\u201c-\u201f\u2033\u2036\u301d-\u301f\uff02]")
+
+
+def escape(letter: str) -> str:
+    """A letter as an escape of Python's."""
+    if letter in '"\\':
+        return f"\\{letter}"
+    return f"\\x{ord(letter):02x}" if letter == " " else letter.encode("unicode_escape", "surrogatepass").decode("ascii")
+
+
+def escaped(text: str) -> str:
+    """The text with each letter that isn't printable (control characters, bidirectional marks, line ends, bytes that are no UTF-8), or that nobody
+    sees, in an escape of Python's."""
+    if text.isprintable() and (text.isascii() or not UNSEEN.search(text)):
+        return text
+    return "".join(c if c.isprintable() and not UNSEEN.match(c) else escape(c) for c in text)
 
 
 def printable(text: str) -> str:
-    """The text with each character that isn't printable (control characters, bidirectional marks, line ends, bytes that are no UTF-8) in
-    an escape of Python's, and cut where it is longer than 4,096."""
-    if len(text) <= MOST_SHOWN and text.isprintable():
-        return text
-    shown = "".join(c if c.isprintable() else c.encode("unicode_escape", "surrogatepass").decode("ascii") for c in text[:MOST_SHOWN])
-    return shown + "…" if len(text) > MOST_SHOWN else shown
+    """The same, cut where it is longer than 4,096."""
+    return escaped(text[:MOST_SHOWN]) + "…" if len(text) > MOST_SHOWN else escaped(text)
+
+
+def quoted(text: str) -> str:
+    """A foreign text in quotes, in which nothing looks as if the quotes had ended: quotes and backslashes are escaped, and so is each blank
+    behind two others."""
+    return '"' + escaped(IN_QUOTES.sub(lambda found: escape(found[0]), text)) + '"'
 
 
 def name_of(path: Union[str, os.PathLike[str]]) -> str:
-    """The path as it is told in a sentence."""
-    return printable(os.fspath(path))
+    """The path as it is told in a sentence. A name that could be read as a part of the sentence stands in quotes: whoever sends files chooses their names."""
+    text = os.fspath(path)
+    if SPEAKING.search(text):
+        return quoted(text[:MOST_SHOWN]) + ("…" if len(text) > MOST_SHOWN else "")
+    return printable(text)
 
 
 def shown_event(data: bytes) -> str:
@@ -30,9 +64,7 @@ def shown_event(data: bytes) -> str:
         text = data.decode("utf-8")
     except UnicodeDecodeError:
         return data.hex()
-    if text and text.isprintable():
-        return f'"{text}"'
-    return data.hex() or "-"
+    return quoted(text) if text and text.isprintable() else data.hex() or "-"
 
 
 def date_of(seconds: int) -> str:
@@ -67,6 +99,11 @@ def listed(parts: Sequence[str]) -> str:
 
 
 def beside(path: Union[str, os.PathLike[str]], suffix: str) -> Path:
-    """The path with a suffix behind its whole name, without a slash at its end."""
+    """The path with a suffix behind its whole name, without a slash at its end. `.` and `..` lead to their own name; raises Trouble of the root, which has
+    none."""
     whole = Path(path)
+    if whole.name in ("", ".."):
+        whole = Path(os.path.realpath(whole))
+    if not whole.name:
+        raise Trouble(Status.USAGE, f"{name_of(path)} is the root, and nothing can stand beside it", "Name a folder below it.")
     return whole.with_name(whole.name + suffix)

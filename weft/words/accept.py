@@ -3,13 +3,16 @@
 from __future__ import annotations
 
 import argparse
+import re
 import sys
 from pathlib import Path
-from typing import Optional
+from typing import NamedTuple, Optional
 
 from weft import box as boxes
 from weft import files, formats, lines, locks, signatures
-from weft.box import Peer
+from weft.box import Peer, Settings
+from weft.deciding.forks import contradicts
+from weft.deciding.signatures import Signed, read_signed_line
 from weft.lines import Line
 from weft.output import say
 from weft.statuses import Status
@@ -20,10 +23,12 @@ NAME = "accept"
 SUMMARY = "confirms a new peer of a box: its name, its line and its key"
 DETAILS = (
     "Makes the peer's folders, notes its public key (--key), and accepts it by the line that its waiting message tells. Compare that line with what "
-    "the peer gave you by another way (by telephone, on paper, on its page), or name a file that has it: then both have to be the same."
+    "the peer gave you by another way (by telephone, on paper, on its page), or name a file that has it: then both have to be the same. Where a key of "
+    "the peer is noted, its line has to be signed by it too, unless the box takes unsigned messages."
 )
-STATUSES = (Status.LOOK, Status.CONTRADICTION, Status.BUSY)
+STATUSES = (Status.LOOK, Status.CONTRADICTION, Status.MISSING, Status.BUSY)
 EXAMPLE = "weft accept /srv/box bank --key bank_key.pub\nweft accept /srv/box bank bank.line"
+AUTHENTICATOR = re.compile("[0-9a-fA-F]{64}")
 
 
 def add(parser: argparse.ArgumentParser) -> None:
@@ -32,56 +37,109 @@ def add(parser: argparse.ArgumentParser) -> None:
     parser.add_argument("peer", metavar="PEER", help="the peer's name, as its service has it")
     parser.add_argument("line", metavar="LINE", nargs="?", help="a file with its line, which came by another way")
     parser.add_argument("--key", metavar="KEY.pub", help="its public key, which came by another way")
-    parser.add_argument("--yes", action="store_true", help="the line that is shown was compared already")
+    parser.add_argument(
+        "--yes", metavar="HEX", help="the 64 digits of the line that was shown, and was compared already; another one that waits by now isn't accepted"
+    )
 
 
 def run(options: argparse.Namespace) -> Status:
     """Accepts the peer."""
     name = lines.checked_name(options.peer)
+    if options.yes is not None and not AUTHENTICATOR.fullmatch(options.yes):
+        raise Trouble(Status.USAGE, "--yes takes the 64 hexadecimal digits of the line that was compared", "Run weft accept without it: it shows the line.")
+    own = signatures.public_key(options.key) if options.key else None
+    given = one_line(options.line, name) if options.line else None
     files.make_folder(options.box)
     settings = boxes.read_settings(options.box)
     with locks.held(options.box / ".lock", 30, options.box):
         peer = Peer(options.box, name, settings)
         peer.make()
-        if options.key:
-            fingerprint = signatures.add_signer(options.box / "allowed_signers", name, options.key)
-            say(f"{fingerprint} is noted as the key of {name}.")
-        given = one_line(options.line, name) if options.line else None
+        if own is not None:
+            signatures.add_signer(signers_of(options.box), name, own)
+            say(f"{own.fingerprint} is noted as the key of {name}.")
         data = peer.take("message", formats.MOST_MESSAGE)
+        for text in peer.told:
+            say(f"{name}: {text}.")
         message = formats.read_message(data) if data is not None else None
         if data is None or message is None or message.service != name:
             say(f"No message of {name} is waiting in {name_of(peer.incoming)}: run weft accept again once one came.")
             return Status.LOOK
         line = formats.line_of(message)
-        accept(options, peer, line, given, data)
+        if given is not None:
+            compare(given, line)
+        key = signed_by(options.box, peer, settings, line, given.signed if given is not None else None)
+        accept(options, peer, line, key, data)
     return Status.DONE
 
 
-def one_line(path: str, name: str) -> Line:
-    """The line of a file."""
+def signers_of(box: Path) -> Path:
+    """Whose keys count in a box."""
+    return box / "allowed_signers"
+
+
+class Given(NamedTuple):
+    """The line of a file that was named, and where it is signed there, with its signature."""
+
+    path: str
+    line: Line
+    signed: Optional[Signed]
+
+
+def one_line(path: str, name: str) -> Given:
+    """The line of a file that has one of the peer."""
     data = files.read(path, signatures.MOST_BYTES)
-    both = signatures.split(data)
+    both = read_signed_line(data)
     found = [both.line] if both else lines.lines_of(data, name_of(path))
     if len(found) != 1 or found[0].service != name:
         raise Trouble(Status.UNREADABLE, f"{name_of(path)} has no single line of {name}", "Name a file with the one line that you got.")
-    return found[0]
+    return Given(path, found[0], both)
 
 
-def accept(options: argparse.Namespace, peer: Peer, line: Line, given: Optional[Line], message: bytes) -> None:
-    """Notes that the peer was accepted by this line."""
-    if given is not None and given != line:
+def compare(given: Given, line: Line) -> None:
+    """Raises Trouble where the line of the named file isn't the one that the waiting message tells."""
+    advice = f"Ask {line.service}, by another way, for its line of step {line.step}; nothing was accepted."
+    if contradicts(given.line, line):
+        told = f"the waiting message tells {line.text}, and {name_of(given.path)} has {given.line.text}"
+        raise Trouble(Status.CONTRADICTION, told, advice)
+    if given.line != line:
+        told = f"the waiting message tells {line.service}'s line of step {line.step}, and {name_of(given.path)} has that of step {given.line.step}"
+        raise Trouble(Status.MISSING, told, advice)
+
+
+def signed_by(box: Path, peer: Peer, settings: Settings, line: Line, given: Optional[Signed]) -> Optional[str]:
+    """The key by which the line is signed, in the peer's folder or in the file that was named; None where the box has no key of the peer, or takes
+    unsigned messages. Raises Trouble where it isn't signed."""
+    signers = signers_of(box)
+    if settings.is_unsigned or not signatures.key_lines(signers, peer.name):
+        return None
+    waiting = read_signed_line(peer.take("line", signatures.MOST_BYTES) or b"")
+    keys = (signatures.checked(it, signers) for it in (given, waiting) if it is not None and it.line == line)
+    key = next((key for key in keys if key is not None), None)
+    if key is None:
+        told = f"the line of step {line.step} of {peer.name}'s waiting message isn't signed by the key that {name_of(signers)} has for it"
         raise Trouble(
-            Status.CONTRADICTION,
-            f"the waiting message tells {line.text}, and {name_of(options.line)} has {given.text}",
-            f"Ask {peer.name} for its line of step {line.step}; nothing was accepted.",
+            Status.LOOK,
+            f"{told}, and {peer.name} wasn't accepted",
+            f"The signed line may be on its way: run weft accept again once {name_of(peer.incoming / 'line')} came anew. If it is there, ask {peer.name} for its key.",
         )
+    return key
+
+
+def accept(options: argparse.Namespace, peer: Peer, line: Line, key: Optional[str], message: bytes) -> None:
+    """Notes that the peer was accepted by this line."""
     say(f"{peer.name}: the line of its waiting message is")
     say(f"  {line.text}")
-    how = f"compared with {options.line}" if given else "compared by a person"
-    if given is None and not options.yes and not is_confirmed(peer.name):
-        raise Trouble(Status.LOOK, f"{peer.name} wasn't accepted", "Ask it for its line by another way, and run weft accept again.")
+    if options.yes is not None and options.yes.lower() != line.authenticator:
+        told = f"the line that waits now isn't the one of --yes, and {peer.name} wasn't accepted"
+        raise Trouble(Status.LOOK, told, "Compare the one that is shown now, and name that.")
+    is_compared = options.line is not None or options.yes is not None
+    if not is_compared and not is_confirmed(peer.name):
+        raise Trouble(
+            Status.LOOK, f"{peer.name} wasn't accepted", f"Ask it for its line by another way, and if it is this one: weft accept .. --yes {line.authenticator}"
+        )
+    how = f"compared with {options.line}" if options.line is not None else "compared by a person"
     files.renew(peer.kept / "first", message)
-    files.renew(peer.kept / "accepted", f"{lines.kept_now(line, how).text}\n".encode())
+    files.renew(peer.kept / "accepted", f"{lines.kept_now(line, f'{how}, signed by {key}' if key else how).text}\n".encode())
     say(f"{peer.name} is accepted: the next weft exchange takes its messages.")
 
 

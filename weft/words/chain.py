@@ -8,12 +8,12 @@ import re
 from pathlib import Path
 
 from weft import chains, choosing, files, formats, judges, lines, pictures, reports
-from weft.chains import Event, Plan, Sources
+from weft.chains import Event, Part, Plan, Sources
 from weft.lines import LAST_STEP, KeptLines
 from weft.output import say
 from weft.statuses import Status
 from weft.stores import Store
-from weft.texts import name_of, printable
+from weft.texts import count_of, name_of, printable
 from weft.trouble import Trouble
 
 NAME = "chain"
@@ -70,41 +70,46 @@ def run(options: argparse.Namespace) -> Status:
     """Makes the chain."""
     first, second = event_of(options.earlier), event_of(options.later)
     kept, judge = KeptLines(options.kept or [lines.default_kept()]), judges.bench(options.reference)
+    if options.kept:
+        say(choosing.told_kept(options.kept))
     hand = at_hand(options.hand) + [event.proof for event in (first, second) if event.proof is not None]
     sources = Sources([Store(folder) for folder in options.store], options.box, hand, kept, judge)
     plan, parts, proof = chains.gathered(sources, first, second)
     if proof is None:
-        return tell_missing(sources, plan, parts)
+        return tell_missing(sources, plan, parts, chains.further_parts(sources, first, second, plan))
     judgement = choosing.judge_proof(judge, proof, kept, allow_carried=False)
     if not judgement.is_shown or judgement.verdict is None:
-        return tell_refused(sources, judgement)
-    files.renew(options.out, proof)
+        return tell_refused(sources, judgement, proof)
+    files.hand_out(options.out, proof)
     report = reports.read_report(judgement.verdict)
     say(f"{name_of(options.out)}: shown, {len(proof):,} bytes")
     for line in [*reports.sentences(report), *choosing.resting(judgement, kept)]:
         say(f"  {line}")
     say(f"  {judge.told(judgement.call)}")
     if options.svg:
-        files.renew(options.svg, pictures.verdict(report, judgement.lines, None).encode())
+        files.hand_out(options.svg, pictures.verdict(report, judgement.lines, None).encode())
     return judge.status(True)
 
 
-def tell_missing(sources: Sources, plan: Plan, parts: list[bytes | None]) -> Status:
-    """Which parts are missing, and whom to ask."""
+def tell_missing(sources: Sources, plan: Plan, parts: list[bytes | None], further: list[Part]) -> Status:
+    """Which parts are missing, and whom to ask; those that further ways need are asked for too."""
     have = sum(part is not None for part in parts)
     say(f"A way over {len(plan.hops)} {'hop' if len(plan.hops) == 1 else 'hops'} is known; {have} of its {len(parts)} parts are at hand. Missing:")
     for part, data in zip(plan.parts, parts):
         if data is None:
             say(f"  {sources.ask(part)}")
+    asked = [part for part in further if sources.ask_peers(part)]
+    if asked:
+        say(f"{count_of(len(asked), 'part')} of further ways {'is' if len(asked) == 1 else 'are'} asked for too: a receipt may be made up.")
     return Status.MISSING
 
 
-def tell_refused(sources: Sources, judgement: choosing.Judgement) -> Status:
+def tell_refused(sources: Sources, judgement: choosing.Judgement, proof: bytes) -> Status:
     """Why what was joined isn't accepted."""
     if judgement.missing:
-        say("What was joined can't be judged.")
-        for needed in judgement.missing:
-            say(choosing.missing_sentence(needed, sources.kept))
+        say("What was joined: not judged.")
+        for sentence in choosing.missing_sentences(judgement.missing, sources.kept, proof):
+            say(sentence)
         return Status.MISSING
     sentence = reports.reason_sentence(judgement.verdict)[0] if judgement.verdict is not None else judgement.hindrance
     raise Trouble(

@@ -3,19 +3,19 @@
 from __future__ import annotations
 
 import argparse
-import os
 from pathlib import Path
-from typing import Optional
+from typing import Iterator, NamedTuple, Optional
 
 from weft import checks, files, judges, lines, locks
-from weft.checks import Bad, History
+from weft.checks import Bad, Exported, History, Result, Task
+from weft.deciding.checking import Found, Looked, choose_places, judge_check, list_unseen
 from weft.lines import KeptLines, Line
-from weft.output import say, say_json
+from weft.output import complain, say, say_json
 from weft.own import OwnLines
 from weft.progress import with_progress
 from weft.statuses import Status
-from weft.stores import Store
-from weft.texts import beside, count_of, name_of, steps_of
+from weft.stores import Store, step_0
+from weft.texts import beside, count_of, listed, name_of, steps_of
 from weft.trouble import Trouble
 from weft.waiting import add_wait
 
@@ -23,10 +23,10 @@ NAME = "check"
 SUMMARY = "checks a store: each step, and each line that was kept of it"
 DETAILS = (
     "The history is exported once and each authenticator computed anew; each is held against the link that the program proves, and against the lines "
-    "that were kept. Of the events 200 are proved, or with --all each. Where the history is longer than a file may be, it is checked by its links "
-    "alone. Do it each month, and after each restart that was none of your doing."
+    "that were kept. Of the events 200 are proved, or with --all each. Where the history is longer than a file may be, its events are counted and proved "
+    "without the export; what wasn't looked at is told then, and the status is 10. Do it each month, and after each restart that was none of your doing."
 )
-STATUSES = (Status.BUSY, Status.OLD_STORE)
+STATUSES = (Status.LOOK, Status.CONTRADICTION, Status.BUSY, Status.OLD_STORE)
 EXAMPLE = "weft check /srv/log\nweft check /srv/log --all --kept ~/lines"
 SAMPLE = 200
 
@@ -43,7 +43,7 @@ def add(parser: argparse.ArgumentParser) -> None:
 
 def run(options: argparse.Namespace) -> Status:
     """Checks the store."""
-    folder = Path(os.path.normpath(options.folder))
+    folder = files.folder_named(options.folder)
     files.expect_folder(folder, "the folder of the service")
     if options.workers is not None and options.workers < 1:
         raise Trouble(Status.USAGE, "--workers is 1 at least", "Leave it out for one a processor.")
@@ -51,38 +51,75 @@ def run(options: argparse.Namespace) -> Status:
         return checked(options, Store(folder))
 
 
+class Outcome(NamedTuple):
+    """What came of a check: what was looked at, the steps that aren't good, the kept lines that aren't of the store in sentences, and
+    how many agree."""
+
+    looked: Looked
+    exported: Exported
+    bad: list[Bad]
+    wrong: list[str]
+    agreeing: int
+
+    def found(self, disputed: int = 0) -> Found:
+        """What was found, where so many steps have kept lines that contradict."""
+        return Found(len({it.step for it in self.bad}), len(self.wrong), disputed)
+
+
 def checked(options: argparse.Namespace, store: Store) -> Status:
     """Checks it, and says what came of it."""
     top = store.last().line
+    kept = kept_lines(options, store)
+    exported = checks.exported(store)
+    outcome = looked_at(options, store, top, exported, *held_lines(store, kept, exported.history, top))
+    tell(options, store, top, outcome)
+    disputed = [kept.contradiction(service, step) for service, step in kept.disputes() if service == top.service]
+    for trouble in disputed:
+        complain(trouble.told())
+    return judge_check(outcome.found(len(disputed)), outcome.looked)
+
+
+def kept_lines(options: argparse.Namespace, store: Store) -> KeptLines:
+    """The lines beside the store, and those of the named files or else of the user's own."""
     own = OwnLines(store.folder)
-    kept = KeptLines([path for path in (own.lines, own.anchor, *options.kept)])
-    if not options.kept:
-        default = KeptLines([lines.default_kept()])
-        for it in default.all():
-            kept.add(it)
-    if top.step == 0:
-        say(f"{top.service} has no step yet.")
-        return Status.DONE
-    history, hindrance = checks.exported(store)
-    work = list(checks.tasks(store, top, history, None if options.all else SAMPLE))
-    bad = [it for piece in with_progress(checks.results(work, options.workers), "checking:", len(work)) for it in piece]
-    wrong, agreeing = held_lines(store, kept, history, top)
-    tell(options, store, top, history, hindrance, bad, wrong, agreeing)
-    if wrong:
-        return Status.OLD_STORE
-    return Status.BAD_STORE if bad or not (history or hindrance == checks.TOO_LONG) else Status.DONE
+    return KeptLines([own.lines, own.anchor, *(options.kept or [lines.default_kept()])])
+
+
+def looked_at(options: argparse.Namespace, store: Store, top: Line, exported: Exported, wrong: list[str], agreeing: int) -> Outcome:
+    """Looks at all steps, and at the events that are chosen."""
+    history = exported.history
+    bad: list[Bad] = []
+    counts: list[Optional[int]] = [len(events) for events in history.events] if history is not None else []
+    proved = 0
+    for result in with_bar(options, "checking steps:", list(checks.link_tasks(store, top, history))):
+        bad += result.bad
+        counts += result.counts
+    places = choose_places([count or 0 for count in counts], None if options.all else SAMPLE)
+    for result in with_bar(options, "checking events:", list(checks.event_tasks(store, top, history, places))):
+        bad += result.bad
+        proved += result.proved
+    known = [count for count in counts if count is not None]
+    events = sum(known) if len(known) == len(counts) else None
+    no_threads = history is not None or top.step == 0 or checks.has_no_threads(store, top)
+    return Outcome(Looked(exported.export, events, proved, no_threads), exported, bad, wrong, agreeing)
+
+
+def with_bar(options: argparse.Namespace, what: str, work: list[Task]) -> Iterator[Result]:
+    """What comes of the tasks, with a bar."""
+    return with_progress(checks.results(work, options.workers), what, len(work))
 
 
 def held_lines(store: Store, kept: KeptLines, history: Optional[History], top: Line) -> tuple[list[str], int]:
-    """Which kept lines of the service aren't of the store, in sentences, and how many are."""
+    """Which kept lines of the service aren't of the store, in sentences, and how many are. (That of step 0 follows from the name: it may be false, and binds
+    nothing.)"""
     wrong, agreeing = [], 0
     for step in kept.steps(top.service):
-        if step == 0:
-            continue
         found = authenticator_at(store, history, top, step)
+        if kept.is_disputed(top.service, step) and any(found == it.line.authenticator for it in kept.all_at(top.service, step)):
+            continue  # (that they contradict is told of them all)
         for line in dict.fromkeys(it.line for it in kept.at(top.service, step)):
             if found == line.authenticator:
-                agreeing += 1
+                agreeing += step > 0
                 continue
             came = "; ".join(it.told for it in kept.at(top.service, step) if it.line == line)
             has = "has no such step" if step > top.step else "has another step of that number" if found else "doesn't prove that step"
@@ -96,33 +133,47 @@ def authenticator_at(store: Store, history: Optional[History], top: Line, step: 
         return None
     if step == top.step:
         return top.authenticator
+    if step == 0:
+        return step_0(top.service).authenticator
     if history is not None:
         return history.authenticators[step - 1] if step <= len(history.authenticators) else None
     verdict, _ = checks.proved(store, top, "link", str(step))
     return verdict.lines[1][4] if verdict is not None else None
 
 
-def tell(
-    options: argparse.Namespace, store: Store, top: Line, history: Optional[History], hindrance: str, bad: list[Bad], wrong: list[str], agreeing: int
-) -> None:
-    """Says what is good, what isn't, and by what it was found."""
-    steps = sorted({it.step for it in bad})
-    events = sum(map(len, history.events)) if history else 0
-    proved = events if options.all else min(events, SAMPLE)
+def tell(options: argparse.Namespace, store: Store, top: Line, outcome: Outcome) -> None:
+    """Says what is good, what isn't, what wasn't looked at, and by what it was found."""
+    looked, unseen = outcome.looked, list_unseen(outcome.looked)
     if options.json:
-        found = {"service": top.service, "steps": top.step, "bad": [it._asdict() for it in bad], "lines": agreeing, "other_lines": wrong}
-        say_json({**found, "events": events, "events_proved": proved, "exported": history is not None, "why_not": hindrance or None})
+        found = {"service": top.service, "steps": top.step, "bad": [it._asdict() for it in outcome.bad]}
+        held = {"lines": outcome.agreeing, "other_lines": outcome.wrong}
+        whether = {"exported": outcome.exported.history is not None, "why_not": outcome.exported.why or None}
+        say_json({**found, **held, "events": looked.events, "events_proved": looked.proved, **whether, "not_looked_at": unseen})
         return
-    held = f"{count_of(agreeing, 'kept line')} agree{'s' if agreeing == 1 else ''}" if agreeing or wrong else "no line of it was kept to hold it against"
-    say(f"{top.service}: {top.step - len(steps):,} of {count_of(top.step, 'step')} good; {held}.")
-    for it in bad[:50]:
-        say(f"  {steps_of([it.step])}: {it.why}.")
-    if len(bad) > 50:
-        say(f"  and {len(bad) - 50:,} more.")
-    for text in wrong:
-        say(f"  {text[0].upper()}{text[1:]}.")
+    tell_found(top, outcome)
     judge = judges.bench()
-    say(f"links and {proved:,} of {count_of(events, 'event')} proved by the program, {judge.told('strict')}")
-    say(f"authenticators computed anew by: {judges.REFERENCE}, from the export" if history else f"{hindrance[0].upper()}{hindrance[1:]}.")
-    if bad or wrong:
+    if top.step:
+        events = f"{looked.proved:,} of {count_of(looked.events, 'event')}" if looked.events is not None else count_of(looked.proved, "event")
+        say(f"links and {events} proved by the program, {judge.told('strict')}")
+        why = outcome.exported.why
+        say(f"authenticators computed anew by: {judges.REFERENCE}, from the export" if not why else f"{why[0].upper()}{why[1:]}.")
+    if unseen:
+        what = "" if options.all else f" weft check --all {name_of(store.path)} proves each event."
+        say(f"Not looked at: {listed(unseen)}. So nothing is said of that.{what}")
+    if judge_check(outcome.found(), looked) in (Status.BAD_STORE, Status.OLD_STORE):
         say(f"Append nothing to {name_of(store.path)}: go back to a backup that has your last line, and look at the device.")
+
+
+def tell_found(top: Line, outcome: Outcome) -> None:
+    """Says which steps aren't good, and which kept lines aren't of the store."""
+    steps, agreeing = {it.step for it in outcome.bad}, outcome.agreeing
+    is_held = agreeing or outcome.wrong
+    held = f"{count_of(agreeing, 'kept line')} agree{'s' if agreeing == 1 else ''}" if is_held else "no line of it was kept to hold it against"
+    good = f"{top.service}: {top.step - len(steps):,} of {count_of(top.step, 'step')} good" if top.step else f"{top.service} has no step yet"
+    say(f"{good}; {held}.")
+    for it in outcome.bad[:50]:
+        say(f"  {steps_of([it.step])}: {it.why}.")
+    if len(outcome.bad) > 50:
+        say(f"  and {len(outcome.bad) - 50:,} more.")
+    for text in outcome.wrong:
+        say(f"  {text[0].upper()}{text[1:]}.")

@@ -9,21 +9,27 @@ from pathlib import Path
 from typing import NamedTuple, Optional
 
 from weft import files, kinds, lines, signatures
+from weft.deciding.keeping import Outcome
+from weft.deciding.signatures import BEGIN, PublicKey, Signed, read_armour, read_signed_line
 from weft.files import AnyPath
-from weft.lines import Kept, Line
-from weft.output import say, say_json
+from weft.lines import Kept, Line, Placed
+from weft.output import complain, say, say_json
 from weft.statuses import Status
-from weft.texts import name_of
+from weft.texts import listed, name_of
 from weft.trouble import Trouble
 
 NAME = "keep"
 SUMMARY = "keeps a line that came from somebody, with how it came and when"
 DETAILS = (
     "A line with a signature (FILE.sig beside it, or in the same file) is checked by ssh-keygen against the key that the file of signers has for "
-    "the service's name. Lines without one are kept with the words of --by. Two lines of one step that differ are never both kept."
+    "the service's name. Lines without one are kept with the words of --by. Of two lines of one step that differ both are kept, and marked; nothing is "
+    "judged under either until one is chosen (--choose), and that they differed is told for good."
 )
 STATUSES = (Status.LOOK, Status.CONTRADICTION, Status.MISSING, Status.BUSY)
-EXAMPLE = "weft keep --signer shop shop_key.pub\nweft keep shop.line\nweft keep letter.txt --by 'by letter from the notary, 3 May'"
+EXAMPLE = (
+    "weft keep --signer shop shop_key.pub\nweft keep shop.line\nweft keep letter.txt --by 'by letter from the notary, 3 May'\n"
+    "weft keep --choose letter.txt --by 'asked the notary by telephone, 5 May'"
+)
 MOST_BYTES = 1 << 20
 
 
@@ -32,6 +38,7 @@ def add(parser: argparse.ArgumentParser) -> None:
     parser.add_argument("file", metavar="FILE", nargs="?", help="a file of a line, or with --by of several; - for standard input")
     parser.add_argument("--by", metavar="HOW", help="how the lines came, in words, where they aren't signed")
     parser.add_argument("--signer", nargs=2, metavar=("NAME", "KEY.pub"), help="notes that this public key is the service's of this name; with FILE, once its signature is good by it")
+    parser.add_argument("--choose", action="store_true", help="of lines of one step that differ, lets that of FILE count from now on, and not the others")
     add_places(parser)
     parser.add_argument("--json", action="store_true", help="writes JSON")
 
@@ -55,21 +62,34 @@ def given(path: str) -> bytes:
 
 
 class Signer(NamedTuple):
-    """Whose key --signer names, and its file."""
+    """Whose key --signer names, its file, and the key itself, as it was read there."""
 
     service: str
-    key: str
+    path: str
+    key: PublicKey
+
+
+def read_both(path: str, data: bytes) -> Signed:
+    """The line of a file with its signature, which stands behind it or in FILE.sig; raises Trouble where there is more or less than that."""
+    both = read_signed_line(data)
+    if both is not None:
+        return both
+    advice = "One line and one signature are read, with nothing behind the signature's end: ask for it again."
+    if BEGIN in data:
+        raise Trouble(Status.UNREADABLE, f"{name_of(path)} has a signature, and is no signed line", advice)
+    found = lines.lines_of(data, name_of(path))
+    if len(found) > 1:
+        raise Trouble(Status.UNREADABLE, f"{name_of(path)} has {len(found)} lines, and a signature is of one", "Keep each by itself.")
+    armour = read_armour(files.read(f"{path}.sig", signatures.MOST_BYTES))
+    if armour is None:
+        raise Trouble(Status.UNREADABLE, f"{name_of(path)}.sig is no signature by ssh-keygen", advice)
+    return Signed(found[0], armour)
 
 
 def signed_line(path: str, data: bytes, signers: AnyPath, signer: Optional[Signer]) -> tuple[Line, str]:
-    """The line of a file with its signature, and how it came; the key that --signer names counts beside those of the file of signers. Raises Trouble
+    """The line of a file with its signature, and how it came; the key that --signer names counts in place of those of the file of signers. Raises Trouble
     where the signature isn't good."""
-    both = signatures.split(data)
-    if both is None:
-        found = lines.lines_of(data, name_of(path))
-        if len(found) > 1:
-            raise Trouble(Status.UNREADABLE, f"{name_of(path)} has {len(found)} lines, and a signature is of one", "Keep each by itself.")
-        both = signatures.Signed(found[0], files.read(f"{path}.sig", signatures.MOST_BYTES))
+    both = read_both(path, data)
     service = both.line.service
     if signer is not None and signer.service != service:
         raise Trouble(Status.USAGE, f"the line of {name_of(path)} is of {service}, and --signer names {signer.service}", "Nothing was noted or kept.")
@@ -77,7 +97,7 @@ def signed_line(path: str, data: bytes, signers: AnyPath, signer: Optional[Signe
     if key is None and signer is not None:
         raise Trouble(
             Status.CONTRADICTION,
-            f"the signature of {name_of(path)} isn't good by the key of {name_of(signer.key)}, and that key wasn't noted",
+            f"the signature of {name_of(path)} isn't good by the key of {name_of(signer.path)}, and that key wasn't noted",
             f"Ask {service} for its key, and for the line with its signature, by another way.",
         )
     if key is None:
@@ -90,33 +110,45 @@ def signed_line(path: str, data: bytes, signers: AnyPath, signer: Optional[Signe
 
 
 def run(options: argparse.Namespace) -> Status:
-    """Keeps the lines, and notes a key that --signer names once the signature is good by it."""
+    """Keeps the lines, or chooses one, and notes a key that --signer names once the signature is good by it."""
     kept, signers = options.kept or lines.default_kept(), options.signers or signatures.default_signers()
-    signer = Signer(lines.checked_name(options.signer[0]), options.signer[1]) if options.signer else None
+    signer = named_signer(*options.signer) if options.signer else None
     if signer is not None:
-        signatures.is_noted(signers, signer.service, signatures.public_key(*signer))
+        signatures.is_noted(signers, signer.service, signer.key)
     if options.file is None:
-        if signer is None:
+        if signer is None or options.choose:
             raise Trouble(Status.USAGE, "no file is named", "See weft keep --help.")
         note_signer(signers, signer)
         return Status.DONE
     if signer is not None and options.by is not None:
         raise Trouble(Status.USAGE, "--by is for lines without a signature, and --signer for a signed one", "Leave one of both out.")
     new = named_lines(options, given(options.file), signers, signer)
-    added = lines.keep(kept, new)
+    placed = [choose(options.file, kept, new)] if options.choose else lines.keep(kept, new)
     if signer is not None:
         note_signer(signers, signer)
-    tell(options, kept, new, added)
-    return Status.DONE
+    tell(options, kept, placed)
+    return status_of(options.choose, placed)
+
+
+def named_signer(name: str, path: str) -> Signer:
+    """Whose key --signer names."""
+    return Signer(lines.checked_name(name), path, signatures.public_key(path))
+
+
+def choose(path: str, kept: Path, new: list[Kept]) -> Placed:
+    """Chooses the line of a file over the others of its step."""
+    if len(new) > 1:
+        raise Trouble(Status.USAGE, f"{name_of(path)} has {len(new)} lines, and one is chosen at a time", "Put the right one in a file of its own.")
+    return lines.choose(kept, new[0])
 
 
 def named_lines(options: argparse.Namespace, data: bytes, signers: AnyPath, signer: Optional[Signer]) -> list[Kept]:
     """The lines of the named file, each with how it came."""
-    both, kind = signatures.split(data), kinds.kind_of(data)
+    both, kind = read_signed_line(data), kinds.kind_of(data)
     if kind != "text":
         advice = f"weft {'tell' if kind in ('message', 'receipts', 'events') else 'judge'} {name_of(options.file)}"
         raise Trouble(Status.UNREADABLE, f"{name_of(options.file)} is {kinds.NAMES[kind]}, no line: {advice}")
-    has_signature = both is not None or (options.file != "-" and os.path.lexists(f"{options.file}.sig"))
+    has_signature = BEGIN in data or (options.file != "-" and os.path.lexists(f"{options.file}.sig"))
     if options.by is not None:
         found = [both.line] if both else lines.lines_of(data, name_of(options.file))
         return [lines.kept_now(line, options.by) for line in found]
@@ -132,16 +164,34 @@ def named_lines(options: argparse.Namespace, data: bytes, signers: AnyPath, sign
 
 def note_signer(signers: Path, signer: Signer) -> None:
     """Notes the key of a service."""
-    files.make_folder(signers.parent)
-    fingerprint = signatures.add_signer(signers, *signer)
-    say(f"{fingerprint} is noted as the key of {signer.service}, in {name_of(signers)}.")
+    signatures.add_signer(signers, signer.service, signer.key)
+    say(f"{signer.key.fingerprint} is noted as the key of {signer.service}, in {name_of(signers)}.")
 
 
-def tell(options: argparse.Namespace, path: Path, new: list[Kept], added: list[Kept]) -> None:
-    """Says what was kept."""
+def status_of(is_choice: bool, placed: list[Placed]) -> Status:
+    """How a run ends that kept these lines."""
+    if any(it.trouble is not None for it in placed):
+        return Status.CONTRADICTION
+    return Status.LOOK if is_choice and not placed[0].others else Status.DONE
+
+
+def tell(options: argparse.Namespace, path: Path, placed: list[Placed]) -> None:
+    """Says what was kept, what contradicts, and what was chosen."""
+    for it in placed:
+        line = it.kept.line
+        if not options.json:
+            known = ": that was kept already" if it.outcome is Outcome.KNOWN else ""
+            say(f"The line of step {line.step} of {line.service} is kept in {name_of(path)}, {it.kept.how}{known}.")
+        if it.trouble is not None:
+            complain(it.trouble.told())
+        elif options.choose and not options.json:
+            say(f"It counts, and of that step no longer {listed(it.others)}." if it.others else "No other line of that step was kept: nothing had to be chosen.")
     if options.json:
-        say_json({"file": str(path), "kept": [{**it.line._asdict(), "date": it.date, "how": it.how, "new": it in added} for it in new]})
-        return
-    for it in new:
-        known = "" if it in added else ": that was kept already"
-        say(f"The line of step {it.line.step} of {it.line.service} is kept in {name_of(path)}, {it.how}{known}.")
+        say_json({"file": str(path), "kept": [as_json(it) for it in placed]})
+
+
+def as_json(placed: Placed) -> dict[str, object]:
+    """What became of a line, as JSON has it."""
+    kept, outcome = placed.kept, placed.outcome
+    contradicts = outcome in (Outcome.CONTRADICTING, Outcome.NOT_CHOSEN)
+    return {**kept.line._asdict(), "date": kept.date, "how": kept.how, "new": outcome is not Outcome.KNOWN, "contradicts": contradicts, "over": list(placed.others)}

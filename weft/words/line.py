@@ -5,41 +5,49 @@ from __future__ import annotations
 import argparse
 from pathlib import Path
 
-from weft import files, signatures
+from weft import files, judges, locks, signatures
+from weft.lines import Line
 from weft.output import say, say_json
+from weft.own import OwnLines
 from weft.statuses import Status
 from weft.stores import Store
-from weft.texts import name_of
+from weft.texts import beside, name_of
+from weft.waiting import add_wait
 
 NAME = "line"
 SUMMARY = "prints the line of a service's last step, and signs it"
 DETAILS = (
     "The line is what others keep of the service: its name, the number of the step and its authenticator. Of a service without steps it is that "
-    "of step 0. With --sign the line stands in a file, and beside it in a file .sig its signature by ssh-keygen: hand out both."
+    "of step 0. With --sign the line stands in a file, and beside it in a file .sig its signature by ssh-keygen: hand out both. What is printed is noted "
+    "in DIR.lines, where that stands, as weft log and weft exchange note theirs, so that an old store that is put back is found."
 )
-STATUSES = ()
+STATUSES = (Status.BUSY, Status.OLD_STORE)
 EXAMPLE = "weft line /srv/log > line\nweft line /srv/log --sign ~/.ssh/id_ed25519 --out log.line"
 
 
 def add(parser: argparse.ArgumentParser) -> None:
     """The words."""
-    parser.add_argument("folder", metavar="DIR", help="the folder of the service")
+    parser.add_argument("folder", metavar="DIR", type=Path, help="the folder of the service")
     parser.add_argument("--sign", metavar="KEY", help="signs the line with this private key, or the public one of a key that ssh-agent has")
     parser.add_argument("--out", metavar="FILE", help="writes the line to this file; with --sign it is NAME-STEP.line where none is named")
+    add_wait(parser)
     parser.add_argument("--json", action="store_true", help="writes JSON")
 
 
 def run(options: argparse.Namespace) -> Status:
-    """Prints the line."""
-    line = Store(options.folder).last().line
+    """Notes the line, and prints it."""
+    folder = files.folder_named(options.folder)
+    files.expect_folder(folder, "the folder of the service")
+    with locks.held(beside(folder, ".lock"), options.wait, folder):
+        line = noted_line(folder)
     out = options.out or (f"{line.service}-{line.step}.line" if options.sign else None)
     written = []
     if options.sign:
         signed = signatures.sign(line, options.sign)
-        files.renew(f"{out}.sig", signed.signature)
+        files.hand_out(f"{out}.sig", signed.signature)
         written.append(f"{out}.sig")
     if out:
-        files.renew(Path(out), f"{line.text}\n".encode())
+        files.hand_out(Path(out), f"{line.text}\n".encode())
         written.insert(0, out)
     if options.json:
         say_json({**line._asdict(), "files": [str(path) for path in written]})
@@ -48,3 +56,15 @@ def run(options: argparse.Namespace) -> Status:
     if len(written) == 2:
         say(f"Hand out {name_of(written[0])} and {name_of(written[1])}; who has your key for {line.service} keeps it by: weft keep {name_of(written[0])}")
     return Status.DONE
+
+
+def noted_line(folder: Path) -> Line:
+    """The last line of a service, noted among those that stand beside it as one that may have gone out; raises Trouble where the store isn't the one of
+    these. Where none stands there, none is noted: a store that was copied alone stays one that nobody has named. That of step 0, which the name alone
+    makes, isn't noted either."""
+    store, own = Store(folder), OwnLines(folder)
+    line = store.last().line
+    own.compare(store, judges.bench(), line)
+    if line.step and own.is_there:
+        own.note(line)
+    return line

@@ -8,6 +8,7 @@ from pathlib import Path
 from typing import Optional
 
 from weft import choosing, files, formats, judges, logs, own, reports
+from weft.deciding.gone import GONE
 from weft.lines import KeptLines, kept_now
 from weft.output import say
 from weft.own import OwnLines
@@ -37,11 +38,11 @@ def add(parser: argparse.ArgumentParser) -> None:
 
 def run(options: argparse.Namespace) -> Status:
     """Makes the proof."""
-    service = Path(os.path.normpath(options.service))
+    service = files.folder_named(options.service)
     store, judge = Store(service), judges.bench()
     step, index, event = entry(service, os.fsencode(options.file), options.step)
     last = store.last().line
-    OwnLines(service).check(store, judge, last)
+    OwnLines(service).compare(store, judge, last)
     if options.top is not None and not step <= options.top <= last.step:
         told = f"{name_of(options.file)} was logged in step {step}, and the last step is {last.step}"
         raise Trouble(Status.REFUSED, told, f"Name a --top from {step} to {last.step}.")
@@ -50,15 +51,15 @@ def run(options: argparse.Namespace) -> Status:
     judgement = choosing.judge_proof(judge, proof, KeptLines(more=[kept_now(top, "own")]), allow_carried=False)
     check(service, judgement, event)
     out = options.out or own_name(options.file, proof)
-    files.renew(out, proof)
+    files.hand_out(out, proof)
     say(f"{name_of(out)}: {shown_event(event)} in step {step} of {top.service}, for whoever holds its line of step {top.step}: {top.text}")
     say(f"  {judge.told(judgement.call)}")
     return Status.DONE
 
 
 def own_name(file: str, proof: bytes) -> str:
-    """The name of a proof for which none was chosen: the file's with .proof behind. Raises Trouble where another file has it: it may be the proof
-    under an older line, which somebody holds."""
+    """The name of a proof for which none was chosen: the file's with .proof behind. Raises Trouble where another file has it: it may be
+    the proof under an older line, which somebody holds."""
     name = f"{os.path.basename(file)}.proof"
     if files.read_if_there(name, formats.MOST_PROOF) not in (None, proof):
         told = f"{name_of(name)} is there already, and is another one; it is left as it is"
@@ -77,7 +78,8 @@ def check(service: Path, judgement: choosing.Judgement, event: bytes) -> None:
 
 
 def entry(service: Path, name: bytes, step: Optional[int]) -> tuple[int, int, bytes]:
-    """Step, index and event of the last entry of a file, or of that of a step; raises Trouble where there is none, or several files have the name."""
+    """Step, index and event of the last entry of a file, or of that of a step; raises Trouble where there is none, or several files have
+    the name."""
     found: dict[bytes, tuple[int, int, bytes]] = {}
     wanted = name[2:] if name.startswith(b"./") else name
     path = beside(service, ".entries")
@@ -85,7 +87,7 @@ def entry(service: Path, name: bytes, step: Optional[int]) -> tuple[int, int, by
         for line in file:
             fields = line.rstrip(b"\n").split(b" ", 2)
             read = logs.read_event(fields[2]) if len(fields) == 3 else None
-            if read is None or read[0] == logs.GONE or (step is not None and int(fields[0]) != step):
+            if read is None or read[0] == GONE or (step is not None and int(fields[0]) != step):
                 continue
             if read[1][2:] == wanted or read[1].endswith(b"/" + wanted):
                 found[read[1]] = int(fields[0]), int(fields[1]), fields[2]

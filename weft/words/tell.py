@@ -5,6 +5,7 @@ from __future__ import annotations
 import argparse
 
 from weft import files, formats, telling
+from weft.deciding.worst import worst_of
 from weft.output import complain, say, say_json
 from weft.statuses import Status
 from weft.texts import name_of
@@ -33,11 +34,11 @@ def run(options: argparse.Namespace) -> Status:
         try:
             what, told = telling.tell(files.read(path, formats.MOST_HISTORY))
         except ValueError as bad:
-            status = status or Status.UNREADABLE
+            status = worst_of([status, Status.UNREADABLE])
             complain(f"{name_of(path)}: {bad}.{' Is it the right file?' if str(bad) == telling.NO_FORMAT else ''}")
             continue
         except Trouble as trouble:
-            status = status or trouble.status
+            status = worst_of([status, trouble.status])
             complain(trouble.told())
             continue
         if options.json:

@@ -7,7 +7,8 @@ import subprocess
 
 from harness.places import TOP
 from harness.rooms import Wrong, case
-from harness.weft_room import SHARE, Loom, each_fault
+from harness.weft_room import SHARE, Loom, each_fault, reseal
+from timeweave_reference.messages import read_message
 from timeweave_reference.receipts import Receipt, read_receipts
 
 
@@ -55,7 +56,11 @@ class Net:
         """Each accepts the others, whose messages wait."""
         for name, others in self.peers.items():
             for other in others:
-                self.loom.expect(f"accept box-{name} {other} --yes", 0, f"{other} is accepted")
+                self.loom.expect(f"accept box-{name} {other} --yes {self.waiting(name, other)}", 0, f"{other} is accepted")
+
+    def waiting(self, name, other):
+        """The authenticator of the line that the waiting message of a peer tells, as a person compares it."""
+        return read_message(self.loom.read(f"box-{name}/{other}/in/message")).authenticator.hex()
 
     def begun(self):
         """All know one another."""
@@ -109,6 +114,8 @@ def carrier(room):
     """files that are lost, late, repeated, cut or exchanged, and lost receipts: nothing is told that accuses, no line is recorded twice, and it goes on"""
     net = pair(room)
     loom = net.loom
+    for name in net.peers:
+        loom.put(f"box-{name}/box.conf", f"key = ../{name}.key\nsilent = 20\n")
     late = {}
     for night in range(12):
         loom.append("shop", b"night %d" % night)
@@ -204,7 +211,7 @@ def without_keys(room):
     loom.expect("accept box-shop bank --key bank.key.pub", 10)
     for _ in range(2):
         loom.expect("exchange shop box-shop", 10, "Nothing signs your lines: set key = FILE in box-shop/box.conf.", absent=("has no key",))
-    loom.put("box-shop/box.conf", "key = ../shop.key\n")
+    loom.put("box-shop/box.conf", "key = ../shop.key\nsilent = 0\n")
     loom.expect("exchange shop box-shop", 0, absent=("Nothing signs",))
     loom.put("box-bank/box.conf", "key = ../bank.key\n")
     loom.expect("accept box-bank shop", 10)
@@ -212,7 +219,8 @@ def without_keys(room):
     told = "box-bank/allowed_signers has no key of shop: weft accept box-bank shop --key KEY.pub"
     for _ in range(4):
         loom.expect("exchange bank box-bank", 10, told, absent=("Nothing signs", "not taken"))
-    loom.expect("accept box-bank shop --key shop.key.pub --yes", 0)
+    shown = loom.expect("accept box-bank shop --key shop.key.pub", 10, "wasn't accepted", "--yes").out.split()[-1]
+    loom.expect(f"accept box-bank shop --yes {shown}", 0)
     loom.expect("exchange bank box-bank", 0, "is recorded", absent=("has no key",))
     loom.put("box-bank/box.conf", "unsigned = yes\n")
     loom.put("box-bank/allowed_signers", b"")
@@ -225,7 +233,7 @@ def old_store(room):
     net = pair(room)
     loom = net.loom
     net.night()
-    for name in ("shop", "shop.lines", "shop.anchor"):
+    for name in ("shop", "shop.lines", "shop.anchor", "shop.seal"):
         (shutil.copytree if os.path.isdir(loom.folder / name) else shutil.copy2)(loom.folder / name, loom.folder / f"tmp/{name}")
     for night in range(3):
         loom.append("shop", b"n%d" % night)
@@ -242,7 +250,7 @@ def old_store(room):
     out = {path: path.read_bytes() for path in (loom.folder / "box-shop/bank/out").rglob("*") if path.is_file()}
     put_back("shop")
     net.turn("shop", 17, "kept in shop.lines", "No step was made")
-    put_back("shop.lines", "shop.anchor")
+    put_back("shop.lines", "shop.anchor", "shop.seal")
     net.turn("shop", 17, "signed by its key, and handed back by bank")
     for number in range(12):
         loom.append("shop", b"by hand %d" % number)
@@ -254,6 +262,8 @@ def old_store(room):
     shutil.copytree(loom.folder / "tmp/good", loom.folder / "shop")
     loom.put("shop.lines", lines[0])
     loom.put("shop.anchor", lines[1])
+    reseal(loom.folder)
+    (loom.folder / "shop.look").unlink(missing_ok=True)
     net.turn("shop", 0)
 
 
@@ -275,8 +285,9 @@ def fork_shown(room):
     net = Net(room, {"liar": ["one", "two"], "one": ["liar", "two"], "two": ["liar", "one"]}).begun()
     loom = net.loom
     net.night()
-    for name in ("liar", "liar.lines", "liar.anchor", "box-liar"):
+    for name in ("liar", "liar.lines", "liar.anchor", "liar.seal", "box-liar"):
         (shutil.copytree if os.path.isdir(loom.folder / name) else shutil.copy2)(loom.folder / name, loom.folder / name.replace("liar", "false"))
+    reseal(loom.folder)
     loom.put("box-false/box.conf", "key = ../liar.key\n")
     loom.append("liar", b"to one")
     loom.append("false", b"to two")
@@ -318,17 +329,17 @@ def hostile_folders(room):
     with open(into / "seen", "wb") as file:
         file.truncate(10 << 30)
     loom.put("box-bank/shop/in/requests", b"\xff" * 3000 + b"\nlink 1 1\n" + b"thread 1 ../../x 1 1\n" + "\u202e\x1b[31m".encode())
-    done = net.turn("bank", 0, "no link is followed", "a pipe", "a folder", "10,737,418,240 bytes")
+    done = net.turn("bank", 10, "no link is followed", "a pipe", "a folder", "10,737,418,240 bytes")
     if "secret" in done.out:
         raise Wrong(f"  {done}")
     shutil.rmtree(into)
     os.symlink(loom.folder / "box-shop/bank/out", into)
-    net.turn("bank", 0, absent=("recorded",))
+    net.turn("bank", 10, "shop: nothing of box-bank/shop/in was read: it is a link", absent=("recorded",))
     into.unlink()
     into.mkdir()
     loom.put("box-bank/box.conf", "key = ../bank.key\nfiles = 2\n")
     net.carry("shop", "bank")
-    net.turn("bank", 0, "its share of tonight is used up")
+    net.turn("bank", 10, "its share of tonight is used up")
     for bad in ("key", "unsigned = maybe", "files = 0", "x = y", "\x1b[31m"):
         loom.put("box-bank/box.conf", bad)
         net.turn("bank", 9, "no setting")
@@ -405,13 +416,24 @@ def chained(room):
     loom.expect([*alone, "--hand", "thread"], 0, "c3: shown")
     (loom.folder / "k").write_bytes(line_of(loom, "bank", paid))
     missing = f"the later event is proved under step {paid + 1} of bank, whose line you don't hold"
-    under = "or for the proof under a line that you hold (weft prove .. --top"
-    loom.expect(alone, 12, missing, "Ask bank for it", f"{under} {paid})", absent=("parts", "DIR thread"))
+    under = "Ask bank for the proof under a line that you hold (weft prove .. --top"
+    loom.expect(alone, 12, missing, f"{under} {paid})", "shows nothing about the time before", absent=("parts", "DIR thread"))
     (loom.folder / "k").write_bytes(line_of(loom, "bank", 1))
     loom.expect(["chain", earlier, "later", "--store", "maker", "--kept", "k", "--out", "c3"], 12, missing, f"{under} N)", absent=("no way",))
     for bad in ("x", "maker:0:0", "maker:1", "later:1:0:0", f"maker:{2**40}:0", "\x1b"):
         loom.expect(["chain", bad, later], 2, "names no event")
     loom.expect(["chain", "thread", later], 9, "no proof of an event")
+
+
+def shipped_later(net):
+    """The step at which port appends an event after four nights, with a night after it: its proof and its line are held as shipped and k."""
+    for _ in range(4):
+        net.night()
+    step = int(net.loom.append("port", b"shipped").split()[1])
+    net.night()
+    net.loom.put("shipped", net.loom.timeweave("prove", "port", "event", str(step), "0", str(step)))
+    net.loom.put("k", line_of(net.loom, "port", step))
+    return step
 
 
 def passed_on(room):
@@ -420,12 +442,7 @@ def passed_on(room):
     net = Net(room, {"maker": ["bank"], "bank": ["maker", "port"], "port": ["bank"]}).begun()
     loom = net.loom
     made = int(loom.append("maker", b"bread").split()[1])
-    for _ in range(4):
-        net.night()
-    shipped = int(loom.append("port", b"shipped").split()[1])
-    net.night()
-    loom.put("shipped", loom.timeweave("prove", "port", "event", str(shipped), "0", str(shipped)))
-    loom.put("k", line_of(loom, "port", shipped))
+    shipped = shipped_later(net)
     words = ["chain", f"maker:{made}:0", "shipped", "--store", "maker", "--box", "box-maker", "--kept", "k", "--out", "c"]
     loom.expect(words, 12, "port is asked for it over bank")
     for _ in range(6):
@@ -478,7 +495,7 @@ def with_faults(room):
         if done.status != 0 or done.err or received(loom, "shop") != [*threads, ("bank", step)]:
             raise Wrong(f"{told}\n  the next run: {done}\n  received: {received(loom, 'shop')}")
         out = [loom.read(f"box-shop/bank/out/{name}") for name in ("message", "receipt", "yours", "line")]
-        if not (formats.read_message(out[0]) and formats.read_receipt(out[1]) and signatures.split(out[2]) and signatures.split(out[3])):
+        if not (formats.read_message(out[0]) and formats.read_receipt(out[1]) and signatures.read_signed_line(out[2]) and signatures.read_signed_line(out[3])):
             raise Wrong(f"{told}\n  what is put out: {out}")
         if len(list((loom.folder / "box-shop/bank/out/answers").iterdir())) != 2:
             raise Wrong(f"{told}\n  the answers aren't there")

@@ -196,11 +196,11 @@ def completed(room):
         raise Wrong("  weft/completion.bash isn't what python3 -m weft.completion makes")
     bash = needs("bash", "bash")
     script = 'source "$0"; COMP_WORDS=("$@"); COMP_CWORD=$(($# - 1)); _weft; printf "%s\n" "${COMPREPLY[@]}"'
-    files, folders = {"src", "shop", "box", "tmp", "p", "low", "l", "kept", "kept.lock"}, {"src", "shop", "box", "tmp"}
+    files, folders = {"src", "shop", "box", "tmp", "p", "low", "l", "kept", "kept.lock", "shop.lock"}, {"src", "shop", "box", "tmp"}
     wanted = {
         "": {*weft_words.WORDS, "--help", "--version"}, "ju": {"judge"}, "judge ": files, "judge p ": files, "judge --many ": folders, "judge p --sv": {"--svg"},
         "judge --workers ": set(), "judge --workers 3 ": files, "log ": folders, "log src ": folders, "log src log ": set(), "keep --signer ": set(),
-        "keep --signer shop ": files, "keep --signer shop l ": files, "exchange shop --": {"--help", "--despite", "--wait", "--json"}, "frob ": set(),
+        "keep --signer shop ": files, "keep --signer shop l ": files, "exchange shop --": {"--help", "--despite", "--look", "--adopt-store", "--unproved", "--wait", "--json"}, "frob ": set(),
         "exchange shop box ": set(), "accept box ": set(),
     }  # fmt: skip
     for words, offers in wanted.items():

@@ -108,7 +108,7 @@ def wrong_key(room):
 
 
 def by_hand(room):
-    """lines without a signature are kept with how they came and when; of two that contradict the second is refused, and told whence both came"""
+    """lines without a signature are kept with how they came and when; of two that contradict both are kept and marked, and told whence both came"""
     loom = with_keys(room)
     line = loom.expect("line shop", 0).out
     loom.put("letter", line)
@@ -116,12 +116,13 @@ def by_hand(room):
     loom.expect(["keep", "letter", "--by", "by letter from the notary"], 0, "by letter from the notary")
     other = line[:-2] + ("0" if line[-2] != "0" else "1") + "\n"
     loom.put("mail", other)
-    before = loom.read("kept")
     loom.expect(["keep", "mail", "--by", "by mail"], 11, "at most one is of shop's history", "Ask shop", "by letter from the notary", "by mail")
-    loom.put("two", "bank 7 " + "a" * 64 + "\nbank 7 " + "b" * 64 + "\n")
-    loom.expect(["keep", "two", "--by", "by mail"], 11, "at most one is of bank's history")
-    if loom.read("kept") != before:
-        raise Wrong("  a line that contradicts was kept")
+    loom.put("two", "port 7 " + "a" * 64 + "\nport 7 " + "b" * 64 + "\n")
+    loom.expect(["keep", "two", "--by", "by mail"], 11, "at most one is of port's history")
+    for text in (line, other, "port 7 " + "a" * 64, "port 7 " + "b" * 64, "contradiction: shop 2 ", "contradiction: port 7 "):
+        if sum(it.startswith(f"{text.strip()} ") for it in loom.read("kept").decode().splitlines()) != 1:
+            raise Wrong(f"  {text!r} isn't kept once: {loom.read('kept')}")
+    loom.put("kept", loom.read("kept").splitlines(True)[0])
     loom.put("raw", "bank 7 " + "A" * 64 + "\r\n")
     done = loom.expect(["keep", "raw", "--by", "an \x1b[31mescape\nand \u202eothers\t\x07"], 0)
     if b"\x1b" in loom.read("kept") or loom.read("kept").count(b"\n") != 2 or b"a" * 64 not in loom.read("kept"):

@@ -7,6 +7,7 @@ import os
 import shutil
 import subprocess
 
+from harness.limits import without_rights
 from harness.places import TOP
 from harness.rooms import Wrong, case
 from harness.weft_room import SHARE, Loom, each_fault, events_file
@@ -141,32 +142,200 @@ def left_out(room):
     os.symlink("/etc/passwd", loom.folder / "src/link")
     loom.expect("log src log data", 0, "3 files new")
 
-    def unreadable():
-        from weft import files
+    os.chmod(loom.folder / "src/b", 0)
+    loom.expect("log src log", 10, "left out: ./b: b can't be read: Permission denied", "0 gone, 2 as they were", "run weft log again", patch=without_rights)
+    os.chmod(loom.folder / "src/b", 0o644)
+    os.chmod(loom.folder / "src/sub", 0)
+    loom.expect("log src log", 10, "left out: ./sub: it can't be read: Permission denied", "0 gone, 2 as they were", patch=without_rights)
+    os.chmod(loom.folder / "src/sub", 0o755)
+    loom.expect("log src log", 0, "0 gone, 3 as they were", absent=("left out",))
+    expect_log(loom)
 
-        real = files.opened
 
-        def opened(path, *words, **more):
-            if str(path).endswith("/b"):
-                raise files.unread(path, PermissionError(13, "no"))
+def there_and_not_gone(room):
+    """what is there isn't logged as gone: below a folder that may be listed and not entered, or neither, or where the system fails otherwise; it is told,
+    with status 10, and what is really gone beside it is logged"""
+    loom = Loom(room)
+    folder_of(loom, "a", "b", "c", "d", "sub/deed", "sub/x/deep")
+    loom.expect("log src log data", 0, "6 files new")
+    for mode in (0o444, 0, 0o600, 0o111):
+        os.chmod(loom.folder / "src/sub", mode)
+        loom.expect("log src log", 10, "left out: ./sub: ", "0 gone, 4 as they were", absent=("./sub/deed", "Traceback"), patch=without_rights)
+    os.chmod(loom.folder / "src/sub", 0o755)
+
+    def stale():
+        real = os.stat
+
+        def stat(path, *words, **more):
+            if path == b"deed":
+                raise OSError(116, "Stale file handle", path)
             return real(path, *words, **more)
 
-        files.opened = opened
+        os.stat = stat
 
-    loom.expect("log src log", 10, "left out: ./b", "0 gone, 2 as they were", patch=unreadable)
+    loom.expect("log src log", 10, "left out: ./sub/deed: it can't be looked at", "0 gone, 5 as they were", patch=stale)
 
-    def unread_folder():
-        real = os.scandir
+    def unlisted():
+        real = os.listdir
+        os.listdir = lambda path: [it for it in real(path) if it != "deed"]
 
-        def scandir(path):
-            if os.fsencode(path).endswith(b"src/sub"):
-                raise PermissionError(13, "no", path)
-            return real(path)
+    loom.expect("log src log", 10, "left out: ./sub/deed: it wasn't found in its folder", "0 gone, 5 as they were", patch=unlisted)
+    os.chmod(loom.folder / "src/sub", 0)
+    (loom.folder / "src/a").unlink()
+    loom.expect("log src log", 10, "1 gone, 3 as they were", "left out: ./sub: ", patch=without_rights)
+    os.chmod(loom.folder / "src/sub", 0o755)
+    shutil.rmtree(loom.folder / "src/sub")
+    loom.expect("log src log", 0, "2 gone, 3 as they were", absent=("left out",))
+    went = {event for events in expect_log(loom).values() for event in events if event.startswith(b"gone")}
+    if went != {b"gone  ./a", b"gone  ./sub/deed", b"gone  ./sub/x/deep"}:
+        raise Wrong(f"  {went}")
 
-        os.scandir = scandir
 
-    loom.expect("log src log", 10, "left out, since it can't be read", "0 gone, 2 as they were", patch=unread_folder)
+def unreadable_whole(room):
+    """a folder of which nothing can be looked at isn't called empty, and nothing of it is called gone"""
+    loom = Loom(room)
+    folder_of(loom, "sub/a", "sub/b")
+    loom.expect("log src log data", 0, "2 files new")
+    os.chmod(loom.folder / "src/sub", 0)
+    loom.expect("log src log", 10, "0 gone, 0 as they were", "1 file or folder left out", absent=("mounted", "missing"), patch=without_rights)
+    loom.expect("log src other other", 10, "0 files new", "1 file or folder left out", patch=without_rights)
+    os.chmod(loom.folder / "src/sub", 0o755)
+    loom.expect("log src log", 0, "2 as they were")
     expect_log(loom)
+
+
+def replaced(room):
+    """where a link, a pipe or a folder has taken the place of a file, or a link that of its folder, it is told with status 10 and isn't logged as gone,
+    until a person says so"""
+    loom = Loom(room)
+    folder_of(loom, "a", "b", "c", "d", "e", "f", "sub/g")
+    loom.expect("log src log data", 0, "7 files new")
+    source = loom.folder / "src"
+    for name in "abc":
+        (source / name).rename(loom.folder / name)
+    os.symlink(loom.folder / "a", source / "a")
+    os.mkfifo(source / "b")
+    loom.put("src/c/in", "in")
+    (source / "sub").rename(loom.folder / "elsewhere")
+    os.symlink(loom.folder / "elsewhere", source / "sub")
+    told = [f"{name} was a file, and something else is in its place" for name in ("./a", "./b", "./c", "./sub/g")]
+    loom.expect("log src log", 10, *told, "1 file new, 0 changed, 0 gone, 3 as they were", "weft log --gone")
+    if json.loads(loom.expect("log src log --json", 10).out)["replaced"] != 4:
+        raise Wrong("  the replaced files aren't counted")
+    loom.expect("log src log --gone", 0, "0 files new, 0 changed, 4 gone, 4 as they were", absent=("in its place",))
+    loom.expect("log src log", 0, "0 gone, 4 as they were")
+    expect_log(loom)
+
+
+def changed_while_read(room):
+    """a file that is changed while it is read is read once more, and where it is changed again it is left out and told; no digest is logged that no content
+    of it had"""
+    loom = Loom(room)
+    folder_of(loom, "a", "big")
+    loom.expect("log src log data", 0, "2 files new")
+    loom.put("src/big", b"x" * 3_000_000)
+
+    def growing(times):
+        def patch():
+            from weft import logs
+
+            real, left = logs.hashlib.sha256, [times]
+
+            class Digest:
+                """A digest while which the file grows."""
+
+                def __init__(self):
+                    self.digest = real()
+
+                def update(self, data):
+                    self.digest.update(data)
+                    if left[0] and len(data) > 1000:
+                        left[0] -= 1
+                        with open("src/big", "ab") as file:
+                            file.write(b"more")
+
+                def hexdigest(self):
+                    return self.digest.hexdigest()
+
+            logs.hashlib = type("hashlib", (), {"sha256": Digest})
+
+        return patch
+
+    loom.expect("log src log", 10, "left out: ./big: it was changed while it was read, twice", "0 changed, 0 gone, 1 as they were", patch=growing(99))
+    loom.expect("log src log", 0, "1 changed, 0 gone, 1 as they were", patch=growing(1))
+    if not any(event == digest(loom.read("src/big")) + b"  ./big" for events in expect_log(loom).values() for event in events):
+        raise Wrong("  what was logged isn't the digest of the file")
+
+
+def own_store(room):
+    """the log never logs itself, wherever it lies and by whatever links the folder and the service are named; what lies beside it is logged"""
+    loom = Loom(room)
+    folder_of(loom, "a")
+    os.symlink("src", loom.folder / "link")
+    os.symlink("src/log", loom.folder / "service")
+    loom.expect("log link src/log data", 0, "1 file new")
+    for words in ("log link link/log", "log src service", "log link service", "log ./src/../link src/log/.", f"log {loom.folder}/link {loom.folder}/src/log/"):
+        loom.expect(words, 0, "0 files new, 0 changed, 0 gone, 1 as they were")
+    loom.put("src/.log.entries.0123456789abcdef.new", b"left by a run that was killed")
+    loom.expect("log src src/log", 0, "0 files new, 0 changed, 0 gone, 1 as they were")
+    loom.put("src/log.txt", b"x")
+    loom.expect("log src src/log", 0, "1 file new")
+    loom.expect("log src src", 2, "is the logged folder itself")
+    left = {it.name for it in loom.folder.iterdir()} - {"tmp"}
+    if left != {"src", "link", "service"}:
+        raise Wrong(f"  {left}")
+
+
+def copied_alone(room):
+    """a store without its lines, or a log's without its entries, makes no step and ends with 17, until a person names its last line; a line that isn't its
+    last one is refused, and the entries are made anew of the store"""
+    loom = Loom(room)
+    folder_of(loom, "a", "b\nc")
+    loom.expect("log src log data", 0)
+    older = loom.read("log.anchor").decode().strip()
+    loom.put("src/d", "d")
+    loom.expect("log src log", 0)
+    last, entries = loom.read("log.anchor").decode().strip(), loom.read("log.entries")
+    (loom.folder / "alone").mkdir()
+    shutil.copy2(loom.folder / "log/timeline.tw", loom.folder / "alone/timeline.tw")
+    for words in ("log src alone", "log src alone data"):
+        loom.expect(words, 17, "has 2 steps, and neither alone.lines nor alone.anchor stands beside it", "No step was made", "--adopt-store LINE")
+    if (loom.folder / "alone.anchor").exists() or loom.read("alone/timeline.tw") != loom.read("log/timeline.tw"):
+        raise Wrong("  something was made")
+    other = last[:-1] + ("0" if last[-1] != "0" else "1")
+    refused = ((older, 17, "the named one is of step 1"), (other, 17, "another step of that number"), (last.replace("data 2", "data 3"), 17, "its last step is 2"),
+               (last.replace("data", "date"), 2, "is called data, and not date"), ("nothing", 2, "no line, and there is no such file"), ("src/d", 9, "no line"))  # fmt: skip
+    for word, status, told in refused:
+        loom.expect(["log", "src", "alone", "--adopt-store", word], status, told)
+        if (loom.folder / "alone.lines").exists():
+            raise Wrong(f"  {word} was taken")
+    loom.put("last", last + "\n")
+    loom.expect("log src alone --adopt-store last", 0, "0 files new, 0 changed, 0 gone, 3 as they were", "made anew, of the store: 3 entries")
+    if loom.read("alone.entries") != entries:
+        raise Wrong(f"  {loom.read('alone.entries')}")
+    loom.expect("log src alone", 0)
+    (loom.folder / "log.entries").unlink()
+    loom.expect("log src log", 17, "log.entries doesn't stand beside it", "No step was made")
+    loom.expect(["log", "src", "log", "--adopt-store", last], 0, "3 as they were", "made anew, of the store: 3 entries")
+    expect_log(loom)
+
+
+def waiting_for_peers(room):
+    """while peers' words are waited for after a restore the log makes no step and ends with 17; a person who names the last line ends that"""
+    loom = Loom(room)
+    folder_of(loom, "a")
+    loom.expect("log src log data", 0)
+    loom.put("log.look", "1800000000\n")
+    before = loom.read("log/timeline.tw")
+    loom.expect("log src log", 17, "since 2027-01-15 08:00:00 UTC the words of peers", "no step was made", "weft exchange says for whom")
+    loom.put("log.look", "x")
+    loom.expect("log src log", 9, "log.look has no moment", "weft exchange --look")
+    if loom.read("log/timeline.tw") != before:
+        raise Wrong("  a step was made")
+    loom.expect(["log", "src", "log", "--adopt-store", loom.read("log.anchor").decode()], 0)
+    loom.expect("log src log", 0)
+    if (loom.folder / "log.look").exists():
+        raise Wrong("  the look goes on")
 
 
 def fewer_files(room):
@@ -177,16 +346,19 @@ def fewer_files(room):
     loom.expect("log src other other --gone", 0, "0 files new")
     loom.put("file", b"")
     loom.expect("log other file data", 5, "file is a file. Name a folder for the service.")
-    if {it.name for it in loom.folder.iterdir()} - {"tmp", "src", "file", *(f"other{end}" for end in ("", ".lock", ".lines", ".anchor"))}:
+    if {it.name for it in loom.folder.iterdir()} - {"tmp", "src", "file", *(f"other{end}" for end in ("", ".lock", ".lines", ".anchor", ".entries", ".seal"))}:
         raise Wrong(f"  left behind: {sorted(it.name for it in loom.folder.iterdir())}")
     folder_of(loom, "a", "b", "c", "d", "e")
     loom.expect("log src log data", 0, "5 files new")
     shutil.rmtree(loom.folder / "src")
     loom.expect("log src log", 3, "no folder that can be read")
     (loom.folder / "src").mkdir()
-    loom.expect("log src log", 16, "has none of the 5 files", "5 are gone", "--gone")
+    loom.expect("log src log", 16, "has none of the 5 files", "0 gone, 5 missing", "The 5 that are missing weren't logged as gone", "weft log --gone")
     folder_of(loom, "a", "b")
-    loom.expect("log src log", 16, "fewer than half of the 5 files", "3 are gone")
+    loom.expect("log src log", 16, "fewer than half of the 5 files", "0 gone, 3 missing", "The 3 that are missing weren't logged as gone", absent=("3 gone", "are gone."))
+    counts = json.loads(loom.expect("log src log --json", 16).out)
+    if (counts["gone"], counts["missing"], counts["same"]) != (0, 3, 2):
+        raise Wrong(f"  {counts}")
     folder_of(loom, "a", "b", "c", "d", "e")
     loom.expect("log src log", 0, "0 files new, 0 changed, 0 gone, 5 as they were")
     for name in "abcd":
@@ -378,7 +550,8 @@ def proof_of_a_file(room):
 
 def cases():
     works = (
-        each_day, names_of_files, many_files, left_out, fewer_files, claimed_times, refused, with_others, with_faults, first_run_with_faults, two_at_once,
+        each_day, names_of_files, many_files, left_out, there_and_not_gone, unreadable_whole, replaced, changed_while_read, own_store, copied_alone,
+        waiting_for_peers, fewer_files, claimed_times, refused, with_others, with_faults, first_run_with_faults, two_at_once,
         proof_of_a_file,
     )  # fmt: skip
     return [case(work, "weft log") for work in works]

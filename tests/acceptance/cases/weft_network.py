@@ -16,6 +16,7 @@ from types import SimpleNamespace
 from cases.weft_exchange import Net, pair, received
 from harness.places import TOP
 from harness.rooms import Skipped, Wrong, case
+from harness.weft_room import reseal
 
 sys.path[:0] = [str(TOP / "bench")]
 
@@ -24,6 +25,8 @@ import network_devices as devices  # noqa: E402
 
 NAMES = [f"s{number}" for number in range(6)]
 LOST, LATE = 0.3, 0.1
+# After so many nights without anything new a peer's silence is told.
+SILENT = 20
 # The service that shows two histories, the one whose old store is put back, and the one whose name a squatter uses.
 LIAR, OLD, SQUATTED = "s1", "s4", "s2"
 NIGHTS = 30
@@ -41,6 +44,8 @@ class Weave(Net):
 
     def __init__(self, room, seed):
         super().__init__(room, {name: peers_of(number) for number, name in enumerate(NAMES)})
+        for name in NAMES:  # (a line that is lost in three nights running is no reason for a look where three files in ten are)
+            self.loom.put(f"box-{name}/box.conf", f"key = ../{name}.key\nsilent = {SILENT}\n")
         self.random, self.late, self.told, self.events = random.Random(seed), [], [], {}
 
     def carry_some(self):
@@ -63,7 +68,7 @@ class Weave(Net):
             if name not in despite:
                 line = self.loom.append(name, f"night {number} of {name}".encode())
                 self.events.setdefault(name, []).append(int(line.split()[1]))
-            done = self.loom.run("exchange", name, f"box-{name}")
+            done = self.loom.run("exchange", name, f"box-{name}", *self.adopting(name))
             if done.status not in (0, 10) or done.err:
                 self.told.append((number, name, done.status, done.out + done.err))
             elif done.status == 10 and "it is new" not in done.out:
@@ -73,7 +78,12 @@ class Weave(Net):
             for other in others:
                 box = self.loom.folder / f"box-{name}/{other}"
                 if not (box / "kept/accepted").exists() and (box / "in/message").exists():
-                    self.loom.run("accept", f"box-{name}", other, "--yes")
+                    self.loom.run("accept", f"box-{name}", other, "--yes", self.waiting(name, other))
+
+    def adopting(self, name):
+        """How the last line of a service is named that was made by hand, in its first turn."""
+        is_first = not (self.loom.folder / f"{name}.lines").exists()
+        return ["--adopt-store", self.loom.run("line", name).out.strip()] if is_first else []
 
 
 def put(path, data):
@@ -149,8 +159,9 @@ def liars(room):
     saved = loom.folder / "tmp/old"
     for name in (OLD, f"{OLD}.lines", f"{OLD}.anchor"):
         copy(loom.folder / name, saved / name)
-    for name in (LIAR, f"{LIAR}.lines", f"{LIAR}.anchor", f"box-{LIAR}"):
+    for name in (LIAR, f"{LIAR}.lines", f"{LIAR}.anchor", f"{LIAR}.seal", f"box-{LIAR}"):
         copy(loom.folder / name, loom.folder / f"tmp/false/{name.replace(LIAR, 'false')}")
+    reseal(loom.folder / "tmp/false")
     for number in range(8, 12):
         weave.night_of(number)
     for name in (OLD, f"{OLD}.lines", f"{OLD}.anchor"):

@@ -18,6 +18,7 @@ from timeweave_reference.events_files import events_to_bytes
 
 sys.path[:0] = [str(TOP)]
 
+from weft import files  # noqa: E402
 from weft import words as weft_words  # noqa: E402
 from weft.main import main as weft_main  # noqa: E402
 
@@ -219,6 +220,15 @@ def faulty(at, kind, counter=None):
 REAL = {name: getattr(os, name) for name in CALLS}
 
 
+def reseal(folder):
+    """Lets services and boxes that a test has copied into a folder count as being where they were written: else they would be told as copies."""
+    for path in [*folder.glob("*/.turn"), *folder.glob("*/.seal")]:
+        path.unlink()
+    for path in folder.glob("*.seal"):
+        _, _, line = path.read_text().partition(" ")
+        files.renew(path, lambda identity, line=line: f"{identity} {line}".encode())
+
+
 def copied(loom, *names):
     """The bytes of all files of these names, which may be folders, and what brings them back."""
     kept = loom.folder / "tmp/saved"
@@ -234,6 +244,7 @@ def copied(loom, *names):
                 shutil.rmtree(path) if path.is_dir() and not path.is_symlink() else path.unlink()
         for path in kept.iterdir():
             (shutil.copytree if path.is_dir() else shutil.copy2)(path, loom.folder / path.name)
+        reseal(loom.folder)
 
     return back
 

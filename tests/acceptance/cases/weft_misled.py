@@ -1,0 +1,316 @@
+"""Acceptance cases of who wants `weft judge` to mislead: whoever sends files, keeps a history, or puts a file in front of another one."""
+
+import json
+import os
+
+from cases.weft_judging import two_services
+from harness.rooms import Wrong, case
+from harness.weft_room import Loom
+
+OTHER = "f" * 64
+
+
+def verdicts(loom, table):
+    """Of each file of a table its digest, its verdict and its status."""
+    return {fields[0]: (fields[2], fields[3], fields[4]) for fields in (line.split("\t") for line in loom.read(table).decode().splitlines()[2:])}
+
+
+def forged_of(loom, name):
+    """A proof that was forged, of the size of the good one."""
+    return loom.read(name).replace(b"bread", b"bribe")
+
+
+def put_as_before(path, data):
+    """Puts other bytes into a file, which keeps its times."""
+    about = os.stat(path)
+    path.write_bytes(data)
+    os.utime(path, ns=(about.st_atime_ns, about.st_mtime_ns))
+
+
+def swapped(room):
+    """a forged proof in the place of a good one, of its name, size and times, isn't shown by the good one's row"""
+    loom = two_services(room)
+    path = loom.put("many/proof", loom.read("bread3"))
+    loom.put("many/other", loom.read("bread3"))
+    loom.expect("judge --many many --workers 1", 0, "2 files: 2 shown")
+    put_as_before(path, forged_of(loom, "bread3"))
+    loom.expect("judge --many many --workers 1", 1, "1 shown, 1 not shown", "1 row of an earlier run was taken over")
+    put_as_before(path, loom.read("bread3"))
+    loom.expect("judge --many many --workers 1", 0, "2 files: 2 shown", "1 row of an earlier run was taken over")
+    loom.expect("judge --many many --workers 1", 0, "2 files: 2 shown", "2 rows of an earlier run were taken over")
+    loom.put("more", f"maker 2 {OTHER}\n")
+    loom.expect("keep more --by mail", 0)
+    loom.expect("judge --many many --workers 1", 0, "2 files: 2 shown", absent=("taken over",))
+
+
+def believed(room):
+    """a table that came beside the sender's folder is never believed, nor is a link there written through; rows that others may write are refused"""
+    loom = two_services(room)
+    path = loom.put("many/proof", loom.read("bread3"))
+    loom.expect("judge --many many --workers 1", 0)
+    table = loom.read("many.verdicts.tsv").decode()
+    state = next(loom.folder.glob(".local/share/weft/judged/*.rows"))
+    rows = state.read_bytes()
+    put_as_before(path, forged_of(loom, "bread3"))
+    forged = verdicts(loom, "many.verdicts.tsv")["proof"][0]
+    loom.expect("judge --many many --workers 1", 1)
+    table = table.replace(forged, verdicts(loom, "many.verdicts.tsv")["proof"][0])
+    state.unlink()
+    for name in ("many.verdicts.tsv", "many.verdicts.tsv.part", "many.verdicts.tsv.rows", state.name):
+        loom.put(name, table)
+    loom.expect("judge --many many --workers 1", 1, "1 not shown", absent=("taken over", ": 1 shown"))
+    state.write_bytes(rows)
+    state.chmod(0o666)
+    loom.expect("judge --many many --workers 1", 5, "isn't your own, or others may write it", "Remove it")
+    state.unlink()
+    (loom.folder / "many.verdicts.tsv").unlink()
+    (loom.folder / "many.verdicts.tsv").symlink_to(loom.put("precious", b"mine"))
+    loom.expect("judge --many many --workers 1", 1, "1 not shown")
+    if loom.read("precious") != b"mine" or (loom.folder / "many.verdicts.tsv").is_symlink():
+        raise Wrong("  the table was written through a link that may be the sender's")
+    state.unlink()
+    state.symlink_to(loom.put("elsewhere", table))
+    loom.expect("judge --many many --workers 1", 3, "no link is followed")
+
+
+def read_once(room):
+    """what is changed while it is judged has the digest of what was judged, so the next run judges it anew"""
+    loom = two_services(room)
+    good, forged = loom.read("bread3"), forged_of(loom, "bread3")
+    path = loom.put("many/proof", good)
+
+    def patch():
+        from weft import formats
+
+        real = formats.read_file
+
+        def read(*words, **more):
+            data = real(*words, **more)
+            put_as_before(path, forged)
+            return data
+
+        formats.read_file = read
+
+    loom.expect("judge --many many --workers 1 --table t", 0, patch=patch)
+    if verdicts(loom, "t")["proof"][0] != json.loads(loom.expect("judge bread3 --json", 0).out)["sha256"][0]:
+        raise Wrong("  the digest isn't that of the bytes that were judged")
+    loom.expect("judge --many many --workers 1 --table t", 1, "1 not shown", absent=("taken over",))
+
+
+def hidden(room):
+    """the worst of what was found ends weft judge and weft tell, whatever stands in front of it or behind it"""
+    loom = two_services(room)
+    loom.put("forged", forged_of(loom, "bread3"))
+    loom.put("message", loom.timeweave("thread", "bank", "0"))
+    loom.put("junk", b"Dear Sir\n")
+    for bad, status in (("forged", 21), ("message", 9), ("nowhere", 3)):
+        loom.expect(f"judge --reference bread3 {bad}", status)
+        loom.expect(f"judge --reference {bad} bread3", status, "bread3: shown")
+    loom.expect("judge forged bread3", 1, "bread3: shown")
+    loom.put("lines", "".join(line for line in loom.read("kept").decode().splitlines(True)) + f"maker 1 {OTHER}\n")
+    for bad in ("junk", "nowhere", "forged", "message", "low"):
+        for words in (f"{bad} link", f"link {bad}"):
+            loom.expect(f"judge {words} --kept lines", 11, "TWO LINES", "link: not shown")
+    for words in ("junk nowhere", "nowhere junk"):
+        loom.expect(f"tell {words}", 9)
+
+
+def made_anew(room):
+    """a history that was made anew isn't shown, though its last line is held; a true one is shown as far as a kept line binds it"""
+    loom = Loom(room)
+    loom.service("registry", [b"a"], [b"b"], [b"c"])
+    loom.put("letter", loom.run("line", "registry").out)
+    loom.service("registry", [b"a"], [b"x"], [b"c"], [b"d"], folder="anew")
+    loom.put("fresh", loom.run("line", "anew").out)
+    loom.append("registry", b"d")
+    loom.put("true.history", loom.timeweave("export", "registry"))
+    loom.put("anew.history", loom.timeweave("export", "anew"))
+    loom.expect(["keep", "letter", "--by", "letter from the notary"], 0)
+    loom.expect(
+        "judge true.history", 12, "true.history: shown in part", "keeps the rules, up to step 3", "of step 4, the file's word alone", "letter from the notary",
+        "--top 3", "neither registry nor whoever sent", "shows nothing about the time before", absent=("ask registry",),
+    )  # fmt: skip
+    loom.expect("judge true.history --top 3", 0, "true.history: shown", "up to step 3", "letter from the notary", absent=("shown in part",))
+    loom.expect("judge true.history --top 2", 0, "true.history: shown")
+    loom.expect("judge true.history --top 4", 12, "shown in part")
+    loom.expect("judge true.history --top 5", 2, "last step is 4")
+    loom.expect("judge true.history --top 3 --reference", 20, "judged by: Python reference")
+    loom.expect("judge anew.history", 11, "anew.history: not shown", "TWO LINES: the line of step 3", "letter from the notary")
+    loom.expect(["keep", "fresh", "--by", "letter from the keeper"], 0)
+    for words in ("judge anew.history", "judge anew.history --top 1", "judge anew.history --reference"):
+        loom.expect(
+            words, 11, "anew.history: not shown", "TWO LINES: the line of step 3 of registry", "letter from the notary", "Of this history is the line of step 4",
+            "letter from the keeper", absent=(": shown",),
+        )  # fmt: skip
+    loom.put("two/anew", loom.read("anew.history"))
+    loom.put("two/junk", b"x")
+    loom.expect("judge --many two --workers 1", 11, "1 not shown", "TWO LINES: 1 file contradicts")
+    loom.expect("judge true.history", 11, "true.history: not shown", "TWO LINES: the line of step 4 of registry", "letter from the keeper")
+    found = json.loads(loom.expect("judge anew.history --json", 11).out)
+    if found["shown"] is not False or found["contradicts"][0]["step"] != 3 or found["bound"] != 0 or "TWO LINES" not in found["says"][0]:
+        raise Wrong(f"  {found}")
+    loom.expect("judge true.history --kept nothing", 3)
+    loom.put("nothing", b"")
+    loom.expect("judge true.history --kept nothing", 12, "true.history: not judged", "You hold none of registry")
+    loom.put("zero", f"registry 0 {OTHER}\n{loom.read('letter').decode()}")
+    loom.expect("judge true.history --top 3 --kept zero", 11, "TWO LINES: the line of step 0")
+
+
+def judges_of_histories_differ(room):
+    """where the program finds another authenticator in a history than the reference, nothing is judged"""
+    loom = two_services(room)
+
+    def liar():
+        from weft import judges
+
+        judges.ProgramJudge.audit = lambda *_: judges.Verdict(1, f"unheld bank 3 {OTHER} {OTHER}\n")
+
+    loom.expect("judge bank.history", 13, "two judges differ", "report it", patch=liar)
+
+
+def whose_lines(room):
+    """a file of the sender that is named as an option makes his lines the reader's nowhere unsaid; behind -- it is a file"""
+    loom = two_services(room)
+    loom.service("maker", [b"bribe"], folder="sender")
+    loom.put("bribed", loom.timeweave("prove", "sender", "event", "1", "0"))
+    loom.put(".lines", loom.run("line", "sender").out)
+    loom.put("--kept=.lines", b"")
+    loom.expect("judge --kept=.lines bribed", 0, "Under the lines of .lines (--kept), and not under those of your own file:")
+    loom.expect("judge --kept=.lines --many sender", 9, "Under the lines of .lines (--kept)")
+    loom.expect("judge -- --kept=.lines bribed", 9, "bribed: not judged", "--kept=.lines is empty", absent=("Under the lines",))
+    loom.put("-x", loom.read("bread3"))
+    loom.expect("judge -- -x", 0, "-x: shown")
+    loom.expect("judge -x", 2)
+    if json.loads(loom.expect("judge --kept .lines bribed --json", 0).out)["kept"] != [".lines"]:
+        raise Wrong("  JSON doesn't tell the file of kept lines")
+
+
+def carried_lines(room):
+    """a carried line that contradicts a kept one is told as two lines, with --carried and without; one that is the kept one is told too"""
+    loom = two_services(room)
+    true = json.loads(loom.expect("judge link --json", 0).out)["text"].split()[-1]
+    for authenticator, status, carried, told in ((OTHER, 11, 11, "TWO LINES: the line of step 1 of maker that you kept"), (true, 1, 0, "one history")):
+        loom.put("two", loom.read("kept").decode() + f"maker 1 {authenticator} 2026-01-01T00:00:00Z by letter\n")
+        loom.expect("judge loose --kept two", status, told, "only the receiver says")
+        loom.expect("judge loose --carried --kept two", carried, told, "not shown" if carried else "shown in part", absent=(": shown\n",))
+
+
+def wrong_file(room):
+    """a proof beside a wrong file isn't called shown: what was recorded is another file"""
+    loom = Loom(room)
+    loom.put("src/deed", b"true")
+    loom.put("deed", b"false")
+    loom.put("copy", b"true")
+    loom.expect("log src log data", 0)
+    loom.expect(["keep", "log.anchor", "--by", "own"], 0)
+    loom.expect("prove log deed", 0)
+    loom.expect("judge deed.proof --file src/deed", 0, "deed.proof: shown", "is that file")
+    loom.expect("judge deed.proof --file deed", 1, "deed.proof: not shown: recorded, but not this file", "NOT SO", absent=(": shown",))
+    loom.expect("judge deed.proof --file deed --reference", 21, "not shown: recorded, but not this file")
+    loom.expect("judge deed.proof --file copy", 10, "deed.proof: shown", "under the name deed")
+    found = json.loads(loom.expect("judge deed.proof --file deed --json", 1).out)
+    if found["shown"] is not False or found["headline"] != "not shown: recorded, but not this file" or found["status"] != 1:
+        raise Wrong(f"  {found}")
+
+
+def json_says_the_same(room):
+    """with --json each file has a line, what can't be judged too, and its facts are those of the sentences"""
+    loom = two_services(room)
+    loom.put("forged", forged_of(loom, "bread3"))
+    loom.put("junk", b"Dear Sir\n")
+    loom.put("empty", b"")
+    wanted = {"bread3": ("shown", True, 0), "forged": ("not shown", False, 1), "junk": ("not judged", False, 9), "loose": ("shown in part", False, 1)}
+    told = [json.loads(line) for line in loom.expect(["judge", *wanted, "nowhere", "--json"], 1).out.splitlines()]
+    found = {it["files"][0]: (it["headline"], it["shown"], it["status"]) for it in told}
+    if found != {**wanted, "nowhere": ("not judged", False, 3)}:
+        raise Wrong(f"  {found}")
+    chain = json.loads(loom.expect("judge chain --kept empty --json", 12).out)
+    if chain["headline"] != "not judged" or [it["service"] for it in chain["missing"]] != ["bank", "maker"]:
+        raise Wrong(f"  {chain}")
+
+
+def cut_short(room):
+    """a history whose last steps were cut off is told as one that ends before a line that is held"""
+    loom = Loom(room)
+    loom.service("maker", [b"bread"], [b"milk"])
+    loom.put("cut", loom.timeweave("export", "maker"))
+    loom.put("kept", loom.run("line", "maker").out)
+    done = loom.expect("judge cut", 0, "cut: shown", absent=("was cut",))
+    loom.append("maker", b"fraud")
+    loom.put("kept", loom.read("kept") + loom.run("line", "maker").out.encode())
+    told = "You hold a line of step 3 of maker, and this file ends at step 2"
+    loom.expect("judge cut", 0, "cut: shown", told, "was cut")
+    if json.loads(loom.expect("judge cut --json", 0).out)["beyond"] != 3:
+        raise Wrong(f"  {done}")
+    loom.put("kept", loom.run("line", "maker").out)
+    loom.expect("judge cut", 12, "cut: not judged", told)
+
+
+def one_service(room):
+    """A service, its line, which is kept, and a proof under it."""
+    loom = Loom(room)
+    loom.service("maker", [b"bread"])
+    loom.put("kept", loom.run("line", "maker").out)
+    loom.put("bread3", loom.timeweave("prove", "maker", "event", "1", "0"))
+    return loom
+
+
+def passed_over(room):
+    """of a folder nothing is passed over in silence: a folder below it that can't be read, and a link to one, have a row each, and count"""
+    loom = one_service(room)
+    loom.put("many/proof", loom.read("bread3"))
+    loom.put("many/closed/forged", forged_of(loom, "bread3"))
+
+    def patch():
+        real = os.scandir
+
+        def scan(path="."):
+            if str(path).endswith("closed"):
+                raise PermissionError(13, "Permission denied", path)
+            return real(path)
+
+        os.scandir = scan
+
+    loom.expect("judge --many many --workers 1", 3, "2 files: ", "1 shown", "1 not judged", patch=patch)
+    if "closed" not in verdicts(loom, "many.verdicts.tsv"):
+        raise Wrong(f"  {loom.read('many.verdicts.tsv')}")
+    loom.put("elsewhere/forged", forged_of(loom, "bread3"))
+    (loom.folder / "many/linked").symlink_to(loom.folder / "elsewhere")
+    loom.expect("judge --many many --workers 1", 1, "3 files: ", "1 shown", "1 not shown", "1 not judged")
+
+
+def without_a_home(room):
+    """a user of whose own folder the system tells nothing is told so, and what to name"""
+    loom = one_service(room)
+
+    def patch():
+        from pathlib import Path
+
+        def none():
+            raise RuntimeError("Could not determine home directory.")
+
+        Path.home = none
+
+    loom.expect("judge bread3", 5, "tells no folder of this user's own", "HOME", patch=patch, WEFT_KEPT=None)
+    loom.expect("judge bread3 --kept kept", 0, "shown", patch=patch, WEFT_KEPT=None)
+
+
+def speaking_names(room):
+    """a file's name that could be read as what weft says of it stands in quotes"""
+    loom = one_service(room)
+    for name in ("paid: shown", "paid: shown" + " " * 70 + "It rests on", "paid. Accepted", 'paid" is shown'):
+        loom.put(name, forged_of(loom, "bread3"))
+        for word, status in (("judge", 1), ("tell", 0)):
+            done = loom.expect([word, "--", name], status)
+            if not done.out.startswith('"paid') or " " * 3 in done.out.splitlines()[0]:
+                raise Wrong(f"  {done.out}")
+    loom.put("my proof", loom.read("bread3"))
+    loom.expect(["judge", "my proof"], 0, "my proof: shown")
+
+
+def cases():
+    works = (
+        swapped, believed, read_once, hidden, made_anew, judges_of_histories_differ, whose_lines, carried_lines, wrong_file, json_says_the_same, cut_short,
+        passed_over, without_a_home, speaking_names,
+    )  # fmt: skip
+    return [case(work, "weft judge misled") for work in works]

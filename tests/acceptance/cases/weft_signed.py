@@ -1,0 +1,528 @@
+"""Acceptance cases of what rests on a signature, a key or a kept line: made-up lines behind a signature's end, files of several keys, revoked keys, lines
+that contradict, and what a person or a carrier types or puts down to have somebody believe, or accuse, what isn't so."""
+
+import os
+import shutil
+import subprocess
+from concurrent.futures import ProcessPoolExecutor
+from pathlib import Path
+
+from cases.weft_exchange import Net, pair, received
+from cases.weft_network import network
+from harness.places import TOP
+from harness.rooms import Wrong, case
+from harness.weft_room import Loom
+
+BEGIN, END = b"-----BEGIN SSH SIGNATURE-----\n", b"-----END SSH SIGNATURE-----\n"
+NO_SIGNATURE = BEGIN + b"AAAA\n" + END
+
+
+def signature_of(loom, key, text):
+    """The signature of a text by a key, as ssh-keygen makes it."""
+    words = ["ssh-keygen", "-Y", "sign", "-q", "-n", "timeweave-line", "-f", loom.folder / f"{key}.key"]
+    return subprocess.run(words, input=text, capture_output=True, check=True).stdout
+
+
+def signed(loom, key, text):
+    """A line with its signature."""
+    return text + signature_of(loom, key, text)
+
+
+def other_of(line):
+    """Another line of the same step."""
+    text = line if isinstance(line, bytes) else line.encode()
+    digit = b"0" if text.rstrip()[-1:] != b"0" else b"1"
+    return text.rstrip()[:-1] + digit + b"\n"
+
+
+# ---- lines that contradict
+
+
+def with_letters(room):
+    """A service, a proof under its step 2, its true line in a letter, and a made-up one of the same step in another."""
+    loom = Loom(room)
+    loom.service("shop", [b"bread"], [b"milk"])
+    loom.put("true", loom.run("line", "shop").out)
+    loom.put("false", other_of(loom.read("true")))
+    loom.put("proof", loom.timeweave("prove", "shop", "event", "1", "0"))
+    return loom
+
+
+def second_letter(room):
+    """a second letter with another line of a step is kept beside the first, and nothing is judged under either until one is chosen, in whichever order
+    they came; that they differed is told for good"""
+    for first, second, number in (("true", "false", "1"), ("false", "true", "2")):
+        (Path(room.folder) / number).mkdir()
+        loom = with_letters(type(room)(room.program, f"{room.folder}/{number}"))
+        loom.expect(["keep", first, "--by", "by letter"], 0)
+        loom.expect(["keep", second, "--by", "by mail"], 11, "at most one is of shop's history", "by letter", "by mail", "until you choose one: weft keep --choose FILE")
+        told = "there are two lines of step 2 of shop"
+        for _ in range(2):
+            loom.expect("judge proof", 11, told, "weft keep --choose", absent=("shown",))
+        for name in ("true", "false"):
+            loom.expect(["keep", name, "--by", "by letter"], 11, told)
+        loom.expect("chain shop:1:0 shop:2:0 --hand proof", 11, told)
+        loom.expect("tell kept", 0, "of step 2 of shop there are lines that contradict")
+        if loom.read("kept").count(b"\ncontradiction: shop 2 ") != 1 or any(loom.read(name).strip() not in loom.read("kept") for name in ("true", "false")):
+            raise Wrong(f"  {loom.read('kept')}")
+        loom.expect(["keep", "--choose", "true", "--by", "asked shop by telephone"], 0, "It counts, and of that step no longer")
+        loom.expect("judge proof", 0, "shown", "chosen over another line of that step", "asked shop by telephone")
+        loom.expect(["keep", "--choose", "true", "--by", "asked shop by telephone"], 0, "kept already")
+        loom.expect(["keep", "false", "--by", "by mail again"], 11, "one over which you chose another", "doesn't count")
+        loom.expect("judge proof", 0, "shown")
+        loom.expect(["keep", "--choose", "false", "--by", "asked again"], 0)
+        loom.expect("judge proof", 1, "not shown")
+        loom.expect(["keep", "--choose", "true", "--by", "asked a third time"], 0)
+        loom.expect("judge proof", 0, "shown")
+        # a line that is taken out by hand isn't forgotten, and a third one opens it again
+        loom.put("kept", b"".join(line for line in loom.read("kept").splitlines(True) if b"chosen" not in line and not line.startswith(loom.read("false").strip())))
+        loom.expect("judge proof", 11, told, "was seen, and is no more in the file")
+        loom.expect(["keep", "--choose", "true", "--by", "asked shop by telephone"], 0)
+        loom.put("third", b"shop 2 " + b"7" * 64 + b"\n")
+        loom.expect(["keep", "third", "--by", "by mail"], 11, "there are 3 lines of step 2 of shop")
+        loom.expect("judge proof", 11, "there are 3 lines")
+
+
+def choices(room):
+    """what is chosen is a single line, where there is another one; nothing is chosen in silence, and JSON has all of it"""
+    loom = with_letters(room)
+    loom.expect(["keep", "--choose", "true", "--by", "by letter"], 10, "nothing had to be chosen")
+    loom.expect("judge proof", 0, "shown")
+    loom.expect("keep --choose", 2, "no file is named")
+    loom.expect("keep --choose true", 2, "no signature beside it", "--by")
+    loom.put("both", loom.read("true") + loom.read("false"))
+    loom.expect(["keep", "--choose", "both", "--by", "by mail"], 2, "one is chosen at a time")
+    done = loom.expect(["keep", "both", "--by", "by mail", "--json"], 11, '"contradicts": true', '"new": true')
+    if done.out.count("\n") != 1:
+        raise Wrong(f"  {done}")
+    loom.expect(["keep", "--choose", "true", "--by", "by mail", "--json"], 0, '"over": ["')
+    # lines that were put there by hand contradict as well, in one file or in two
+    loom.put("kept", loom.read("true") + loom.read("false"))
+    loom.expect("judge proof", 11, "two lines of step 2")
+    loom.expect("judge proof --kept true --kept false", 11, "two lines of step 2")
+    loom.key("shop")
+    loom.expect("keep --signer shop shop.key.pub", 0)
+    loom.put("good", signed(loom, "shop", loom.read("true")))
+    loom.expect("keep --choose good", 0, "It counts", "signed by ED25519")
+    loom.expect("judge proof", 0, "shown", "signed by ED25519")
+
+
+def clock_set_back(room):
+    """a choice that is made after the clock was set back isn't told as one that counts: the earlier one stands, and that is said; of two within one second
+    the second one counts"""
+    loom = with_letters(room)
+
+    def at(date):
+        def patch():
+            from weft import lines
+
+            lines.now = lambda: date
+
+        return patch
+
+    loom.expect(["keep", "true", "--by", "by letter"], 0)
+    loom.expect(["keep", "false", "--by", "by mail"], 11)
+    loom.expect(["keep", "--choose", "true", "--by", "asked"], 0, "It counts", patch=at("2099-01-01T00:00:00Z"))
+    before = loom.read("kept")
+    loom.expect(["keep", "--choose", "false", "--by", "asked"], 10, "the date 2099-01-01T00:00:00Z", "Nothing was chosen", absent=("It counts",))
+    if loom.read("kept") != before:
+        raise Wrong("  something was written")
+    loom.expect("judge proof", 0, "shown")
+    loom.put("kept", before.replace(b"2099", b"2019"))
+    for name, status in (("false", 1), ("true", 0), ("false", 1)):
+        loom.expect(["keep", "--choose", name, "--by", "asked"], 0, "It counts")
+        loom.expect("judge proof", status)
+
+
+def checked_store(room):
+    """weft check holds nothing against a store by a line of two that differ, says that they do, and goes on by the one that was chosen"""
+    loom = with_letters(room)
+    loom.expect(["keep", "true", "--by", "by letter"], 0)
+    loom.expect("check shop", 0, "agree")
+    loom.expect(["keep", "false", "--by", "by mail"], 11)
+    loom.expect("check shop", 11, "two lines of step 2 of shop", "by mail", "--choose", absent=("go back to a backup",))
+    loom.expect(["keep", "--choose", "true", "--by", "own"], 0)
+    loom.expect("check shop", 0, "agree")
+    loom.expect(["keep", "--choose", "false", "--by", "own"], 0)
+    loom.expect("check shop", 17, "has another step of that number")
+    # the line of step 0 follows from the name: a true one binds nothing, and a false one isn't passed over
+    loom.service("new")
+    loom.put("zero", loom.run("line", "new").out)
+    loom.expect("check new --kept zero", 0)
+    loom.put("zero", other_of(loom.read("zero")))
+    loom.expect("check new --kept zero", 17, "has another step of that number as the line of step 0")
+    loom.append("new", b"x")
+    loom.expect("check new --kept zero", 17, "has another step of that number as the line of step 0")
+
+
+def handed_out(room):
+    """a line that weft line hands out is noted: with an older store put back in its place no step is made, and no line is handed out any more"""
+    loom = Loom(room)
+    loom.put("src/a", b"x")
+    loom.expect("log --no-time src shop shop", 0)
+    shutil.copytree(loom.folder / "shop", loom.folder / "tmp/old")
+    loom.append("shop", b"by hand")
+    line = loom.expect("line shop", 0).out
+    if line.encode() not in loom.read("shop.lines"):
+        raise Wrong(f"  {line} {loom.read('shop.lines')}")
+    shutil.rmtree(loom.folder / "shop")
+    shutil.copytree(loom.folder / "tmp/old", loom.folder / "shop")
+    loom.put("src/b", b"y")
+    before = loom.read("shop/timeline.tw")
+    loom.expect("log --no-time src shop", 17, "No step was made")
+    loom.expect("line shop", 17, "isn't the store of shop's line of step 2")
+    loom.expect("line shop --out out", 17)
+    if loom.read("shop/timeline.tw") != before or (loom.folder / "out").exists():
+        raise Wrong("  a step was made, or a line handed out")
+    loom.service("new")
+    loom.expect("line new", 0, "new 0 ")
+    if (loom.folder / "new.lines").exists():
+        raise Wrong("  the line of step 0 was noted")
+
+
+# ---- keys and names
+
+
+def three_lines(room):
+    """a file of several lines, whose words are one key and whose first whole line is another, is no public key: none is told, and none noted"""
+    loom = Loom(room)
+    for name in ("good", "evil", "shop"):
+        loom.key(name)
+    kind, good = loom.read("good.key.pub").split()[:2]
+    evil = loom.read("evil.key.pub").split()[1]
+    loom.service("shop", [b"x"])
+    line = loom.run("line", "shop").out.encode()
+    loom.put("signed", signed(loom, "evil", line))
+    for number, data in enumerate((
+        kind + b"\n" + evil + b"\n" + kind + b" " + good + b"\n", kind + b" " + good + b"\n" + kind + b" " + evil + b"\n", b"\n" + kind + b" " + good,
+        kind + b" " + evil + b"\r" + kind + b" " + good, b"ssh-rsa " + evil, kind + b" " + evil[:-4], kind, b"", loom.read("evil.key"),
+        b"ecdsa-sha2-nistp256 " + evil, kind + b" AAAAC3NzaC1lZDI1NTE5AAAAIJ",
+    )):  # fmt: skip
+        loom.put("key.pub", data)
+        for words in ("keep --signer shop key.pub", "keep signed --signer shop key.pub", "accept box shop --key key.pub"):
+            done = loom.expect(words, 9, "no public key")
+            if "SHA256:" in done.out + done.err:
+                raise Wrong(f"  file {number}: a fingerprint is told: {done}")
+    if (loom.folder / "signers").exists() or (loom.folder / "box/allowed_signers").exists() or (loom.folder / "kept").exists():
+        raise Wrong("  a key was noted, or a line kept")
+
+
+def changed_amid(room):
+    """a key's file that is changed after it was read changes nothing: the key that is noted is the one that was told, and by which the signature was checked"""
+    loom = Loom(room)
+    for name in ("shop", "evil"):
+        loom.key(name)
+    evil, good = loom.read("evil.key.pub"), loom.read("shop.key.pub")
+    loom.service("shop", [b"x"])
+    loom.put("signed", signed(loom, "shop", loom.run("line", "shop").out.encode()))
+
+    def change():
+        from weft import signatures
+
+        real = signatures.keygen
+
+        def keygen(*words, **more):
+            (loom.folder / "key.pub").write_bytes(evil)
+            return real(*words, **more)
+
+        signatures.keygen = keygen
+
+    for words, signers in (("keep signed --signer shop key.pub", "signers"), ("accept box shop --key key.pub", "box/allowed_signers")):
+        loom.put("key.pub", good)
+        done = loom.run(*words.split(), patch=change)
+        fingerprint = subprocess.run(["ssh-keygen", "-lf", loom.folder / "shop.key.pub"], capture_output=True, text=True).stdout.split()[1]
+        if fingerprint not in done.out or good.split()[1] not in loom.read(signers) or evil.split()[1] in loom.read(signers):
+            raise Wrong(f"  {done} {loom.read(signers)}")
+
+
+def noted_with_options(room):
+    """a key that the file of signers has with options under which it doesn't count for lines isn't told as noted"""
+    loom = Loom(room)
+    loom.key("shop")
+    bare = b" ".join(loom.read("shop.key.pub").split()[:2]) + b"\n"
+    for options in ('cert-authority', 'valid-before="20200101"', 'namespaces="git"'):
+        noted = loom.put("signers", f"shop {options} ".encode() + bare).read_bytes()
+        loom.expect("keep --signer shop shop.key.pub", 10, "with options", "Nothing was noted", absent=("is noted as",))
+        if loom.read("signers") != noted:
+            raise Wrong("  the file of signers was changed")
+    loom.put("signers", b'shop namespaces="file,timeweave-line" ' + bare)
+    loom.expect("keep --signer shop shop.key.pub", 0, "is noted as the key of shop")
+
+
+def many_keys(room):
+    """of keys that are noted at one time none is lost, and none is noted twice"""
+    loom = Loom(room)
+    names = [f"s{number}" for number in range(8)]
+    for name in names:
+        loom.key(name)
+    env = loom.env | {"PYTHONPATH": str(TOP)}
+    words = [["python3", "-m", "weft", "keep", "--signer", name, f"{name}.key.pub"] for name in [*names, *names]]
+    running = [subprocess.Popen(it, cwd=loom.folder, env=env, stdout=subprocess.DEVNULL) for it in words]
+    if any(it.wait(300) for it in running):
+        raise Wrong("  one of several at once failed")
+    if sorted(line.split()[0].decode() for line in loom.read("signers").splitlines()) != names:
+        raise Wrong(f"  {loom.read('signers')}")
+
+
+def dashes(room):
+    """files whose names begin with - are taken behind -- and by ./ in front, and told so else; no service or peer is made or noted by such a name"""
+    loom = with_letters(room)
+    loom.key("-k")
+    shutil.copytree(loom.folder / "shop", loom.folder / "-shop")
+    for name in ("true", "proof"):
+        loom.put(f"-{name}", loom.read(name))
+    loom.put("-src/a", b"x")
+    for words in (
+        ["keep", "--by", "mail", "--", "-true"], ["keep", "--by", "mail", "./-true"], ["tell", "--", "-proof", "-true"], ["judge", "--", "-proof"],
+        ["line", "--", "-shop"], ["line", "--sign=-k.key", "--out=-out", "--", "-shop"], ["keep", "--signer", "shop", "./-k.key.pub", "--", "-out"],
+        ["check", "--", "-shop"], ["log", "--no-time", "--", "-src", "-log", "data"], ["prove", "--out=-paid", "--", "-log", "a"],
+    ):  # fmt: skip
+        loom.expect(words, 0)
+    loom.expect(["accept", "--key=-k.key.pub", "--", "-box", "bank"], 10, "is noted as the key of bank")
+    told = "name a file as ./-FILE, or put -- in front"
+    for words in (["keep", "--by", "mail", "-true"], ["line", "--out", "-x", "shop"], ["keep", "--signer", "-x", "./-k.key.pub"], ["judge", "-proof"]):
+        loom.expect(words, 2, told)
+    for words in (["log", "src", "log", "--", "-x"], ["accept", "box", "--", "-x"], ["log", "--", "-src", "other", "-"]):
+        loom.expect(words, 2, "no name of a service", "none that begins with -")
+    if (loom.folder / "other").exists() or (loom.folder / "box/-x").exists():
+        raise Wrong("  something was made")
+
+
+def behind_the_end(room):
+    """a signed line with something behind its signature's end, or a second signature, isn't kept; nor is one beside such a signature"""
+    loom = with_letters(room)
+    loom.key("shop")
+    loom.expect("keep --signer shop shop.key.pub", 0)
+    good = signed(loom, "shop", loom.read("true"))
+    false = loom.read("false") + NO_SIGNATURE
+    for bad in (good + false, good + b"\n", good + b"x", false + good, loom.read("true") + NO_SIGNATURE + good.split(b"\n", 1)[1], good.replace(END, b"")):
+        loom.put("bad", bad)
+        loom.expect("keep bad", 9, "bad has a signature, and is no signed line", "nothing behind the signature's end")
+        loom.put("line", loom.read("true"))
+        loom.put("line.sig", bad.split(b"\n", 1)[1])
+        loom.expect("keep line", 9, "no signature by ssh-keygen")
+    loom.put("bad", loom.read("true") + NO_SIGNATURE)
+    loom.expect("keep bad", 11, "isn't good by a key")
+    if (loom.folder / "kept").exists():
+        raise Wrong("  something was kept")
+    loom.put("good", good.replace(b"\n", b"\r\n")[:-2])
+    loom.expect("keep good", 0, "signed by ED25519")
+
+
+# ---- peers
+
+
+def quiet_pair(room):
+    """Two services that know one another, of which shop isn't told when bank is silent."""
+    net = pair(room)
+    net.loom.put("box-shop/box.conf", net.loom.read("box-shop/box.conf") + b"silent = 0\n")
+    return net
+
+
+def forged(net):
+    """A step that nobody made behind the one of bank that shop recorded last: its line, and the message that leads up to it, which shop's store would
+    receive."""
+    loom = net.loom
+    net.turn("shop", 0)
+    shutil.copytree(loom.folder / "bank", loom.folder / "tmp/forged")
+    step = loom.read("box-shop/bank/kept/taken").split()[1].decode()
+    line = loom.append("tmp/forged", b"made up").encode()
+    if step != str(net.last("bank")):
+        raise Wrong(f"  shop hasn't recorded the last step of bank: {step}")
+    return line, loom.timeweave("thread", "tmp/forged", step)
+
+
+def bring_true_step(net):
+    """The step that bank makes in truth, of the same number, as a carrier brings it."""
+    loom = net.loom
+    since = str(net.last("bank"))
+    line = loom.append("bank", b"true").encode()
+    loom.put("box-shop/bank/in/line", signed(loom, "bank", line))
+    loom.put("box-shop/bank/in/message", loom.timeweave("thread", "bank", since))
+    loom.put("right", line)
+
+
+def forks_of(net, name, peer):
+    """What is remembered of two lines of a peer."""
+    return sorted(it.name for it in (net.loom.folder / f"box-{name}/{peer}/kept/forks").iterdir())
+
+
+def appended(room):
+    """whoever carries files, and has no key, appends a made-up line and a made-up signature to a signed line: it isn't taken, no message that tells it is
+    recorded, and when the true line of that step comes nobody is accused"""
+    net = quiet_pair(room)
+    loom = net.loom
+    net.night()
+    line, message = forged(net)
+    into = "box-shop/bank/in"
+    before = received(loom, "shop")
+    loom.put(f"{into}/line", loom.read(f"{into}/line") + line + NO_SIGNATURE)
+    net.turn("shop", 0, "no line with one signature and nothing behind it: not taken")
+    loom.put(f"{into}/message", message)
+    net.turn("shop", 0, "waits for its signed line")
+    net.turn("shop", 10, "ask bank")
+    loom.put(f"{into}/line", line + NO_SIGNATURE)
+    net.turn("shop", 10, "isn't signed by the key", absent=("is recorded",))
+    if received(loom, "shop") != before:
+        raise Wrong(f"  a made-up line was received: {received(loom, 'shop')}")
+    bring_true_step(net)
+    net.turn("shop", 0, "is recorded", absent=("EVIDENCE", "another"))
+    if forks_of(net, "shop", "bank"):
+        raise Wrong("  somebody is accused")
+
+
+def false_record(room):
+    """made-up lines that stand in a box among the signed ones, and two of them as if they had been signed for one step, bring no message and accuse nobody"""
+    net = quiet_pair(room)
+    loom = net.loom
+    net.night()
+    line, message = forged(net)
+    kept = "box-shop/bank/kept"
+    other = other_of(loom.read(f"{kept}/taken"))
+    loom.put(f"{kept}/signed", loom.read(f"{kept}/signed") + line + NO_SIGNATURE + other + NO_SIGNATURE + b"shop 1 " + b"a" * 64 + b"\n" + NO_SIGNATURE)
+    loom.put("box-shop/bank/in/message", message)
+    before = received(loom, "shop")
+    net.turn("shop", 10, "rests on a line that isn't signed by a key", absent=("EVIDENCE",))
+    if received(loom, "shop") != before:
+        raise Wrong("  a made-up line was received")
+    bring_true_step(net)
+    net.turn("shop", 10, "is recorded", "whose signature isn't good", "shows nothing against it", absent=("EVIDENCE",))
+    net.turn("shop", 0, absent=("EVIDENCE",))
+    true = loom.read(f"{kept}/taken")
+    step = true.split()[1].decode()
+    for text in (true, other_of(true)):
+        loom.put(f"{kept}/forks/{step}-{text.split()[2].decode()}", text + NO_SIGNATURE)
+    net.turn("shop", 10, f"of its step {step}", "not two are signed", "shows nothing against it", absent=("EVIDENCE",))
+
+
+def revoked(room):
+    """a key that was taken out of the file of signers brings no message any more, not by lines that it signed before for steps to come; the new key's do"""
+    net = quiet_pair(room)
+    loom = net.loom
+    net.night()
+    line, message = forged(net)
+    loom.put("box-shop/bank/in/line", signed(loom, "bank", line))
+    net.turn("shop", 0)
+    (loom.folder / "box-shop/allowed_signers").unlink()
+    os.rename(loom.folder / "bank.key", loom.folder / "old.key")
+    os.unlink(loom.folder / "bank.key.pub")
+    loom.key("bank")
+    loom.expect("accept box-shop bank --key bank.key.pub", 10)
+    loom.put("box-shop/bank/in/message", message)
+    before = received(loom, "shop")
+    loom.put("box-shop/bank/in/line", signed(loom, "old", line))
+    net.turn("shop", 10, "rests on a line that isn't signed by a key", "isn't signed by the key")
+    if received(loom, "shop") != before:
+        raise Wrong("  a revoked key brought a message")
+    bring_true_step(net)
+    done = net.turn("shop", 11, "is recorded", "shows nothing against it", "--kept box-shop/bank/kept/lines", absent=("EVIDENCE",))
+    if received(loom, "shop") == before or forks_of(net, "shop", "bank"):
+        raise Wrong(f"  {done}")
+    loom.expect(["keep", "--choose", "right", "--by", "by telephone", "--kept", "box-shop/bank/kept/lines"], 0, "It counts")
+    net.turn("shop", 0)
+
+
+def resigned(room):
+    """a peer whose key was changed signs its last line anew, and its message is taken though the line had been kept with the old signature"""
+    net = pair(room)
+    loom = net.loom
+    loom.append("bank", b"new")
+    net.turn("bank", 0)
+    loom.put("box-shop/bank/in/line", loom.read("box-bank/shop/out/line"))
+    net.turn("shop", 0)
+    for path in ("bank.key", "bank.key.pub", "box-shop/allowed_signers"):
+        (loom.folder / path).unlink()
+    loom.key("bank")
+    loom.expect("accept box-shop bank --key bank.key.pub", 10)
+    net.turn("bank", 0)
+    net.carry("bank", "shop")
+    net.turn("shop", 0, "is recorded", absent=("isn't signed",))
+
+
+def long_ago(room):
+    """another line of a step that was signed long ago, behind many others, is evidence; it is told each night while both are remembered"""
+    net = quiet_pair(room)
+    loom = net.loom
+    old = b"bank 3 " + b"c" * 64 + b"\n"
+    many = [signed(loom, "bank", b"bank %d %064x\n" % (step, step)) for step in range(100, 160)]
+    loom.put("box-shop/bank/kept/signed", loom.read("box-shop/bank/kept/signed") + signed(loom, "bank", old) + b"".join(many))
+    true = loom.read("box-shop/bank/in/line")
+    loom.put("box-shop/bank/in/line", signed(loom, "bank", other_of(old)))
+    net.turn("shop", 11, "EVIDENCE", "two lines of its step 3, both signed by its key", "kept/forks")
+    loom.put("box-shop/bank/in/line", true)
+    found = forks_of(net, "shop", "bank")
+    for _ in range(2):
+        net.turn("shop", 11, "EVIDENCE", "two lines of its step 3")
+    if len(found) != 2 or forks_of(net, "shop", "bank") != found or loom.read("box-shop/bank/kept/signed").count(b"bank 3 ") != 2:
+        raise Wrong(f"  {found} {forks_of(net, 'shop', 'bank')}")
+
+
+def liars_own(room):
+    """a liar that appends to its own lines what would make its accuser look false is found out by both of its lines, whose signatures were checked"""
+    net = quiet_pair(room)
+    loom = net.loom
+    true = loom.run("line", "bank").out.encode()
+    other = other_of(true)
+    for text in (true, other):
+        loom.put("box-shop/bank/in/line", signed(loom, "bank", text) + other_of(other) + NO_SIGNATURE)
+        net.turn("shop", 0, "nothing behind it: not taken", absent=("EVIDENCE",))
+    for text, status in ((true, 0), (other, 11)):
+        loom.put("box-shop/bank/in/line", signed(loom, "bank", text))
+        net.turn("shop", status)
+    for name in forks_of(net, "shop", "bank"):
+        loom.expect(["keep", f"box-shop/bank/kept/forks/{name}", "--kept", f"k{name}", "--signers", "box-shop/allowed_signers"], 0, "signed by")
+
+
+def confirmed(room):
+    """weft accept takes the line that was compared, and no other that waits by then; where a key is noted the line has to be signed by it; and a true line of
+    another step is no contradiction"""
+    net = Net(room, {"shop": ["bank"], "bank": ["shop"]})
+    loom = net.loom
+    net.night()
+    shown = net.waiting("bank", "shop")
+    loom.append("shop", b"meanwhile")
+    net.turn("shop", 10)
+    net.carry("shop", "bank")
+    loom.expect("accept box-bank shop --yes", 2, "expected one argument")
+    for bad in ("yes", shown[:-1], shown + "0", ""):
+        loom.expect(["accept", "box-bank", "shop", "--yes", bad], 2, "64 hexadecimal digits")
+    loom.expect(f"accept box-bank shop --yes {shown}", 10, "the line that waits now isn't the one of --yes", "shop 2 ")
+    loom.put("first", b"shop 1 " + shown.encode() + b"\n")
+    loom.expect("accept box-bank shop first", 12, "that of step 1", "for its line of step 2", absent=("contradict",))
+    loom.put("other", other_of(loom.read("shop.anchor")))
+    loom.expect("accept box-bank shop other", 11, "for its line of step 2")
+    # a key is noted: without a signed line, or with another's, nobody is accepted
+    good, now = loom.read("box-bank/shop/in/line"), net.waiting("bank", "shop")
+    loom.key("thief")
+    text = good.split(b"\n")[0] + b"\n"
+    for bad in (None, text, text + NO_SIGNATURE, signed(loom, "thief", text), good + other_of(text) + NO_SIGNATURE, signed(loom, "shop", other_of(text))):
+        (loom.folder / "box-bank/shop/in/line").unlink(missing_ok=True)
+        if bad is not None:
+            loom.put("box-bank/shop/in/line", bad)
+        loom.expect(f"accept box-bank shop --yes {now}", 10, "isn't signed by the key that box-bank/allowed_signers has for it", "wasn't accepted")
+        loom.expect("accept box-bank shop shop.anchor", 10, "isn't signed by the key")
+    if (loom.folder / "box-bank/shop/kept/accepted").exists():
+        raise Wrong("  it was accepted")
+    loom.put("letter", good)
+    loom.expect("accept box-bank shop letter", 0, "shop is accepted")
+    if b"signed by ED25519" not in loom.read("box-bank/shop/kept/accepted"):
+        raise Wrong(f"  {loom.read('box-bank/shop/kept/accepted')}")
+
+
+def appending_carrier(room):
+    """eight services weave for twenty-four nights (bench/network.py), and to one signed line in ten whoever carries it appends a made-up one: nobody is
+    accused but who shows two histories, and all else is as it has to be"""
+    folder = Path(room.folder) / "network"
+    folder.mkdir()
+    with ProcessPoolExecutor(len(os.sched_getaffinity(0))) as executor:
+        wrong, figures = network.played(folder, room.program, 8, 24, 1, executor, appended=0.1)
+    if wrong or not figures.shown:
+        raise Wrong(f"  {wrong[:5]}\n  {figures}")
+
+
+def cases():
+    works = (
+        second_letter, choices, clock_set_back, checked_store, handed_out, three_lines, changed_amid, noted_with_options, many_keys, dashes, behind_the_end, appended, false_record, revoked,
+        resigned, long_ago, liars_own, confirmed, appending_carrier,
+    )  # fmt: skip
+    return [case(work, "weft signed") for work in works]

@@ -1,0 +1,178 @@
+"""Tests of what becomes of a line beside others of its step: both of two that differ are kept, and neither counts until one is chosen."""
+
+import unittest
+
+from weft.deciding.keeping import Mark, Outcome, Placement, Standing, choose_line, find_standing_choice, place_line, read_mark, standing_of
+from weft.deciding.lines import LAST_STEP, Kept, Line
+
+A, B, C = "a" * 64, "b" * 64, "c" * 64
+DAY = "2026-11-29T09:40:00Z"
+NEXT = "2026-11-30T09:40:00Z"
+LAST = "2026-12-01T09:40:00Z"
+
+
+def kept(authenticator: str, how: str = "by letter", date: str = DAY) -> Kept:
+    """A kept line of one step."""
+    return Kept(Line("shop", 2, authenticator), date, how)
+
+
+def seen(*authenticators: str, date: str = DAY) -> Mark:
+    """That lines were seen that differ."""
+    return Mark(False, "shop", 2, authenticators, date, "")
+
+
+def chosen(*authenticators: str, date: str = NEXT, how: str = "by telephone") -> Mark:
+    """That the first one was chosen over the others."""
+    return Mark(True, "shop", 2, authenticators, date, how)
+
+
+class Marks(unittest.TestCase):
+    """The lines of a file that tell of contradictions."""
+
+    def test_a_mark_is_read_as_it_is_written(self) -> None:
+        for mark, text in (
+            (seen(A, B), f"contradiction: shop 2 {A} {B} {DAY}"), (seen(A, B, C), f"contradiction: shop 2 {A} {B} {C} {DAY}"),
+            (chosen(B, A), f"chosen: shop 2 {B} {A} {NEXT} by telephone"), (chosen(B, A, date="", how=""), f"chosen: shop 2 {B} {A}"),
+            (chosen(B, A, how="two  blanks "), f"chosen: shop 2 {B} {A} {NEXT} two  blanks "),
+        ):  # fmt: skip
+            self.assertEqual(mark.text, text)
+            self.assertEqual(read_mark(text), mark)
+
+    def test_capital_digits_are_the_same(self) -> None:
+        self.assertEqual(read_mark(f"chosen: shop 2 {A.upper()} {B} {NEXT} by telephone"), chosen(A, B))
+
+    def test_what_isnt_one_is_none(self) -> None:
+        for text in (
+            "", f"shop 2 {A}", f"chosen: shop 2 {A}", f"contradiction: shop 2 {A}", f"chosen: shop 2 {A} {DAY} {B}", f"chosen shop 2 {A} {B}",
+            f"other: shop 2 {A} {B}", f"chosen: shop {LAST_STEP + 1} {A} {B}", f"chosen: shop 02 {A} {B}", f"chosen: Shop 2 {A} {B}", f" chosen: shop 2 {A} {B}",
+            f"chosen: shop 2 {A}  {B}", f"chosen: {'s' * 17} 2 {A} {B}", f"chosen: shop 2 {A} {B} {DAY}\n",
+        ):  # fmt: skip
+            self.assertIsNone(read_mark(text), text)
+        self.assertIsNotNone(read_mark(f"chosen: shop {LAST_STEP} {A} {B}"))
+
+
+class Standings(unittest.TestCase):
+    """Which line of a step counts."""
+
+    def test_the_only_line_counts(self) -> None:
+        self.assertEqual(standing_of([kept(A)], []), Standing(kept(A).line, (A,), None))
+        self.assertEqual(standing_of([kept(A), kept(A, "by mail")], []).line, kept(A).line)
+        self.assertEqual(standing_of([], []), Standing(None, (), None))
+
+    def test_of_two_lines_that_differ_neither_counts(self) -> None:
+        for marks in (list[Mark](), [seen(A, B)]):
+            found = standing_of([kept(A), kept(B)], marks)
+            self.assertEqual(found, Standing(None, (A, B), None))
+            self.assertTrue(found.is_disputed)
+        self.assertFalse(standing_of([kept(A)], []).is_disputed)
+        self.assertFalse(standing_of([], []).is_disputed)
+
+    def test_the_chosen_one_counts_and_that_they_differed_stays(self) -> None:
+        for line, mark in ((A, chosen(A, B)), (B, chosen(B, A))):
+            found = standing_of([kept(A), kept(B)], [seen(A, B), mark])
+            self.assertEqual(found, Standing(kept(line).line, (A, B), mark))
+            self.assertFalse(found.is_disputed)
+
+    def test_a_line_that_was_seen_is_not_forgotten_when_it_is_taken_out(self) -> None:
+        found = standing_of([kept(A)], [seen(A, B)])
+        self.assertEqual((found.line, found.is_disputed), (None, True))
+        self.assertEqual(standing_of([kept(A)], [chosen(A, B)]).line, kept(A).line)
+        self.assertTrue(standing_of([], [seen(A, B)]).is_disputed)
+
+    def test_without_the_chosen_line_none_counts(self) -> None:
+        found = standing_of([kept(B)], [chosen(A, B)])
+        self.assertEqual((found.line, found.is_disputed), (None, False))
+
+    def test_a_further_line_that_differs_opens_it_again(self) -> None:
+        found = standing_of([kept(A), kept(B), kept(C)], [seen(A, B), chosen(A, B)])
+        self.assertEqual((found.line, found.is_disputed, found.authenticators), (None, True, (A, B, C)))
+        found = standing_of([kept(A), kept(B), kept(C)], [seen(A, B), chosen(A, B), seen(A, B, C), chosen(C, A, B)])
+        self.assertEqual(found.line, kept(C).line)
+
+    def test_the_last_choice_counts(self) -> None:
+        marks = [chosen(A, B), chosen(B, A, date=LAST)]
+        for order in (marks, marks[::-1]):
+            self.assertEqual(standing_of([kept(A), kept(B)], order).line, kept(B).line)
+
+    def test_two_choices_of_one_moment_that_differ_are_none(self) -> None:
+        found = standing_of([kept(A), kept(B)], [chosen(A, B), chosen(B, A)])
+        self.assertEqual((found.line, found.is_disputed), (None, True))
+        self.assertEqual(standing_of([kept(A), kept(B)], [chosen(A, B), chosen(A, B, how="again")]).line, kept(A).line)
+
+    def test_a_later_mark_of_the_same_lines_undoes_no_choice(self) -> None:
+        self.assertEqual(standing_of([kept(A), kept(B)], [chosen(A, B), seen(B, A, date=LAST)]).line, kept(A).line)
+
+
+class Placing(unittest.TestCase):
+    """What becomes of a line that is to be kept."""
+
+    def test_a_line_is_added_once_for_each_way_in_which_it_came(self) -> None:
+        self.assertEqual(place_line(kept(A), [], []), Placement(Outcome.NEW, (kept(A),)))
+        again = kept(A, date=NEXT)
+        self.assertEqual(place_line(again, [kept(A)], []), Placement(Outcome.KNOWN, ()))
+        self.assertEqual(place_line(kept(A, "by mail"), [kept(A)], []), Placement(Outcome.NEW, (kept(A, "by mail"),)))
+
+    def test_the_second_letter_leaves_a_trace(self) -> None:
+        second = kept(B, date=NEXT)
+        found = place_line(second, [kept(A)], [])
+        self.assertEqual(found, Placement(Outcome.CONTRADICTING, (second, seen(A, B, date=NEXT))))
+        after = standing_of([kept(A), second], [seen(A, B, date=NEXT)])
+        self.assertTrue(after.is_disputed)
+
+    def test_a_line_of_two_that_differ_is_told_each_time(self) -> None:
+        both, marks = [kept(A), kept(B)], [seen(A, B)]
+        self.assertEqual(place_line(kept(A, date=NEXT), both, marks), Placement(Outcome.CONTRADICTING, ()))
+        self.assertEqual(place_line(kept(B, "by mail"), both, marks), Placement(Outcome.CONTRADICTING, (kept(B, "by mail"),)))
+
+    def test_two_that_were_put_there_by_hand_are_marked(self) -> None:
+        self.assertEqual(place_line(kept(A, date=NEXT), [kept(A), kept(B)], []), Placement(Outcome.CONTRADICTING, (seen(A, B, date=NEXT),)))
+
+    def test_beside_a_choice(self) -> None:
+        both, marks = [kept(A), kept(B)], [seen(A, B), chosen(A, B)]
+        self.assertEqual(place_line(kept(A), both, marks), Placement(Outcome.KNOWN, ()))
+        self.assertEqual(place_line(kept(A, "by mail"), both, marks), Placement(Outcome.NEW, (kept(A, "by mail"),)))
+        self.assertEqual(place_line(kept(B), both, marks), Placement(Outcome.NOT_CHOSEN, ()))
+        self.assertEqual(place_line(kept(B, "by mail"), both, marks), Placement(Outcome.NOT_CHOSEN, (kept(B, "by mail"),)))
+        third = kept(C, date=LAST)
+        self.assertEqual(place_line(third, both, marks), Placement(Outcome.CONTRADICTING, (third, seen(A, B, C, date=LAST))))
+
+
+class StandingChoices(unittest.TestCase):
+    """Whether a new choice counts beside the earlier ones."""
+
+    def test_a_choice_counts_behind_all_earlier_dates(self) -> None:
+        self.assertIsNone(find_standing_choice(chosen(B, A, date=LAST), [seen(A, B), chosen(A, B, date=DAY), chosen(B, A)]))
+        self.assertIsNone(find_standing_choice(chosen(B, A), []))
+
+    def test_a_clock_that_was_set_back_makes_no_choice_that_does_not_count(self) -> None:
+        earlier = [chosen(A, B, date=NEXT), chosen(A, B, date=LAST), chosen(B, A, date=NEXT)]
+        for order in (earlier, earlier[::-1]):
+            self.assertEqual(find_standing_choice(chosen(B, A, date=DAY), order), chosen(A, B, date=LAST))
+
+    def test_nor_does_a_second_choice_of_one_moment(self) -> None:
+        self.assertEqual(find_standing_choice(chosen(B, A), [chosen(A, B)]), chosen(A, B))
+
+    def test_marks_and_choices_of_other_lines_stand_over_none(self) -> None:
+        self.assertIsNone(find_standing_choice(chosen(B, A, date=DAY), [seen(A, B, date=LAST), chosen(A, B, C, date=LAST)]))
+
+
+class Choosing(unittest.TestCase):
+    """What a choice writes."""
+
+    def test_a_line_is_chosen_over_all_others_that_were_seen(self) -> None:
+        both = [kept(A), kept(B)]
+        self.assertEqual(choose_line(kept(B).line, both, [seen(A, B)], NEXT, "by telephone"), chosen(B, A))
+        self.assertEqual(choose_line(kept(B).line, [kept(B)], [seen(A, C, B)], NEXT, "by telephone"), chosen(B, A, C))
+
+    def test_nothing_is_chosen_where_there_is_no_other_line(self) -> None:
+        self.assertIsNone(choose_line(kept(A).line, [kept(A)], [], NEXT, "by telephone"))
+        self.assertIsNone(choose_line(kept(A).line, [], [], NEXT, "by telephone"))
+
+    def test_what_is_chosen_isnt_chosen_twice_and_may_be_chosen_otherwise(self) -> None:
+        both, marks = [kept(A), kept(B)], [seen(A, B), chosen(A, B)]
+        self.assertIsNone(choose_line(kept(A).line, both, marks, LAST, "again"))
+        self.assertEqual(choose_line(kept(B).line, both, marks, LAST, "by telephone"), chosen(B, A, date=LAST))
+
+
+if __name__ == "__main__":
+    unittest.main()

@@ -1,0 +1,90 @@
+"""Tests of which signed lines are handed on tonight, where there are more than one file takes."""
+
+import unittest
+
+from weft.deciding.sharing import choose_names, choose_receipts, count_nights, move_cursor, order_lines
+
+ROOM = 128
+
+
+def names_of(count: int) -> list[str]:
+    """So many names."""
+    return [f"p{number:04}" for number in range(count)]
+
+
+def handed_on(count: int, turns: int, first: int = 0, each: int = 1) -> list[set[str]]:
+    """The names that are carried in so many nights, of `each` turns a night, of which the last one is carried."""
+    names, cursor, found = names_of(count), 0, []
+    for turn in range(first, first + turns * each):
+        if (turn - first) % each == each - 1:
+            found.append(set(choose_names(names, ROOM, cursor)))
+        cursor = move_cursor(cursor, count, ROOM, turn)
+    return found
+
+
+class Turns(unittest.TestCase):
+    """In how many nights each name is handed on."""
+
+    def test_as_many_as_fit_are_handed_on_each_night(self) -> None:
+        for count in (0, 1, 127, 128):
+            self.assertEqual(choose_names(names_of(count), ROOM, 77), names_of(count))
+            self.assertEqual((count_nights(count, ROOM), move_cursor(77, count, ROOM, 1)), (1, 0))
+
+    def test_300_need_3_nights_and_1000_need_8(self) -> None:
+        counts = (129, 239, 240, 300, 367, 368, 1000)
+        self.assertEqual([count_nights(count, ROOM) for count in counts], [2, 2, 3, 3, 3, 4, 8])
+
+    def test_no_name_is_never_handed_on(self) -> None:
+        for count in (129, 141, 200, 239, 240, 256, 300, 367, 368, 384, 1000):
+            nights = count_nights(count, ROOM)
+            found = handed_on(count, 5 * nights, first=count)
+            for begin in range(len(found) - nights + 1):
+                self.assertEqual(set().union(*found[begin : begin + nights]), set(names_of(count)), (count, begin))
+
+    def test_no_night_hands_on_more_than_there_is_room_for(self) -> None:
+        self.assertEqual({len(names) for names in handed_on(300, 20)}, {ROOM})
+
+    def test_who_makes_some_turns_for_each_one_that_is_carried_hands_on_all_too(self) -> None:
+        for count in (141, 256, 300, 384, 1000):
+            for each in range(2, 9):
+                found = handed_on(count, 40 * count_nights(count, ROOM), each=each)
+                self.assertEqual(set().union(*found), set(names_of(count)), (count, each))
+
+    def test_the_names_stand_in_a_circle(self) -> None:
+        names = names_of(5)
+        self.assertEqual(choose_names(names, 3, 4), ["p0004", "p0000", "p0001"])
+        self.assertEqual(choose_names(names, 3, 5), ["p0000", "p0001", "p0002"])
+
+    def test_the_cursor_moves_as_it_says(self) -> None:
+        for turn in range(200):
+            moved = (move_cursor(299, 300, ROOM, turn) - 299) % 300
+            self.assertTrue(86 <= moved <= ROOM, moved)
+        self.assertEqual(len({move_cursor(0, 300, ROOM, turn) for turn in range(999)}), ROOM - 86 + 1)
+
+
+class Order(unittest.TestCase):
+    """In which order lines are handed on."""
+
+    def test_the_newest_of_each_stands_first(self) -> None:
+        self.assertEqual(order_lines([[3, 2, 1], [30], [], [200, 100]], 99), [3, 30, 200, 2, 100, 1])
+
+    def test_what_there_is_no_room_for_are_the_oldest(self) -> None:
+        self.assertEqual(order_lines([[3, 2, 1], [30, 20], [200, 100]], 5), [3, 30, 200, 2, 20])
+        self.assertEqual(order_lines([[3], [30]], 0), [])
+        self.assertEqual(order_lines([], 5), [])
+
+
+class Receipts(unittest.TestCase):
+    """Which receipts a peer gets."""
+
+    def test_a_peer_gets_none_back_that_it_told_itself(self) -> None:
+        self.assertEqual(choose_receipts("abcde", {"b", "e"}, 99), ["a", "c", "d"])
+        self.assertEqual(choose_receipts("ab", {"a", "b", "c"}, 99), [])
+
+    def test_what_there_is_no_room_for_are_the_first_of_those_that_it_gets(self) -> None:
+        self.assertEqual(choose_receipts("abcde", {"e"}, 2), ["c", "d"])
+        self.assertEqual(choose_receipts("abcde", set(), 0), [])
+
+
+if __name__ == "__main__":
+    unittest.main()

@@ -1,0 +1,184 @@
+"""Whether a store may make a step: it may be an old one that was put back, and nothing inside it can tell that.
+
+What tells it stands elsewhere: the lines beside the store, and what each peer last said of it. So a step is made only where none of these
+lines is of another history, and, where the store or its box may come from a backup, only once each peer's word has come anew.
+
+How these functions, `weft.own`, `weft log` and `weft exchange` go together:
+
+1. `SERVICE.lines` and `SERVICE.anchor` have the lines of the service's own; `SERVICE.look` stands there while a look goes on, and has the
+   moment when it began, in seconds since 1970 (`OwnLines.look_since`, `begin_look`, `end_look`). While it is there `weft log` makes no
+   step and ends with 17.
+2. At its end each turn of `weft exchange` that made no mistake notes the moment in its box. At its beginning the turn asks `must_look`;
+   where the answer is yes and no look goes on, it begins one. `weft exchange --look` begins one anew.
+3. The turn reads from each peer of the box that a person accepted (but those of --despite) what that peer hands back of this service, and
+   from all others too what counts as evidence (lines signed by its own key). They are handed to `judge_turn` as `Told`, those of the files
+   beside the store first. Of each accepted peer it hands in a `Word`: when its last word came. That is the time at which the file was
+   changed on this device (`st_ctime`, which no carrier and no restored backup sets back), of `in/yours`; of a peer that has recorded
+   nothing of this service, of `in/line`.
+4. `Go.OLD`: the turn ends with 17 and the sentence of `own.old_store`; nothing is put out. `Go.WAIT`: it takes no message, makes no step,
+   signs nothing and puts nothing out, tells for whom it waits, and ends with 10. `Go.ON`: the look is at its end (`end_look`), and the
+   turn is made.
+5. Before all of that `weft log` and `weft exchange` ask `OwnLines.check`, which makes no step where the store has steps and no lines
+   beside it (17), until `--adopt-store LINE` (`own.add_adopt`, `own.named_line`, `OwnLines.adopt`, which goes before `check`) names its
+   last line. That ends a look too.
+
+6. `SERVICE.seal` names the very file that it is (its number on its device, and that number's generation), and the line that was noted last. A
+   copy is another file: so a store that was put back with all that stood beside it is known as a copy (`is_copied`). Then `weft log` ends with 17, and `weft exchange` begins a look; where no
+   peer is accepted, who could tell, it ends with 17 too. `--adopt-store`, or a look that is at its end, makes the seal anew.
+
+A word counts a day after the look began: by then a peer that makes a turn each night has taken what was carried to it before, and has
+told so. A peer that is gone for good is passed over by --despite PEER."""
+
+from __future__ import annotations
+
+import re
+from enum import Enum
+from typing import Mapping, NamedTuple, Optional, Sequence
+
+from weft.deciding.lines import Line, read_line
+
+IDENTITY = re.compile(r"[0-9]{1,20}\.[0-9]{1,10}")
+DAY = 86_400
+LONG_AGO = 26 * 3_600
+
+
+class Told(NamedTuple):
+    """A line of the own service that stands elsewhere than in the store, and where, as a sentence's end: `handed back by bank`."""
+
+    line: Line
+    whence: str
+
+
+class Word(NamedTuple):
+    """When an accepted peer's last word of the own service came to the box, in seconds since 1970; None where none is there."""
+
+    peer: str
+    came: Optional[int]
+
+
+class Go(Enum):
+    """What a turn does: it goes on, waits for peers' words, or ends since the store is an old or another one."""
+
+    ON = "on"
+    WAIT = "wait"
+    OLD = "old"
+
+
+class Answer(NamedTuple):
+    """What a turn does; where the store is an old or another one, the line that it lacks; where it waits, the peers for whom."""
+
+    go: Go
+    lacking: Optional[Told] = None
+    waiting: tuple[str, ...] = ()
+
+
+class Beside(NamedTuple):
+    """What stands beside a store: its lines; its entries; and whether it ought to have entries, as a store has in which a step with
+    events was made and that is one of a log."""
+
+    has_lines: bool
+    has_entries: bool
+    needs_entries: bool
+
+
+class Seal(NamedTuple):
+    """What says that files are where they were written, and no copy: which file it is that says so; and the last line that was noted
+    then."""
+
+    identity: str
+    line: Line
+
+
+class Missing(Enum):
+    """What is missing beside a store with steps."""
+
+    NOTHING = "nothing"
+    LINES = "lines"
+    ENTRIES = "entries"
+
+
+class Named(Enum):
+    """What the line is by which a person names a store: its last one; one of another service, of a later step, of another history, or of
+    an older step."""
+
+    LAST = "last"
+    OTHER_SERVICE = "other service"
+    LATER = "later"
+    OTHER_HISTORY = "other history"
+    OLDER = "older"
+
+
+def list_steps_to_prove(last: Line, told: Sequence[Told]) -> list[int]:
+    """The own line of a told step has to be proved by the store where that step is its own, and neither 0 nor its last one; each step
+    once, rising."""
+    return sorted({it.line.step for it in told if it.line.service == last.service and 0 < it.line.step < last.step})
+
+
+def find_lacking(last: Line, proved: Mapping[int, Line], told: Sequence[Told]) -> Optional[Told]:
+    """A store lacks a told line of its service where it has no such step, or has another one of that number; the first such line is the
+    answer. The line of step 0 follows from the name, and is never lacking."""
+    for it in told:
+        own = last if it.line.step == last.step else proved.get(it.line.step)
+        if it.line.service == last.service and it.line.step > 0 and own != it.line:
+            return it
+    return None
+
+
+def must_look(is_asked: bool, last_turn: Optional[int], now: int) -> bool:
+    """Peers' words have to be waited for where a person asks for it, and where the box's last turn is more than 26 hours ago, or lies
+    ahead: then the box or the store may come from a backup. A box without a turn has nothing to be old."""
+    if is_asked:
+        return True
+    return last_turn is not None and not 0 <= now - last_turn <= LONG_AGO
+
+
+def has_come(word: Word, since: int, settled: int = DAY) -> bool:
+    """A peer's word has come where its file came a day or more after the look began: what came sooner may have been said before."""
+    return word.came is not None and word.came >= since + settled
+
+
+def judge_turn(
+    last: Line, proved: Mapping[int, Line], told: Sequence[Told], words: Sequence[Word], since: Optional[int], settled: int = DAY
+) -> Answer:
+    """A turn goes on where the store lacks no line that is told of it and, while a look goes on (since that moment), each peer's word
+    has come. A line that it lacks counts at once, whenever it came."""
+    lacking = find_lacking(last, proved, told)
+    if lacking is not None:
+        return Answer(Go.OLD, lacking)
+    waiting = () if since is None else tuple(word.peer for word in words if not has_come(word, since, settled))
+    return Answer(Go.WAIT, None, waiting) if waiting else Answer(Go.ON)
+
+
+def read_seal(text: str) -> Optional[Seal]:
+    """A seal is the identity of a file and a line; what is none says nothing."""
+    identity, _, line = text.removesuffix("\n").partition(" ")
+    found = read_line(line)
+    return Seal(identity, found) if IDENTITY.fullmatch(identity) and found is not None else None
+
+
+def is_copied(last: Line, seal: Optional[Seal], identity: Optional[str]) -> bool:
+    """A store with steps is a copy where no seal stands beside it, or one that isn't the very file that it names. Whether it is an old one
+    nothing beside it can tell then."""
+    return last.step > 0 and (seal is None or seal.identity != identity)
+
+
+def find_missing(last: Line, beside: Beside) -> Missing:
+    """A store with steps makes none where its lines don't stand beside it, or the entries that it ought to have don't: it may have been
+    copied without them, and then nothing tells whether it is an old one."""
+    if last.step == 0:
+        return Missing.NOTHING
+    if not beside.has_lines:
+        return Missing.LINES
+    return Missing.ENTRIES if beside.needs_entries and not beside.has_entries else Missing.NOTHING
+
+
+def compare_named(last: Line, proved: Optional[Line], named: Line) -> Named:
+    """A store is taken for the right one only where the line by which a person names it is its last one. `proved` is its own line of the
+    named step, where that is below its last."""
+    if named.service != last.service:
+        return Named.OTHER_SERVICE
+    if named.step > last.step:
+        return Named.LATER
+    if named.step == last.step:
+        return Named.LAST if named == last else Named.OTHER_HISTORY
+    return Named.OLDER if named == proved else Named.OTHER_HISTORY

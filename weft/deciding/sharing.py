@@ -1,0 +1,47 @@
+"""Which signed lines of its peers a service hands on tonight, where there are more than one file takes: by turns, so that each peer's line goes round. And
+which receipts."""
+
+from __future__ import annotations
+
+import hashlib
+from itertools import chain, islice, zip_longest
+from typing import Collection, Optional, Sequence, TypeVar
+
+Handed = TypeVar("Handed")
+
+
+def count_nights(count: int, room: int) -> int:
+    """Within so many turns in a row each peer's line is handed on, of so many peers, where so many fit into a night: 1 of as many as fit, 3 of 300 and 8 of
+    1,000 where 128 fit. (An eighth of a night is left over in each round.)"""
+    return 1 if count <= room else (count + room // 8) // room + 1
+
+
+def choose_names(names: Sequence[str], room: int, cursor: int) -> list[str]:
+    """Of names in a circle those are handed on that stand from the cursor on, as many as there is room for; where there is room for all, all."""
+    if len(names) <= room:
+        return list(names)
+    place = cursor % len(names)
+    return [*names[place:], *names[:place]][:room]
+
+
+def move_cursor(cursor: int, count: int, room: int, turn: int) -> int:
+    """The cursor moves on by as much as the room, or by less as far as room is left over, drawn by the number of the turn: so each name is handed on within
+    `count_nights` turns, and somebody who makes three turns for each one that is carried doesn't hand on the same names each time."""
+    nights = count_nights(count, room)
+    if nights == 1:
+        return 0
+    least = -(-(count - room) // (nights - 1))
+    drawn = int.from_bytes(hashlib.sha256(str(turn).encode()).digest()[:4], "big") % (room - least + 1)
+    return (cursor + least + drawn) % count
+
+
+def order_lines(lines: Sequence[Sequence[Handed]], room: int) -> list[Handed]:
+    """Of lists of lines, each with its newest first, first the newest of each is handed on, then the second of each, and so on, as long as there is room."""
+    rows: chain[Optional[Handed]] = chain.from_iterable(zip_longest(*lines))
+    return [it for it in rows if it is not None][:room]
+
+
+def choose_receipts(known: Sequence[Handed], told: Collection[Handed], room: int) -> list[Handed]:
+    """A peer gets the last receipts that are known, but for those that it told itself: handed back to it they would look as if this service told them, and
+    whoever told a receipt that fails is doubted."""
+    return list(islice((it for it in reversed(known) if it not in told), room))[::-1]

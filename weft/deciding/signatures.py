@@ -1,0 +1,172 @@
+"""Signed lines and public keys: which bytes are one, so that what is kept is byte for byte what was checked.
+
+A signed line is a line with its line end, and behind it its signature in the armour of ssh-keygen. A public key is one line, `type key [comment]`."""
+
+from __future__ import annotations
+
+import base64
+import binascii
+import hashlib
+import re
+import struct
+from enum import Enum
+from typing import Iterable, NamedTuple, Optional, Union
+
+from weft.deciding.lines import Line, read_line
+
+NAMESPACE = "timeweave-line"
+BEGIN, END = b"-----BEGIN SSH SIGNATURE-----", b"-----END SSH SIGNATURE-----"
+ARMOUR = re.compile(BEGIN + rb"\n(?:[A-Za-z0-9+/=]{1,128}\n)+" + END + rb"\n")
+NAMESPACES = re.compile(rb'namespaces="([^"]*)"')
+MOST_BYTES = 65_536
+KEY_KINDS = (
+    b"ssh-ed25519", b"ssh-rsa", b"ecdsa-sha2-nistp256", b"ecdsa-sha2-nistp384", b"ecdsa-sha2-nistp521", b"sk-ssh-ed25519@openssh.com",
+    b"sk-ecdsa-sha2-nistp256@openssh.com",
+)  # fmt: skip
+
+
+# ---- signed lines
+
+
+class Signed(NamedTuple):
+    """A line, and its signature in the armour of ssh-keygen; whether it is good isn't said by that."""
+
+    line: Line
+    signature: bytes
+
+    @property
+    def text(self) -> bytes:
+        """What is signed: the line with its line end."""
+        return f"{self.line.text}\n".encode()
+
+    @property
+    def data(self) -> bytes:
+        """Both in one file: the line, and behind it the signature."""
+        return self.text + self.signature
+
+
+def read_armour(data: bytes) -> Optional[bytes]:
+    """An armour is one line BEGIN, lines of base64 alone, and one line END that ends the file; the answer is its bytes with plain line ends, which are to
+    be checked and kept so, or None of other bytes."""
+    plain = data.replace(b"\r\n", b"\n")
+    armour = plain if plain.endswith(b"\n") else plain + b"\n"
+    return armour if len(data) <= MOST_BYTES and ARMOUR.fullmatch(armour) else None
+
+
+def read_signed_line(data: bytes) -> Optional[Signed]:
+    """A signed line is a line, its line end, and an armour behind which nothing stands; of other bytes the answer is None."""
+    text, _, rest = data.partition(b"\n")
+    line = read_line(text.decode("ascii", "replace").removesuffix("\r"))
+    armour = read_armour(rest)
+    return Signed(line, armour) if line is not None and armour is not None else None
+
+
+def read_signed_lines(data: bytes, services: Optional[Iterable[str]] = None) -> list[Signed]:
+    """The signed lines of a file that has them one after another, all or those of these services; what is none, or wasn't written to its end, is left
+    out, and hides no other one."""
+    found = []
+    wanted = None if services is None else {name.encode() for name in services}
+    for piece in data.split(END + b"\n")[:-1]:
+        if wanted is None or piece.partition(b" ")[0] in wanted:
+            signed = read_signed_line(piece + END + b"\n")
+            found += [signed] if signed else []
+    return found
+
+
+def cut_torn(data: bytes) -> bytes:
+    """Of a file of signed lines, one after another, what stands up to the end of the last one that was written whole."""
+    return data[: data.rfind(END + b"\n") + len(END) + 1] if END + b"\n" in data else b""
+
+
+# ---- public keys
+
+
+class KeyFault(Enum):
+    """Why a file is no public key."""
+
+    EMPTY = "it is empty"
+    PRIVATE = "it is a private key: name the file beside it that ends in .pub"
+    SEVERAL_LINES = "it has more than one line, and a public key is one line"
+    NOT_A_KEY = "its line isn't a type, a key and perhaps a comment"
+    UNKNOWN_KIND = "its line doesn't begin with a type of key that is known here"
+    OTHER_KIND = "the key in its line isn't of the type that stands in front of it"
+
+
+class PublicKey(NamedTuple):
+    """A public key: its type, and its bytes as ssh has them."""
+
+    kind: str
+    blob: bytes
+
+    @property
+    def text(self) -> str:
+        """Type and key as one line has them, without a comment and without a line end."""
+        return f"{self.kind} {base64.b64encode(self.blob).decode()}"
+
+    @property
+    def fingerprint(self) -> str:
+        """The fingerprint, as ssh-keygen tells it: of the bytes that are noted, and of no others."""
+        return "SHA256:" + base64.b64encode(hashlib.sha256(self.blob).digest()).decode().rstrip("=")
+
+    def signers_line(self, service: str) -> bytes:
+        """Its line in a file of signers, as the key of a service, for lines alone."""
+        return f'{service} namespaces="{NAMESPACE}" {self.text}\n'.encode()
+
+
+def read_public_key(data: bytes) -> Union[PublicKey, KeyFault]:
+    """A public key is exactly one line `type key [comment]` of a known type, which the key itself has too; of other bytes the answer is why not."""
+    lines = data.removesuffix(b"\n").removesuffix(b"\r").replace(b"\r", b"\n").split(b"\n")
+    if not data.strip():
+        return KeyFault.EMPTY
+    if b"PRIVATE KEY-----" in lines[0]:
+        return KeyFault.PRIVATE
+    if len(lines) > 1:
+        return KeyFault.SEVERAL_LINES
+    words = lines[0].split(None, 2)
+    if words[0] not in KEY_KINDS:
+        return KeyFault.UNKNOWN_KIND
+    blob = decode_base64(words[1]) if len(words) > 1 else None
+    if not blob:
+        return KeyFault.NOT_A_KEY
+    if not blob.startswith(struct.pack(">I", len(words[0])) + words[0]):
+        return KeyFault.OTHER_KIND
+    return PublicKey(words[0].decode(), blob)
+
+
+def decode_base64(text: bytes) -> Optional[bytes]:
+    """The bytes of a text in base64, where it is the one text of these bytes; else None."""
+    try:
+        found = base64.b64decode(text, validate=True)
+    except binascii.Error:
+        return None
+    return found if base64.b64encode(found) == text else None
+
+
+class Addition(Enum):
+    """What a key is to a file of signers, as that of a service."""
+
+    KNOWN = "it is noted already"
+    NEW = "none is noted of that name"
+    OTHER = "another one is noted of that name"
+    LIMITED = "it is noted with options under which it may not count"
+
+
+def may_sign_lines(line: bytes) -> bool:
+    """A key in a file of signers counts for lines where its options name no authority and no time, and either no namespaces or that of lines as well."""
+    words = line.split()
+    kind = next((place for place, word in enumerate(words) if word in KEY_KINDS), len(words))
+    options = b" ".join(words[1:kind]).lower()
+    named = NAMESPACES.search(options)
+    is_limited = b"cert-authority" in options or b"valid-" in options
+    return not is_limited and (named is None or NAMESPACE.encode() in named[1].split(b","))
+
+
+def place_key(key: PublicKey, noted: Iterable[bytes]) -> Addition:
+    """A key is added where the lines of its service in the file of signers, which are these, have none; a second one is never added beside another. One that
+    is there alone with options under which it may not count isn't called noted."""
+    lines = list(noted)
+    blob = key.text.split(" ")[1].encode()
+    same = [line for line in lines if blob in line.split()]
+    if same:
+        return Addition.KNOWN if any(map(may_sign_lines, same)) else Addition.LIMITED
+    return Addition.OTHER if lines else Addition.NEW

@@ -1,0 +1,262 @@
+"""What came of judging a file: what is said first, the status of it by itself, and the sentences. One judgement is told in the same words
+everywhere."""
+
+from __future__ import annotations
+
+import hashlib
+import os
+from typing import NamedTuple, Optional
+
+from weft import choosing, files, formats, kinds, reports
+from weft.choosing import BoundHistory, Judgement
+from weft.deciding.choosing import Beside, Extent, Headline, choose_headline, choose_history_headline, hold_line
+from weft.deciding.worst import worst_of
+from weft.judges import Bench
+from weft.lines import KeptLines, Line, anchors
+from weft.reports import Report
+from weft.statuses import Status
+from weft.texts import count_of, name_of, printable, shown_event, steps_of
+from weft.trouble import Trouble
+
+MOST_TOLD = 8
+
+
+class Named(NamedTuple):
+    """A file with its bytes and its kind."""
+
+    path: str
+    data: bytes
+    kind: str
+
+
+class Outcome(NamedTuple):
+    """What is said first, and what stands behind it there; the status; the sentences; and the kept lines that what was judged
+    contradicts."""
+
+    headline: Headline
+    status: Status
+    told: list[str]
+    contradicted: list[Line]
+    aside: str = ""
+
+    @property
+    def title(self) -> str:
+        """What is said first, with what stands behind it."""
+        return f"{self.headline.value}{self.aside}"
+
+
+def judgement_of(judge: Bench, kept: KeptLines, group: list[Named], allow_carried: bool, top: Optional[int] = None) -> Judgement:
+    """The judgement of what is judged together."""
+    it = group[0]
+    if top is not None and it.kind != "history":
+        raise Trouble(Status.USAGE, "--top is for a history", "A proof is under the line of its own top.")
+    if it.kind.endswith("map"):
+        if len(group) == 1:
+            other = "high" if it.kind.startswith("low") else "low"
+            raise Trouble(Status.MISSING, f"{name_of(it.path)} is one of two map files", f"Name the {other} one of the same step beside it.")
+        return choosing.judge_map(judge, group[0].data, group[1].data, kept)
+    if it.kind == "evidence":
+        return choosing.judge_evidence(judge, it.data, kept)
+    if it.kind == "history":
+        return choosing.judge_history(judge, it.data, kept, top)
+    if it.kind in ("message", "receipts", "events", "text"):
+        raise no_proof(it)
+    return choosing.judge_proof(judge, it.data, kept, allow_carried)
+
+
+def no_proof(it: Named) -> Trouble:
+    """That a file is of a kind that isn't judged."""
+    named, path = kinds.text_named(it.data) if it.kind == "text" else kinds.NAMES[it.kind], name_of(it.path)
+    if not it.data:
+        return Trouble(Status.UNREADABLE, f"{path} is empty", "Ask for it again.")
+    if named is None:
+        return Trouble(Status.UNREADABLE, f"{path} is no file of Timeweave", "Is it the right file?")
+    if "line" in named:
+        return Trouble(Status.UNREADABLE, f"{path} is {named}, no proof: weft keep {path}")
+    return Trouble(Status.UNREADABLE, f"{path} is no proof: it is {named}", "weft tell says what it says.")
+
+
+def outcome_of(judge: Bench, kept: KeptLines, group: list[Named], judgement: Judgement) -> Outcome:
+    """What came of a judgement of a file, or of two map files."""
+    resting = choosing.resting(judgement, kept)
+    if judgement.history is not None:
+        return outcome_of_history(judge, kept, judgement, judgement.history)
+    if judgement.verdict is None or judgement.missing:
+        hindrance = f"It can't be judged: {judgement.hindrance}. Ask for it under one step of that service."
+        told = choosing.missing_sentences(judgement.missing, kept, group[0].data) or [hindrance]
+        return Outcome(choose_headline(False, 0, True, False, False), Status.MISSING, told, [])
+    report = report_of(judge, group, judgement)
+    others, compared = beside_kept(report, kept) if report else ([], [])
+    if judgement.is_shown and report is not None:
+        told = map_sentences(report, group) or reports.sentences(report)
+    else:
+        sentence, advice = reports.reason_sentence(judgement.verdict)
+        told = [f"{sentence[0].upper()}{sentence[1:]}. {advice}".strip()]
+    carried = len(report.carried) if report else 0
+    status = Status.CONTRADICTION if others else judge.status(judgement.is_shown)
+    return Outcome(choose_headline(judgement.is_shown, carried, False, bool(others), False), status, [*told, *compared, *resting], others)
+
+
+def report_of(judge: Bench, group: list[Named], judgement: Judgement) -> Optional[Report]:
+    """What an accepted verdict says; of a proof that is refused since it carries lines alone, what it says where they are accepted; else
+    None."""
+    verdict = judgement.verdict
+    if verdict is not None and verdict.reason[1:2] == ["Carried"]:
+        verdict = judge.judge("verify", group[0].data, anchors(judgement.lines))
+    return reports.read_report(verdict) if verdict is not None and verdict.is_accepted else None
+
+
+def map_name(group: list[Named]) -> Optional[formats.MapHead]:
+    """Of which step a map is, where it is one."""
+    return formats.map_head(group[0].data) if group[0].kind.endswith("map") else None
+
+
+def map_sentences(report: Report, group: list[Named]) -> list[str]:
+    """What two map files say; of another file nothing."""
+    head = map_name(group)
+    return reports.map_sentences(report, head.service, str(head.step), head.peer) if head else []
+
+
+# ---- lines beside the kept ones
+
+
+def beside_kept(report: Report, kept: KeptLines) -> tuple[list[Line], list[str]]:
+    """What a proof tells of lines beside those of their steps that were kept: the kept ones that are others, and the sentences."""
+    others: list[Line] = []
+    told = []
+    for line in reports.told_lines(report):
+        held = kept.at(line.service, line.step)
+        beside = hold_line(line, (it.line for it in held))
+        if beside is Beside.SAME:
+            told.append(f"That is the line of step {line.step} of {line.service} that you kept: one history.")
+        elif beside is Beside.OTHER:
+            others += dict.fromkeys(it.line for it in held if it.line != line)
+            came = "; ".join(it.told for it in held if it.line != line)
+            told.append(
+                f"TWO LINES: the line of step {line.step} of {line.service} that you kept ({came}) is another one than {line.authenticator[:16]}.. of this "
+                f"file: {line.service} has shown two histories, or one of both isn't {line.service}'s. Keep this file and both lines, and show them to "
+                f"others who hold lines of {line.service}: which of both do they have? Ask {line.service} too."
+            )
+    return others, told
+
+
+# ---- histories
+
+
+def outcome_of_history(judge: Bench, kept: KeptLines, judgement: Judgement, history: BoundHistory) -> Outcome:
+    """What came of a history that was held against the kept lines of its service."""
+    resting = [*choosing.resting(judgement, kept), *computed_by(judge, judgement)]
+    headline = choose_history_headline(history.extent)
+    if history.extent is Extent.CONTRADICTED:
+        return Outcome(headline, Status.CONTRADICTION, [*contradiction_told(kept, history), *resting], history.held.differing)
+    if history.extent is Extent.UNBOUND:
+        return Outcome(headline, Status.MISSING, [*choosing.missing_sentences(judgement.missing, kept), *beyond_told(history)], [])
+    if judgement.verdict is None or not judgement.verdict.is_accepted:
+        told = "two judges differ: the reference and an audit find the line in this history, and the proof that was made of it isn't accepted"
+        raise Trouble(Status.DIFFER, told, "This is a bug: keep the history, and report it.")
+    bound = bound_sentences(history)
+    if history.extent is Extent.WHOLE:
+        return Outcome(headline, judge.status(True), [*bound, *resting], [])
+    return Outcome(headline, Status.MISSING, [*bound, *choosing.missing_sentences(judgement.missing, kept), *resting], [])
+
+
+def bound_sentences(history: BoundHistory) -> list[str]:
+    """Up to which step a history is bound, by which line, and what is its own word."""
+    line = history.held.bound
+    assert line is not None
+    told = f"It is a history of {history.service} that keeps the rules, up to step {line.step}, of which you hold the line"
+    if line.step < history.last:
+        behind = steps_of(range(line.step + 1, history.last + 1))
+        only = f"; weft judge --top {line.step} judges it up to there" if history.extent is Extent.PART else ""
+        told = f"{told}. Behind that, of {behind}, the file's word alone stands: no line that you hold binds it{only}"
+    return [f"{told}.", *agreeing_told(history), *beyond_told(history)]
+
+
+def beyond_told(history: BoundHistory) -> list[str]:
+    """That the service went on behind the file's last step, where a kept line shows it."""
+    if history.held.beyond is None:
+        return []
+    told = f"You hold a line of step {history.held.beyond} of {history.service}, and this file ends at step {history.last}: what {history.service} recorded behind that isn't in it."
+    return [f"{told} It is an older file, or was cut: ask for the whole one."]
+
+
+def agreeing_told(history: BoundHistory) -> list[str]:
+    """How many other kept lines agree."""
+    count = len(history.held.agreeing) - 1
+    return [f"{count_of(count, 'other line')} of {history.service} that you kept {'is' if count == 1 else 'are'} of it too."] if count > 0 else []
+
+
+def contradiction_told(kept: KeptLines, history: BoundHistory) -> list[str]:
+    """Which kept lines a history contradicts, which ones are of it, and how each came."""
+    service, held = history.service, history.held
+    told = [
+        f"TWO LINES: the line of step {line.step} of {service} that you kept, {line.authenticator[:16]}.. ({came(kept, line)}), isn't of this history."
+        for line in held.differing[:MOST_TOLD]
+    ]
+    if len(held.differing) > MOST_TOLD:
+        told.append(f"So it is with {count_of(len(held.differing) - MOST_TOLD, 'other line')}.")
+    told += [f"Of this history is the line of step {line.step}, {line.authenticator[:16]}.. ({came(kept, line)})." for line in held.agreeing[-MOST_TOLD:]]
+    told.append(
+        f"The file was made anew or changed, or {service} has shown two histories, or a line isn't {service}'s. Keep the file and all these lines, and show them "
+        f"to others who hold lines of {service}: which of them do they have? A line that {service} or the sender gives you now decides nothing."
+    )
+    return told
+
+
+def came(kept: KeptLines, line: Line) -> str:
+    """How a kept line came."""
+    ways = [it.told for it in kept.at(line.service, line.step) if it.line == line]
+    return "; ".join(ways) or "it was seen, and is no more in your file"
+
+
+def computed_by(judge: Bench, judgement: Judgement) -> list[str]:
+    """Who computed the authenticators of a history, and who held the lines that count against the file."""
+    if judgement.verdict is None:
+        return []
+    by = judge.seated("audit")[0].name
+    also = "" if judge.is_by_reference else f"; the lines that count here were held against the file by: {by}"
+    return [f"authenticators computed from the file by: Python reference, tested, not proved{also}"]
+
+
+# ---- a file beside the event that was recorded of it
+
+
+def with_file(judge: Bench, outcome: Outcome, judgement: Judgement, path: str) -> Outcome:
+    """The outcome of an accepted proof of an event, held against a file: of another file nothing is shown."""
+    assert judgement.verdict is not None
+    report = reports.read_report(judgement.verdict)
+    if report.kind != "exists" or judgement.history is not None:
+        raise Trouble(Status.USAGE, "--file is for the proof of one event", "Name a proof of an event.")
+    event = report.events[0].data
+    digest, _, name = event.lstrip(b"\\").partition(b"  ")
+    if len(digest) != 64:
+        return other_file(judge, outcome, f"The event is no entry of a log of files: {shown_event(event)}.", ": recorded, but as no file")
+    found = digest_of(path)
+    logged = os.path.basename(unescaped(name) if event.startswith(b"\\") else name)
+    if found.encode() != digest:
+        text = f"NOT SO: {name_of(path)} isn't the file that was logged; its SHA-256 digest is {found}."
+        return other_file(judge, outcome, text, ": recorded, but not this file")
+    if os.path.basename(os.fsencode(path)) != logged:
+        text = f"{name_of(path)} has the digest that was logged, under the name {printable(os.fsdecode(logged))}."
+        return outcome._replace(status=worst_of([outcome.status, Status.LOOK]), told=[*outcome.told, text])
+    return outcome._replace(told=[*outcome.told, f"{name_of(path)} is that file, by its digest and name."])
+
+
+def other_file(judge: Bench, outcome: Outcome, text: str, aside: str) -> Outcome:
+    """The outcome where what was recorded is another file."""
+    headline = choose_headline(True, 0, False, bool(outcome.contradicted), True)
+    return Outcome(headline, worst_of([outcome.status, judge.status(False)]), [*outcome.told, text], outcome.contradicted, aside)
+
+
+def unescaped(name: bytes) -> bytes:
+    """A file's name as sha256sum writes it, turned back."""
+    return name.replace(b"\\\\", b"\0").replace(b"\\n", b"\n").replace(b"\\r", b"\r").replace(b"\0", b"\\")
+
+
+def digest_of(path: str) -> str:
+    """The SHA-256 digest of a regular file of any size."""
+    digest = hashlib.sha256()
+    with os.fdopen(files.opened(path), "rb") as file:
+        for piece in iter(lambda: file.read(1 << 20), b""):
+            digest.update(piece)
+    return digest.hexdigest()
