@@ -154,7 +154,7 @@ function pointMarks(at, it) {
     parts.push(made("circle", { class: it.event ? "event" : "step", cx: x, cy: y, r: it.event ? 7 : 5 }));
     below(29, `step ${it.step}`);
     if (it.anchor) below(44, it.anchor.from.isSender ? "sender's line" : "your line");
-    if (it.event) parts.push(made("text", { class: "data", x, y: y - 20, "text-anchor": "middle" }, eventWords(it.event.data, 18)));
+    if (it.event) parts.push(made("text", { class: "data", x, y: y - 20, "text-anchor": "middle" }, `${eventWords(it.event.data, 18)}`));
     if (it.event?.time !== undefined) below(-37, `claims ${timeWords(it.event.time)}`);
     return parts;
 }

@@ -5,16 +5,19 @@ import { mapOf, sizeText } from "./files.mjs";
 import { asLines, asList, drawing, isShownAsLines, legendOf, pointWords } from "./picture.mjs";
 import { OWN, SENT } from "./session.mjs";
 import {
-    TOO_MANY_LINES, WITHOUT_MEMORY, aloneWords, carriedNotes, conflictWords, eventWords, faultWords, forkNotes, hexOf, lacksWords, mapNotes, mapReasonWords, missingWords, reasonWords,
-    shownLineNotes, shownSentence, shownText, strictSentence, timeNote,
+    Foreign, Sentence, TOO_MANY_LINES, WITHOUT_MEMORY, aloneWords, carriedNotes, conflictWords, escaped, eventWords, faultWords, forkNotes, hexOf, lacksWords, mapNotes, mapReasonWords, missingWords, reasonWords,
+    said, shownLineNotes, shownSentence, shownText, strictSentence, timeNote,
 } from "./words.mjs";
 
 const MOST_LISTED = 20;
 
-/** An element with properties, and with elements and texts in it. */
+/** The pieces of a sentence, in which each foreign text is an element of its own. */
+const piecesOf = (it) => (it instanceof Sentence ? it.pieces.flatMap(piecesOf) : it instanceof Foreign ? [element("bdi", { className: "foreign" }, it.text)] : [it]);
+
+/** An element with properties, and with elements, sentences and texts in it. */
 export function element(name, properties = {}, ...inside) {
     const made = Object.assign(document.createElement(name), properties);
-    made.append(...inside.filter((it) => it !== null && it !== undefined));
+    made.append(...inside.filter((it) => it !== null && it !== undefined).flatMap(piecesOf));
     return made;
 }
 
@@ -25,7 +28,9 @@ const button = (text, onclick, label = text) => {
 };
 
 const paragraph = (className, ...inside) => element("p", { className }, ...inside);
-const foreign = (text) => element("bdi", {}, text);
+/** A foreign text of several lines, which stands in a block of its own: blanks as they are. */
+const wholeText = (text) => element("bdi", { className: "foreign" }, text);
+const foreign = (text) => element("bdi", { className: "foreign" }, escaped(text));
 const number = (count) => count.toLocaleString("en");
 const lineText = ({ service, step, authenticator }) => `${service} ${step} ${authenticator}`;
 
@@ -133,10 +138,10 @@ function notesOf({ report, anchors, own, strict }) {
 
 /** The events whole, where the sentence doesn't show them so. */
 function wholeEvents({ events }) {
-    return events.filter(({ data }) => shownText(data) === null || eventWords(data) !== eventWords(data, 2000)).flatMap((event) => {
+    return events.filter(({ data }) => shownText(data) === null || `${eventWords(data)}` !== `${eventWords(data, 2000)}`).flatMap((event) => {
         const text = shownText(event.data), form = text === null ? ", in hexadecimal" : "";
         const title = `The event of ${event.service}, step ${event.step}: ${event.data.length} bytes${form}`;
-        return section(title, element("pre", {}, foreign(text ?? hexOf(event.data))));
+        return section(title, element("pre", {}, wholeText(text ?? hexOf(event.data))));
     });
 }
 
@@ -209,8 +214,9 @@ export function verdictArticle(judged, { room, onCount }) {
 
 /** What is said of all verdicts to those who don't see them. */
 export function summaryWords(judgements, conflicts = []) {
-    const told = judgements.map((judged) => `${judged.file.name}: ${headOf(judged).title}. ${headOf(judged).sentence}`);
-    return [...told, ...conflicts.map(({ first, second, told: it }) => `${first.name} and ${second.name} contradict each other. ${conflictWords(it).sentence}`)].join(" ");
+    const told = judgements.map((judged) => said`${headOf(judged).title}: ${headOf(judged).sentence} (File ${new Foreign(judged.file.name)}.)`);
+    const both = ({ first, second, told: it }) => said`Two files contradict each other: ${conflictWords(it).sentence} (Files ${new Foreign(first.name)} and ${new Foreign(second.name)}.)`;
+    return [...told, ...conflicts.map(both)].join(" ");
 }
 
 // ---- the digests of all files

@@ -17,13 +17,50 @@ export const hexOf = (bytes) => Array.from(bytes, (it) => it.toString(16).padSta
 /** Keeps a foreign text's direction to itself, where it isn't plain. */
 const isolated = (text) => (/[^\u0020-\u007e]/.test(text) ? `\u2068${text}\u2069` : text);
 
-/** The bytes of an event in at most so many characters: its text in quotes, or what else it is. */
+/** A foreign text with what nobody sees, what could end its quotes, and each blank behind two others as escapes. */
+export const escaped = (text) => text.replace(/\p{Default_Ignorable_Code_Point}|[\u2800"\\\u201c-\u201f\u2033\u2036\u301d-\u301f\uff02]|(?<=\p{Zs}{2})\p{Zs}/gu,
+    (letter) => (letter === '"' || letter === "\\" ? `\\${letter}` : `\\u{${letter.codePointAt(0).toString(16)}}`));
+
+/** A foreign text within a sentence of the page's own. What shows it gives it an element of its own; where there are letters alone it stands in quotes. */
+export class Foreign {
+    constructor(text, end = "") {
+        this.inside = escaped(text);
+        this.end = end;
+    }
+
+    get text() {
+        return this.inside + this.end;
+    }
+
+    toString() {
+        return `“${isolated(this.inside)}${this.end}”`;
+    }
+}
+
+/** A sentence in pieces: the page's own words, and foreign texts apart. */
+export class Sentence {
+    constructor(pieces) {
+        this.pieces = pieces;
+    }
+
+    toString() {
+        return this.pieces.join("");
+    }
+}
+
+/** A sentence of own words, in which foreign texts and sentences stand as pieces. */
+export function said(strings, ...values) {
+    const pieces = strings.flatMap((own, at) => [own, ...(at < values.length ? [values[at]] : [])]);
+    return new Sentence(pieces.flatMap((it) => (it instanceof Sentence ? it.pieces : [it instanceof Foreign ? it : String(it)])));
+}
+
+/** The bytes of an event in at most so many characters: its text as a foreign one, or what else it is in own words. */
 export function eventWords(data, most = 80) {
     if (!data.length) return "(no bytes)";
     const text = shownText(data);
     if (text === null) return `(${data.length} bytes that are no text)`;
     const [line] = text.split("\n"), letters = [...line], isWhole = line === text && letters.length <= most;
-    return `“${isolated(letters.slice(0, isWhole ? most : most - 1).join(""))}${isWhole ? "" : "…"}”`;
+    return new Foreign(letters.slice(0, isWhole ? most : most - 1).join(""), isWhole ? "" : "…");
 }
 
 /** A time in seconds, as a date where it is one. */
@@ -32,7 +69,7 @@ export function timeWords(seconds) {
 }
 
 const listed = (words) => (words.length < 2 ? words.join("") : `${words.slice(0, -1).join(", ")} and ${words.at(-1)}`);
-const whichEvent = (event) => `the event ${eventWords(event.data)}`;
+const whichEvent = (event) => said`the event ${eventWords(event.data)}`;
 
 /** What is said of a claimed time. */
 export function timeNote(event) {
@@ -42,15 +79,13 @@ export function timeNote(event) {
 /** What an accepted proof shows, in a sentence for each kind. */
 const SHOWN = {
     exists: ({ events: [event] }, top) =>
-        `${event.service} recorded ${whichEvent(event)} in its step ${event.step}, at index ${event.index} there. `
-        + `It stood there when the line of step ${top} was made.`,
+        said`${event.service} recorded ${whichEvent(event)} in its step ${event.step}, at index ${event.index} there. It stood there when the line of step ${top} was made.`,
     precedes: ({ events: [first, second] }) =>
-        `${first.service} recorded ${whichEvent(first)} in its step ${first.step} `
-        + `before ${second.service} recorded ${whichEvent(second)} in its step ${second.step}.`,
+        said`${first.service} recorded ${whichEvent(first)} in its step ${first.step} before ${second.service} recorded ${whichEvent(second)} in its step ${second.step}.`,
     thread: ({ received: { service, thread, archived } }) =>
         `${service} received a line of step ${thread.step} of ${thread.service}; it did so in its own step ${archived}.`,
     absent: ({ absent: { service, step, ofService, ofStep } }) =>
-        `Up to its step ${step}, ${service} received no line of step ${ofStep} of ${ofService}.`,
+        `Up to its step ${step}, ${service} received no line of step ${ofStep} of ${ofService}, if it kept the rules; an audit of its history shows whether it did.`,
     link: ({ link: { thread, top } }) =>
         `The line of step ${thread.step} of ${thread.service} and the line of its step ${top} that counts here are of one history.`,
 };
@@ -61,7 +96,7 @@ SHOWN.map = ({ map: { service, step, peer, low, high, upto } }) => {
     const after = high === undefined
         ? `Up to its step ${upto}, ${peer} received neither step ${step} of ${service} nor a later one.`
         : `Step ${high} of ${peer} is the first that received step ${step} of ${service} or a later one.`;
-    return `Before its step ${step}, ${service} ${before}. ${after}`;
+    return `If ${service} and ${peer} kept the rules: before its step ${step}, ${service} ${before}. ${after} An audit of their histories shows whether they did.`;
 };
 
 /** What accepted evidence shows of the service that is accused. */

@@ -227,7 +227,7 @@ def maps_judged(page):
     page.give("own", "both.lines")
     told = page.made.judged(["low.map", "high.map"], page.made.lines["registry"] + page.made.lines["shop"], "checkmap")
     check(page.exact() == [told] and page.titles() == ["✔ Accepted"], f"{page.exact()}, the program {told!r}")
-    page.says("Before its step 2, registry had received step 2 of shop, and no later one", "Up to its step 3, shop received neither step 2 of registry")
+    page.says("If registry and shop kept the rules: before its step 2, registry had received step 2 of shop, and no later one", "Up to its step 3, shop received neither step 2 of registry")
     check(page.browser.value("document.querySelectorAll('figure svg').length") > 0, "a map has no picture")
     page.made.put("changed.map", page.made.path("low.map").read_bytes()[:-1] + b"?")
     page.fresh().give("sent", "changed.map", "high.map").give("own", "both.lines")

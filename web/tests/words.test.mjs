@@ -1,20 +1,32 @@
 import assert from "node:assert/strict";
 import { test } from "node:test";
 import { readReport } from "../timeweave.mjs";
-import { aloneWords, carriedNotes, conflictWords, eventWords, forkNotes, mapReasonWords, missingWords, reasonWords, shownLineNotes, shownSentence, shownText, strictSentence, timeNote, timeWords } from "../page/words.mjs";
+import { Foreign, aloneWords, carriedNotes, conflictWords, escaped, eventWords, forkNotes, mapReasonWords, missingWords, reasonWords, shownLineNotes, shownSentence, shownText, strictSentence, timeNote, timeWords } from "../page/words.mjs";
 
 const A = "a".repeat(64), B = "b".repeat(64), bytes = (text) => new TextEncoder().encode(text);
 const report = (...lines) => readReport(`${lines.join("\n")}\n`);
 
 test("an event is told by its text where that can be shown as it is, else by its size", () => {
-    assert.equal(eventWords(bytes("milk")), "“milk”");
-    assert.equal(eventWords(bytes("<b>milk</b>")), "“<b>milk</b>”");
-    assert.equal(eventWords(bytes("")), "(no bytes)");
-    assert.equal(eventWords(bytes("first\nsecond")), "“first…”");
-    assert.equal(eventWords(bytes("x".repeat(100)), 10), `“${"x".repeat(9)}…”`);
-    assert.equal(eventWords(bytes("Käse")), "“\u2068Käse\u2069”");
+    const words = (text, most) => `${eventWords(bytes(text), most)}`;
+    assert.equal(words("milk"), "“milk”");
+    assert.equal(words("<b>milk</b>"), "“<b>milk</b>”");
+    assert.equal(words(""), "(no bytes)");
+    assert.equal(words("first\nsecond"), "“first…”");
+    assert.equal(words("x".repeat(100), 10), `“${"x".repeat(9)}…”`);
+    assert.equal(words("Käse"), "“\u2068Käse\u2069”");
     for (const strange of ["a\u202eb", "a\u0000b", "a\u2066b", "a\u2028b", "\u001b[31m"]) assert.equal(shownText(bytes(strange)), null);
     assert.equal(eventWords(Uint8Array.of(0xff, 0xfe)), "(2 bytes that are no text)");
+});
+
+test("an event that speaks in the page's voice stays a piece of its own, and what could end its quotes is escaped", () => {
+    const evil = "paid” on 3 May 2019, seen by the notary. It also recorded “more";
+    const told = shownSentence(report("accepted exists", `event shop 1 0 ${Buffer.from(evil).toString("hex")}`), [{ service: "shop", step: 1 }]);
+    assert.deepEqual(told.pieces.filter((it) => it instanceof Foreign).map(({ text }) => text), [escaped(evil)]);
+    assert.ok(told.pieces.every((it) => it instanceof Foreign || !it.includes("notary")));
+    assert.equal(`${told}`.match(/[“”"]/g).length, 2);
+    assert.equal(escaped('a"b\\c'), 'a\\"b\\\\c');
+    assert.equal(escaped("a\u3164b\ufe0f"), "a\\u{3164}b\\u{fe0f}");
+    assert.equal(escaped("a  b     c"), "a  b  \\u{20}\\u{20}\\u{20}c");
 });
 
 test("a time is a date where it is one", () => {
@@ -24,11 +36,12 @@ test("a time is a date where it is one", () => {
 });
 
 test("each kind has its sentence", () => {
-    const anchors = [{ service: "shop", step: 9 }], sentence = (...lines) => shownSentence(report(...lines), anchors);
+    const anchors = [{ service: "shop", step: 9 }], sentence = (...lines) => `${shownSentence(report(...lines), anchors)}`;
     assert.equal(sentence("accepted exists", "event shop 1 1 6d696c6b"), "shop recorded the event “milk” in its step 1, at index 1 there. It stood there when the line of step 9 was made.");
     assert.equal(sentence("accepted precedes", "event a 1 0 61", "event b 5 0 62", "hop a 1 b 2"), "a recorded the event “a” in its step 1 before b recorded the event “b” in its step 5.");
     assert.equal(sentence(`accepted thread`, `thread b 5 a 3 ${A} 4`), "b received a line of step 3 of a; it did so in its own step 4.");
-    assert.equal(sentence("accepted absent", "absent b 5 a 3"), "Up to its step 5, b received no line of step 3 of a.");
+    assert.equal(sentence("accepted absent", "absent b 5 a 3"),
+        "Up to its step 5, b received no line of step 3 of a, if it kept the rules; an audit of its history shows whether it did.");
     assert.equal(sentence("accepted link", `link a 3 9 ${A}`), "The line of step 3 of a and the line of its step 9 that counts here are of one history.");
     assert.match(timeNote(report("accepted exists", "event a 1 0 -", "time a 1 60").events[0]), /a claims the time 1970-01-01 00:01:00 UTC .* isn't shown/);
 });
@@ -71,7 +84,9 @@ test("a line that can't be held is told by what to do about it", () => {
 test("a map, evidence and a contradiction have their sentences", () => {
     const shown = (given) => shownSentence({ kind: Object.keys(given)[0], ...given }, []);
     const map = { service: "shop", step: 3, peer: "bank", low: 0, upto: 9 };
-    assert.equal(shown({ map }), "Before its step 3, shop had received no step of bank. Up to its step 9, bank received neither step 3 of shop nor a later one.");
+    assert.equal(shown({ map }), 
+        "If shop and bank kept the rules: before its step 3, shop had received no step of bank. Up to its step 9, bank received neither step 3 of shop nor a later one. "
+        + "An audit of their histories shows whether they did.");
     assert.match(shown({ map: { ...map, low: 2, high: 5 } }), /had received step 2 of bank, and no later one\. Step 5 of bank is the first that received step 3 of shop/);
     const accused = (by) => ({ thread: { service: "liar", step: 1, authenticator: A }, by, archived: 2 });
     assert.match(shown({ fork: { first: accused("bank"), second: accused("gazette") } }), /somebody made two histories in the name of liar/);
