@@ -11,12 +11,11 @@ LIBDIR ?= $(PREFIX)/lib
 # Names of crates, for `make wrong-bodies`; none stands for all.
 NAMES ?=
 
-# The least proof, the authenticator that it is accepted under, and another one.
-PROOF = crates/timeweave/data/p
-AUTH = 9f9cc8f6baef592ed6bf90b106ebe7b882f59a1cc9803a6d1eef6974da5f87ed
-OTHER = 0f9cc8f6baef592ed6bf90b106ebe7b882f59a1cc9803a6d1eef6974da5f87ed
+.PHONY: look build demo test check crash fuzz wrong-bodies bench
 
-.PHONY: build demo test check crash fuzz wrong-bodies bench
+# Shows the README's examples in some seconds, with Python alone: by the second implementation, which isn't proved. Nothing is built.
+look:
+	@python3 tools/look.py
 
 # Builds the program. Only a proved program is built: a build proves every crate below it first, which takes long. Where nothing
 # has changed since the last one, nothing is done. How far it is is shown; what the prover says stands in log/build.log.
@@ -24,22 +23,14 @@ build:
 	@echo "building: only a proved program is built; where its sources changed, all below it is proved first, which takes long"
 	python3 tools/build.py timeweave
 
-# Builds the program, and shows a proof accepted, the same proof rejected under another authenticator, two services that keep
-# their histories on disk, proofs of a service that received another one's step, one that an event of a service precedes an event
-# of another, over two services and over three, and an audit of such a one.
-demo: build
-	@echo; echo '$$ timeweave verify p a 1 $(AUTH)'
-	@$(PROGRAM) verify $(PROOF) a 1 $(AUTH)
-	@echo; echo '$$ timeweave verify p a 1 $(OTHER)'
-	@$(PROGRAM) verify $(PROOF) a 1 $(OTHER); test $$? -eq 1
-	@echo; examples/two_services.sh $(PROGRAM)
-	@echo; examples/archived_threads.sh $(PROGRAM)
-	@echo; examples/chain_of_three.sh $(PROGRAM)
-	@echo; examples/event_chain.sh $(PROGRAM)
-	@echo; examples/audited_chain.sh $(PROGRAM)
+# Shows the README's examples by the second implementation at once; then proves and builds the program, and shows them by it, that both say the same, two services
+# that keep their histories on disk, proofs of a service that received another one's step, one that an event precedes another, over two services and over three,
+# and an audit of such a one.
+demo:
+	@python3 tools/demo.py
 
-# The gate: every proof, wrong body, test and program, and then the acceptance run. How far it is is shown, and what it says stands in log/test.log; `.ci/run` by
-# itself says it on the screen.
+# The gate: every proof, test and program, 74 chosen wrong bodies, and then the acceptance run. How far it is is shown, and what it says stands in log/test.log;
+# `.ci/run` by itself says it on the screen.
 test:
 	python3 tools/progress.py test .ci/run
 
@@ -66,8 +57,8 @@ SEED ?= 1
 fuzz: | $(PROGRAM)
 	python3 tests/acceptance/fuzz.py $(PROGRAM) $(SECONDS) $(SEED)
 
-# The wrong bodies that the gate leaves out, which tries those that tell most; over a copy of this tree. `make wrong-bodies
-# NAMES="tw_base tw_disk"` tries those of these crates alone.
+# All wrong bodies, of which the gate tries those that tell most, over a copy of this tree; before that the crates with what these leave out. It takes hours, and writes
+# docs/wrong-bodies-tried.txt, by which `make package` goes. `make wrong-bodies NAMES="tw_base tw_disk"` tries those of these crates alone, and writes nothing.
 wrong-bodies:
 	python3 tools/wrong_bodies.py $(NAMES)
 
@@ -114,7 +105,7 @@ check bench: | $(if $(HAS_PAGE),$(PAGE))
 
 INSTALL = python3 tools/install.py --prefix $(PREFIX) --libdir $(LIBDIR) --destdir "$(DESTDIR)" --program $(PROGRAM)
 
-.PHONY: tables install install-lib install-weft package twice
+.PHONY: tables install install-lib install-weft package release twice
 
 # Writes tables/, of the sources' comments: what each public clause says, and what each definition means. Packages have both.
 tables:
@@ -135,11 +126,19 @@ install-weft:
 	$(INSTALL) weft reference
 
 # Writes dist/: packages for Debian, a tar file with the same, the page, and the digests of all; signed where KEY names a key of ssh. What they are made of has
-# to be built of these sources, and these to be committed: what is missing is told. docs/releases.md tells what is in them.
+# to be built of these sources, these to be committed, and all wrong bodies of their crates to be tried: what is missing is told. docs/releases.md tells what is in them.
 KEY ?=
 
 package:
 	python3 tools/package.py $(if $(KEY),--key $(KEY))
+
+# Writes dist/ as a release that can be judged by its files alone: what `package` writes, the sources, the vectors, licences, a list of parts, and what the gate said.
+# GATE names the log of a gate that passed on these sources, log/test.log where it isn't said; with RECORD=DIR the release is recorded in a log of Timeweave in DIR.
+GATE ?=
+RECORD ?=
+
+release:
+	python3 tools/release.py $(if $(KEY),--key $(KEY)) $(if $(GATE),--gate $(GATE)) $(if $(RECORD),--record $(RECORD))
 
 # Builds program, library, page and packages twice, in two folders, under two users, with nothing that an earlier build left, and compares: hours. With BESIDE=1
 # it builds once, and compares with dist/, where a release may lie that somebody else made.

@@ -3,7 +3,8 @@
 
     python3 tools/package.py [--key FILE]      signs the digests by a key of ssh
 
-What is packed has to be built of the sources that lie here, and these have to be those of a commit: else it is told what is missing, and the status is 1.
+What is packed has to be built of the sources that lie here, these have to be those of a commit, and all wrong bodies of its crates have to have been tried, as
+docs/wrong-bodies-tried.txt tells: else it is told what is missing, and the status is 1.
 Nothing of the time, the folder or the user gets into the files: the same commit, built by the same tools, gives the same bytes.
 """
 
@@ -31,6 +32,7 @@ import placed
 from crate_copy import TOP
 from kit import CPU, KIT, kit_line, run
 from placed import MAJOR, VERSION
+from wrong_bodies import TRIED, digest_of_crates, git, untried
 
 DIST = TOP / "dist"
 
@@ -65,10 +67,6 @@ def stale():
     if not (page.exists() and module.exists() and build_page.page(module.read_bytes()) == page.read_text()):
         found.append(PAGE)
     return [(part, placed.BUILT_BY[part.split("/")[0]]) for part in found]
-
-
-def git(*words):
-    return subprocess.run(["git", *words], cwd=TOP, check=True, capture_output=True, text=True).stdout.strip()
 
 
 def digest(path):
@@ -262,13 +260,19 @@ def write(into, files=None, key=None):
         run("ssh-keygen", "-q", "-Y", "sign", "-f", key, "-n", "timeweave", into / "SHA256SUMS")
 
 
+def lacking():
+    """What is missing before all can be packed, each with what is to be done."""
+    lacks = [f"{part} isn't there, or was built of other sources; `{command}` builds it" for part, command in stale()]
+    if git("status", "--porcelain"):
+        lacks.append("files differ from the commit: commit first, or take them away")
+    return lacks + [why for why in [untried(TRIED.read_text(), digest_of_crates())] if why]
+
+
 def main():
     words = argparse.ArgumentParser(description=__doc__, formatter_class=argparse.RawDescriptionHelpFormatter)
     words.add_argument("--key", metavar="FILE", help="a key of ssh, by which SHA256SUMS is signed")
     key = words.parse_args().key
-    lacks = [f"{part} isn't there, or was built of other sources; `{command}` builds it" for part, command in stale()]
-    if git("status", "--porcelain"):
-        lacks.append("files differ from the commit: commit first, or take them away")
+    lacks = lacking()
     for why in lacks:
         print(f"package: {why}", file=sys.stderr)
     if lacks:

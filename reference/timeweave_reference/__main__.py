@@ -1,9 +1,12 @@
-"""Answers as the program `timeweave` does, for the commands over files.
+"""Answers as the program `timeweave` does, by the second implementation: NOT PROVED, tested against the proved one.
 
-    python3 -m timeweave_reference judge PROOF ANCHORS              what `verify` answers
-    python3 -m timeweave_reference judge PROOF ANCHORS strict       what `strict` answers
-    python3 -m timeweave_reference COMMAND ..                       verify, strict, checkmap, checkfork, audit, show, adopt, join, accuse,
-                                                                    atlas, replay, generate: the words, texts and statuses of the program
+    python3 -I FOLDER/timeweave_reference judge PROOF ANCHORS           what `verify` answers
+    python3 -I FOLDER/timeweave_reference judge PROOF ANCHORS strict    what `strict` answers
+    python3 -I FOLDER/timeweave_reference COMMAND ..                    all commands of the program, with its words, texts and statuses; a store
+                                                                        is byte for byte a store of the program
+
+FOLDER is the one that the package lies in. Where it is installed, `python3 -I -m timeweave_reference` does the same. By -I, Python takes no module
+from the folder that it is run in, where somebody's files may lie.
 
 It is written apart from the program and tested against it, and is itself not proved. Status 0: accepted; 1: rejected; 2: no such words; 3: a
 file can't be read; 4: the answer can't be written; 7: a history has no such event; 9: a file isn't what it should be.
@@ -11,15 +14,35 @@ file can't be read; 4: the answer can't be written; 7: a history has no such eve
 
 from __future__ import annotations
 
+import importlib.util
 import sys
+from pathlib import Path
 from typing import Dict, List, Sequence
 
-from .answers import ACCEPTED, NO_OUTPUT, USAGE, Answer
-from .commands import MOST_BYTES, NO_FILE, answer, named_files, usage
-from .words import FOLDER, kinds_of
+
+def begin_package() -> str:
+    """Where the package is run as a folder: takes it from this folder, and no module of another name with it. Its name."""
+    here = Path(__file__).resolve().parent
+    spec = importlib.util.spec_from_file_location(here.name, here / "__init__.py", submodule_search_locations=[str(here)])
+    assert spec is not None and spec.loader is not None
+    sys.path[:] = [place for place in sys.path if Path(place).resolve() != here]
+    package = sys.modules[here.name] = importlib.util.module_from_spec(spec)
+    spec.loader.exec_module(package)
+    return here.name
 
 
-JUDGE = "usage: python3 -m timeweave_reference judge PROOF ANCHORS [strict]"
+__package__ = __package__ or begin_package()
+
+from . import directories  # noqa: E402
+from .answers import ACCEPTED, NO_OUTPUT, USAGE, Answer  # noqa: E402
+from .commands import MOST_BYTES, NO_FILE, answer, named_files, usage  # noqa: E402
+from .words import FOLDER, kinds_of  # noqa: E402
+
+
+NOT_PROVED = "NOT PROVED: second implementation"
+"""What is told first, on standard error, to whoever runs a command."""
+
+JUDGE = "usage: python3 -I FOLDER/timeweave_reference judge PROOF ANCHORS [strict]"
 
 
 def meant(words: Sequence[str]) -> List[str] | None:
@@ -36,8 +59,6 @@ def answered(words: Sequence[str]) -> Answer:
     kinds = kinds_of(words)
     if isinstance(kinds, int):
         return usage(kinds)
-    if FOLDER in kinds:
-        return usage(1)
     most = max(MOST_BYTES.get(words[0], 0), MOST_BYTES["join"]) + 1
     files: Dict[str, bytes] = {}
     for name in named_files(words, kinds):
@@ -46,7 +67,7 @@ def answered(words: Sequence[str]) -> Answer:
                 files[name] = file.read(most)
         except OSError:
             return NO_FILE
-    return answer(words, files)
+    return directories.answer(words, files) if FOLDER in kinds else answer(words, files)
 
 
 def main() -> int:
@@ -58,6 +79,7 @@ def main() -> int:
     if words in (["--help"], ["-h"]):
         print(__doc__, end="")
         return ACCEPTED
+    print(NOT_PROVED, file=sys.stderr)
     found = answered(words)
     try:
         sys.stdout.buffer.write(found.text)

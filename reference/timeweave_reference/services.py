@@ -93,7 +93,7 @@ class Service:
         first = self.archive.next_page() if stream else 0
         for page in event_pages(self.steps + 1, events):
             self.archive.put(page.to_bytes())
-        self._add(events, None, time, stream, first)
+        self.add_step(events, None, time, stream, first)
         return self.anchor(self.steps)
 
     def receive(self, data: bytes, time: int | None = None) -> bytes:
@@ -106,7 +106,7 @@ class Service:
         entry = Entry(message.service, message.step, message.authenticator, self.steps + 1)
         self.archive.insert(entry)
         self.entries[entry.key] = self.last_of[entry.service] = entry
-        self._add((), entry, time, 0, 0)
+        self.add_step((), entry, time, 0, 0)
         return self.receipt(entry)
 
     def _known(self, message: Message) -> Entry | None:
@@ -128,7 +128,7 @@ class Service:
         if time is not None and clock is not None:
             refuse_unless(time >= clock, f"ClockBack {clock} {time}")
 
-    def _add(self, events: Sequence[bytes], entry: Entry | None, time: int | None, stream: int, first: int) -> None:
+    def add_step(self, events: Sequence[bytes], entry: Entry | None, time: int | None, stream: int, first: int) -> None:
         """Adds a step whose event pages or tree pages are there."""
         archive = self.archive.root
         self.line.append(events, archive.label, time)

@@ -35,6 +35,7 @@ wants 'accepted exists' timeweave verify /root/p $line
 wants 'shown' weft judge --kept /root/lines /root/p
 wants 'exists' python3 -c 'import timeweave; print(timeweave.strict(open("/root/p", "rb").read(), open("/root/lines").read()).kind)'
 wants 'accepted exists' python3 -m timeweave_reference judge /root/p /root/lines
+wants 'accepted exists' timeweave-unproved verify /root/p /root/lines
 told "a verdict by timeweave, weft, Python and the second implementation"
 
 inside sh -c 'apt-get -qq install --no-install-recommends gcc libc6-dev pkg-config /root/libtimeweave-dev_*.deb' > "$room/log" 2>&1 || { tail "$room/log"; exit 1; }

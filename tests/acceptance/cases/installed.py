@@ -10,6 +10,7 @@ import subprocess
 import sys
 import tempfile
 from pathlib import Path
+from unittest import mock
 
 import forms
 
@@ -118,6 +119,7 @@ def install_elsewhere(room):
 PACKING = """
 import sys
 from pathlib import Path
+from unittest import mock
 sys.path.insert(0, sys.argv[1])
 import package
 package.write(Path(sys.argv[2]), {"bin/timeweave": Path(sys.argv[3])})
@@ -171,6 +173,21 @@ def same_packages(room):
     version = (TOP / "VERSION").read_text().strip()
     if changed != {"BUILD", f"timeweave_{version}_amd64.deb", f"timeweave-{version}-x86_64-linux.tar.gz"}:
         raise Wrong(f"  a changed program changed {changed}")
+
+
+def untried_crates(room):
+    """crates whose wrong bodies weren't all tried aren't packed, and it is told what is to be done"""
+    needs("rt", "the kit")
+    needs("git", "git")
+    import package
+    from wrong_bodies import digest_of_crates, tried_text
+
+    for digest, is_told in ((digest_of_crates(), False), ("0" * 40, True)):
+        room.put("tried", tried_text("2026-01-01", "0" * 40, digest, 1).encode())
+        with mock.patch.object(package, "TRIED", room.folder / "tried"):
+            told = [why for why in package.lacking() if "`make wrong-bodies`" in why]
+        if bool(told) != is_told:
+            raise Wrong(f"  {digest}: {told}")
 
 
 def good_packages(room):
@@ -290,5 +307,5 @@ def old_processors(room):
 
 def cases():
     yield from checked("installed", {"completion": completion, "manual page": manual})
-    for work in (install, install_elsewhere, same_packages, good_packages, stamps, source_sums, compared, old_processors):
+    for work in (install, install_elsewhere, same_packages, untried_crates, good_packages, stamps, source_sums, compared, old_processors):
         yield case(work, "installed")

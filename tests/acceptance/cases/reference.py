@@ -3,7 +3,6 @@ bytes answer as its commands do. What it answers is held against the program by 
 
 import ast
 import importlib
-import os
 import random
 import re
 import subprocess
@@ -27,7 +26,13 @@ from timeweave_reference.verdicts import read_proof
 PACKAGE = TOP / "reference/timeweave_reference"
 
 # What of the standard library it may use.
-STANDARD = {"abc", "bisect", "copy", "dataclasses", "enum", "functools", "hashlib", "json", "os", "re", "sys", "typing", "__future__"}
+STANDARD = {
+    "abc", "bisect", "contextlib", "copy", "dataclasses", "enum", "fcntl", "functools", "hashlib", "importlib", "json", "os", "pathlib", "re", "sys", "tempfile", "typing",
+    "__future__",
+}  # fmt: skip
+
+# What it says first on standard error, to people.
+MARK = b"NOT PROVED: second implementation\n"
 
 
 def types(room):
@@ -221,19 +226,22 @@ def put(room, words, files):
 
 
 def as_a_program(room):
-    """`python3 -m timeweave_reference` tells missing files, words that are no form, and its help"""
-    environment = {**os.environ, "PYTHONPATH": str(TOP / "reference")}
-    for words, wanted in ((["judge", "p", "k"], (3, b"fault input\n")), (["frob"], (2, b"usage 1\n")), (["init", "d", "a"], (2, b"usage 1\n"))):
-        done = subprocess.run([sys.executable, "-m", "timeweave_reference", *words], cwd=room.folder, env=environment, capture_output=True, timeout=LONGEST)
-        if (done.returncode, done.stdout, done.stderr) != (*wanted, b""):
-            raise Wrong(f"  python3 -m timeweave_reference {' '.join(words)}\n  wanted {wanted}\n  got    {done}")
-    done = subprocess.run([sys.executable, "-m", "timeweave_reference", "--help"], env=environment, capture_output=True, timeout=LONGEST)
+    """the reference's command tells missing files, words that are no form, and its help, and runs nothing of the folder that it is run in"""
+    command = [sys.executable, "-I", TOP / "reference/timeweave_reference"]
+    (room.folder / "timeweave_reference").mkdir()
+    for name in ("hashlib.py", "argparse.py", "answers.py", "timeweave_reference/__init__.py", "timeweave_reference/__main__.py"):
+        room.put(name, b"raise SystemExit('somebody else was run')\n")
+    for words, wanted in ((["judge", "p", "k"], (3, b"fault input\n")), (["frob"], (2, b"usage 1\n")), (["init", "d", "a"], (5, b"fault disk\n"))):
+        done = subprocess.run([*command, *words], cwd=room.folder, capture_output=True, timeout=LONGEST)
+        if (done.returncode, done.stdout, done.stderr) != (*wanted, MARK):
+            raise Wrong(f"  timeweave_reference {' '.join(words)}\n  wanted {wanted}\n  got    {done}")
+    done = subprocess.run([*command, "--help"], cwd=room.folder, capture_output=True, timeout=LONGEST)
     if done.returncode or b"judge PROOF ANCHORS" not in done.stdout:
-        raise Wrong(f"  python3 -m timeweave_reference --help\n  got    {done}")
+        raise Wrong(f"  timeweave_reference --help\n  got    {done}")
     for words in (["judge"], ["judge", "p", "k", "frob"]):
-        done = subprocess.run([sys.executable, "-m", "timeweave_reference", *words], env=environment, capture_output=True, timeout=LONGEST)
+        done = subprocess.run([*command, *words], cwd=room.folder, capture_output=True, timeout=LONGEST)
         if (done.returncode, done.stdout) != (2, b"") or not done.stderr.startswith(b"usage: "):
-            raise Wrong(f"  python3 -m timeweave_reference {' '.join(words)}\n  wanted 2 and its usage\n  got    {done}")
+            raise Wrong(f"  timeweave_reference {' '.join(words)}\n  wanted 2 and its usage\n  got    {done}")
 
 
 def cases():

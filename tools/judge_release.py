@@ -1,0 +1,590 @@
+#!/usr/bin/env python3
+"""Judges a release by its files alone: what can be computed once more is, and what wasn't checked is said.
+
+    python3 tools/judge_release.py FOLDER [--signers FILE] [--line FILE]
+
+It needs Python 3.9 or later and nothing else; take it from another copy of the sources than the release's. With --signers a signature has
+to be of a key of that file (of ssh-keygen, as docs/releases.md has it); with --line the log's proof has to stand under a line of that file,
+which its owner gave you another way. It runs the second implementation and the verifier in Perl, both of the release's source archive, over
+the vectors. Each sentence begins with `good`, `BAD` or `not checked`. Status 0: nothing was bad; 1: something was.
+"""
+
+from __future__ import annotations
+
+import argparse
+import gzip
+import hashlib
+import io
+import json
+import lzma
+import re
+import shutil
+import subprocess
+import sys
+import tarfile
+import tempfile
+import zlib
+from fnmatch import fnmatch
+from pathlib import Path
+from typing import Callable, Dict, Iterator, List, NamedTuple, Optional, Tuple
+
+Files = Dict[str, bytes]
+"""Files by their paths."""
+
+MOST_BYTES = 1 << 30
+"""No archive of a release has more bytes, unpacked."""
+
+READING = (OSError, ValueError, LookupError, EOFError, StopIteration, TypeError, zlib.error, tarfile.TarError, lzma.LZMAError)
+"""What the reading of a file raises that isn't what it should be."""
+
+
+class Bad(Exception):
+    """Something isn't as it has to be; the text says what."""
+
+
+def digest(data: bytes) -> str:
+    """The SHA-256 digest of bytes, in hexadecimal digits."""
+    return hashlib.sha256(data).hexdigest()
+
+
+# ---- archives
+
+
+class Packed(NamedTuple):
+    """What an archive has: its files, its links with where they lead, and what its head tells of the commit."""
+
+    files: Files
+    links: Dict[str, str]
+    commit: Optional[str]
+
+
+def unpacked(data: bytes, front: str = "") -> Packed:
+    """The files of a tar archive by their paths behind `front`.
+
+    Raises Bad where one would lie elsewhere, isn't root's, or has a mode of its own."""
+    files: Files = {}
+    links: Dict[str, str] = {}
+    with tarfile.open(fileobj=io.BytesIO(data), mode="r:") as tar:
+        for member in tar:
+            path = member.name[2:] if member.name.startswith("./") else member.name
+            if path.startswith("/") or ".." in path.split("/"):
+                raise Bad(f"an archive has a file at {path}")
+            if member.uid or member.gid or (member.mode & 0o7002 and not member.issym()):
+                raise Bad(f"{path} isn't root's, or may be written by all")
+            if member.isdir() or path in ("", ".", front.rstrip("/")):
+                continue
+            if not path.startswith(front) or not (member.isreg() or member.issym()) or path[len(front) :] in files:
+                raise Bad(f"{path} doesn't belong into the archive")
+            if member.issym():
+                links[path[len(front) :]] = member.linkname
+            else:
+                file = tar.extractfile(member)
+                files[path[len(front) :]] = file.read() if file else b""
+        return Packed(files, links, (tar.pax_headers or {}).get("comment"))
+
+
+def gunzipped(data: bytes) -> bytes:
+    """What a compressed file has, MOST_BYTES at most."""
+    with gzip.open(io.BytesIO(data)) as file:
+        found = file.read(MOST_BYTES + 1)
+    if len(found) > MOST_BYTES:
+        raise Bad("an archive is too large")
+    return found
+
+
+def parts_of_deb(data: bytes) -> Tuple[Packed, Packed]:
+    """The control files and the files of a package for Debian."""
+    if data[:8] != b"!<arch>\n":
+        raise Bad("a package is no archive of ar")
+    place, found = 8, {}
+    while place + 60 <= len(data):
+        name, size = data[place : place + 16].decode().rstrip(" /"), int(data[place + 48 : place + 58])
+        found[name] = data[place + 60 : place + 60 + size]
+        place += 60 + size + size % 2
+    if sorted(found) != ["control.tar.xz", "data.tar.xz", "debian-binary"]:
+        raise Bad(f"a package has {', '.join(sorted(found))}")
+    return unpacked(lzma.decompress(found["control.tar.xz"])), unpacked(lzma.decompress(found["data.tar.xz"]))
+
+
+# ---- what the gate said
+
+STAMP = re.compile(r"^ *\d+\.\d ")
+CLOSING = re.compile(r"logic=(\S+) (?:.* )?functions=(\d+) (?:.* )?sum=(\w+)\b.*")
+PROVED = re.compile(r"rt: (\w+) proved$")
+EDIT = re.compile(r"rt: must-fail (\w+)/(\S+): (refused|.*)")
+TESTS = re.compile(r"rt: (\w+): its tests passed")
+FAILED = re.compile(r"rt: (?!must-fail \S+: refused).*\b(NOT PROVED|NOT REFUSED|NOT TRIED|BAD EDIT|FAILED)\b|FAILED ")
+ENDED = re.compile(r"(\d+) passed, (\d+) failed$")
+SKIPPED = re.compile(r"(\d+) skipped$")
+
+
+class Gate:
+    """What a gate's log tells of each crate, and of the acceptance run."""
+
+    def __init__(self, log: str) -> None:
+        self.closing: Dict[str, str] = {}
+        self.edits: Dict[str, List[str]] = {}
+        self.tested: Dict[str, bool] = {}
+        self.failed: List[str] = []
+        self.has_cases = False
+        self.ended, self.skipped, last = "", "0", ""
+        for line in (STAMP.sub("", line) for line in log.splitlines()):
+            last = line if CLOSING.fullmatch(line) else last
+            self.take(line, last)
+
+    def take(self, line: str, last: str) -> None:
+        """Takes a line in; `last` is the closing line before it."""
+        proved, edit, tests = PROVED.match(line), EDIT.match(line), TESTS.match(line)
+        if proved:
+            self.closing[proved[1]] = last
+        if edit and edit[3].startswith("refused"):
+            self.edits.setdefault(edit[1], []).append(edit[2])
+        if tests:
+            self.tested[tests[1]] = True
+        if FAILED.match(line):
+            self.failed.append(line)
+        self.has_cases = self.has_cases or line.startswith("cases: ")
+        self.ended = line if ENDED.fullmatch(line) and self.has_cases else self.ended
+        self.skipped = (SKIPPED.fullmatch(line) or ["", self.skipped])[1]
+
+
+def crates_of(files: Files) -> List[str]:
+    """The crates of a source tree."""
+    lines = files["crates.txt"].decode().splitlines()
+    return [line.split(":")[0].split()[0] for line in lines if line.strip() and not line.startswith("#")]
+
+
+def sources_sum(files: Files, crate: str) -> str:
+    """The digest of a crate's files, in the order of their paths: of each its path, a zero byte, its length in decimal digits, a zero byte
+    and its bytes."""
+    total = hashlib.sha256()
+    for path in sorted(path for path in files if path.startswith(f"crates/{crate}/")):
+        total.update(f"{path}\0{len(files[path])}\0".encode() + files[path])
+    return total.hexdigest()
+
+
+def proofs_text(log: bytes, files: Files) -> str:
+    """The file PROOFS of a gate's log and a source tree."""
+    gate, lines = Gate(log.decode("utf-8", "replace")), [f"log {digest(log)}"]
+    for crate in crates_of(files):
+        closing = gate.closing.get(crate, "")
+        functions = CLOSING.fullmatch(closing)
+        lines += [
+            f"crate {crate}",
+            f"  sources {sources_sum(files, crate)}",
+            f"  closing {closing or '-'}",
+            f"  functions proved {functions[2] if functions else '-'}",
+            f"  edits refused {len(gate.edits.get(crate, []))}",
+            f"  tests {'passed' if gate.tested.get(crate) else 'none'}",
+        ]
+    return "\n".join([*lines, f"acceptance run {gate.ended or '-'}, {gate.skipped} skipped", ""])
+
+
+def lacking(log: bytes, files: Files) -> List[str]:
+    """What a gate's log lacks, or tells that failed, for these sources: by the logic of KIT each crate has to be proved, each edit refused,
+    and no case may have failed."""
+    gate, logic = Gate(log.decode("utf-8", "replace")), named(files["KIT"].decode())["logic"]
+    wrong = [f"the log tells: {line[:150]}" for line in gate.failed]
+    for crate in crates_of(files):
+        found = CLOSING.fullmatch(gate.closing.get(crate, ""))
+        if found is None:
+            wrong.append(f"the log doesn't tell that {crate} was proved")
+        elif (found[1], found[3][:16]) != ("proved", logic):
+            wrong.append(f"{crate} was proved by another logic than KIT's, or wasn't: {found[0][:80]}")
+        edits = {path.split("/")[-1] for path in files if fnmatch(path, f"crates/{crate}/must-fail/*.edit")}
+        untried = edits - set(gate.edits.get(crate, []))
+        wrong += [f"the log doesn't tell that the planted edits of {crate} were refused: {', '.join(sorted(untried))}"] * bool(untried)
+    ended = ENDED.fullmatch(gate.ended)
+    if not ended or ended[2] != "0" or ended[1] == "0":
+        wrong.append(f"the acceptance run ended with: {gate.ended or 'nothing'}")
+    return wrong
+
+
+def named(text: str) -> Dict[str, str]:
+    """The lines of a file as KIT or BUILD by their first words; of several with one first word the first."""
+    found: Dict[str, str] = {}
+    for line in text.splitlines():
+        name, _, rest = line.partition(" ")
+        found.setdefault(name, rest)
+    return found
+
+
+# ---- the parts that are compiled in
+
+LICENCE = re.compile(r"(?:MIT or Apache-2\.0|Apache-2\.0 or BSL-1\.0|MIT|Unlicense)\b")
+
+
+def notice_parts(text: str) -> List[Tuple[str, str]]:
+    """The crates that NOTICE tells of: each its name and what is said of it."""
+    told = text.split("Crates that Timeweave names:\n")[1].split("\nThe standard library")[0]
+    entries = re.findall(r"^    (\w+) +(\S.*(?:\n {8,}\S.*)*)", told, re.M)
+    return [(name, " ".join(said.split())) for name, said in entries]
+
+
+def spdx_licence(said: str) -> str:
+    """The licences that NOTICE tells of a part, as SPDX writes them; NOASSERTION where it tells none."""
+    found = [licence.replace(" or ", " OR ") for licence in LICENCE.findall(said)]
+    return " AND ".join(f"({it})" if " OR " in it and len(found) > 1 else it for it in found) or "NOASSERTION"
+
+
+def spdx_package(name: str, licence: str, copyright_text: str, **more: str) -> Dict[str, object]:
+    """A part as SPDX tells it. Nothing is concluded of foreign parts beyond what is declared of them."""
+    return {
+        "name": name,
+        "SPDXID": "SPDXRef-" + re.sub(r"\W|_", "-", name),
+        "licenseDeclared": licence,
+        "licenseConcluded": "Apache-2.0" if name == "timeweave" else "NOASSERTION",
+        "copyrightText": copyright_text,
+        "downloadLocation": "NOASSERTION",
+        "filesAnalyzed": False,
+        **more,
+    }
+
+
+def relation(one: object, how: str, other: object) -> Dict[str, object]:
+    """How two elements of the list stand to each other."""
+    return {"spdxElementId": one, "relationshipType": how, "relatedSpdxElement": other}
+
+
+def sbom_text(notice: str, version: str, commit: str, when: str) -> str:
+    """The list of parts, as SPDX 2.3 in JSON."""
+    own = spdx_package("timeweave", "Apache-2.0", "Copyright 2026 the authors of Timeweave", versionInfo=version)
+    others = []
+    for name, said in notice_parts(notice):
+        told = re.search(r"Copyright .*", said)
+        others.append(spdx_package(name, spdx_licence(said), told[0] if told else "NOASSERTION", comment=said))
+    others.append(spdx_package("standard library and runtime of the kit", "NOASSERTION", "NOASSERTION"))
+    document = {
+        "spdxVersion": "SPDX-2.3",
+        "dataLicense": "CC0-1.0",
+        "SPDXID": "SPDXRef-DOCUMENT",
+        "name": f"timeweave-{version}",
+        "documentNamespace": f"urn:timeweave:{version}:{commit}",
+        "creationInfo": {"created": when, "creators": ["Tool: tools/release.py"]},
+        "packages": [own, *others],
+        "relationships": [
+            relation("SPDXRef-DOCUMENT", "DESCRIBES", own["SPDXID"]),
+            *(relation(own["SPDXID"], "CONTAINS", part["SPDXID"]) for part in others),
+        ],
+    }
+    return json.dumps(document, indent=1) + "\n"
+
+
+# ---- where the files of packages come from
+
+DEBIAN = {
+    "BIN": "usr/bin",
+    "LIB": "usr/lib/x86_64-linux-gnu",
+    "INCLUDE": "usr/include",
+    "MAN": "usr/share/man/man1",
+    "PYTHON": "usr/lib/python3/dist-packages",
+    "SHARE": "usr/share",
+    "OWN": "usr/share/timeweave",
+    "DOC": "usr/share/doc/timeweave",
+}
+ELSEWHERE = {
+    "BIN": "bin",
+    "LIB": "lib",
+    "INCLUDE": "include",
+    "MAN": "share/man/man1",
+    "PYTHON": "share/timeweave",
+    "SHARE": "share",
+    "OWN": "share/timeweave",
+    "DOC": "share/doc/timeweave",
+}
+
+# What is made while it is packed, and so stands nowhere in the sources.
+MADE = (
+    "usr/share/doc/*/copyright",
+    "usr/share/doc/*/changelog.gz",
+    "usr/share/lintian/overrides/*",
+    "*/pkgconfig/timeweave.pc",
+    "*share/doc/timeweave/tables/*.md",
+)
+
+
+def table(files: Files, folders: Dict[str, str], version: str) -> Dict[str, Optional[str]]:
+    """Where the sources' tools/installed.txt puts what: each path with the file that lies there, or None for a link."""
+    found: Dict[str, Optional[str]] = {}
+    for line in files["tools/installed.txt"].decode().splitlines():
+        if not line.strip() or line.startswith("#"):
+            continue
+        _, mode, source, place = line.split()
+        folder, _, rest = place.partition("/")
+        path = "/".join(filter(None, (folders[folder], rest))).replace("VERSION", version).replace("MAJOR", version.split(".")[0])
+        if "*" in source:
+            names = [name for name in files if name.count("/") == source.count("/") and fnmatch(name, source)]
+            found.update({f"{path}/{name.split('/')[-1]}": name for name in names})
+        else:
+            found[path] = source if mode != "link" else None
+    return found
+
+
+# ---- the judgement
+
+
+class Release:
+    """A release's folder, and what was said of it."""
+
+    def __init__(self, folder: Path, options: argparse.Namespace, room: Path) -> None:
+        self.folder, self.options, self.room = folder, options, room
+        self.said: List[str] = []
+        paths = [path for path in sorted(folder.iterdir()) if path.is_file() and not path.is_symlink()]
+        self.read: Files = {path.name: path.read_bytes() for path in paths}
+        self.sources: Files = {}
+
+    def good(self, text: str) -> None:
+        """Says that something is as it has to be."""
+        self.said.append(f"good: {text}")
+
+    def left(self, text: str) -> None:
+        """Says that something wasn't checked."""
+        self.said.append(f"not checked: {text}")
+
+    def file(self, name: str) -> bytes:
+        """A file of the release; raises Bad where it isn't there."""
+        if name not in self.read:
+            raise Bad(f"{name} isn't there")
+        return self.read[name]
+
+    def one(self, pattern: str) -> bytes:
+        """The file of such a name; raises Bad where there isn't one alone."""
+        names = [name for name in self.read if fnmatch(name, pattern)]
+        if len(names) != 1:
+            raise Bad(f"there are {len(names)} files {pattern}")
+        return self.read[names[0]]
+
+    def version(self) -> str:
+        """The version, by the source archive."""
+        return self.source("VERSION").decode().strip()
+
+    def source(self, path: str) -> bytes:
+        """A file of the source archive; raises Bad where it isn't there."""
+        if path not in self.sources:
+            raise Bad(f"the source archive has no {path}")
+        return self.sources[path]
+
+    # ---- each part
+
+    def sums(self) -> None:
+        """SHA256SUMS has all files, with their digests."""
+        told = {line[66:]: line[:64] for line in self.file("SHA256SUMS").decode().splitlines()}
+        found = {name: digest(data) for name, data in self.read.items() if not name.startswith("SHA256SUMS")}
+        wrong = sorted(name for name in {*told, *found} if told.get(name) != found.get(name))
+        if wrong:
+            raise Bad(f"SHA256SUMS and the files differ in {', '.join(wrong)}")
+        self.good(f"the {len(found)} files have the digests that SHA256SUMS tells, and no file is left out.")
+
+    def signature(self) -> None:
+        """SHA256SUMS.sig is of the digests, and of a signer where some are named."""
+        if "SHA256SUMS.sig" not in self.read:
+            if self.options.signers:
+                raise Bad("the release isn't signed")
+            return self.left("the release isn't signed. Whose it is shows nothing here.")
+        if shutil.which("ssh-keygen") is None:
+            return self.left("the signature, since there is no ssh-keygen.")
+        how = ["verify", "-f", self.options.signers, "-I", "timeweave"] if self.options.signers else ["check-novalidate"]
+        words = ["ssh-keygen", "-Y", *how, "-n", "timeweave", "-s", str(self.folder / "SHA256SUMS.sig")]
+        if subprocess.run(words, input=self.file("SHA256SUMS"), capture_output=True, check=False).returncode:
+            raise Bad("SHA256SUMS.sig isn't a signature of SHA256SUMS" + " by one of the signers" * bool(self.options.signers))
+        if self.options.signers:
+            return self.good("SHA256SUMS is signed by one of the signers that you named.")
+        return self.left("SHA256SUMS is signed by some key; whose it is was not checked: name the signers by --signers.")
+
+    def source_archive(self) -> None:
+        """The source archive is of the commit that BUILD names."""
+        packed = unpacked(gunzipped(self.one("timeweave-*-source.tar.gz")), self.front())
+        self.sources = packed.files
+        build, kit = named(self.file("BUILD").decode()), named(self.source("KIT").decode())
+        if packed.commit != build.get("commit"):
+            raise Bad(f"the source archive is of the commit {packed.commit}, and BUILD of {build.get('commit')}")
+        if build.get("version") != self.version() or (build.get("kit"), build.get("logic")) != (kit["kit"], kit["logic"]):
+            raise Bad("BUILD tells another version, kit or logic than the sources")
+        of_kit = f"version {self.version()}, {kit['kit']}, logic {kit['logic']}"
+        self.good(f"the source archive says that it is of the commit {packed.commit}, as BUILD does, with {of_kit}.")
+        self.left("that the archive is that commit's: `git archive` of a repository that you have gives the same bytes.")
+
+    def front(self) -> str:
+        """The folder in which the files of the source archive lie."""
+        name = next(name for name in self.read if fnmatch(name, "timeweave-*-source.tar.gz"))
+        return name[: -len("-source.tar.gz")] + "/"
+
+    def proofs(self) -> None:
+        """PROOFS is what the gate's log and the sources give, and nothing of it failed."""
+        log = self.file("gate.log")
+        if self.file("PROOFS").decode() != proofs_text(log, self.sources):
+            raise Bad("PROOFS isn't what gate.log and the sources give")
+        wrong = lacking(log, self.sources)
+        if wrong:
+            raise Bad("; ".join(wrong[:5]))
+        gate, crates = Gate(log.decode("utf-8", "replace")), len(crates_of(self.sources))
+        functions = sum(int(found[2]) for found in map(CLOSING.fullmatch, gate.closing.values()) if found)
+        told = f"{crates} crates and {functions} functions proved, {sum(map(len, gate.edits.values()))} planted edits refused"
+        self.good(f"PROOFS is what the gate's log and the sources give: {told}, the acceptance run {gate.ended}.")
+        self.left("that the log is true: it is a text. Only who runs the prover on the sources, with the kit, sees that they are proved.")
+
+    def parts(self) -> Dict[str, str]:
+        """The digests of the built files, by their names, as BUILD tells them."""
+        return {line.split()[2]: line.split()[1] for line in self.file("BUILD").decode().splitlines() if line.startswith("part ")}
+
+    def compare(self, where: str, packed: Packed, wanted: Dict[str, Optional[str]]) -> Iterator[str]:
+        """Holds an archive's files against the sources and the built files; answers the paths that came from them.
+
+        Raises Bad with the first other one."""
+        parts = self.parts()
+        for path in packed.links:
+            if path not in wanted or wanted[path] is not None:
+                raise Bad(f"{where}: the link {path} isn't of tools/installed.txt")
+        for path, data in packed.files.items():
+            plain = path[:-3] if path.startswith("usr/share/man/") else path
+            source = wanted.get(plain)
+            if any(fnmatch(path, pattern) for pattern in MADE):
+                continue
+            if source is None:
+                raise Bad(f"{where}: {path} isn't of tools/installed.txt")
+            found = digest(gunzipped(data) if plain != path else data)
+            if found != (parts[source] if source in parts else digest(self.source(source))):
+                raise Bad(f"{where}: {path} isn't {source} of the sources, or of BUILD")
+            yield plain
+
+    def packages(self) -> None:
+        """The packages and the tar file have the files of the sources, and the built ones that BUILD names."""
+        version, seen = self.version(), set()
+        wanted = table(self.sources, DEBIAN, version)
+        names = [name for name in self.read if name.endswith(".deb")]
+        for name in names:
+            control, data = parts_of_deb(self.read[name])
+            if not set(control.files) <= {"control", "md5sums", "shlibs", "triggers"}:
+                raise Bad(f"{name} has scripts: {', '.join(control.files)}")
+            seen |= {*self.compare(name, data, wanted), *data.links}
+        elsewhere = table(self.sources, ELSEWHERE, version)
+        packed = unpacked(gunzipped(self.one("timeweave-*-x86_64-linux.tar.gz")), f"timeweave-{version}-x86_64-linux/")
+        if packed.files.pop("LICENSE", None) != self.source("LICENSE"):
+            raise Bad("the tar file has another LICENSE than the sources")
+        other = {*self.compare("the tar file", packed, elsewhere), *packed.links}
+        made = {path for path in (*wanted, *elsewhere) if any(fnmatch(path, pattern) for pattern in MADE)}
+        missing = sorted(({*wanted} - seen - made) | ({*elsewhere} - other - made))
+        if missing or len(names) != self.source("tools/packages.txt").decode().count("\nPackage: "):
+            raise Bad(f"packages lack files: {', '.join(missing[:3])}")
+        if digest(self.file("timeweave.html")) != self.parts().get("web/timeweave.html"):
+            raise Bad("timeweave.html isn't the page that BUILD names")
+        told = f"{len(names)} packages and the tar file have the {len(seen)} files of tools/installed.txt"
+        self.good(f"{told}, each as the sources or BUILD have it, and no scripts.")
+        self.left("tables, changelog and the like, which are made while it is packed.")
+        self.left("that program, library and page are built of the sources: `make twice BESIDE=1` with the kit shows that.")
+
+    def licences(self) -> None:
+        """LICENCES has the licence and NOTICE of the sources, and the parts stand in the list of parts."""
+        text = self.file("LICENCES").decode()
+        for name in ("LICENSE", "NOTICE"):
+            if self.source(name).decode() not in text:
+                raise Bad(f"LICENCES hasn't the whole {name} of the sources")
+        for name, _ in notice_parts(self.source("NOTICE").decode()):
+            if f"\n==== {name}:" not in text:
+                raise Bad(f"LICENCES has nothing of {name}")
+        told, build = json.loads(self.file("SBOM.spdx.json")), named(self.file("BUILD").decode())
+        wanted = sbom_text(self.source("NOTICE").decode(), self.version(), build["commit"], told["creationInfo"]["created"])
+        if told != json.loads(wanted):
+            raise Bad("SBOM.spdx.json isn't the list of NOTICE's parts")
+        count = len(told["packages"])
+        self.good(f"LICENCES has the licence, NOTICE, and a part for each crate that NOTICE names; SBOM.spdx.json lists {count} parts.")
+
+    def vectors(self) -> None:
+        """The vectors are those of the sources, and the judges at hand answer them."""
+        packed = unpacked(gunzipped(self.one("timeweave-*-vectors.tar.gz")), self.front()[:-1] + "-vectors/")
+        wanted = {path[len("vectors/") :]: data for path, data in self.sources.items() if path.startswith("vectors/")}
+        if packed.files != wanted:
+            raise Bad("the vectors aren't those of the sources")
+        for path, data in self.sources.items():
+            (self.room / path).parent.mkdir(parents=True, exist_ok=True)
+            (self.room / path).write_bytes(data)
+        done = self.judged([sys.executable, "-I", "-c", BY_REFERENCE, str(self.room)])
+        self.good(f"the second implementation, as the source archive has it, answers {done.strip()} vectors as they say.")
+        names = [name for name in sorted(packed.files) if name.endswith(".json") and name != "schema.json"]
+        files = [str(self.room / "vectors" / name) for name in names]
+        if shutil.which("perl"):
+            told = self.judged(["perl", str(self.room / TRY_IN_PERL), *files]).strip()
+            self.good(f"of the vectors by the verifier in Perl: {told}.")
+        else:
+            self.left("the vectors by the verifier in Perl, since there is no perl.")
+        self.left("the vectors by the release's program: python3 tests/acceptance/run.py PROGRAM -k vectors, in the unpacked sources.")
+
+    def judged(self, words: List[str]) -> str:
+        """What a judge of the vectors says; raises Bad where one isn't answered."""
+        done = subprocess.run(words, cwd=self.room, capture_output=True, text=True, check=False)
+        if done.returncode:
+            raise Bad(f"vectors are answered otherwise: {(done.stdout + done.stderr).strip()[-300:]}")
+        return done.stdout
+
+    def record(self) -> None:
+        """The log's proof says that SHA256SUMS was recorded."""
+        if "SHA256SUMS.proof" not in self.read:
+            return self.left("no proof of a log is there that the release was recorded.")
+        line = self.options.line or self.folder / "SHA256SUMS.line"
+        judge = [sys.executable, "-I", str(self.room / "reference/timeweave_reference"), "judge"]
+        done = subprocess.run([*judge, str(self.folder / "SHA256SUMS.proof"), str(line)], capture_output=True, text=True, check=False)
+        found = re.search(r"^event (\S+) (\d+) \d+ ([0-9a-f]+)$", done.stdout, re.M)
+        if done.returncode or not found:
+            raise Bad(f"the log's proof isn't accepted under {line}: {done.stdout.strip()}")
+        if not bytes.fromhex(found[3]).startswith(digest(self.file("SHA256SUMS")).encode() + b" "):
+            raise Bad("the log's proof is of another SHA256SUMS")
+        whose = "the line that you named" if self.options.line else "the line that lies beside it"
+        self.good(f"the log {found[1]} recorded this SHA256SUMS in its step {found[2]}, under {whose}.")
+        if not self.options.line:
+            self.left("whose that line is: get it another way from the owner, and name it by --line.")
+        return None
+
+    def judge(self, to_first: bool = False) -> bool:
+        """Says of each part what is so, or where that is said of each up to the first bad one; whether nothing was bad."""
+        checks: List[Callable[[], None]] = [self.sums, self.signature, self.source_archive, self.proofs, self.packages]
+        checks += [self.licences, self.vectors, self.record]
+        for check in checks:
+            try:
+                check()
+            except (Bad, *READING) as bad:
+                told = str(bad) if isinstance(bad, Bad) else f"it can't be read: {type(bad).__name__} {bad}"
+                self.said.append(f"BAD: {check.__name__.replace('_', ' ')}: {told}.")
+                if to_first:
+                    return False
+        return not any(line.startswith("BAD") for line in self.said)
+
+
+TRY_IN_PERL = "examples/verifier_in_perl/try_vectors.pl"
+BY_REFERENCE = """
+import json, sys
+from pathlib import Path
+top = Path(sys.argv[1])
+sys.path.insert(0, str(top / "reference"))
+import timeweave_reference
+from timeweave_reference import commands
+count = 0
+for path in sorted((top / "vectors").glob("*.json")):
+    for vector in json.loads(path.read_text()).get("vectors", ()) if path.stem != "schema" else ():
+        files = {name: bytes.fromhex(digits) for name, digits in vector["files"].items()}
+        words = vector["words"]
+        wanted = vector["text"].encode() if "text" in vector else bytes.fromhex(vector["bytes"])
+        has_no_command = words[0] == "contradict"
+        found = timeweave_reference.contradict(*(files[word] for word in words[1:])) if has_no_command else commands.answer(words, files)
+        if found != (vector["status"], wanted):
+            sys.exit(f"{path.stem}: {vector['name']}")
+        count += 1
+print(count)
+"""
+
+
+def main() -> int:
+    """Judges the release that the words name; the status to end with."""
+    words = argparse.ArgumentParser(description=__doc__, formatter_class=argparse.RawDescriptionHelpFormatter)
+    words.add_argument("folder", type=Path, metavar="FOLDER", help="the release's files")
+    words.add_argument("--signers", metavar="FILE", help="the keys of those who may sign, got another way")
+    words.add_argument("--line", type=Path, metavar="FILE", help="a line of the log, got another way")
+    options = words.parse_args()
+    with tempfile.TemporaryDirectory(prefix="timeweave-judged-") as room:
+        release = Release(options.folder, options, Path(room))
+        is_good = release.judge()
+    print(*release.said, "Nothing was bad." if is_good else "Something was bad.", sep="\n")
+    return 0 if is_good else 1
+
+
+if __name__ == "__main__":
+    sys.exit(main())
