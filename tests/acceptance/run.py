@@ -27,9 +27,9 @@ from harness.running import difference
 
 # The modules of cases/, in the order in which they run; and those whose cases come once all others have run.
 MODULES = (
-    "data", "generated", "archives", "precedence", "forks", "atlases", "audits", "adoptions", "maps", "reaching", "steps", "pages", "failing", "messages",
+    "data", "generated", "archives", "precedence", "forks", "atlases", "audits", "adoptions", "maps", "reaching", "steps", "worked", "pages", "failing", "messages",
     "exported", "mapped", "played", "stacks", "followers", "damaged", "receiving", "tree_runs", "edges", "beside", "guarded", "power", "faults", "fuzz", "found", "tables", "refused",
-    "documents", "prose", "cited", "reference", "vectors", "installed", "shown", "entries", "operated", "weft", "progress", "sources",
+    "documents", "prose", "cited", "reference", "vectors", "installed", "released", "shown", "unproved", "entries", "operated", "weft", "progress", "sources",
 )
 LATER = ("contradictions", "library", "web", "bindings")
 

@@ -1,6 +1,5 @@
 """An acceptance case of a reader of proofs who has no program: the reference judges as the program does."""
 
-import os
 import subprocess
 import sys
 
@@ -32,10 +31,10 @@ def without_the_program(room):
     for proof, lines in files:
         for form in ("verify", "strict"):
             status, output, _ = room.run(form, proof, lines)
-            command = [sys.executable, "-m", "timeweave_reference", "judge", proof, lines, *["strict"] * (form == "strict")]
-            done = subprocess.run(command, cwd=room.folder, env={**os.environ, "PYTHONPATH": str(TOP / "reference")}, capture_output=True, timeout=LONGEST)
+            command = [sys.executable, "-I", TOP / "reference/timeweave_reference", "judge", proof, lines, *["strict"] * (form == "strict")]
+            done = subprocess.run(command, cwd=room.folder, capture_output=True, timeout=LONGEST)
             if (done.returncode, done.stdout) != (status, output):
-                raise Wrong(f"  python3 -m timeweave_reference judge {proof!r} {lines!r} {form}\n  wanted {status} {output!r}\n  got    {done}")
+                raise Wrong(f"  python3 -I reference/timeweave_reference judge {proof!r} {lines!r} {form}\n  wanted {status} {output!r}\n  got    {done}")
 
 
 def cases():

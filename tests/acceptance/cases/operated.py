@@ -2,7 +2,8 @@
 evidence and have a history taken over, a service that breaks the rules proves both a thread and its absence, a service goes on under a new
 name; and the commands that it gives do what it says."""
 
-import os
+import functools
+import shutil
 import subprocess
 import sys
 from typing import List
@@ -17,6 +18,7 @@ from harness.rooms import Room, Wrong, case, needs
 from timeweave_reference.archives import EMPTY, listed
 from timeweave_reference.events_files import events_to_bytes
 from timeweave_reference.histories import Step
+from timeweave_reference.messages import read_message
 from timeweave_reference.recording import History
 from timeweave_reference.services import service_of
 from timeweave_reference.timelines import Timeline
@@ -77,6 +79,11 @@ def shell(room: Room, command: str, **words: str) -> str:
     for word, other in words.items():
         command = command.replace(word, other)
     return shell_of(room, command)
+
+
+def waiting(room: Room, name: str, peer: str) -> str:
+    """The authenticator of the line that a peer's waiting message tells, as a person compares it."""
+    return read_message((room.folder / f"box-{name}/{peer}/in/message").read_bytes()).authenticator.hex()
 
 
 def shell_of(room: Room, command: str) -> str:
@@ -266,7 +273,10 @@ def woven_by_cron(room: Room) -> None:
     needs("ssh-keygen", "openssh-client")
     linked(room)
     text = (TOP / "docs/operating.md").read_text().split("**Three services on one machine")[1].split("Between machines")[0]
-    night = [line.split(None, 5)[5].replace("/srv", str(room.folder)) for line in text.splitlines() if line.startswith("    0 ")]
+    backup = room.folder.with_name(f"{room.folder.name}-backup")
+    backup.mkdir()
+    places = (("/backup/srv", f"{backup}/all"), ("/backup/", f"{backup}/"), ("/srv", str(room.folder)))
+    night = [functools.reduce(lambda words, place: words.replace(*place), places, line.split(None, 5)[5]) for line in text.splitlines() if line.startswith("    0 ")]
     first = "mkdir /srv/box-shop && echo 'key = /srv/shop.key' > /srv/box-shop/box.conf"
     key, peers = "ssh-keygen -t ed25519 -N '' -f /srv/shop.key", {"shop": ["bank"], "bank": ["shop", "port"], "port": ["bank"]}
     pairs = [(name, peer) for name, others in peers.items() for peer in others]
@@ -285,9 +295,10 @@ def woven_by_cron(room: Room) -> None:
         found = [shell_of(room, command) for command in night]
         if number == 0:
             for name, peer in pairs:
-                shell(room, "weft accept /srv/box-shop bank", **{"/srv/box-shop": f"{room.folder}/box-{name}", " bank": f" {peer} --yes"})
-        elif number > 2 and found != ["0 "] * 3:
+                shell(room, "weft accept /srv/box-shop bank", **{"/srv/box-shop": f"{room.folder}/box-{name}", " bank": f" {peer} --yes {waiting(room, name, peer)}"})
+        elif number > 2 and found != ["0 "] * 4:
             raise Wrong(f"  night {number}: {found}")
+    shutil.rmtree(backup)
     typed = [shell_of(room, line.strip().replace("/srv", str(room.folder))) for line in text.splitlines() if line.startswith("    weft ")]
     wanted = ("bank received step", "port received step", "Every hop is bound by a line that you hold")
     if len(typed) != 2 or not all(words in typed[1] for words in wanted):
@@ -315,9 +326,8 @@ def stamped(room: Room) -> None:
 
 def judge(room: Room, *words: str) -> "subprocess.CompletedProcess[bytes]":
     """What `judge` of the reference answers of these words, in the room's folder."""
-    command = [sys.executable, "-m", "timeweave_reference", "judge", *words]
-    environment = {**os.environ, "PYTHONPATH": str(TOP / "reference")}
-    return subprocess.run(command, cwd=room.folder, env=environment, capture_output=True, timeout=LONGEST)
+    command = [sys.executable, "-I", TOP / "reference/timeweave_reference", "judge", *words]
+    return subprocess.run(command, cwd=room.folder, capture_output=True, timeout=LONGEST)
 
 
 def usage_of_judge(room: Room) -> None:
@@ -328,7 +338,7 @@ def usage_of_judge(room: Room) -> None:
 
 
 def judged_beside(room: Room) -> None:
-    """the reference's judge ends as the program does where a file isn't there or a line is none"""
+    """the reference's judge ends as the program does where a file isn't there or a line is none, but for what it says of itself"""
     line = Timeline("a", [[b"x"]])
     room.put("proof", proof_bytes(line, 1, 0, 1))
     room.put("line", f"a 1 {line.auths[1].hex()}\n".encode())
@@ -337,7 +347,8 @@ def judged_beside(room: Room) -> None:
         for lines in ("line", "none", "bad"):
             for form, words in (("verify", ()), ("strict", ("strict",))):
                 done = judge(room, proof, lines, *words)
-                if (done.returncode, done.stdout, done.stderr) != room.run(form, proof, lines):
+                said = done.stderr.replace(b"NOT PROVED: second implementation\n", b"", 1)
+                if (done.returncode, done.stdout, said) != room.run(form, proof, lines):
                     raise Wrong(f"  judge {' '.join((proof, lines, *words))}\n  got    {done}")
 
 

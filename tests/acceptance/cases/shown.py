@@ -72,7 +72,8 @@ BEFORE = {
     "chain": "weft exchange /srv/log /srv/box; timeweave thread /srv/log 0 > message && timeweave receive /srv/bank message > receipt; "
     "echo 9 > /srv/sent/more && weft log /srv/sent /srv/bank; weft keep /srv/bank.anchor --by own; weft prove /srv/bank more --out sent.proof; "
     "weft keep /srv/log.anchor --by own; weft line /srv/log > last; weft keep last --by own",
-    "judge": "timeweave map /srv/log low 2 bank > low; timeweave map /srv/bank high 2 data > high; mkdir proofs && cp proof proofs",
+    "judge": "timeweave map /srv/log low 2 bank > low; timeweave map /srv/bank high 2 data > high; mkdir proofs && cp proof proofs; "
+    "mkdir sent && cp paid.proof sent.proof sent && timeweave export /srv/log > log.history",
     "check": "cp /srv/log.lines ~/lines",
 }
 
@@ -217,7 +218,7 @@ def old_copy(room):
     linked(room)
     status, output = script(room, "old_copy.sh", room.program)
     statuses = re.findall(r"^\(status (\d+)\)$", output, re.M)
-    if (status, statuses) != (0, ["10", "17", "17", "17", "17", "11"]) or not output.endswith("shop: 6 of 6 steps good; 6 kept lines agree.\n"):
+    if (status, statuses) != (0, ["10", "17", "17", "17", "11", "17", "11"]) or not output.endswith("shop: 6 of 6 steps good; 6 kept lines agree.\n"):
         raise Wrong(f"  old_copy.sh\n  got    {status} {output}")
 
 
