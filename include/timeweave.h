@@ -1,5 +1,5 @@
 /* Timeweave's verifier in one process: judges proofs, maps and evidence under anchors that you hold, as the program's `verify`, `strict`,
- * `checkmap` and `checkfork` do, and tells whether two accepted files show that a service broke a rule.
+ * `checkmap` and `checkfork` do, and tells whether two accepted files, or the evidence of a fork, show that a service broke a rule.
  *
  * What these functions answer is proved: the status and the text are those of the verdict on the bytes handed in, with the theorem that
  * what an accepted file shows is so of every list of sound histories that has the authenticators held, or two different texts have one
@@ -64,25 +64,54 @@ uint32_t timeweave_checkmap(const uint8_t *low, size_t low_size, const uint8_t *
 uint32_t timeweave_checkfork(const uint8_t *evidence, size_t evidence_size, const uint8_t *anchors, size_t anchors_size, uint8_t *out,
                              size_t room, size_t *text_size);
 
+/* The rules of histories that two accepted files can show to be broken, by the numbers that texts have. `One` and `other` are what both files say
+ * of an archive, a step of it and their lines, in one order or the other. */
+enum {
+    TIMEWEAVE_DENIED = 1,             /* one shows a received thread; the other, that none of its service and step was received up to that step */
+    TIMEWEAVE_OWN_THREAD = 2,         /* the archive has a thread of its own service */
+    TIMEWEAVE_RECEIVED_LATER = 3,     /* the archive of a step has a thread that a later step received */
+    TIMEWEAVE_TWO_ENTRIES = 4,        /* a thread of one service and step has two authenticators, or two steps received it */
+    TIMEWEAVE_TWO_AT_ONE_STEP = 5,    /* one step received two threads */
+    TIMEWEAVE_STEPS_FALL = 6,         /* of two threads of one service that of the lower step was received later */
+    TIMEWEAVE_EVENTS_TOO = 7,         /* a step that received a thread has events */
+    TIMEWEAVE_CLOCK_BACK = 8,         /* an earlier step has a later time */
+    TIMEWEAVE_TWO_AUTHENTICATORS = 9, /* one step has two authenticators */
+    TIMEWEAVE_OTHER_THAN_LINE = 10,   /* the step of one's line has another authenticator, as the other shows it */
+    TIMEWEAVE_TWO_LINES = 11,         /* both lines are of one step, and differ */
+    TIMEWEAVE_OTHER_BEFORE = 12,      /* a step doesn't go on from the step before it, as the other shows that one */
+    TIMEWEAVE_OTHER_BEFORE_LINE = 13, /* the step after that of the other's line doesn't go on from the line */
+    TIMEWEAVE_OTHER_GENESIS = 14,     /* the first step doesn't go on from the service's step 0 */
+    TIMEWEAVE_OTHER_EMPTY_ROOT = 15   /* a step without events has another root than that of none, or one with events has that root */
+};
+
 /* Tells whether two files that are accepted, each under the anchors handed in beside it, show that the service whose archive they are of
  * broke a rule of histories, or showed two histories. A file is a proof that a thread was received or that none was (kinds 3 and 4), a low
- * map file of a step from 2 on, or a high map file (kinds 6 and 7). They contradict each other where one shows that a thread was received at a
- * step, and the other that no thread of that service and step was received up to that step or to a later one. (The program has no such
- * command.) The link is a proof of a step's authenticator (kind 5), or has no bytes: it joins the two lines of the service under which the
- * files are accepted, from the later one down to the earlier one. The buffer is as with timeweave_verify.
+ * map file of a step from 2 on, or a high map file (kinds 6 and 7); one file may be handed in twice. (The program has no such command.) The
+ * link is a proof of a step's authenticator (kind 5), or has no bytes: it joins the two lines of the service under which the files are
+ * accepted, from the later one down to the earlier one. The buffer is as with timeweave_verify.
  *
  * Accepted: `accepted broken-rule` where both are accepted under one line, or the link joins their two lines: then no sound history has the
  * later line. Else `accepted broken-rule-or-fork`: no sound history has both lines. Both are so unless two different texts have one digest,
- * so the files, the lines and the link are evidence for whoever holds the lines to be the service's. Then a line `thread`, as in the report on
- * a proof that it was received, and a line `absent`, as in the report on a proof that it wasn't, of the same service and step.
+ * so the files, the lines and the link are evidence for whoever holds the lines to be the service's. It is the first of the rules above that
+ * they break, looked at in their order, each in both orders of the files. Of the first rule there are then a line `thread`, as in the report on
+ * a proof that it was received, and a line `absent`, as in the report on a proof that it wasn't, of the same service and step. Of the others
+ * there is a line `rule` with its number and name, and then what both files say that breaks it: lines `thread`, as in a report; `step` with the
+ * service, the step, its authenticator, its count of events and its time, or `-`; `line` with that of an anchors file; `before` with the step
+ * before, and the authenticator that the step has of it; `root` with a step and the root of its events.
  *
- * Rejected: `10 Part 1` or `10 Part 2` and the number of the lowest reason against that file, 1 where it is none of
- * these; `11 NoConflict` where both are accepted, and
- * they don't contradict each other; `12 BadLink` where the link has bytes and joins no such lines. Unreadable: the first bad line of
- * `first_anchors`, else of `second_anchors`, by these names. */
+ * Rejected: `10 Part 1` or `10 Part 2` and the number of the lowest reason against that file, 1 where it is none of these; `11 NoConflict`
+ * exactly where both are accepted, and are of two services or break none of these rules; `12 BadLink` where the link has bytes and joins no
+ * such lines. Unreadable: the first bad line of `first_anchors`, else of `second_anchors`, by these names. */
 uint32_t timeweave_contradict(const uint8_t *first, size_t first_size, const uint8_t *first_anchors, size_t first_anchors_size,
                               const uint8_t *second, size_t second_size, const uint8_t *second_anchors, size_t second_anchors_size,
                               const uint8_t *link, size_t link_size, uint8_t *out, size_t room, size_t *text_size);
+
+/* Tells whether the service that received both threads of the evidence of a fork broke a rule, by its two proofs as the two files of
+ * timeweave_contradict, each under the anchors, and the link. The text is the one that is told of these files; but of bytes that are no
+ * evidence it is `rejected 1 Malformed` and a place, and a bad line is one of `anchors`. Whether the evidence shows a fork isn't asked:
+ * timeweave_checkfork tells that. Two authenticators of one step that one service received are always found. */
+uint32_t timeweave_receiver(const uint8_t *evidence, size_t evidence_size, const uint8_t *anchors, size_t anchors_size, const uint8_t *link,
+                            size_t link_size, uint8_t *out, size_t room, size_t *text_size);
 
 /* The version of the library, as `1.0.0`: as much of it as has room is put at the front of `out`. Answers the size of the whole. */
 size_t timeweave_version(uint8_t *out, size_t room);

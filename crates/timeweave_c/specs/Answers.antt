@@ -3,6 +3,7 @@ use Rattle.std.specs.Prelude.{◌≡◌, ℕ, List, length, Bool, codes}
 use Rattle.tw_judge.specs.Contradictions.{AreFilesTold, FiveFiles, TwoNames}
 use Rattle.tw_judge.specs.Forks.{IsForkTold}
 use Rattle.tw_judge.specs.Maps.{AreMapsTold, ThreeFiles}
+use Rattle.tw_judge.specs.Receivers.{IsReceiverTold}
 use Rattle.tw_judge.specs.Told.{IsTold}
 use Rattle.timeweave_c.specs.Buffers.{put_in}
 
@@ -45,3 +46,8 @@ IsForkAnswer evidence anchors before after size status = AnswersByText (IsForkTo
 -- those of two files, each under its own anchors, and of the link between their lines
 abbrev pub IsContradictAnswer : FiveFiles → (before after : List ℕ) (size status : ℕ) → Type 0
 IsContradictAnswer bytes before after size status = AnswersByText (AreFilesTold bytes both_anchors) before after size status
+
+-- those of the evidence of a fork put to the service that received both threads, under the anchors, and of the link between their lines
+abbrev pub IsReceiverAnswer : (evidence anchors link before after : List ℕ) (size status : ℕ) → Type 0
+IsReceiverAnswer evidence anchors link before after size status =
+    AnswersByText (IsReceiverTold anchors_name evidence anchors link) before after size status

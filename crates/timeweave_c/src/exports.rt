@@ -3,13 +3,13 @@
 ghost use Rattle.std.specs.Prelude.{◌≡◌, length, true, false};
 ghost use Rattle.tw_text.specs.Faults.{fault_status as fault_status_of, fault_text};
 ghost use Rattle.tw_text.specs.declared.fault.CommandFault.TheVariants.{NoMemory as WantedMemory};
-ghost use Rattle.timeweave_c.specs.Answers.{IsContradictAnswer, IsForkAnswer, IsMapAnswer, IsVerifierAnswer, version_text};
+ghost use Rattle.timeweave_c.specs.Answers.{IsContradictAnswer, IsForkAnswer, IsMapAnswer, IsReceiverAnswer, IsVerifierAnswer, version_text};
 ghost use Rattle.timeweave_c.specs.Buffers.{put_in};
 
 use crate::buffer::{put, tell};
 use std::alloc::Global;
 use tw_base::NoMemory;
-use tw_judge::{judge, judge_contradiction, judge_fork, judge_maps};
+use tw_judge::{judge, judge_contradiction, judge_fork, judge_maps, judge_receiver};
 use tw_text::{CommandFault, fault_status, no_memory};
 
 /// The name by which a bad line of the anchors is told.
@@ -110,9 +110,9 @@ pub extern "C" fn timeweave_contradict(
 ) -> u32
     // The status and the text are those of the verdict on both files, each under its own anchors, and on the link, or of the first
     // bad line, or of want of memory; the buffer and the size are as with a proof's text. Status 0 comes exactly where both are
-    // accepted, and one says that the archive of a service has a thread which the other says it lacks, and a link with bytes joins
-    // their lines; no sound history then has the later line, where they are one or the link joins them, and else none has both; or two
-    // different texts have one digest.
+    // accepted, and what they say of one service breaks one of the rules, and a link with bytes joins their lines; no sound history
+    // then has the later line, where they are one or the link joins them, and else none has both; or two different texts have one
+    // digest.
     ensures { IsContradictAnswer (record {
       first = first.now;
       first_anchors = first_anchors.now;
@@ -123,6 +123,30 @@ pub extern "C" fn timeweave_contradict(
         out.old out.new text_size.new result }
 {
     match judge_contradiction(alloc, first, first_anchors, second, second_anchors, link) {
+        Ok(told) => tell(told.status, told.text.as_slice(), out, text_size),
+        Err(NoMemory) => tell_no_memory(out, text_size),
+    }
+}
+
+/// Tells whether the service that received both threads of the evidence of a fork broke a rule: 0 it did, 1 both
+/// proofs break none, or one isn't accepted, or the link joins no such lines, or the bytes are no evidence, 6 no
+/// memory, 9 a bad line in the anchors. A link of no bytes is none. The text goes into the buffer as with
+/// `timeweave_verify`.
+#[unsafe(no_mangle)]
+pub extern "C" fn timeweave_receiver(
+    alloc: Global,
+    evidence: &[u8],
+    anchors: &[u8],
+    link: &[u8],
+    out: &mut [u8],
+    text_size: &mut usize,
+) -> u32
+    // The status and the text are those of the verdict on both proofs of the evidence as two files, each under the anchors, and on the
+    // link, or of bytes that are no evidence, or of the first bad line, or of want of memory; the buffer and the size are as with a
+    // proof's text.
+    ensures { IsReceiverAnswer evidence.now anchors.now link.now out.old out.new text_size.new result }
+{
+    match judge_receiver(alloc, ANCHORS, evidence, anchors, link) {
         Ok(told) => tell(told.status, told.text.as_slice(), out, text_size),
         Err(NoMemory) => tell_no_memory(out, text_size),
     }

@@ -5,6 +5,6 @@ mod buffer;
 mod exports;
 
 pub use exports::{
-    timeweave_checkfork, timeweave_checkmap, timeweave_contradict, timeweave_strict,
-    timeweave_verify, timeweave_version,
+    timeweave_checkfork, timeweave_checkmap, timeweave_contradict, timeweave_receiver,
+    timeweave_strict, timeweave_verify, timeweave_version,
 };

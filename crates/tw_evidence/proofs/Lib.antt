@@ -4,9 +4,3 @@ pub mod Verdicts
 pub mod Bound
 pub mod Accused
 pub mod PartReasons
-pub mod Shown
-pub mod Sizes
-pub mod BoundFiles
-pub mod Conflicts
-pub mod Joined
-pub mod Judgements

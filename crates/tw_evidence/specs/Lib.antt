@@ -4,9 +4,3 @@ pub mod Binding
 pub mod Accusing
 pub mod Texts
 pub mod Seen
-pub mod ArchiveFiles
-pub mod Facts
-pub mod Fitting
-pub mod Verdicts
-pub mod Judged
-pub mod Linking

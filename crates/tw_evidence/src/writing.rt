@@ -21,6 +21,16 @@ fn put_thread_proof(into: &mut Bytes, proof: &ThreadProof) -> Result<(), NoMemor
     Ok(())
 }
 
+/// The bytes of the proof of a received thread, by itself.
+pub fn write_thread_proof(alloc: Global, proof: &ThreadProof) -> Result<Bytes, NoMemory>
+    // What is written of the proof is its bytes in the format.
+    ensures { IfOk result (λ bytes. bytes ≡ thread_proof_codec.write proof.now) }
+{
+    let mut bytes = Bytes::new(alloc);
+    put_thread_proof(&mut bytes, proof)?;
+    Ok(bytes)
+}
+
 /// Appends the evidence.
 #[tactic(auto, unfolding(crate::specs::Evidence::evidence_codec, tw_skipproof::specs::Seen::parts))]
 fn put_evidence(into: &mut Bytes, evidence: &Evidence) -> Result<(), NoMemory>

@@ -1,1 +1,2 @@
 mod BadLines
+pub mod OneReceiver

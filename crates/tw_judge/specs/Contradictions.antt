@@ -2,19 +2,17 @@
 use Rattle.std.specs.Prelude.{◌⊎◌, ℕ, List, [], ◌++◌, Bool, true, false, map, codes}
 use Rattle.sha2.specs.Sha256.{sha256}
 use Rattle.tw_base.specs.declared.history.thread.Thread.{Thread}
-use Rattle.tw_base.specs.history.Entries.{key_of}
 use Rattle.tw_msg.specs.AnchorsFile.{AllGood, anchor_on, lines}
 use Rattle.tw_text.specs.Lines.{line}
-use Rattle.tw_text.specs.Reports.{absent_line, thread_line}
 use Rattle.tw_text.specs.declared.fault.CommandFault.{CommandFault}
 use Rattle.tw_evidence.specs.declared.fork.ForkReason.TheVariants as fork
 use Rattle.tw_evidence.specs.Texts.{reason_text}
-use Rattle.tw_evidence.specs.declared.facts.Conflict.{Conflict}
-use Rattle.tw_evidence.specs.declared.verdict.ContradictReason.{ContradictReason}
-use Rattle.tw_evidence.specs.declared.verdict.ContradictReason.TheVariants.{Part, NoConflict, BadLink}
-use Rattle.tw_evidence.specs.declared.verdict.ContradictVerdict.{ContradictVerdict}
-use Rattle.tw_evidence.specs.declared.verdict.ContradictVerdict.TheVariants.{Yes, No}
-use Rattle.tw_evidence.specs.Verdicts.{IsContradictVerdict}
+use Rattle.tw_contradict.specs.declared.verdict.ContradictReason.{ContradictReason}
+use Rattle.tw_contradict.specs.declared.verdict.ContradictReason.TheVariants.{Part, NoConflict, BadLink}
+use Rattle.tw_contradict.specs.declared.verdict.ContradictVerdict.{ContradictVerdict}
+use Rattle.tw_contradict.specs.declared.verdict.ContradictVerdict.TheVariants.{Yes, No}
+use Rattle.tw_contradict.specs.Verdicts.{IsContradictVerdict}
+use Rattle.tw_judge.specs.RuleLines.{conflict_lines}
 use Rattle.tw_judge.specs.Told.{IsUnjudged}
 use Rattle.tw_judge.specs.Telling.{TellsJudged, TellsWhy}
 
@@ -39,10 +37,6 @@ contradict_status (No reason) = 1
 abbrev pub broken_line : (is_joined : Bool) → List ℕ
 broken_line true = line (codes "accepted broken-rule") []
 broken_line false = line (codes "accepted broken-rule-or-fork") []
-
--- the received thread as a report tells it, and its service and step as one that tells of none
-abbrev pub conflict_lines : Conflict → List ℕ
-conflict_lines c = thread_line c.service c.step c.entry ++ absent_line c.service c.upto (key_of c.entry)
 
 -- why it isn't so, as of evidence of a fork
 abbrev pub refusal_text : ContradictReason → List ℕ

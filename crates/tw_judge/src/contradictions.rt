@@ -1,24 +1,21 @@
 // What the library tells of two files that may contradict each other. The program has no command for it.
 
-ghost use Rattle.std.specs.Prelude.{◌≡◌, [], ◌∷◌, ◌++◌, IfOk, codes};
+ghost use Rattle.std.specs.Prelude.{◌≡◌, ◌++◌, IfOk, codes};
 // (The check has to know the type of a reason within a verdict.)
 ghost use Rattle.tw_base.specs.declared.history.report.Reason.{Reason as AnyReason};
-ghost use Rattle.tw_base.specs.history.Entries.{key_of};
-ghost use Rattle.tw_text.specs.declared.field.Field.TheVariants.{Named, Number};
-ghost use Rattle.tw_text.specs.Reports.{absent_line as absent_line_of, thread_line as thread_line_of};
-ghost use Rattle.tw_judge.specs.Contradictions.{AreFilesTold, broken_line as broken_line_of, conflict_lines as conflict_lines_of, contradict_status, contradict_text, refusal_text};
+ghost use Rattle.tw_judge.specs.Contradictions.{AreFilesTold, broken_line as broken_line_of, contradict_status, contradict_text, refusal_text};
+ghost use Rattle.tw_judge.specs.RuleLines.{conflict_lines};
 ghost use Rattle.tw_judge.specs.Telling.{TellsJudged};
 ghost use Rattle.sha2.specs.Sha256.{sha256};
-ghost use Rattle.tw_evidence.specs.Verdicts.{IsContradictVerdict};
+ghost use Rattle.tw_contradict.specs.Verdicts.{IsContradictVerdict};
 
+use crate::rule_lines::put_conflict;
 use crate::told::{Told, tell_line};
 use std::alloc::Global;
 use tw_base::{Bytes, NoMemory, Sha, Thread};
-use tw_evidence::{
-    Conflict, ContradictReason, ContradictVerdict, ForkReason, ForkVerdict, contradict, print_fork,
-};
+use tw_contradict::{Conflict, ContradictReason, ContradictVerdict, contradict};
+use tw_evidence::{ForkReason, ForkVerdict, print_fork};
 use tw_msg::{AnchorFault, read_anchors};
-use tw_text::{Field, FieldList, print_line};
 
 /// The words by which bad lines of the two anchors files are told.
 const FIRST_ANCHORS: &str = "first_anchors";
@@ -26,9 +23,9 @@ const FIRST_ANCHORS: &str = "first_anchors";
 const SECOND_ANCHORS: &str = "second_anchors";
 
 /// Tells whether two files contradict each other, each judged under the anchors beside it, and the bytes of
-/// a link between their lines, which are none where there is no link: 0 where they do, with the thread that one says
-/// was received and the other says wasn't; 1 with the first reason that stands; 9 with the first bad line of the
-/// first anchors, else of the second. `NoMemory` where no memory was left.
+/// a link between their lines, which are none where there is no link: 0 where they do, with the rule that is broken
+/// and what both say that breaks it; 1 with the first reason that stands; 9 with the first bad line of the first
+/// anchors, else of the second. `NoMemory` where no memory was left.
 pub fn judge_contradiction(
     alloc: Global,
     first: &[u8],
@@ -81,8 +78,8 @@ fn judge_both(
     }
 }
 
-/// What is told of a verdict.
-fn tell_verdict(alloc: Global, verdict: &ContradictVerdict) -> Result<Told, NoMemory>
+/// What is told of a verdict; `receivers.rt` tells it, too.
+pub(crate) fn tell_verdict(alloc: Global, verdict: &ContradictVerdict) -> Result<Told, NoMemory>
     ensures status { IfOk result (λ told. told.status ≡ contradict_status verdict.now) }
     ensures text { IfOk result (λ told. told.text ≡ contradict_text verdict.now) }
 {
@@ -129,45 +126,9 @@ fn broken_line(is_joined: bool) -> &'static [u8]
 
 /// The lines of files that contradict each other.
 fn print_broken(alloc: Global, conflict: &Conflict, is_joined: bool) -> Result<Bytes, NoMemory>
-    ensures { IfOk result (λ text. text ≡ broken_line_of is_joined ++ conflict_lines_of conflict.now) }
+    ensures { IfOk result (λ text. text ≡ broken_line_of is_joined ++ conflict_lines conflict.now) }
 {
     let mut text = Bytes::from_slice(alloc, broken_line(is_joined))?;
-    let thread = print_thread(alloc, conflict)?;
-    text.extend_from_slice(thread.as_slice())?;
-    let absent = print_absent(alloc, conflict)?;
-    text.extend_from_slice(absent.as_slice())?;
+    put_conflict(alloc, &mut text, conflict)?;
     Ok(text)
-}
-
-/// The line of the received thread, as the report of a proof has it (tw_text/src/report.rt).
-fn print_thread(alloc: Global, conflict: &Conflict) -> Result<Bytes, NoMemory>
-    ensures { IfOk result (λ text. text ≡ thread_line_of conflict.now.service conflict.now.step conflict.now.entry) }
-{
-    let mut fields = key_fields(alloc, conflict, conflict.step)?;
-    let auth = Bytes::from_slice(alloc, &conflict.entry.thread.auth.0)?;
-    fields.push(Field::Hex(auth))?;
-    fields.push(Field::Number(conflict.entry.archived))?;
-    print_line(alloc, b"thread", &fields)
-}
-
-/// The line of what wasn't received, as the report of a proof has it.
-fn print_absent(alloc: Global, conflict: &Conflict) -> Result<Bytes, NoMemory>
-    ensures { IfOk result (λ text. text ≡ absent_line_of conflict.now.service conflict.now.upto (key_of conflict.now.entry)) }
-{
-    let fields = key_fields(alloc, conflict, conflict.upto)?;
-    print_line(alloc, b"absent", &fields)
-}
-
-/// The fields of the service, of this step of it, and of the service and step of the thread.
-fn key_fields(alloc: Global, conflict: &Conflict, step: u64) -> Result<FieldList, NoMemory>
-    ensures { IfOk result (λ fields. fields ≡ Named conflict.now.service ∷ Number step ∷ Named conflict.now.entry.thread.from
-        ∷ Number conflict.now.entry.thread.step ∷ []) }
-{
-    let thread = &conflict.entry.thread;
-    let mut fields = FieldList::new(alloc);
-    fields.push(Field::Named(conflict.service))?;
-    fields.push(Field::Number(step))?;
-    fields.push(Field::Named(thread.from))?;
-    fields.push(Field::Number(thread.step))?;
-    Ok(fields)
 }

@@ -1,7 +1,11 @@
 //! Tests of services and followers on disks in memory. Most are by values that are worked out by hand, under the weak hasher; others are of
-//! calls that are stopped or fail.
+//! calls that are stopped or fail, or whose reads contradict each other.
 #![tactic(auto)]
 
+#[cfg(test)]
+mod adoptions;
+#[cfg(test)]
+mod fickle;
 #[cfg(test)]
 mod followers;
 #[cfg(test)]

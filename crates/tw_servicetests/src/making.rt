@@ -1,7 +1,7 @@
 // Services on disks in memory, under any hasher, and what they tell.
 
 use std::alloc::Global;
-use tw_base::{Bytes, Digest, EventList, Hasher, Name, NoMemory, Question};
+use tw_base::{Bytes, Digest, EventList, Hasher, Name, NoMemory, Question, Sha};
 use tw_disk::MemDisk;
 use tw_service::Service;
 
@@ -45,4 +45,14 @@ pub(crate) fn told<H: Hasher>(alloc: Global, name: &[u8], event: &[u8]) -> Optio
     let mut service = init::<H>(alloc, name)?;
     add(alloc, &mut service, event)?;
     service.ask(&Question::ThreadOut { since: 0 }).ok()
+}
+
+/// A service that received the first step of a service `beta`, of the event 9, at its step 1 and the time 7, and recorded that event at its
+/// step 2 and that time.
+pub(crate) fn received(alloc: Global) -> Option<Service<MemDisk, Sha>> {
+    let mut service = init::<Sha>(alloc, b"alpha")?;
+    let message = told::<Sha>(alloc, b"beta", &[9])?;
+    service.receive_at(message.as_slice(), 7).ok()?;
+    service.append_at(&one_event(alloc, &[9]).ok()?, 7).ok()?;
+    Some(service)
 }

@@ -1,10 +1,10 @@
 // The worked proof of two events of two services, joined of its parts, and read in two pieces at each place and byte by byte: one verdict.
 
-use crate::making::{add, init};
+use crate::making::{add, init, told as message_of};
 use std::alloc::Global;
 use std::test::Fail;
-use tw_base::{Bytes, Key, NoMemory, Question, Sha, Thread};
-use tw_chain::{Verdict, read_proof, write_proof};
+use tw_base::{Bytes, Key, Name, NoMemory, Sequence, Sha, Thread};
+use tw_chain::{Proof, Verdict, read_proof, write_proof};
 use tw_disk::MemDisk;
 use tw_join::join;
 use tw_service::Service;
@@ -21,47 +21,74 @@ const REJECTED: &str = "rejected 1 Malformed 533\n";
 /// A service.
 type Kept = Service<MemDisk, Sha>;
 
-/// The services `alpha`, of one step of the event `hi`, and `beta`, whose step 1 received that and whose step 2 is of an event of no bytes.
-fn services(alloc: Global) -> Option<(Kept, Kept)> {
+/// The proof of the event `hi`, of which the only step of `alpha` is.
+fn earlier(alloc: Global) -> Option<Bytes> {
     let mut alpha = init::<Sha>(alloc, b"alpha")?;
-    let mut beta = init::<Sha>(alloc, b"beta")?;
     add(alloc, &mut alpha, b"hi")?;
-    let message = alpha.ask(&Question::ThreadOut { since: 0 }).ok()?;
-    let _ = beta.receive(message.as_slice()).ok()?;
-    add(alloc, &mut beta, b"")?;
-    Some((alpha, beta))
+    alpha.prove_event(1, 0, 1).ok()
 }
 
-/// The proofs of the two events, and that `beta` received the thread of the former.
-fn parts(alpha: &mut Kept, beta: &mut Kept) -> Option<[Bytes; 3]> {
+/// The service `beta`, whose step 1 received the step of `alpha`, and whose step 2 is of an event of no bytes.
+fn beta(alloc: Global) -> Option<Kept> {
+    let message = message_of::<Sha>(alloc, b"alpha", b"hi")?;
+    let mut beta = init::<Sha>(alloc, b"beta")?;
+    let _ = beta.receive(message.as_slice()).ok()?;
+    add(alloc, &mut beta, b"")?;
+    Some(beta)
+}
+
+/// The proofs of its event, and that it received the thread of `alpha`; and its own thread.
+fn later(alloc: Global) -> Option<(Bytes, Bytes, Thread)> {
     let key = Key {
-        from: alpha.name(),
+        from: Name::read(b"alpha")?,
         step: 1,
     };
-    let later = beta.prove_event(2, 0, 2).ok()?;
+    let mut beta = beta(alloc)?;
+    let event = beta.prove_event(2, 0, 2).ok()?;
     let thread = beta.prove_thread(1, key, 1).ok()?;
-    let earlier = alpha.prove_event(1, 0, 1).ok()?;
-    Some([later, thread, earlier])
+    Some((event, thread, beta.head()))
+}
+
+/// Reads a proof, and puts it behind the others; tells whether it did.
+fn read_behind(alloc: Global, proofs: &mut Sequence<Proof>, bytes: &Bytes) -> bool {
+    match read_proof(alloc, bytes.as_slice()) {
+        Ok(proof) => proofs.push(proof).is_ok(),
+        Err(_) => false,
+    }
+}
+
+/// The bytes of a proof. It is dropped by its name, so that the prover meets the drop in one place.
+fn written(alloc: Global, proof: Proof) -> Option<Bytes> {
+    let bytes = write_proof(alloc, &proof);
+    drop(proof);
+    bytes.ok()
 }
 
 /// The bytes of what these proofs join to.
-fn joined(alloc: Global, [later, thread, earlier]: &[Bytes; 3]) -> Option<Bytes> {
-    let proofs = [
-        read_proof(alloc, later.as_slice()).ok()?,
-        read_proof(alloc, thread.as_slice()).ok()?,
-        read_proof(alloc, earlier.as_slice()).ok()?,
-    ];
-    let whole = join(alloc, &proofs).ok()?;
-    write_proof(alloc, &whole).ok()
+fn joined(alloc: Global, proofs: &[Proof]) -> Option<Bytes> {
+    match join(alloc, proofs) {
+        Ok(proof) => written(alloc, proof),
+        Err(_) => None,
+    }
 }
 
-/// The bytes of the proof that the former event precedes the latter, with a byte more, and the thread of `beta`.
+/// The bytes of the proof that the former event precedes the latter, and the thread of `beta`.
 fn chain(alloc: Global) -> Option<(Bytes, Thread)> {
-    let (mut alpha, mut beta) = services(alloc)?;
-    let proofs = parts(&mut alpha, &mut beta)?;
-    let mut bytes = joined(alloc, &proofs)?;
+    let earlier = earlier(alloc)?;
+    let (event, thread, head) = later(alloc)?;
+    let mut proofs = Sequence::new(alloc);
+    let are_read = read_behind(alloc, &mut proofs, &event)
+        && read_behind(alloc, &mut proofs, &thread)
+        && read_behind(alloc, &mut proofs, &earlier);
+    let bytes = joined(alloc, proofs.as_slice());
+    if are_read { Some((bytes?, head)) } else { None }
+}
+
+/// Those bytes with one more.
+fn longer(alloc: Global) -> Option<(Bytes, Thread)> {
+    let (mut bytes, head) = chain(alloc)?;
     bytes.push(0).ok()?;
-    Some((bytes, beta.head()))
+    Some((bytes, head))
 }
 
 /// What is told of a verdict.
@@ -117,7 +144,7 @@ fn is_told_of_each_cutting(
 #[test]
 fn each_cutting_has_one_verdict(rt: HostRuntime) -> Result<(), Fail> {
     let alloc = rt.alloc();
-    let (longer, anchor) = chain(alloc).ok_or("no proof")?;
+    let (longer, anchor) = longer(alloc).ok_or("no proof")?;
     assert_eq!(rt; longer.len(), 534);
     let bytes = longer.as_slice().get(..533).ok_or("too short")?;
     let accepted = is_told_of_each_cutting(alloc, &anchor, bytes, ACCEPTED);

@@ -1,73 +1,76 @@
 // Services on a disk in memory: each call that the program makes by a question, whose whole answer is the reference's; and one that met
 // a fault, or was stopped.
 
-ghost use Rattle.std.specs.Prelude.{◌≤◌, IfOk};
-ghost use Rattle.tw_base.specs.history.Limits.{IsStep};
+ghost use Rattle.std.specs.Prelude.{◌≤◌};
 
-use crate::making::{init, one_event, open, told};
+use crate::making::{init, one_event, open, received, told};
 use std::alloc::Global;
 use std::test::Fail;
-use tw_base::{Bytes, Digest, Hasher, Key, Name, Sha};
+use tw_base::{Bytes, EventList, Hasher, Key, Name, Sha, Weak};
 use tw_disk::MemDisk;
 use tw_msg::{Message, write_message};
 use tw_service::{Refusal, Service};
+use tw_text::read_digest;
 
-/// A service over a disk in memory.
+/// A service over a disk in memory, whose answers are the reference's.
 type Kept = Service<MemDisk, Sha>;
 
-/// A service that received the first step of a service `beta`, of the event 9, at its step 1 and the time 7, and recorded that event at its
-/// step 2 and that time.
-fn received(alloc: Global) -> Option<Kept> {
-    let mut service = init::<Sha>(alloc, b"alpha")?;
-    let message = told::<Sha>(alloc, b"beta", &[9])?;
-    service.receive_at(message.as_slice(), 7).ok()?;
-    service.append_at(&one_event(alloc, &[9]).ok()?, 7).ok()?;
-    Some(service)
-}
-
-/// The key of this step of `beta`.
-fn key(step: u32) -> Result<Key, Fail>
-    ensures { IfOk result (λ key. IsStep key.step) }
-{
-    let from = Name::read(b"beta").ok_or("no name")?;
-    Ok(Key {
-        from,
-        step: step.max(1) as u64,
-    })
-}
+/// One of which the answers don't matter.
+type Quick = Service<MemDisk, Weak>;
 
 /// The SHA-256 of each answer of that service, as the reference gives it: the proofs of the event of step 2, of the thread, that there is
 /// no thread of step 2 of `beta`, and of the authenticator of step 1, all under step 2.
-const PROOFS: [[u8; 32]; 4] = [
-    *b"\xe2\x4e\xf0\x3a\x9d\xa9\xef\x70\xc1\x39\x69\xd5\x7e\xaa\x94\xe8\x1a\x26\xf9\x8c\xd2\x5b\x04\x00\xe9\xce\xe3\xf0\x25\xea\x52\x06",
-    *b"\xa4\xd0\xcc\x93\xcd\x27\x7c\x1a\x3a\x75\x81\x00\x1c\x15\xd7\xc1\x8d\x52\x04\xd2\x06\xf5\xd7\x95\x39\xcb\x9d\x61\x7c\xb3\x93\xf7",
-    *b"\xf9\x4a\x70\x21\x64\xc4\xd4\xb2\x48\x74\x4c\x4f\x19\xf6\x8b\x8e\x0b\xbc\x8f\x45\x0f\x77\x94\xfa\xa3\x2a\x65\x8d\x3a\x62\x67\x7f",
-    *b"\xb6\xf0\xee\xc8\x3b\x88\x67\x92\x96\xfa\xac\xe7\xe8\x3e\xc4\x87\x40\x43\xfb\x0c\xa2\x0c\xfa\xea\xef\xb1\x18\x3c\x63\x80\x56\x86",
-];
+const EVENT: &str = "e24ef03a9da9ef70c13969d57eaa94e81a26f98cd25b0400e9cee3f025ea5206";
+
+const THREAD: &str = "a4d0cc93cd277c1a3a7581001c15d7c18d5204d206f5d79539cb9d617cb393f7";
+
+const ABSENCE: &str = "f94a702164c4d4b248744c4f19f68b8e0bbc8f450f7794faa32a658d3a62677f";
+
+const LINK: &str = "b6f0eec83b88679296faace7e83ec4874043fb0ca20cfaeaefb1183c63805686";
 
 /// That of the low file of step 2, of the high file for step 1 of `beta`, of the history's file, and of the message since step 1.
-const FILES: [[u8; 32]; 4] = [
-    *b"\x1e\xbd\x9d\x70\x86\xb7\x46\x31\x02\x35\xc2\xe1\x39\xa1\x9c\xab\x67\x52\x59\x82\xaf\x79\x49\x2c\xe9\xc6\x03\xa7\xc2\x73\xa0\x01",
-    *b"\xe0\x41\xc3\x07\xfb\xe9\xa7\x00\x0a\x3c\xdf\xae\x72\xf7\x58\xa5\x45\x7a\x2f\xf3\x3a\x87\xc9\x79\x2d\xdf\x4a\x15\x5a\xe5\x3e\xfb",
-    *b"\x34\xdb\x92\xe5\x6e\xcb\x84\xc3\x78\x06\x8e\x4c\xf8\x96\xc0\x08\x23\x48\xf1\xf7\xab\x5d\xd5\xb5\xc4\xf4\x29\xcb\x47\x71\x0e\xee",
-    *b"\xb6\x60\x50\x04\x4c\xc4\xbc\x5e\x30\x4c\x4c\x69\x3a\xd2\x00\x04\x0f\xd8\x35\xcb\x03\x97\x78\xd8\xf2\xc2\x43\x69\xaa\xfe\x66\xab",
-];
+const LOW: &str = "1ebd9d7086b746310235c2e139a19cab67525982af79492ce9c603a7c273a001";
+
+const HIGH: &str = "e041c307fbe9a7000a3cdfae72f758a5457a2ff33a87c9792ddf4a155ae53efb";
+
+const HISTORY: &str = "34db92e56ecb84c378068e4cf896c0082348f1f7ab5dd5b5c4f429cb47710eee";
+
+const MESSAGE: &str = "b66050044cc4bc5e304c4c693ad200040fd835cb039778d8f2c24369aafe66ab";
 
 /// Whether the answer is the one of this digest.
-fn is_whole(answer: Result<Bytes, Refusal>, digest: [u8; 32]) -> bool {
+fn is_whole(answer: Result<Bytes, Refusal>, digest: &str) -> bool {
     match answer {
-        Ok(bytes) => Sha::digest(bytes.as_slice()) == Digest(digest),
+        Ok(bytes) => Some(Sha::digest(bytes.as_slice())) == read_digest(digest.as_bytes()),
         Err(_) => false,
     }
 }
 
+/// Whether it is that of the proof of the thread of `beta`.
+fn is_thread_proved(service: &mut Kept, peer: Name) -> bool {
+    let key = Key {
+        from: peer,
+        step: 1,
+    };
+    is_whole(service.prove_thread(2, key, 2), THREAD)
+}
+
+/// Whether it is that of the proof that there is no other.
+fn is_absence_proved(service: &mut Kept, peer: Name) -> bool {
+    let key = Key {
+        from: peer,
+        step: 2,
+    };
+    is_whole(service.prove_absent(2, key, 2), ABSENCE)
+}
+
 #[test]
 fn each_proof_is_made(rt: HostRuntime) -> Result<(), Fail> {
+    let peer = Name::read(b"beta").ok_or("no name")?;
     let mut service = received(rt.alloc()).ok_or("no service")?;
-    assert!(rt; is_whole(service.prove_event(2, 0, 2), PROOFS[0]));
-    assert!(rt; is_whole(service.prove_thread(2, key(1)?, 2), PROOFS[1]));
-    assert!(rt; is_whole(service.prove_absent(2, key(2)?, 2), PROOFS[2]));
-    assert!(rt; is_whole(service.prove_link(1, 2), PROOFS[3]));
+    assert!(rt; is_whole(service.prove_event(2, 0, 2), EVENT));
+    assert!(rt; is_thread_proved(&mut service, peer));
+    assert!(rt; is_absence_proved(&mut service, peer));
+    assert!(rt; is_whole(service.prove_link(1, 2), LINK));
     Ok(())
 }
 
@@ -78,51 +81,59 @@ fn spelled(alloc: Global, message: Result<Message, Refusal>) -> Result<Bytes, Re
 
 #[test]
 fn each_file_is_made(rt: HostRuntime) -> Result<(), Fail> {
-    let mut service = received(rt.alloc()).ok_or("no service")?;
     let peer = Name::read(b"beta").ok_or("no name")?;
-    assert!(rt; is_whole(service.prove_low(2, peer, 2), FILES[0]));
-    assert!(rt; is_whole(service.prove_high(1, peer, 2), FILES[1]));
-    assert!(rt; is_whole(service.export(), FILES[2]));
-    assert!(rt; is_whole(spelled(rt.alloc(), service.thread_out(1)), FILES[3]));
+    let mut service = received(rt.alloc()).ok_or("no service")?;
+    assert!(rt; is_whole(service.prove_low(2, peer, 2), LOW));
+    assert!(rt; is_whole(service.prove_high(1, peer, 2), HIGH));
+    assert!(rt; is_whole(service.export(), HISTORY));
+    assert!(rt; is_whole(spelled(rt.alloc(), service.thread_out(1)), MESSAGE));
     Ok(())
 }
 
-/// What two calls of `receive` answer on a service, of which this device call failed, after that of its opening. (A step takes eight.)
-fn receipts_after_fault(alloc: Global, call: u64) -> Option<(Refusal, Refusal)> {
-    let mut disk = init::<Sha>(alloc, b"alpha")?.close();
+/// A service without a step, on a disk of which this device call fails, after that of its opening.
+fn failing(alloc: Global, call: u64) -> Option<Quick> {
+    let mut disk = init::<Weak>(alloc, b"alpha")?.close();
     disk.fail(call.saturating_add(1)).ok()?;
-    let mut service = open::<Sha>(alloc, disk)?;
-    let bytes = told::<Sha>(alloc, b"beta", &[9])?;
-    let first = service.receive(bytes.as_slice()).err()?;
-    let second = service.receive(bytes.as_slice()).err()?;
-    Some((first, second))
+    open::<Weak>(alloc, disk)
+}
+
+/// What refuses two calls of `receive` on it. (A step takes eight device calls.)
+fn receipts_after_fault(alloc: Global, call: u64) -> Option<[Option<Refusal>; 2]> {
+    let message = told::<Weak>(alloc, b"beta", &[9])?;
+    let mut service = failing(alloc, call)?;
+    let first = service.receive(message.as_slice()).err();
+    let second = service.receive(message.as_slice()).err();
+    Some([first, second])
 }
 
 #[test]
 fn a_service_that_met_a_fault_is_to_be_opened_again(rt: HostRuntime) {
     for call in 1..9 {
         let answers = receipts_after_fault(rt.alloc(), call);
-        assert_eq!(rt; answers, Some((Refusal::DiskFault, Refusal::Reopen)));
+        assert!(rt; answers == Some([Some(Refusal::DiskFault), Some(Refusal::Reopen)]));
     }
 }
 
-/// What two calls of `append` answer on a service without a step, of which the third device call failed, after that of its opening; and
-/// how many steps are there once it is opened again.
-fn lines_after_fault(alloc: Global) -> Option<(Refusal, Refusal, u64)> {
-    let mut disk = init::<Sha>(alloc, b"alpha")?.close();
-    disk.fail(4).ok()?;
-    let mut service = open::<Sha>(alloc, disk)?;
-    let events = one_event(alloc, &[9]).ok()?;
-    let first = service.append(&events).err()?;
-    let second = service.append(&events).err()?;
-    let service = open::<Sha>(alloc, service.close())?;
-    Some((first, second, service.steps()))
+/// What refuses two calls of `append` on a service whose third device call fails, after that of its opening; and the disk.
+fn lines_after_fault(alloc: Global, events: &EventList) -> Option<([Option<Refusal>; 2], MemDisk)> {
+    let mut service = failing(alloc, 3)?;
+    let first = service.append(events).err();
+    let second = service.append(events).err();
+    Some(([first, second], service.close()))
+}
+
+/// How many steps the service on the disk has.
+fn steps_on(alloc: Global, disk: MemDisk) -> Option<u64> {
+    Some(open::<Weak>(alloc, disk)?.steps())
 }
 
 #[test]
-fn an_append_whose_third_device_call_fails_makes_no_step(rt: HostRuntime) {
-    let answers = lines_after_fault(rt.alloc());
-    assert_eq!(rt; answers, Some((Refusal::DiskFault, Refusal::Reopen, 0)));
+fn an_append_whose_third_device_call_fails_makes_no_step(rt: HostRuntime) -> Result<(), Fail> {
+    let events = one_event(rt.alloc(), &[9])?;
+    let (answers, disk) = lines_after_fault(rt.alloc(), &events).ok_or("no service")?;
+    assert!(rt; answers == [Some(Refusal::DiskFault), Some(Refusal::Reopen)]);
+    assert_eq!(rt; steps_on(rt.alloc(), disk), Some(0));
+    Ok(())
 }
 
 /// The disk of a service whose first `append` was stopped at this device call, after that of its opening, where a crash left the outcome
@@ -130,10 +141,11 @@ fn an_append_whose_third_device_call_fails_makes_no_step(rt: HostRuntime) {
 fn stopped(alloc: Global, call: u64, choice: u8) -> Option<MemDisk>
     requires { choice ≤ 3 }
 {
-    let mut disk = init::<Sha>(alloc, b"alpha")?.close();
+    let events = one_event(alloc, &[9]).ok()?;
+    let mut disk = init::<Weak>(alloc, b"alpha")?.close();
     disk.stop_at(call.saturating_add(1).max(1));
-    let mut service = open::<Sha>(alloc, disk)?;
-    let _ = service.append(&one_event(alloc, &[9]).ok()?);
+    let mut service = open::<Weak>(alloc, disk)?;
+    let _ = service.append(&events);
     let mut disk = service.close();
     disk.crash(choice);
     Some(disk)
@@ -143,8 +155,7 @@ fn stopped(alloc: Global, call: u64, choice: u8) -> Option<MemDisk>
 fn left(alloc: Global, call: u64, choice: u8) -> Option<u64>
     requires { choice ≤ 3 }
 {
-    let service = open::<Sha>(alloc, stopped(alloc, call, choice)?)?;
-    Some(service.steps())
+    steps_on(alloc, stopped(alloc, call, choice)?)
 }
 
 #[test]
@@ -161,21 +172,21 @@ fn a_stopped_append_leaves_the_step_or_none(rt: HostRuntime) {
     }
 }
 
-/// How many device calls the next `append` makes, where the first one was stopped at its fourth.
-fn calls_after_stop(alloc: Global, choice: u8) -> Option<u64>
-    requires { choice ≤ 3 }
-{
-    let disk = stopped(alloc, 4, choice)?;
+/// How many device calls the opening of this disk and an `append` on it make.
+fn calls_on(alloc: Global, events: &EventList, disk: MemDisk) -> Option<u64> {
     let before = disk.device_calls();
-    let mut service = open::<Sha>(alloc, disk)?;
-    let _ = service.append(&one_event(alloc, &[9]).ok()?).ok()?;
+    let mut service = open::<Weak>(alloc, disk)?;
+    let _ = service.append(events).ok()?;
     Some(service.close().device_calls().saturating_sub(before))
 }
 
 #[test]
-fn an_append_over_a_closed_gate_makes_six_device_calls(rt: HostRuntime) {
+fn an_append_over_a_closed_gate_makes_six_device_calls(rt: HostRuntime) -> Result<(), Fail> {
+    let events = one_event(rt.alloc(), &[9])?;
     for choice in 0u8..4 {
+        let disk = stopped(rt.alloc(), 4, choice).ok_or("no service")?;
         // (the opening makes one)
-        assert_eq!(rt; calls_after_stop(rt.alloc(), choice), Some(7));
+        assert_eq!(rt; calls_on(rt.alloc(), &events, disk), Some(7));
     }
+    Ok(())
 }

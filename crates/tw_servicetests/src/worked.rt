@@ -75,8 +75,8 @@ fn the_least_proof_is_accepted_under_its_own_authenticator_alone(rt: HostRuntime
     assert_eq!(rt; is_accepted(rt.alloc(), 0xbe), Some(false));
 }
 
-/// The proof of a service of this name that its step 1 received a step 1 of `a` of this event, and its thread.
-fn shown(alloc: Global, name: &[u8], event: &[u8]) -> Option<(ThreadProof, Thread)> {
+/// The bytes of the proof of a service of this name that its step 1 received a step 1 of `a` of this event, and its thread.
+pub(crate) fn proved(alloc: Global, name: &[u8], event: &[u8]) -> Option<(Bytes, Thread)> {
     let message = told::<Weak>(alloc, b"a", event)?;
     let mut service = init::<Weak>(alloc, name)?;
     let _ = service.receive(message.as_slice()).ok()?;
@@ -85,8 +85,14 @@ fn shown(alloc: Global, name: &[u8], event: &[u8]) -> Option<(ThreadProof, Threa
         step: 1,
     };
     let bytes = service.prove_thread(1, key, 1).ok()?;
+    Some((bytes, service.head()))
+}
+
+/// That proof, and the thread.
+fn shown(alloc: Global, name: &[u8], event: &[u8]) -> Option<(ThreadProof, Thread)> {
+    let (bytes, thread) = proved(alloc, name, event)?;
     let proof = read_thread_proof(alloc, bytes.as_slice()).ok()?;
-    Some((proof, service.head()))
+    Some((proof, thread))
 }
 
 /// What is told of the fork.

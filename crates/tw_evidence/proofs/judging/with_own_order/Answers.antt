@@ -1,4 +1,0 @@
-use Rattle.tw_evidence.proofs.judging.with_own_order.Goals as goal
-
-pub returns-in-Present : goal.returns-in-Present
-returns-in-Present c = rw c.in-Present.is (λ dig anchors. c.with_order.ensures dig anchors)
