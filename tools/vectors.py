@@ -16,12 +16,20 @@ from typing import Callable, Dict, Iterator, List, Tuple
 import vectors_of_contradictions as of_contradictions
 import vectors_of_files as of_files
 import vectors_of_proofs as of_proofs
+import vectors_of_rules as of_rules
 from vector import TOP, Vector
 
 from timeweave_reference.fields import LAST_STEP
 from timeweave_reference.paths import greedy_steps
 
 FOLDER = TOP / "vectors"
+
+
+def contradictions() -> Iterator[Vector]:
+    """Those of two files of which one denies what the other shows, and those of all other rules."""
+    yield from of_contradictions.contradictions()
+    yield from of_rules.rules()
+
 
 FILES: Dict[str, Tuple[str, Tuple[Callable[[], Iterator[Vector]], ...]]] = {
     "event": ("Proofs of kind 1: an event stands in a step.", (of_proofs.events,)),
@@ -32,7 +40,7 @@ FILES: Dict[str, Tuple[str, Tuple[Callable[[], Iterator[Vector]], ...]]] = {
     "precedes": ("Proofs of kind 2: an event precedes another; and proofs that are joined to such.", (of_proofs.ways, of_files.joins)),
     "map": ("Map files, kinds 6 and 7: between which steps of a peer a step lies.", (of_files.maps,)),
     "fork": ("Evidence that no history has both of two threads, and how it is made.", (of_files.forks, of_files.accusations)),
-    "contradict": ("Files that contradict each other, as the library tells; the program has no such command.", (of_contradictions.contradictions,)),
+    "contradict": ("Files that show a rule of histories broken, as the library tells; the program has no such command.", (contradictions,)),
     "history": ("Files of histories: events that are shown, and what breaks a rule.", (of_files.shows,)),
     "audit": ("Proofs that are held against histories, and histories that are taken over.", (of_files.audits, of_files.adoptions)),
     "atlas": ("Where receipts lead.", (of_files.atlases,)),

@@ -110,14 +110,19 @@ export interface Fork {
 }
 
 /**
- * What two accepted files show that contradict each other: that a thread was received, and that none of its service and step was received up to a step that
- * isn't before. Where `isJoined`, the service of the archive broke a rule: no sound history has the later of its lines. Else it broke a rule or showed two
- * histories: no sound history has both lines.
+ * The rule of histories that two accepted files show broken: its number, its name, the service whose rule it is, and the lines that tell what the files say. Where
+ * `isJoined`, the service broke it: no sound history has the later of its lines. Else it broke it or showed two histories: no sound history has both lines. Rule 1,
+ * `Denied`, alone has `received` and `absent`: a thread was received, and none of its service and step was received up to a step that isn't before. A rule
+ * whose number isn't known to you is broken too.
  */
 export interface Contradiction {
     isJoined: boolean;
-    received: Received;
-    absent: Absent;
+    rule: number;
+    name: string;
+    service: string;
+    lines: string[];
+    received?: Received;
+    absent?: Absent;
     text: string;
 }
 
@@ -175,11 +180,17 @@ export declare class Timeweave {
     checkfork(evidence: Uint8Array, anchors: Uint8Array | string): Fork;
 
     /**
-     * What two files show that contradict each other, each accepted under its own lines: proofs that a thread was received or that none was, or map files.
+     * The rule that two files show broken, each accepted under its own lines: proofs that a thread was received or that none was, or map files.
      * The link is a proof of a step's authenticator, which joins the earlier line of the service to the later one; none is needed where both files are
-     * accepted under one line. Throws Rejected, with the reason NoConflict where they don't contradict each other, BadAnchors or NoMemory.
+     * accepted under one line. Throws Rejected, with the reason NoConflict where they show none broken, BadAnchors or NoMemory.
      */
     contradict(first: Uint8Array, firstAnchors: Uint8Array | string, second: Uint8Array, secondAnchors: Uint8Array | string, link?: Uint8Array): Contradiction;
+
+    /**
+     * The rule that the receiver of both threads of evidence of a fork broke, whether or not they show a fork. Throws Rejected, with the reason NoConflict where two
+     * services received them or the one broke no rule by it, BadAnchors or NoMemory.
+     */
+    receiver(evidence: Uint8Array, anchors: Uint8Array | string, link?: Uint8Array): Contradiction;
 
     /** Whether the module has the library's function of this name: one that was built earlier may lack it. */
     has(name: string): boolean;
@@ -208,5 +219,5 @@ export declare function readBounds(text: string): Bounds;
 /** What accepted evidence shows, of its text. Throws Error where the text is none. */
 export declare function readFork(text: string): Fork;
 
-/** What two files show that contradict each other, of their text. Throws Error where the text is none. */
+/** The rule that two files show broken, of their text. Throws Error where the text is none. */
 export declare function readContradiction(text: string): Contradiction;

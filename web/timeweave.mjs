@@ -158,9 +158,14 @@ export class Timeweave {
         return readFork(acceptedText(this.ask("timeweave_checkfork", evidence, anchors)));
     }
 
-    /** What two files show that contradict each other, each accepted under its own anchors; the link may have no bytes. */
+    /** The rule that two files show broken, each accepted under its own anchors; the link may have no bytes. */
     contradict(first, firstAnchors, second, secondAnchors, link = new Uint8Array()) {
         return readContradiction(acceptedText(this.ask("timeweave_contradict", first, firstAnchors, second, secondAnchors, link)));
+    }
+
+    /** The rule that the receiver of both threads of evidence broke; the link may have no bytes. */
+    receiver(evidence, anchors, link = new Uint8Array()) {
+        return readContradiction(acceptedText(this.ask("timeweave_receiver", evidence, anchors, link)));
     }
 
     /** The version of the library, as "1.0.0". */
@@ -239,10 +244,14 @@ export function readFork(text) {
     return { first: accused(first, "first"), second: accused(second, "second"), text };
 }
 
-/** What two files show that contradict each other, of their text. */
+/** The rule that two files show broken, of their text; of rule 1 alone the thread that was received and the one that wasn't. */
 export function readContradiction(text) {
-    const [head, thread, absent] = text.split("\n"), told = { events: [] };
-    LINES.thread(told, ...wordsOf(thread, "thread", 6));
-    LINES.absent(told, ...wordsOf(absent, "absent", 4));
-    return { isJoined: head === "accepted broken-rule", received: told.received, absent: told.absent, text };
+    const [head, ...lines] = text.trimEnd().split("\n"), told = { events: [] };
+    const [rule, name] = lines[0]?.startsWith("rule ") ? wordsOf(lines.shift(), "rule", 2) : ["1", "Denied"];
+    if (rule === "1") {
+        LINES.thread(told, ...wordsOf(lines[0], "thread", 6));
+        LINES.absent(told, ...wordsOf(lines[1], "absent", 4));
+    }
+    if (!lines.length) throw new Error(`no line of a report: ${text}`);
+    return { isJoined: head === "accepted broken-rule", rule: Number(rule), name, service: lines[0].split(" ")[1], lines, ...told.received && { received: told.received, absent: told.absent }, text };
 }

@@ -19,6 +19,8 @@ ACCEPTED, REJECTED, NO_MEMORY, UNREADABLE = 0, 1, 6, 9
 BAD_ANCHORS = UNREADABLE
 BUILT = Path(__file__).resolve().parents[2] / "lib/libtimeweave.so"
 FIRST_ROOM = 1024
+DENIED = "Denied"
+"""The rule whose lines have none of its name: that a received thread wasn't received."""
 
 # What is taken for the bytes of a file, and for the lines of an anchors file.
 Data = Union[bytes, bytearray, memoryview]
@@ -153,15 +155,49 @@ class Fork:
 
 
 @dataclass(frozen=True)
+class ShownStep:
+    """A step of a service as a file shows it: its authenticator, its count of events, and the time that its maker claims, None where it has none."""
+
+    service: str
+    step: int
+    authenticator: bytes
+    count: int
+    time: Optional[int]
+
+
+@dataclass(frozen=True)
+class Noted:
+    """A digest of a step of a service: of a `line` its authenticator, of a step `before` the one that the next step has of it, of a `root` that of its
+    events."""
+
+    what: str
+    service: str
+    step: int
+    digest: bytes
+
+
+Said = Union[Received, Absent, ShownStep, Noted, str]
+"""What one of two files says that breaks a rule with what the other says; a line that isn't known here stands as it is."""
+
+
+@dataclass(frozen=True)
 class Contradiction:
-    """What two accepted files show that contradict each other: that a thread was received, and that none of its service and step was received up
-    to a step that isn't before. Where `is_joined`, the service of the archive broke a rule: no sound history has the later of its lines. Else it
-    broke a rule or showed two histories: no sound history has both lines."""
+    """The rule of sound histories that two accepted files of one service break, by its number and name, and what they say that breaks it, in the order in
+    which the rule speaks of it. The rule 1, `Denied`, is that a thread was received, and that none of its service and step was received up to a step that
+    isn't before. Where `is_joined`, the service of the archives broke the rule: no sound history has the later of its lines. Else it broke the rule or
+    showed two histories: no sound history has both lines. A rule whose number you don't know is broken too."""
 
     is_joined: bool
-    received: Received
-    absent: Absent
+    number: int
+    rule: str
+    said: Tuple[Said, ...]
     text: str
+
+    @property
+    def service(self) -> str:
+        """The service that broke the rule, or showed two histories."""
+        said = self.said[0]
+        return said.split(" ")[1] if isinstance(said, str) else said.service
 
 
 # ---- texts
@@ -271,10 +307,35 @@ def read_fork(text: str) -> Fork:
     return Fork(read_accused(first, "first"), read_accused(second, "second"), text)
 
 
+def read_step(line: str) -> ShownStep:
+    """What a line `step` says."""
+    service, step, authenticator, count, time = words_of(line, "step", 5)
+    return ShownStep(service, int(step), unhexed(authenticator), int(count), None if time == "-" else int(time))
+
+
+def read_said(line: str) -> Said:
+    """What a line says that breaks a rule."""
+    what = line.split(" ")[0]
+    if what == "thread":
+        return read_received(line)
+    if what == "absent":
+        return read_absent(line)
+    if what == "step":
+        return read_step(line)
+    if what not in ("line", "before", "root"):
+        return line
+    service, step, digest = words_of(line, what, 3)
+    return Noted(what, service, int(step), unhexed(digest))
+
+
 def read_contradiction(text: str) -> Contradiction:
-    """What two files show that contradict each other, of their text."""
-    head, received, absent = text.splitlines()
-    return Contradiction(head == "accepted broken-rule", read_received(received), read_absent(absent), text)
+    """The rule that two files break, of their text."""
+    head, *lines = text.splitlines()
+    number, rule = "1", DENIED
+    if lines[0].startswith("rule "):
+        number, rule = words_of(lines.pop(0), "rule", 2)
+    said = tuple(read_said(line) for line in lines)
+    return Contradiction(head == "accepted broken-rule", int(number), rule, said, text)
 
 
 def raise_refusal(status: int, text: str) -> NoReturn:
@@ -303,6 +364,7 @@ READ: Dict[str, Callable[[str], Union[Report, Bounds, Fork, Contradiction]]] = {
     "timeweave_checkmap": read_bounds,
     "timeweave_checkfork": read_fork,
     "timeweave_contradict": read_contradiction,
+    "timeweave_receiver": read_contradiction,
 }
 
 
@@ -317,18 +379,31 @@ def read_answer(name: str, status: int, text: str) -> Union[Report, Bounds, Fork
 class Library:
     """The loaded library."""
 
-    # The functions that judge, each with the number of files whose bytes it takes.
-    TAKES = {"timeweave_verify": 2, "timeweave_strict": 2, "timeweave_checkmap": 3, "timeweave_checkfork": 2, "timeweave_contradict": 5}
+    # The functions that judge, each with the number of files whose bytes it takes. A library that was built earlier may lack some.
+    TAKES = {
+        "timeweave_verify": 2,
+        "timeweave_strict": 2,
+        "timeweave_checkmap": 3,
+        "timeweave_checkfork": 2,
+        "timeweave_contradict": 5,
+        "timeweave_receiver": 3,
+    }
 
     def __init__(self, path: Union[str, Path]) -> None:
         self.functions: Any = ctypes.CDLL(str(path))
         size = ctypes.c_size_t
         for name, count in self.TAKES.items():
+            if not self.has(name):
+                continue
             function = getattr(self.functions, name)
             function.restype = ctypes.c_uint32
             function.argtypes = [ctypes.c_char_p, size] * (count + 1) + [ctypes.POINTER(size)]
         self.functions.timeweave_version.restype = size
         self.functions.timeweave_version.argtypes = [ctypes.c_char_p, size]
+
+    def has(self, name: str) -> bool:
+        """Whether it has the function of this name."""
+        return hasattr(self.functions, name)
 
     def ask(self, name: str, *files: bytes) -> Tuple[int, bytes]:
         """The status and the text that the function of this name answers to the bytes of these files."""
@@ -397,12 +472,19 @@ def checkfork(evidence: Data, anchors: Lines) -> Fork:
 
 
 def contradict(first: Data, first_anchors: Lines, second: Data, second_anchors: Lines, link: Data = b"") -> Contradiction:
-    """What two files show that contradict each other, each accepted under its own anchors: proofs that a thread was received or that none was,
-    or map files. The link is a proof of a step's authenticator, which joins the earlier line of the service to the later one; none is needed
-    where both files are accepted under one line. Raises Rejected, with the reason NoConflict where they don't contradict each other, BadAnchors
+    """The rule that two files break, each accepted under its own anchors: proofs that a thread was received or that none was, or map files. One file may
+    be given twice. The link is a proof of a step's authenticator, which joins the earlier line of the service to the later one; none is needed where both
+    files are accepted under one line. Raises Rejected, with the reason NoConflict where they are of two services or break none of the rules, BadAnchors
     or MemoryError."""
     files = (bytes(first), bytes_of(first_anchors), bytes(second), bytes_of(second_anchors), bytes(link))
     return read_contradiction(asked("timeweave_contradict", *files))
+
+
+def receiver(evidence: Data, anchors: Lines, link: Data = b"") -> Contradiction:
+    """The rule that the service broke which received both threads of the evidence of a fork, by its two proofs as two files, each accepted under the
+    anchors; the link is as with `contradict`. Whether the evidence shows a fork isn't asked. Raises Rejected, with the reason NoConflict where two services
+    received them, or one that broke no rule by it, and Malformed where the bytes are no evidence, BadAnchors or MemoryError."""
+    return read_contradiction(asked("timeweave_receiver", bytes(evidence), bytes_of(anchors), bytes(link)))
 
 
 def version() -> str:

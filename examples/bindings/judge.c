@@ -37,11 +37,13 @@ static uint32_t asked(const char *form, const struct file *files, uint8_t *out, 
     if (!strcmp(form, "strict")) return timeweave_strict(OF(0), OF(1), out, room, size);
     if (!strcmp(form, "checkmap")) return timeweave_checkmap(OF(0), OF(1), OF(2), out, room, size);
     if (!strcmp(form, "checkfork")) return timeweave_checkfork(OF(0), OF(1), out, room, size);
+    if (!strcmp(form, "receiver")) return timeweave_receiver(OF(0), OF(1), OF(2), out, room, size);
     return timeweave_contradict(OF(0), OF(1), OF(2), OF(3), OF(4), out, room, size);
 }
 
 /* The forms, each with how many files it has. */
-static const struct { const char *form; int count; } FORMS[] = {{"verify", 2}, {"strict", 2}, {"checkmap", 3}, {"checkfork", 2}, {"contradict", 5}};
+static const struct { const char *form; int count; } FORMS[] = {{"verify", 2},    {"strict", 2},     {"checkmap", 3},
+                                                                {"checkfork", 2}, {"contradict", 5}, {"receiver", 3}};
 
 /* Whether the words are a form. */
 static int is_form(int count, char **words) {
@@ -53,7 +55,7 @@ static int is_form(int count, char **words) {
 int main(int count, char **words) {
     if (!is_form(count, words)) {
         fprintf(stderr, "usage: judge verify PROOF ANCHORS | strict PROOF ANCHORS | checkmap LOW HIGH ANCHORS | checkfork EVIDENCE ANCHORS | "
-                        "contradict FIRST ANCHORS SECOND ANCHORS LINK\n");
+                        "contradict FIRST ANCHORS SECOND ANCHORS LINK | receiver EVIDENCE ANCHORS LINK\n");
         return 2;
     }
     struct file files[5];

@@ -78,6 +78,12 @@ func Contradict(first, firstAnchors, second, secondAnchors, link []byte) (string
 	})
 }
 
+func Receiver(evidence, anchors, link []byte) (string, error) {
+	return answer(func(out *C.uint8_t, room C.size_t, needed *C.size_t) C.uint32_t {
+		return C.timeweave_receiver(at(evidence), size(evidence), at(anchors), size(anchors), at(link), size(link), out, room, needed)
+	})
+}
+
 // end tells why and ends with a status that is none of a verdict.
 func end(status int, why any) {
 	fmt.Fprintln(os.Stderr, why)
@@ -85,10 +91,10 @@ func end(status int, why any) {
 }
 
 func main() {
-	files := map[string]int{"verify": 2, "strict": 2, "checkmap": 3, "checkfork": 2, "contradict": 5}
+	files := map[string]int{"verify": 2, "strict": 2, "checkmap": 3, "checkfork": 2, "contradict": 5, "receiver": 3}
 	if len(os.Args) < 2 || files[os.Args[1]] == 0 || len(os.Args) != 2+files[os.Args[1]] {
 		end(2, "usage: judge verify PROOF ANCHORS | strict PROOF ANCHORS | checkmap LOW HIGH ANCHORS | checkfork EVIDENCE ANCHORS | "+
-			"contradict FIRST ANCHORS SECOND ANCHORS LINK")
+			"contradict FIRST ANCHORS SECOND ANCHORS LINK | receiver EVIDENCE ANCHORS LINK")
 	}
 	var file [5][]byte
 	for number, name := range os.Args[2:] {
@@ -110,6 +116,8 @@ func main() {
 		report, err = CheckFork(file[0], file[1])
 	case "contradict":
 		report, err = Contradict(file[0], file[1], file[2], file[3], file[4])
+	case "receiver":
+		report, err = Receiver(file[0], file[1], file[2])
 	}
 	var refusal *Refusal
 	if errors.As(err, &refusal) {

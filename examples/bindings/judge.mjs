@@ -4,7 +4,8 @@
 import { readFile } from "node:fs/promises";
 import { BadAnchors, BadFile, NO_MEMORY, REJECTED, Rejected, UNREADABLE, load } from "../../web/timeweave.mjs";
 
-const FORMS = { verify: "PROOF ANCHORS", strict: "PROOF ANCHORS", checkmap: "LOW HIGH ANCHORS", checkfork: "EVIDENCE ANCHORS", contradict: "FIRST ANCHORS SECOND ANCHORS LINK" };
+const FORMS = { verify: "PROOF ANCHORS", strict: "PROOF ANCHORS", checkmap: "LOW HIGH ANCHORS", checkfork: "EVIDENCE ANCHORS", contradict: "FIRST ANCHORS SECOND ANCHORS LINK",
+    receiver: "EVIDENCE ANCHORS LINK" };
 
 const [form, ...names] = process.argv.slice(2);
 if (!Object.hasOwn(FORMS, form ?? "") || names.length !== FORMS[form].split(" ").length) {

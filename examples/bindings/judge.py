@@ -16,6 +16,7 @@ FORMS = {
     "checkmap LOW HIGH ANCHORS": timeweave.checkmap,
     "checkfork EVIDENCE ANCHORS": timeweave.checkfork,
     "contradict FIRST ANCHORS SECOND ANCHORS LINK": timeweave.contradict,
+    "receiver EVIDENCE ANCHORS LINK": timeweave.receiver,
 }
 
 

@@ -47,6 +47,17 @@ extern "C" {
         room: usize,
         size: *mut usize,
     ) -> u32;
+    fn timeweave_receiver(
+        evidence: At,
+        evidence_size: usize,
+        anchors: At,
+        anchors_size: usize,
+        link: At,
+        link_size: usize,
+        out: *mut u8,
+        room: usize,
+        size: *mut usize,
+    ) -> u32;
 }
 
 /// What isn't accepted, with its text: files for a reason, or a file that can't be read; or there was no memory, and nothing was judged.
@@ -136,6 +147,22 @@ fn contradict(first: &[u8], first_anchors: &[u8], second: &[u8], second_anchors:
     })
 }
 
+fn receiver(evidence: &[u8], anchors: &[u8], link: &[u8]) -> Result<String, Refusal> {
+    answer(|out, room, size| unsafe {
+        timeweave_receiver(
+            evidence.as_ptr(),
+            evidence.len(),
+            anchors.as_ptr(),
+            anchors.len(),
+            link.as_ptr(),
+            link.len(),
+            out,
+            room,
+            size,
+        )
+    })
+}
+
 fn main() -> ExitCode {
     let words: Vec<String> = env::args().skip(1).collect();
     let files: Vec<Vec<u8>> = match words.iter().skip(1).map(fs::read).collect() {
@@ -151,10 +178,11 @@ fn main() -> ExitCode {
         ("checkmap", [low, high, anchors]) => checkmap(low, high, anchors),
         ("checkfork", [evidence, anchors]) => checkfork(evidence, anchors),
         ("contradict", [first, anchors, second, others, link]) => contradict(first, anchors, second, others, link),
+        ("receiver", [evidence, anchors, link]) => receiver(evidence, anchors, link),
         _ => {
             eprintln!(
                 "usage: judge verify PROOF ANCHORS | strict PROOF ANCHORS | checkmap LOW HIGH ANCHORS | checkfork EVIDENCE ANCHORS | \
-                 contradict FIRST ANCHORS SECOND ANCHORS LINK"
+                 contradict FIRST ANCHORS SECOND ANCHORS LINK | receiver EVIDENCE ANCHORS LINK"
             );
             return ExitCode::from(2);
         }

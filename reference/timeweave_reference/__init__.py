@@ -22,7 +22,7 @@ from . import commands, contradictions
 from .answers import Answer
 from .fields import Malformed
 
-__all__ = ["Answer", "Malformed", "adopt", "audit", "checkfork", "checkmap", "contradict", "show", "strict", "verify"]
+__all__ = ["Answer", "Malformed", "adopt", "audit", "checkfork", "checkmap", "contradict", "receiver", "show", "strict", "verify"]
 
 
 def verify(proof: bytes, anchors: bytes) -> Answer:
@@ -49,9 +49,16 @@ def checkfork(evidence: bytes, anchors: bytes) -> Answer:
 
 
 def contradict(first: bytes, first_anchors: bytes, second: bytes, second_anchors: bytes, link: bytes = b"") -> Answer:
-    """Tells whether two files, each judged under its own lines, contradict each other; the link leads from the later line of the service down
-    to the earlier one, or has no bytes. In texts the lines are `first_anchors` and `second_anchors`. The program has no such command."""
+    """Tells whether two files, each judged under its own lines, show that a service broke a rule of histories, and which; the link leads from the
+    later line of the service down to the earlier one, or has no bytes. In texts the lines are `first_anchors` and `second_anchors`. The program has
+    no such command."""
     return contradictions.contradict(first, first_anchors, second, second_anchors, link)
+
+
+def receiver(evidence: bytes, anchors: bytes, link: bytes = b"") -> Answer:
+    """Tells the same of both proofs of evidence of a fork, under one list of lines: whether one service that received both threads broke a rule
+    by it. In texts the lines are `anchors`. The program has no such command."""
+    return contradictions.receiver(evidence, anchors, link)
 
 
 def audit(proof: bytes, anchors: bytes, histories: Sequence[bytes]) -> Answer:

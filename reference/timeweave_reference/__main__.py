@@ -16,6 +16,7 @@ from __future__ import annotations
 
 import importlib.util
 import sys
+from importlib.machinery import ModuleSpec
 from pathlib import Path
 from typing import Dict, List, Sequence
 
@@ -31,7 +32,10 @@ def begin_package() -> str:
     return here.name
 
 
-__package__ = __package__ or begin_package()
+if not __package__:
+    __package__ = begin_package()
+    # (Python from 3.12 on warns where the two differ)
+    __spec__ = ModuleSpec(f"{__package__}.__main__", None)
 
 from . import directories  # noqa: E402
 from .answers import ACCEPTED, NO_OUTPUT, USAGE, Answer  # noqa: E402

@@ -117,14 +117,18 @@ export function forkNotes({ fork }) {
 /** What is said of a map besides. */
 export const mapNotes = ({ map }) => (map ? [`Of steps of ${map.peer} behind ${map.upto} nothing is shown.`] : []);
 
+/** What two files say of which the one has a line received, and the other denies it. */
+function deniedWords(service, { thread, archived }, absent) {
+    return `By the one, ${service} received step ${thread.step} of ${thread.service} at its step ${archived}; by the other it had received no such line up to its step ${absent.step}.`;
+}
+
 /** What is said of two accepted files that contradict each other. */
-export function conflictWords({ received, absent, isJoined }) {
-    const { service, thread, archived } = received, step = `step ${thread.step} of ${thread.service}`;
+export function conflictWords({ received, absent, isJoined, service = received.service, rule, name }) {
     const why = isJoined
         ? `Both stand under one line of ${service}, or under two that are joined: whoever keeps ${service} broke its rules.`
         : `They stand under two lines of ${service}: it broke its rules, or has shown two histories, or one of the lines isn't its own. A proof of the line of the one step under the other's shows which.`;
     return {
-        sentence: `By the one, ${service} received ${step} at its step ${archived}; by the other it had received no such line up to its step ${absent.step}. ${why}`,
+        sentence: `${received ? deniedWords(service, received, absent) : `Between them they show rule ${rule} of histories, ${name}, broken; the exact text has what each says.`} ${why}`,
         todo: `Keep both files and the lines: they are evidence for whoever holds the lines to be those of ${service}.`,
     };
 }

@@ -8,7 +8,10 @@ const timeweave = await load();
 let rest = Buffer.alloc(0);
 
 /** The functions of the library by their letters, each with the number of its files. */
-const FUNCTIONS = { v: ["timeweave_verify", 2], s: ["timeweave_strict", 2], m: ["timeweave_checkmap", 3], f: ["timeweave_checkfork", 2], c: ["timeweave_contradict", 5] };
+const FUNCTIONS = {
+    v: ["timeweave_verify", 2], s: ["timeweave_strict", 2], m: ["timeweave_checkmap", 3], f: ["timeweave_checkfork", 2], c: ["timeweave_contradict", 5],
+    r: ["timeweave_receiver", 3],
+};
 
 /** The question at the front of what has come, {name, files, size}, or null where it isn't whole. */
 function question(data) {

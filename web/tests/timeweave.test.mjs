@@ -73,7 +73,7 @@ function over(text) {
 
 test("each function is handed the bytes of its files in their order", () => {
     // A module whose functions have no text, and whose status has a bit for each file whose only byte is its number, from 1 on.
-    const counts = { verify: 2, strict: 2, checkmap: 3, checkfork: 2, contradict: 5 };
+    const counts = { verify: 2, strict: 2, checkmap: 3, checkfork: 2, contradict: 5, receiver: 3 };
     const read = (at) => `(i32.shl (i32.and (i32.eq (i32.load8_u (i32.wrap_i64 (local.get ${2 * at}))) (i32.const ${at + 1})) (i64.eq (local.get ${2 * at + 1}) (i64.const 1))) (i32.const ${at}))`;
     const status = (count) => Array.from({ length: count }, (_, at) => read(at)).reduce((sum, bit) => `(i32.add ${sum} ${bit})`);
     const functions = Object.entries(counts).map(([name, count]) => `(func (export "timeweave_${name}") (param ${"i64 ".repeat(2 * count + 3)}) (result i32)
@@ -121,6 +121,10 @@ test("what maps, evidence and files that contradict each other show is read, and
     const broken = readContradiction(`accepted broken-rule\nthread b 3 a 3 ${hexed} 2\nabsent b 4 a 3\n`);
     assert.deepEqual([broken.isJoined, broken.received, broken.absent], [true, { service: "b", step: 3, thread, archived: 2 }, { service: "b", step: 4, ofService: "a", ofStep: 3 }]);
     assert.equal(readContradiction(`accepted broken-rule-or-fork\nthread b 3 a 3 ${hexed} 2\nabsent b 4 a 3\n`).isJoined, false);
+    const clock = readContradiction(`accepted broken-rule\nrule 8 ClockBack\nstep b 1 ${hexed} 0 9\nstep b 3 ${hexed} 0 5\n`);
+    assert.deepEqual([clock.rule, clock.name, clock.service, clock.lines.length, clock.received], [8, "ClockBack", "b", 2, undefined]);
+    assert.equal(readContradiction("accepted broken-rule\nrule 99 Later\nanother b\n").rule, 99);
+    assert.throws(() => readContradiction("accepted broken-rule\n"), /no line of a report/);
     assert.throws(() => readBounds("accepted map\nlow 2\n"), /no line of a report/);
     const thrown = (status, text) => { try { reportOf({ status, text }); } catch (fault) { return fault; } };
     assert.deepEqual({ ...thrown(1, "rejected Gap 2\n") }, { name: "Rejected", number: undefined, reason: "Gap", fields: ["2"] });

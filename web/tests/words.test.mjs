@@ -94,6 +94,7 @@ test("a map, evidence and a contradiction have their sentences", () => {
     const told = { received: { service: "keeper", thread: { service: "shop", step: 3 }, archived: 1 }, absent: { step: 4 } };
     assert.match(conflictWords({ ...told, isJoined: true }).sentence, /whoever keeps keeper broke its rules/);
     assert.match(conflictWords({ ...told, isJoined: false }).sentence, /or has shown two histories/);
+    assert.match(conflictWords({ service: "keeper", rule: 99, name: "Later", isJoined: true }).sentence, /rule 99 of histories, Later, broken; .* whoever keeps keeper broke its rules/);
 });
 
 test("what is wrong with maps and evidence is told", () => {

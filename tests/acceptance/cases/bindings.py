@@ -17,7 +17,7 @@ FOLDER = TOP / "examples/bindings"
 FLAGS = ["-std=c11", "-Wall", "-Wextra", "-Werror", "-I", TOP / "include"]
 
 # What the examples take, by the number of files.
-FORMS = {"verify": 2, "strict": 2, "checkmap": 3, "checkfork": 2, "contradict": 5}
+FORMS = {"verify": 2, "strict": 2, "checkmap": 3, "checkfork": 2, "contradict": 5, "receiver": 3}
 
 
 def asked(forms=tuple(FORMS)):

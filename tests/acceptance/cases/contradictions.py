@@ -3,14 +3,16 @@ by its proofs and map files, one that keeps the rules never is, and the library 
 
 import subprocess
 import sys
-from functools import cache
+from functools import cache, partial
 from itertools import product
 
 from example_files import high_of, low_of
 
+from harness.asked_pairs import FOUND_PAIRS, can_ask, difference, names_innocent, read_pair, wanted
+from harness.drawn_pairs import drawn_recipe, pair_of
 from harness.library import ARCHIVE, built_library, checked_run, reach_difference
 from harness.places import LONGEST, TOP
-from harness.rooms import Wrong, case, needs
+from harness.rooms import Skipped, Wrong, case, needs
 from timeweave_reference import contradict
 from timeweave_reference.anchors import Anchor, anchors_to_bytes
 from timeweave_reference.archives import listed, with_leaf
@@ -21,6 +23,9 @@ from timeweave_reference.services import absence_proof, link_proof, thread_proof
 # The threads that are asked for: those that the service received at one time or another.
 KEYS = [("bank", 1), ("bank", 4), ("bank", 6), ("mill", 3), ("mill", 8)]
 PEERS = ("bank", "mill")
+
+# So many cases of so many pairs that are drawn by chance.
+CASES, CASE_PAIRS, CASE_SEED = 4, 1000, "acceptance"
 
 
 def received(history, peer, step, grow=with_leaf):
@@ -164,6 +169,45 @@ def changed(room):
                 compared(*given[:at], new, *given[at + 1 :])
 
 
+def whole_library():
+    """The library is built, and has both functions."""
+    built_library()
+    if not can_ask():
+        raise Skipped("the library that is built doesn't have timeweave_receiver: `make lib`")
+
+
+def by_chance(first, room):
+    """Pairs from this number on."""
+    whole_library()
+    for number in range(first, first + CASE_PAIRS):
+        recipe = drawn_recipe(CASE_SEED, number)
+        pair = pair_of(recipe)
+        if pair and names_innocent(recipe, pair):
+            raise Wrong(f"  pair {number} of seed {CASE_SEED}: of a history that keeps the rules the reference says that it broke one")
+        # (the forms' letters are the first ones of their functions; what is asked so, C and the page's module are asked later)
+        differs = reach_difference(pair.function[0], pair.parts, *wanted(pair)) if pair else None
+        if differs:
+            raise Wrong(f"  pair {number}; `python3 tests/acceptance/fuzz_pairs.py {number + 1} {CASE_SEED}` shrinks it, and writes it into a file\n{differs}")
+
+
+def as_found(path, room):
+    """The pair of a file."""
+    whole_library()
+    differs = difference(read_pair(path))
+    if differs:
+        raise Wrong(differs)
+
+
+def told_as(name, work):
+    """The case of this name and work."""
+    work.__doc__ = name
+    return case(work, "library")
+
+
 def cases():
     for work in (broken, sound, refusals, changed, told_apart):
         yield case(work, "library")
+    for first in range(0, CASES * CASE_PAIRS, CASE_PAIRS):
+        yield told_as(f"{CASE_PAIRS} pairs by chance, from {first} on", partial(by_chance, first))
+    for path in sorted(FOUND_PAIRS.glob("*.json")):
+        yield told_as(f"found: {path.stem}", partial(as_found, path))

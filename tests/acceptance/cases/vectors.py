@@ -7,9 +7,12 @@ import re
 import subprocess
 import sys
 
+from vector import FUNCTIONS
+
 from harness import seen
 from harness.places import LONGEST, TOP
 from harness.rooms import Skipped, Wrong, case, checked, needs
+from timeweave_reference import broken_rules
 from timeweave_reference.histories import history_to_bytes, read_history
 from timeweave_reference.paths import greedy_steps
 
@@ -68,6 +71,8 @@ def told(program):
         if not any(re.match(seen.pattern(f"rejected {reason}") + "\n", text) for text in texts):
             wrong.append(f"  no vector is told {reason}")
     wrong += [f"  no vector breaks rule {rule}" for rule in RULES if not any(text.startswith("unsound ") and text.endswith(f" rule {rule}\n") for text in texts)]
+    shown = [f"rule {number} {rule.word}\n" for number, rule in enumerate(broken_rules.RULES, 1) if number > 1]
+    wrong += [f"  no vector shows {line.strip()} broken" for line in shown if not any(line in text for text in texts)]
     size = sum(path.stat().st_size for path in FOLDER.iterdir())
     wrong += [f"  {len(texts)} vectors of {size} bytes"] * (len(texts) < 300 or size > 3_000_000)
     return "\n".join(wrong) or None
@@ -171,8 +176,8 @@ def without_program():
 
 def cases():
     for name, vector in vectors():
-        # (which files contradict each other is told by the library alone)
-        if vector["words"][0] != "contradict":
+        # (which rules files show broken is told by the library alone)
+        if vector["words"][0] not in FUNCTIONS:
             yield as_case(name, vector)
     yield case(authenticators, "vectors")
     yield from without_program()

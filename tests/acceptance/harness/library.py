@@ -20,6 +20,7 @@ LARGEST, MOST = 20_000, 400
 # By the form of a record for C the function of the library that it is for.
 FUNCTIONS = {
     "v": "timeweave_verify", "s": "timeweave_strict", "m": "timeweave_checkmap", "f": "timeweave_checkfork", "c": "timeweave_contradict",
+    "r": "timeweave_receiver",
 }
 
 # The commands that the library knows besides, each with its form and the names that texts of the library have for its files.
@@ -94,10 +95,22 @@ def written_reached(made):
         lines = [(head, it.thread, it) for head, it in (("first", made.first), ("second", made.second))]
         told = [f"{head} {thread.service} {thread.step} {thread.authenticator.hex()} {it.by} {it.archived}\n" for head, thread, it in lines]
         return "accepted fork\n" + "".join(told)
-    at, thread, none = made.received, made.received.thread, made.absent
-    first = f"thread {at.service} {at.step} {thread.service} {thread.step} {thread.authenticator.hex()} {at.archived}\n"
     head = "broken-rule" if made.is_joined else "broken-rule-or-fork"
-    return f"accepted {head}\n{first}absent {none.service} {none.step} {none.of_service} {none.of_step}\n"
+    rule = "" if made.rule == timeweave.DENIED else f"rule {made.number} {made.rule}\n"
+    return f"accepted {head}\n{rule}" + "".join(map(written_said, made.said))
+
+
+def written_said(said):
+    """The line of what a file says that breaks a rule, as the module for Python has taken it apart."""
+    if isinstance(said, timeweave.Received):
+        thread = said.thread
+        return f"thread {said.service} {said.step} {thread.service} {thread.step} {thread.authenticator.hex()} {said.archived}\n"
+    if isinstance(said, timeweave.Absent):
+        return f"absent {said.service} {said.step} {said.of_service} {said.of_step}\n"
+    if isinstance(said, timeweave.ShownStep):
+        time = "-" if said.time is None else said.time
+        return f"step {said.service} {said.step} {said.authenticator.hex()} {said.count} {time}\n"
+    return f"{said.what} {said.service} {said.step} {said.digest.hex()}\n"
 
 
 def reach_difference(form, files, status, output):

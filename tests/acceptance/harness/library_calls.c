@@ -2,9 +2,9 @@
  *
  *     library_calls FILE VERSION
  *
- * A record has the form: `v`, `s`, `m`, `f` or `c` for timeweave_verify, _strict, _checkmap, _checkfork or _contradict; the status; then the
- * files that this function takes and the text, each behind its size in four bytes. Each buffer that is read or written ends where a page
- * begins that nobody may touch. The allocator is wrapped, by the linker's --wrap, so that its calls can fail, one after another.
+ * A record has the form: `v`, `s`, `m`, `f`, `c` or `r` for timeweave_verify, _strict, _checkmap, _checkfork, _contradict or _receiver; the
+ * status; then the files that this function takes and the text, each behind its size in four bytes. Each buffer that is read or written ends
+ * where a page begins that nobody may touch. The allocator is wrapped, by the linker's --wrap, so that its calls can fail, one after another.
  */
 #define _GNU_SOURCE
 #include <pthread.h>
@@ -35,7 +35,7 @@ typedef struct {
 
 /* How many files the function of this form takes. */
 static size_t files_of(char form) {
-    return form == 'c' ? 5 : form == 'm' ? 3 : 2;
+    return form == 'c' ? 5 : form == 'm' || form == 'r' ? 3 : 2;
 }
 
 static _Thread_local long calls_left = -1;
@@ -93,6 +93,8 @@ static uint32_t judged(const record *r, uint8_t *out, size_t room, size_t *size)
         return timeweave_checkmap(FILE_AT(0), FILE_AT(1), FILE_AT(2), out, room, size);
     case 'f':
         return timeweave_checkfork(FILE_AT(0), FILE_AT(1), out, room, size);
+    case 'r':
+        return timeweave_receiver(FILE_AT(0), FILE_AT(1), FILE_AT(2), out, room, size);
     default:
         return timeweave_contradict(FILE_AT(0), FILE_AT(1), FILE_AT(2), FILE_AT(3), FILE_AT(4), out, room, size);
     }

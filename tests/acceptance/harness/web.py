@@ -14,7 +14,7 @@ MODULE, PAGE = WEB / "timeweave.wasm", WEB / "timeweave.html"
 
 
 # The functions of the library by the letters that the process takes.
-FUNCTIONS = {"v": "verify", "s": "strict", "m": "checkmap", "f": "checkfork", "c": "contradict"}
+FUNCTIONS = {"v": "verify", "s": "strict", "m": "checkmap", "f": "checkfork", "c": "contradict", "r": "receiver"}
 
 # The commands over several files, each with its letter and the names that texts of the library have for its files.
 OVER_FILES = {"checkmap": ("m", ("low", "high", "anchors")), "checkfork": ("f", ("evidence", "anchors"))}

@@ -224,7 +224,7 @@ def reseal(folder):
     """Lets services and boxes that a test has copied into a folder count as being where they were written: else they would be told as copies."""
     for path in [*folder.glob("*/.turn"), *folder.glob("*/.seal")]:
         path.unlink()
-    for path in folder.glob("*.seal"):
+    for path in folder.rglob("*.seal"):
         _, _, line = path.read_text().partition(" ")
         files.renew(path, lambda identity, line=line: f"{identity} {line}".encode())
 
