@@ -13,8 +13,9 @@ from typing import Optional, Sequence
 
 from weft import files
 from weft.box import Peer
+from weft.deciding.answering import Fate, Kind, choose_pending, digest_of, kind_of_answer, settle_answer
 from weft.stores import Store
-from weft.texts import now, printable
+from weft.texts import now, printable, quoted
 
 NUMBER = "(?:0|[1-9][0-9]{0,12})"
 NAME = "[a-z0-9-]{1,16}"
@@ -23,6 +24,8 @@ MOST_REQUESTS = 32
 MOST_PASSED_ON = 16
 MOST_BYTES = MOST_REQUESTS * 96
 MOST_ANSWER = 70_000
+MOST_DOUBTED = 256
+MOST_TOLD = 80
 
 
 def id_of(request: str) -> str:
@@ -59,13 +62,14 @@ def passed_on(peers: Sequence[Peer], peer: Peer, request: str) -> Optional[bytes
     if other is None:
         return b"refused: no peer of that name here\n"
     answer = known(other, inner)
-    if answer is None and len(read_requests(other.read("asked"))) < MOST_PASSED_ON:
+    if answer is None and len(pending_of(other)) - len(answered_of(other)) < MOST_PASSED_ON:
         ask(other, inner)
     return answer
 
 
 def answer_peer(store: Store, peers: Sequence[Peer], peer: Peer, data: Optional[bytes]) -> int:
-    """Answers the requests that came, and takes away answers to those that no longer come; answers how many are new."""
+    """Answers the requests that came, and takes away answers to those that no longer come, and to those that nothing answers any more; answers how many are
+    new."""
     if data is None:
         return 0
     requests = read_requests(data)
@@ -77,7 +81,9 @@ def answer_peer(store: Store, peers: Sequence[Peer], peer: Peer, data: Optional[
     for name, request in names.items():
         answer = passed_on(peers, peer, request) if request.startswith("of ") else answer_of(store, peer, request)
         path = peer.out / "answers" / name
-        if answer is not None and files.read_if_there(path, MOST_ANSWER) != answer:
+        if answer is None:
+            files.remove(path)
+        elif files.read_if_there(path, MOST_ANSWER) != answer:
             what = f"{len(answer)} bytes" if answer.startswith(b"TWP1") else printable(answer.decode("ascii", "replace").strip())
             files.add(peer.kept / "answered", f"{now()} {request}: {what}")
             peer.put(f"answers/{name}", answer)
@@ -85,11 +91,31 @@ def answer_peer(store: Store, peers: Sequence[Peer], peer: Peer, data: Optional[
     return new
 
 
+def pending_of(peer: Peer) -> list[str]:
+    """The requests that are put out for a peer."""
+    return read_requests(peer.read("asked"))
+
+
+def answered_of(peer: Peer) -> list[str]:
+    """Those of them to which there is an answer, a refusal or a proof that is doubted."""
+    return [request for request in pending_of(peer) if kind_of_answer(known(peer, request)) is not Kind.NOTHING]
+
+
+def note_pending(peer: Peer, requests: Sequence[str]) -> None:
+    """Notes the requests that are put out."""
+    peer.renew("asked", "".join(f"{it}\n" for it in requests).encode())
+
+
 def ask(peer: Peer, request: str) -> None:
-    """Notes a request, which the next turn puts out."""
-    pending = read_requests(peer.read("asked"))
-    if request not in pending:
-        peer.renew("asked", "".join(f"{it}\n" for it in [*pending, request][-MOST_REQUESTS:]).encode())
+    """Notes a request, which the next turn puts out. One for which there is no room any more is forgotten, with its answer."""
+    pending = pending_of(peer)
+    if request in pending:
+        return
+    chosen = choose_pending([*pending, request], answered_of(peer), MOST_REQUESTS)
+    for left_out in pending:
+        if left_out not in chosen:
+            files.remove(peer.kept / "answers" / id_of(left_out))
+    note_pending(peer, chosen)
 
 
 def known(peer: Peer, request: str) -> Optional[bytes]:
@@ -98,22 +124,48 @@ def known(peer: Peer, request: str) -> Optional[bytes]:
 
 
 def forget_answer(peer: Peer, request: str) -> None:
-    """Takes an answer away that is of no use, so that another one is taken in its place."""
+    """Takes an answer away that is of no use, with its request, so that another one is taken in its place where it is asked for again."""
     files.remove(peer.kept / "answers" / id_of(request))
+    if request in pending_of(peer):
+        note_pending(peer, [it for it in pending_of(peer) if it != request])
+
+
+def doubted_of(peer: Peer) -> list[str]:
+    """The digests of answers that are doubted."""
+    return peer.read("doubted").decode("ascii", "replace").splitlines()
+
+
+def ask_anew(peer: Peer, request: str, data: bytes) -> None:
+    """Asks once more for what was answered by a proof of which nothing could be joined; the proof is kept as long as no other one comes."""
+    lines = [it for it in doubted_of(peer) if it != digest_of(data)]
+    peer.renew("doubted", "".join(f"{it}\n" for it in [*lines, digest_of(data)][-MOST_DOUBTED:]).encode())
+    ask(peer, request)
 
 
 def take_answers(peer: Peer) -> int:
-    """Takes the answers that came to what was asked; answers how many."""
-    pending = read_requests(peer.read("asked"))
-    left = []
-    for request in pending:
-        data = peer.take(f"answers/{id_of(request)}", MOST_ANSWER)
-        if data is not None and data.startswith((b"TWP1", b"refused")):
-            files.renew(peer.kept / "answers" / id_of(request), data)
-            if data.startswith(b"refused"):
-                peer.say(f"it didn't answer {request!r}: {printable(data.decode('ascii', 'replace').strip())}")
-        else:
-            left.append(request)
+    """Takes the answers that came to what was asked; answers how many aren't asked for any more."""
+    pending = pending_of(peer)
+    left = [request for request in pending if take_answer(peer, request) is not Fate.TAKEN]
     if len(left) < len(pending):
-        peer.renew("asked", "".join(f"{it}\n" for it in left).encode())
+        note_pending(peer, left)
     return len(pending) - len(left)
+
+
+def told_refusal(data: bytes) -> str:
+    """A refusal as it is told, in quotes: whoever carried it may have made it up."""
+    text = data.decode("ascii", "replace").strip()
+    return quoted(text[:MOST_TOLD]) + ("…" if len(text) > MOST_TOLD else "")
+
+
+def take_answer(peer: Peer, request: str) -> Fate:
+    """Takes the answer to one request, as far as there is one; a refusal is told once."""
+    data, before = peer.take(f"answers/{id_of(request)}", MOST_ANSWER), known(peer, request)
+    fate = settle_answer(kind_of_answer(before), kind_of_answer(data, doubted_of(peer)))
+    path = peer.kept / "answers" / id_of(request)
+    if fate is Fate.FORGOTTEN:
+        files.remove(path)
+    elif data is not None and fate in (Fate.TAKEN, Fate.NOTED) and data != before:
+        files.renew(path, data)
+        if kind_of_answer(data) is Kind.REFUSAL:
+            peer.say(f"it didn't answer {request!r}: {told_refusal(data)}. It is asked again each night")
+    return fate

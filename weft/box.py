@@ -24,7 +24,7 @@ from weft.texts import name_of
 from weft.trouble import Trouble
 
 MOST_SETTINGS = 65_536
-MOST_KEPT = 256 << 20
+MOST_KEPT = 1 << 32
 
 
 class Settings(NamedTuple):
@@ -92,10 +92,11 @@ class Peer:
         self.told: list[str] = []
         self.status = Status.DONE
         self.unopened: set[str] = set()
-        self.line_heard, self.message_heard = Heard.NOTHING, Heard.NOTHING
-        self.has_message = False
+        self.line_heard, self.message_heard, self.line_came, self.line_had = Heard.NOTHING, Heard.NOTHING, 0, 0
+        self.has_message, self.is_accused = False, False
         self.once: dict[str, Optional[bytes]] = {}
         self.seen: list[Signed] = []
+        self.is_seen_read = False
         self.signed: Optional[list[Signed]] = None
         self.steps: dict[int, list[Signed]] = {}
         self.known: dict[str, bytes] = {}
@@ -115,6 +116,11 @@ class Peer:
         """Notes what is to be said of it, and that it counts; what is worst counts."""
         self.say(text)
         self.status = worst_of((self.status, status))
+
+    def accuse(self, text: str) -> None:
+        """Notes that there is evidence of two histories of it."""
+        self.is_accused = True
+        self.need(text, Status.CONTRADICTION)
 
     # ---- what came
 
@@ -163,13 +169,16 @@ class Peer:
             return None
 
     def came(self, name: str) -> Optional[int]:
-        """When a file of `in` was last changed on this device, in seconds since 1970, which no carrier sets back; None where it can't be told."""
+        """When a file of `in` was last changed on this device, in seconds since 1970, which no carrier sets back; None where it isn't there, and where that
+        can't be told, which counts."""
         within = self.open_within(name)
         if within is None:
             return None
         try:
             return int(os.stat(name.split("/")[-1], dir_fd=within, follow_symlinks=False).st_ctime)
-        except OSError:
+        except OSError as failure:
+            if weigh_failure(failure.errno) is Came.UNREAD:
+                self.need(f"when in/{name} came can't be told: {os.strerror(failure.errno or 0)}")
             return None
         finally:
             os.close(within)
@@ -187,6 +196,13 @@ class Peer:
         if self.read(name) != data:
             files.renew(os.path.join(self.kept, name), data)
             self.known[name] = data
+
+    def add(self, name: str, data: bytes, size: int) -> None:
+        """Adds a piece of this size behind the whole ones of a file of `kept`."""
+        old = self.read(name)
+        whole = old[: len(old) - len(old) % size]
+        files.extend(os.path.join(self.kept, name), data, len(whole))
+        self.known[name] = whole + data
 
     def remove(self, name: str) -> None:
         """Removes a file of `kept`, if it is there."""

@@ -18,6 +18,7 @@ from weft import choosing, clusters, files, formats, judges, lines, locks, outco
 from weft.choosing import Judgement
 from weft.deciding import rows
 from weft.deciding.choosing import Headline
+from weft.deciding.contradicting import Told, find_pairs, read_told
 from weft.deciding.rows import HEAD, NO_DIGEST, Row
 from weft.deciding.worst import worst_of
 from weft.judges import Bench
@@ -27,11 +28,15 @@ from weft.output import say, say_json
 from weft.progress import Progress
 from weft.statuses import Status
 from weft.texts import beside, count_of, name_of, printable
-from weft.trouble import Trouble
+from weft.trouble import Trouble, of_machine
 
 PIECE, PIECES = 500, 64
 MOST_ROUNDS = 4
 MOST_ROWS = 1 << 32
+FORMULA = "=+-@"
+# What may be otherwise at the next run, of the same bytes.
+PASSING = (Status.DIFFER, Status.NO_MEMORY, Status.DISK)
+APART = "CONTRADICTS "
 
 
 class Task(NamedTuple):
@@ -83,23 +88,24 @@ def row_of(task: Task, name: str, kept: KeptLines, judge: Bench) -> Made:
         data = formats.read_file(os.path.join(task.folder, name), follow=False)
     except Trouble as trouble:
         return Made(row_of_trouble(name, 0, NO_DIGEST, trouble), False)
-    digest, known = rows.digest_of(data), task.known.get(printable(name))
-    if known is not None and rows.may_take_row(known, digest, Status.DIFFER):
+    digest, known = rows.digest_of(data), task.known.get(shown_path(name))
+    if known is not None and rows.may_take_row(known, digest, PASSING):
         return Made(known, True)
     try:
         named = Named(name, data, formats.kind_of(data))
-        judgement = outcomes.judgement_of(judge, kept, [named], task.allow_carried)
-        outcome = outcomes.outcome_of(judge, kept, [named], judgement)
+        with of_machine(name):
+            judgement = outcomes.judgement_of(judge, kept, [named], task.allow_carried)
+            outcome = outcomes.outcome_of(judge, kept, [named], judgement)
     except Trouble as trouble:
         return Made(row_of_trouble(name, len(data), digest, trouble), False)
     resting = "; ".join(f"{line.service} {line.step}" for line in judgement.lines)
     reason = printable(reason_of(judgement, outcome))
-    return Made(Row(printable(name), len(data), digest, outcome.headline.value, int(outcome.status), reason, resting), False)
+    return Made(Row(shown_path(name), len(data), digest, outcome.headline.value, int(outcome.status), reason, resting), False)
 
 
 def row_of_trouble(name: str, size: int, digest: str, trouble: Trouble) -> Row:
     """The row of a file that wasn't judged."""
-    return Row(printable(name), size, digest, Headline.NOT_JUDGED.value, int(trouble.status), printable(trouble.sentence), "")
+    return Row(shown_path(name), size, digest, Headline.NOT_JUDGED.value, int(trouble.status), printable(trouble.sentence), "")
 
 
 def reason_of(judgement: Judgement, outcome: outcomes.Outcome) -> str:
@@ -112,21 +118,52 @@ def reason_of(judgement: Judgement, outcome: outcomes.Outcome) -> str:
     if judgement.verdict is None:
         return outcome.told[0]
     if judgement.is_shown:
-        return " | ".join(judgement.verdict.text.splitlines()[1:3])
+        return " | ".join([*judgement.verdict.text.splitlines()[1:3], *cut_off(judgement)])
     return f"{' '.join(judgement.verdict.reason or judgement.verdict.text.split())}: {outcome.told[0]}"
+
+
+def cut_off(judgement: Judgement) -> list[str]:
+    """That a line of a step behind a history's last one was kept, where one was: the file is an older one, or was cut."""
+    history = judgement.history
+    if history is None or history.held.beyond is None:
+        return []
+    return [f"ends at step {history.last}, and you hold a line of step {history.held.beyond}"]
+
+
+def shown_path(name: str) -> str:
+    """The path of a file as the table has it, of each file another one: a backslash is escaped, as what isn't printable is. One that begins as a formula does,
+    which a program for tables would work out, begins with ./ there."""
+    return printable((f"./{name}" if name[0] in FORMULA else name).replace("\\", "\\\\"))
 
 
 def found_files(folder: Path) -> list[str]:
     """The paths of all files in the folder and those below it, as they stand there, and of what can't be looked into: folders that can't be read, and links
-    to folders, none of which is followed. Each gets a row, so nothing is passed over."""
+    to folders, none of which is followed. Each gets a row, so nothing is passed over, however deep it lies."""
     if not folder.is_dir():
         raise Trouble(Status.NO_INPUT, f"{name_of(folder)} is no folder", "Name the folder of the proofs.")
-    unread: list[OSError] = []
-    found = []
-    for place, below, names in os.walk(folder, onerror=unread.append):
-        links = [name for name in below if os.path.islink(os.path.join(place, name))]
-        found += [os.path.relpath(os.path.join(place, name), folder) for name in [*names, *links]]
-    return sorted({*found, *(os.path.relpath(failure.filename, folder) for failure in unread)})
+    found, waiting = [], [""]
+    while waiting:
+        below = list_folder(folder, waiting.pop())
+        found += below.others
+        waiting += below.folders
+    return sorted(found)
+
+
+class Below(NamedTuple):
+    """What a folder has: the paths of folders, and of all else."""
+
+    folders: list[str]
+    others: list[str]
+
+
+def list_folder(top: Path, place: str) -> Below:
+    """What a folder below the top one has; of one that can't be read that it is there."""
+    try:
+        with os.scandir(top / place) as entries:
+            kinds = [(os.path.join(place, entry.name), entry.is_dir(follow_symlinks=False)) for entry in entries]
+    except OSError:
+        return Below([], [place or "."])
+    return Below([path for path, is_folder in kinds if is_folder], [path for path, is_folder in kinds if not is_folder])
 
 
 def told_by(judge: Bench, allow_carried: bool) -> str:
@@ -203,8 +240,43 @@ def judged(options: argparse.Namespace, kept: KeptLines, judge: Bench, executor:
     files.make_folder(state_of(table).parent)
     with locks.held(beside(state_of(table), ".lock"), 0, table):
         made = judge_folder(options, judge, executor, Folder(folder, names, text, title, state_of(table), workers))
-        files.renew(table, table_of(title, [made[name].row for name in names]), files.BY_UMASK, follow=False)  # (a link there may be the sender's)
-    return tell(options, table, [made[name] for name in names], judge)
+        beside_others = held_together([made[name] for name in names], names, folder, kept, judge)
+        files.hand_out(table, table_of(title, [it.row for it in beside_others]))
+    return tell(options, table, beside_others, judge)
+
+
+def held_together(made: list[Made], names: list[str], folder: Path, kept: KeptLines, judge: Bench) -> list[Made]:
+    """The rows, in which files that are shown and contradict each other are marked."""
+    judge = judges.for_contradictions(judge)
+    told = [(place, found) for place, it in enumerate(made) if (found := told_by_row(it.row)) is not None]
+    marked = list(made)
+    for pair in find_pairs([found for _, found in told]):
+        places = [told[it][0] for it in pair]
+        parts = [part for place in places for part in file_and_anchors(folder / names[place], made[place].row, kept)]
+        if len(parts) == 4 and choosing.judge_contradiction(judge, (parts[0], parts[1], parts[2], parts[3])).is_accepted:
+            for place, other in (places, places[::-1]):
+                marked[place] = Made(contradicted(marked[place].row, made[other].row.file), made[place].is_taken)
+    return marked
+
+
+def told_by_row(row: Row) -> Optional[Told]:
+    """What an accepted file tells of a line that was received, or wasn't; of others nothing."""
+    return read_told(row.reason.split(" ")) if row.verdict == Headline.SHOWN.value else None
+
+
+def contradicted(row: Row, other: str) -> Row:
+    """The row of a file that contradicts another one: the first such is named."""
+    if row.status == Status.CONTRADICTION:
+        return row
+    return row._replace(status=int(Status.CONTRADICTION), reason=f"{APART}{other}: {row.reason}")
+
+
+def file_and_anchors(path: Path, row: Row, kept: KeptLines) -> list[bytes]:
+    """The bytes that the row is of, and those of the lines that it rests on; nothing where the file isn't the same any more."""
+    data = formats.read_file(path, follow=False)
+    words = [it.split(" ") for it in row.lines.split("; ")]
+    found = [line for service, step in words if (line := kept.one(service, int(step))) is not None]
+    return [data, lines.anchors(found)] if rows.digest_of(data) == row.sha256 and len(found) == len(words) else []
 
 
 class Folder(NamedTuple):
@@ -227,12 +299,12 @@ def table_of(title: str, made: list[Row]) -> bytes:
 def judge_folder(options: argparse.Namespace, judge: Bench, executor: Optional[Executor], it: Folder) -> dict[str, Made]:
     """The rows of all files, which are noted in the state as they come."""
     known = earlier(it.state, it.title)
-    present = {printable(name) for name in it.names}
+    present = {shown_path(name) for name in it.names}
     files.renew(it.state, table_of(it.title, [row for name, row in known.items() if name in present]), follow=False)
     size = max(1, min(PIECE, len(it.names) // PIECES))  # (few files are spread over many workers too)
     pieces = [it.names[at : at + size] for at in range(0, len(it.names), size)]
     fixed = it.kept, options.carried, options.reference, told_by(judge, options.carried)
-    tasks = [Task(str(it.path), piece, {name: known[name] for name in map(printable, piece) if name in known}, *fixed) for piece in pieces]
+    tasks = [Task(str(it.path), piece, {name: known[name] for name in map(shown_path, piece) if name in known}, *fixed) for piece in pieces]
     made: dict[str, Made] = {}
     progress = Progress("judging", len(it.names))
     try:
@@ -251,11 +323,13 @@ def tell(options: argparse.Namespace, table: Path, made: list[Made], judge: Benc
     """Says what came of it; the worst status counts."""
     status = worst_of([judge.status(True), *(Status(it.row.status) for it in made)])
     counts = Counter(it.row.verdict for it in made)
-    lacking, two = (sum(it.row.status == status for it in made) for status in (Status.MISSING, Status.CONTRADICTION))
+    lacking = sum(it.row.status == Status.MISSING for it in made)
+    apart = sum(it.row.reason.startswith(APART) for it in made)
+    two = sum(it.row.status == Status.CONTRADICTION for it in made) - apart
     taken = sum(it.is_taken for it in made)
     if options.json:
         found = {verdict.replace(" ", "_"): count for verdict, count in counts.items()}
-        told = {"lacking_a_line": lacking, "two_lines": two, "status": int(status), "judged_by": told_by(judge, options.carried)}
+        told = {"lacking_a_line": lacking, "two_lines": two, "contradicting_each_other": apart, "status": int(status), "judged_by": told_by(judge, options.carried)}
         say_json({"table": str(table), "files": len(made), "taken": taken, **found, **told})
         return status
     parts = [f"{count:,} {verdict}" for verdict, count in counts.most_common()]
@@ -264,6 +338,8 @@ def tell(options: argparse.Namespace, table: Path, made: list[Made], judge: Benc
         say(f"{count_of(lacking, 'file')} {'lacks' if lacking == 1 else 'lack'} a line that you don't hold: the table says which. {choosing.ONLY_NOW}")
     if two:
         say(f"TWO LINES: {count_of(two, 'file')} {'contradicts' if two == 1 else 'contradict'} a line that you kept: weft judge tells which, of that file.")
+    if apart:
+        say(f"{count_of(apart, 'file')} CONTRADICT EACH OTHER: the table says which, and weft judge of both what a service did.")
     if taken:
         say(f"{count_of(taken, 'row')} of an earlier run {'was' if taken == 1 else 'were'} taken over, of files with the same SHA-256 digest.")
     say(told_by(judge, options.carried))

@@ -8,14 +8,15 @@ import functools
 import tempfile
 from bisect import bisect_left
 from pathlib import Path
-from typing import Iterable, NamedTuple, Optional
+from typing import Callable, Iterable, Iterator, NamedTuple, Optional, Union
 
-from weft import asking, box, formats, program
+from weft import asking, box, formats, program, signatures
 from weft.box import Peer
 from weft.choosing import ONLY_NOW
 from weft.deciding.doubting import find_doubted, list_trusted
+from weft.deciding.keeping import Counting, Mark, list_counting
 from weft.judges import Bench
-from weft.lines import KeptLines, kept_now
+from weft.lines import Kept, KeptLines, kept_now
 from weft.own import OwnLines
 from weft.statuses import Status
 from weft.stores import Store
@@ -26,7 +27,7 @@ MOST_HOPS = 64
 MOST_ASKED = 2
 # So many further ways are asked for beside the shortest one; a peer passes on somewhat more requests at a time.
 MOST_WAYS = 15
-# Who tells what stores and named files have: never doubted.
+# Who tells what named files have: never doubted.
 AT_HAND = ""
 
 
@@ -66,14 +67,42 @@ class Part(NamedTuple):
         return (hop.by, hop.service, hop.step) == (self.service, service, int(step)) and hop.archived <= int(received)
 
 
-class Graph:
-    """Hops by the two services of each, so that the way from a step on is found without looking at all of them."""
+class StoreEdges:
+    """The hops into the service of a store, of whatever size it is: each is asked for by a map, once."""
 
-    def __init__(self, hops: Iterable[Hop]):
+    def __init__(self, store: Store, name: str):
+        self.store, self.name = store, name
+        self.known: dict[tuple[str, int], Optional[Hop]] = {}
+
+    def first_from(self, service: str, step: int, refuted: set[int]) -> Optional[Hop]:
+        """The first hop of this step of a service or a later one, but for steps that were refuted; steps of one service are received rising."""
+        while (found := self.asked(service, step)) is not None and found.step in refuted:
+            step = found.step + 1
+        return found
+
+    def asked(self, service: str, step: int) -> Optional[Hop]:
+        """What the store tells."""
+        if (service, step) not in self.known:
+            answer = self.store.ask("map", "high", str(step), service)
+            if answer.status and answer.words[:2] != ["refused", "NoStep"]:
+                raise self.store.trouble(answer)
+            entry = formats.first_received(answer.output) if answer.status == 0 else None
+            self.known[service, step] = Hop(entry.service, entry.step, self.name, entry.archived) if entry is not None else None
+        return self.known[service, step]
+
+
+class Graph:
+    """Hops by the two services of each, so that the way from a step on is found without looking at all of them; those into a store's service the store
+    tells. A hop counts where `may_count` says so."""
+
+    def __init__(self, hops: Iterable[Hop], stores: Iterable[StoreEdges] = (), may_count: Callable[[Hop], bool] = lambda hop: True):
+        self.stores, self.may_count = {it.name: it for it in stores}, may_count
+        self.refuted: dict[tuple[str, str], set[int]] = {}
         self.edges: dict[str, dict[str, Edge]] = {}
         pairs: dict[tuple[str, str], list[Hop]] = {}
         for hop in hops:
-            pairs.setdefault((hop.service, hop.by), []).append(hop)
+            if hop.by not in self.stores and may_count(hop):
+                pairs.setdefault((hop.service, hop.by), []).append(hop)
         for service, by in sorted(pairs):
             self.edges.setdefault(service, {})[by] = Edge(pairs[service, by])
 
@@ -86,10 +115,9 @@ class Graph:
             found = dict(reached)
             for service in last:
                 step, before = reached[service]
-                for by, edge in self.edges.get(service, {}).items():
-                    hop = None if (service, by) in shunned else edge.first_from(step)
-                    if hop is not None and (by not in found or hop.archived < found[by][0]):
-                        found[by] = hop.archived, [*before, hop]
+                for hop in self.hops_from(service, step, shunned):
+                    if hop.by not in found or hop.archived < found[hop.by][0]:
+                        found[hop.by] = hop.archived, [*before, hop]
             last = [service for service, it in found.items() if reached.get(service) is not it]
             reached = found
             end = reached.get(second.service)
@@ -99,9 +127,21 @@ class Graph:
                 return None
         return None
 
+    def hops_from(self, service: str, step: int, shunned: frozenset[tuple[str, str]]) -> Iterator[Hop]:
+        """The first hop from a step of a service on to each other one."""
+        for by, edge in self.edges.get(service, {}).items():
+            hop = None if (service, by) in shunned else edge.first_from(step)
+            if hop is not None:
+                yield hop
+        for by, store in self.stores.items():
+            hop = None if by == service or (service, by) in shunned else store.first_from(service, step, self.refuted.get((service, by), set()))
+            if hop is not None and self.may_count(hop):
+                yield hop
+
     def refute(self, part: Part) -> None:
         """Takes out the hops by which a receiver would have a line that it can't prove: a receipt may be made up, or damaged on its way."""
         _, received, service, step, _ = part.request.split(" ")
+        self.refuted.setdefault((service, part.service), set()).add(int(step))
         edges = self.edges.get(service, {})
         if part.service in edges:
             left = [hop for hop in edges[part.service].hops if hop.step != int(step) or hop.archived > int(received)]
@@ -148,11 +188,26 @@ def hops_of(data: bytes) -> list[Hop]:
     return []
 
 
+def lines_of_peer(peer: Peer) -> list[Union[Kept, Mark]]:
+    """The lines that were kept of a peer in its box, and its marks, but for lines that a key signed which isn't noted there any more, and for what is told of
+    a contradiction with them."""
+    found = KeptLines()
+    found.add_text(peer.kept / "lines", peer.read("lines").decode("utf-8", "replace"))
+    noted = signatures.fingerprints(peer.folder.parent / "allowed_signers", peer.name)
+    counting: list[Union[Kept, Mark]] = []
+    for service, step in sorted({(it.line.service, it.line.step) for it in found.all()} | found.marks.keys()):
+        kept, marks = found.all_at(service, step), found.marks_at(service, step)
+        left = list_counting(kept, marks, noted) if service == peer.name else Counting(list(kept), list(marks))
+        counting += [*left.kept, *left.marks]
+    return counting
+
+
 class Sources:
     """What is at hand: stores, boxes with what peers handed out, files; and the lines that are held."""
 
     def __init__(self, stores: list[Store], boxes: list[Path], hand: list[bytes], kept: KeptLines, judge: Bench):
         self.stores = {store.last().line.service: store for store in stores}
+        self.store_edges = [StoreEdges(store, name) for name, store in sorted(self.stores.items())]
         self.judge, self.kept, self.hand = judge, kept, hand
         self.refused: set[Part] = set()
         self.graphs: dict[tuple[bool, bool], Graph] = {}
@@ -164,7 +219,8 @@ class Sources:
             for peer in box.peers_of(place, "", settings)[0]:
                 self.peers.setdefault(peer.name, []).append(peer)
         for peer in self.all_peers():
-            kept.add_text(peer.kept / "lines", peer.read("lines").decode("utf-8", "replace"))
+            for it in lines_of_peer(peer):
+                kept.add(it)
         for store in self.stores.values():
             for line in {*OwnLines(store.folder).known, store.last().line}:
                 if line.step:
@@ -179,7 +235,7 @@ class Sources:
         bind; told by anybody, or by somebody of whom no receipt failed."""
         if (is_bound, is_trusted) not in self.graphs:
             hops = list_trusted(self.tellers, self.doubted) if is_trusted else list(self.tellers)
-            found = Graph(hop for hop in hops if not is_bound or self.top(hop.service, hop.step) is not None)
+            found = Graph(hops, self.store_edges, (lambda hop: self.top(hop.service, hop.step) is not None) if is_bound else (lambda hop: True))
             for part in self.refused:
                 found.refute(part)
             self.graphs[is_bound, is_trusted] = found
@@ -197,18 +253,12 @@ class Sources:
 
     @functools.cached_property
     def tellers(self) -> dict[Hop, set[str]]:
-        """What receipts and the stores tell, and who told it: a peer by its name, AT_HAND of stores and of files that were named."""
+        """What receipts tell, and who told it: a peer by its name, AT_HAND of files that were named."""
         found: dict[Hop, set[str]] = {}
         pieces = {(peer.name, piece) for peer in self.all_peers() for name in ("heard", "given", "got") for piece in formats.receipt_pieces(peer.read(name))}
         for teller, data in [*((AT_HAND, data) for data in self.hand), *sorted(pieces)]:
             for hop in hops_of(data):
                 found.setdefault(hop, set()).add(teller)
-        for name, store in self.stores.items():
-            answer = store.ask("export")
-            if answer.status == 0:
-                for step, recorded in enumerate(formats.read_history(answer.output), 1):
-                    if recorded.thread:
-                        found.setdefault(Hop(recorded.thread.service, recorded.thread.step, name, step), set()).add(AT_HAND)
         return found
 
     def part(self, part: Part) -> Optional[bytes]:
@@ -276,9 +326,10 @@ class Sources:
         """Asks for a part, or says whom to ask."""
         for peer in self.peers.get(part.service, []):
             data = asking.known(peer, part.request)
-            if data is not None and data.startswith(b"refused"):
-                return f"{part.service} answered {formats.printable_text(data)!r}: ask its keeper for {part.command}, and name the file by --hand"
             asking.ask(peer, part.request)
+            if data is not None and data.startswith(b"refused"):
+                told = f"{part.service} answered {asking.told_refusal(data)}, which nobody signs: it is asked again each night"
+                return f"{told}. Or ask its keeper for {part.command}, and name the file by --hand"
             return f"{part.service} is asked for it by the next weft exchange ({part.request})"
         over = self.passed_on(part)
         for peer, request in over:
@@ -295,6 +346,19 @@ class Sources:
         for peer, request in left:
             asking.ask(peer, request)
         return bool(left)
+
+    def ask_again(self, parts: Iterable[Part]) -> list[str]:
+        """Asks peers anew for those of these parts that were at hand by their answers, since what was joined of them is refused: any of them may be made up.
+        Answers the names of the peers."""
+        names: dict[str, None] = {}
+        for part in parts:
+            asked = [*((peer, part.request) for peer in self.peers.get(part.service, [])), *self.passed_on(part)]
+            for peer, request in asked:
+                data = asking.known(peer, request)
+                if data is not None and matches(data, part):
+                    asking.ask_anew(peer, request, data)
+                    names[peer.name] = None
+        return list(names)
 
     def top(self, service: str, step: int) -> Optional[int]:
         """The least step, from this one on, of which a line is held that counts; where lines of each contradict, the least of those."""
@@ -444,12 +508,13 @@ def further_parts(sources: Sources, first: Event, second: Event, found: Plan) ->
 
 
 class Misfit(Trouble):
-    """A link that isn't of the line that was received before it: the place of this part, from 0 on."""
+    """A link that isn't of the line that was received before it: the place of this part, from 0 on, among all parts."""
 
-    def __init__(self, place: int, part: Part):
+    def __init__(self, place: int, parts: list[Part]):
+        part = parts[place]
         told = f"the parts don't fit: {part.command} of {part.service} isn't what the parts before it ask for"
         super().__init__(Status.NOT_SHOWN, told, f"Ask {part.service} for it again; it may be of another history.")
-        self.place = place
+        self.place, self.parts = place, parts
 
 
 def joined(parts: list[bytes], names: list[Part]) -> bytes:
@@ -461,5 +526,5 @@ def joined(parts: list[bytes], names: list[Part]) -> bytes:
         answer = program.run("join", *map(str, paths))
     if answer.words[:2] == ["rejected", "Gap"]:
         place = min(int(answer.words[2]), len(names)) - 1
-        raise Misfit(place, names[place])
+        raise Misfit(place, names)
     return program.done(answer, "the parts")

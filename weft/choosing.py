@@ -104,6 +104,16 @@ def judge_evidence(judge: Bench, data: bytes, kept: KeptLines) -> Judgement:
     return Judgement("checkfork", judge.judge("checkfork", data, anchors(chosen.lines)), chosen.lines, [])
 
 
+def judge_contradiction(judge: Bench, parts: tuple[bytes, bytes, bytes, bytes], links: Iterable[bytes] = ()) -> Verdict:
+    """The verdict on two files, each with its anchors; where they are under two lines of one service, by a link of these that joins
+    both."""
+    verdict = judge.judge("contradict", *parts, b"")
+    if verdict.text.startswith("accepted broken-rule-or-fork"):
+        joined = (judge.judge("contradict", *parts, link) for link in links)
+        return next((it for it in joined if it.is_accepted), verdict)
+    return verdict
+
+
 # ---- histories
 
 

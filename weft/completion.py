@@ -11,7 +11,7 @@ from typing import Iterator
 from weft.words import WORDS, module_of
 
 FOLDERS = ("DIR", "BOX", "SERVICE", "FOLDER")
-FILES = ("FILE", "PROOF", "F", "OUT", "KEY", "KEY.pub", "LINE", "EARLIER", "LATER", "CA", "CERT")
+FILES = ("FILE", "PROOF", "HISTORY", "F", "OUT", "KEY", "KEY.pub", "LINE", "EARLIER", "LATER", "CA", "CERT")
 
 HEAD = """# Completion of the words of `weft` in bash, made by `python3 -m weft.completion`. `make install` copies it to
 # share/bash-completion/completions/weft; `source weft/completion.bash` is enough to try it.

@@ -3,23 +3,25 @@
 from __future__ import annotations
 
 import functools
+import os
 import re
 from pathlib import Path
-from typing import NamedTuple, Optional
+from typing import Collection, NamedTuple, Optional
 
-from weft import asking, files, formats, hearing, looking, own, signatures
+from weft import asking, files, formats, hearing, looking, own, shares, signatures
 from weft.box import Peer, Settings, peers_of
-from weft.deciding.forks import FILE_NAME, Finding, Fork, find_contradicting, may_write_fork, name_fork_file, read_forks, weigh_contradiction
-from weft.deciding.linking import read_link_files
-from weft.deciding.recording import may_note_recorded
+from weft.deciding.forks import FILE_NAME, MOST_AT_STEP, Finding, Fork, find_contradicting, may_write_fork, name_fork_file, read_forks, weigh_contradiction
+from weft.deciding.keeping import Outcome, list_counting, standing_of
+from weft.deciding.linking import Meaning, is_evidence, read_link_files
+from weft.deciding.recording import choose_other_start, may_note_recorded
 from weft.deciding.restoring import DAY, Go, Told, Word, judge_turn, must_look
-from weft.deciding.sharing import choose_names, choose_receipts, move_cursor, order_lines
+from weft.deciding.sharing import choose_names, choose_receipts, is_first_hand, move_cursor, order_lines
 from weft.deciding.signatures import PublicKey, Signed, read_signed_line, read_signed_lines
-from weft.deciding.silence import weigh_heard
+from weft.deciding.silence import Heard, choose_last_heard, weigh_heard
 from weft.deciding.worst import worst_of
 from weft.formats import Message
 from weft.judges import Bench
-from weft.lines import Kept, Line, keep, kept_now, read_line
+from weft.lines import Kept, KeptLines, Line, keep, kept_now, read_line
 from weft.links import Links
 from weft.looking import Note, Notes
 from weft.own import OwnLines
@@ -32,9 +34,12 @@ MOST_SEEN = 128
 MOST_RECEIPTS = 1024
 OWN_RECEIPTS = 256
 UNFIT_TURNS = 3
+# Of a peer's signed lines so many are looked at for the last one whose key is noted now.
+MOST_LOOKED_AT = 64
+# So many bytes of a peer's lines and signed lines are kept in one file.
+MOST_LINES, MOST_SIGNED = 32 << 20, 128 << 20
 SIGNED_BYTES = 8_192
 REFUSAL = re.compile(r"refused BadLink ([0-9]{1,13}) ([0-9a-f]{64})\nmessage ([0-9]{1,13}) since ([0-9]{1,13})\n")
-HALF = formats.MOST_HISTORY // 2
 # So many seconds after a look began a peer's word counts.
 SETTLED = DAY
 
@@ -58,6 +63,7 @@ class Turn:
         self.notes = Notes(box)
         self.note = self.notes.read()
         self.returned: dict[str, Line] = {}
+        self.claims: dict[str, tuple[Line, ...]] = {}
         self.known: dict[int, Line] = {}
         self.messages: dict[int, bytes] = {}
         self.keys: dict[Signed, Optional[str]] = {}
@@ -78,15 +84,18 @@ class Turn:
         if self.named is not None:
             self.lines.adopt(self.store, self.judge, self.last, self.named)
         self.lines.check(self.store, self.judge, self.last)
+        _ = self.own_key  # (a key without a public half ends the turn before anything is made)
         returned = []
         for peer in self.peers:
             peer.make()
             returned += [] if peer.name in self.despite else [(peer, told) for told in self.told_by(peer)]
         since = self.begin_look(is_look)
         accepted = [peer for peer in self.peers if peer.accepted() and peer.name not in self.despite]
-        words: list[Word] = [] if since is None else [looking.word_of(peer) for peer in accepted]
+        words: list[Word] = [] if since is None else [looking.word_of(it, self.returned.get(it.name), self.claims[it.name]) for it in accepted]
         told = [it for _, it in returned]
-        answer = judge_turn(self.last, own.proved_lines(self.store, self.judge, self.last, told), told, words, since, SETTLED)
+        to_prove = [*told, *(Told(line, "") for word in words for line in word.claims)]
+        proved = own.proved_lines(self.store, self.judge, self.last, to_prove)
+        answer = judge_turn(self.last, proved, told, words, since, SETTLED)
         if answer.lacking is not None:
             raise self.old_store(answer.lacking, next(peer for peer, it in returned if it is answer.lacking))
         if is_look or answer.go is Go.WAIT:
@@ -111,32 +120,36 @@ class Turn:
         for peer in accepted:
             peer.say(looking.describe_word(peer, self.returned.get(peer.name)))
             if peer.name in waiting and since is not None:
-                peer.need(f"{looking.describe_waiting(since)}. If the carrier leaves out what is the same, empty {name_of(peer.incoming)} then; if "
-                          f"{peer.name} is gone for good: weft exchange --despite {peer.name} ..")  # fmt: skip
+                claimed = next(iter(self.claims[peer.name]), None)
+                peer.need(looking.describe_claim(peer, claimed, self.last) if claimed else looking.describe_waiting(peer, since))
         self.told.append("No step was made, and nothing was put out.")
 
     def told_by(self, peer: Peer) -> list[Told]:
-        """The lines of this service that a peer's folder tells and the store lacks: those signed by its own key, handed back or put out before; and by the
-        peer's unsigned word later ones than the store has, in a box that takes unsigned messages others too."""
+        """The lines of this service that a peer's folder tells and the store lacks: those signed by its own key, handed back or put out before; in a box that
+        takes unsigned messages also what an accepted peer claims. In another one such claims are noted."""
         services = {self.last.service, *(it.name for it in self.peers)}
         returned = peer.take("yours", SIGNED_BYTES) or b""
         peer.seen = read_signed_lines(peer.take("seen", SIGNED_BYTES * MOST_SEEN) or b"", services)[:MOST_SEEN]
+        peer.is_seen_read = True
         put_out = files.read_if_there(peer.out / "line", SIGNED_BYTES) or b""
         signed = [(read_signed_line(returned), f"handed back by {peer.name}"), (read_signed_line(put_out), f"put out for {peer.name} before")]
         signed += [(it, f"handed back by {peer.name}") for it in peer.seen]
         found = [Told(it.line, f"signed by its key, and {whence}") for it, whence in signed if it and self.is_lacking(it.line) and self.is_own(it)]
-        return found + [Told(line, f"as {peer.name} says, unsigned") for line in self.unsigned_words(peer, returned)]
+        claims = self.claims_of(peer, returned)
+        self.claims[peer.name] = () if self.settings.is_unsigned else tuple(claims)
+        return found + [Told(line, f"as {peer.name} says, unsigned") for line in claims if self.settings.is_unsigned]
 
-    def unsigned_words(self, peer: Peer, returned: bytes) -> list[Line]:
-        """The lines of this service that a peer tells without a signature, and that the store lacks. Somebody on the way can make them up, and a file may be
-        damaged: so but for a later step than the store has nothing is concluded of them, where the box takes signed messages."""
+    def claims_of(self, peer: Peer, returned: bytes) -> list[Line]:
+        """The lines of this service that an accepted peer tells, that the store lacks, and that this service hasn't signed: what is handed back, and of later
+        steps than the store has its receipt and its refusal. Somebody on the way can make them up, and a file may be damaged."""
         line = read_line(returned.decode("utf-8", "replace").split("\n")[0])
         if line is not None and line.service == self.last.service:
             self.returned[peer.name] = line
-        told = [line] if line is not None and self.settings.is_unsigned and peer.accepted() else []
+        if not peer.accepted():
+            return []
         receipt, refusal = self.receipt_of(peer), self.refused(peer)
         later = [it for it in (receipt[0] if receipt else None, refusal.line if refusal else None) if it is not None and it.step > self.last.step]
-        return [it for it in [*told, *later] if self.is_lacking(it)]
+        return [it for it in dict.fromkeys([*([line] if line is not None else []), *later]) if self.is_lacking(it)]
 
     def is_lacking(self, line: Line) -> bool:
         """Whether a line is of this service, and not of the store."""
@@ -171,10 +184,8 @@ class Turn:
 
     @functools.cached_property
     def own_key(self) -> Optional[PublicKey]:
-        """The public key of this box, where there is a file of it."""
-        key = self.settings.key
-        public = key if key is None or key.suffix == ".pub" else beside(key, ".pub")
-        return signatures.public_key(public) if public is not None and public.exists() else None
+        """The public key of this box, None where the box has no key; raises Trouble where the key has no public half."""
+        return signatures.public_half(self.settings.key) if self.settings.key is not None else None
 
     # ---- what came
 
@@ -183,16 +194,28 @@ class Turn:
         if not self.settings.is_unsigned and not self.has_key(peer):
             peer.say(f"{name_of(self.signers)} has no key of {peer.name}: weft accept {name_of(self.box)} {peer.name} --key KEY.pub")
             self.look()
+        for line in self.claims.get(peer.name, ())[:1]:
+            peer.need(looking.describe_claim(peer, line, self.last))
         self.take_receipt(peer)
         self.take_refusal(peer)
         self.compare_seen(peer)
-        before, had = hearing.read_kept_silence(peer), (hearing.last_signed_step(peer), hearing.last_taken_step(peer))
+        before, had = hearing.read_kept_silence(peer), (self.last_heard(peer), hearing.last_taken_step(peer))
         signed = self.take_signed(peer)
         self.take_message(peer, signed)
-        peer.line_heard = weigh_heard(before[hearing.LINES], had[0], hearing.last_signed_step(peer), signed is not None)
-        peer.message_heard = weigh_heard(before[hearing.MESSAGES], had[1], hearing.last_taken_step(peer), peer.has_message)
+        peer.line_came, peer.line_had = signed.line.step if signed is not None else 0, had[0]
+        peer.line_heard = weigh_heard(had[0], peer.line_came, signed is not None)
+        noted, taken = before[hearing.MESSAGES].step, hearing.last_taken_step(peer)
+        peer.message_heard = weigh_heard(choose_last_heard(noted, noted <= taken, had[1]), taken, peer.has_message)
         self.take_receipts(peer)
         asking.take_answers(peer)
+
+    def last_heard(self, peer: Peer) -> int:
+        """The last step of a peer that was heard, by a line whose key is noted of it now or by a person's word; 0 for none. (Lines are looked at from the last
+        step on, and mostly the first one is good.)"""
+        noted, accepted = hearing.read_kept_silence(peer)[hearing.LINES].step, peer.accepted()
+        is_good = (accepted is not None and accepted.line.step == noted) or any(self.key_of(it) is not None for it in peer.signed_at(noted))
+        falling = [] if is_good else sorted(peer.signed_lines(), key=lambda it: -it.line.step)[:MOST_LOOKED_AT]
+        return choose_last_heard(noted, is_good, next((it.line.step for it in falling if self.key_of(it) is not None), 0))
 
     def has_key(self, peer: Peer) -> bool:
         """Whether a key of the peer is known, without which nothing that it signs is taken."""
@@ -213,18 +236,17 @@ class Turn:
             return
         line = receipt[0]
         if not self.is_of_store(line):
-            peer.say(f"its receipt is of step {line.step}, which this store doesn't have so; nothing is concluded from that")
+            if line not in self.claims.get(peer.name, ()):
+                peer.say(f"its receipt is of step {line.step}, which this store doesn't have so; nothing is concluded from that")
             return
         if may_note_recorded(has.step if has else None, line.step, None):
             peer.renew("has", f"{line.text}\n".encode())
         self.add_receipt(peer, "got", receipt[1])
 
     def add_receipt(self, peer: Peer, name: str, receipt: bytes) -> None:
-        """Keeps a receipt among the last ones."""
-        size = formats.RECEIPT_SIZE
-        old = peer.read(name)
-        if not any(old[at : at + size] == receipt for at in range(0, len(old), size)):
-            peer.renew(name, (old + receipt)[-OWN_RECEIPTS * size :])
+        """Keeps a receipt behind all others, each once."""
+        if receipt not in formats.receipt_pieces(peer.read(name)):
+            peer.add(name, receipt, formats.RECEIPT_SIZE)
 
     def take_receipts(self, peer: Peer) -> None:
         """Takes receipts that it heard of, where the file has nothing else. Those that are kept already aren't read once more."""
@@ -252,8 +274,9 @@ class Turn:
             peer.renew("has", f"{line.text}\n".encode())
         else:
             peer.say(
-                f"it recorded another step {line.step} under the name {line.service} than this store has: somebody gave it a line in your name, or an "
-                f"old store was put back here. Hand {peer.name} your line by another way, and ask who gave it the other one"
+                f"it recorded another step {line.step} under the name {line.service} than this store has, by its refusal, which nobody signs: that was made up "
+                f"on its way, somebody gave it a line in your name, or an old store was put back here. Hand {peer.name} your line by another way, and ask "
+                "whether it has another one, and from whom"
             )
             self.look()
 
@@ -295,19 +318,42 @@ class Turn:
         """Keeps a line of a peer whose signature is good, and holds it against those that it signed for the same step. Its place among the signed ones is
         written last: a turn that was stopped before does all anew."""
         held = peer.signed_at(signed.line.step)
-        if any(it.line == signed.line and self.key_of(it) is not None for it in held):
+        good = [it for it in held if self.key_of(it) is not None]
+        if any(it.line == signed.line for it in good) or len(good) >= MOST_AT_STEP or self.is_full(peer, "signed", MOST_SIGNED):
             return
         found = [self.weigh(peer, it, signed) for it in find_contradicting(signed.line, held)]
-        self.keep(peer, kept_now(signed.line, how), is_told=Finding.EVIDENCE in found)
+        self.keep(peer, kept_now(signed.line, how), found)
         peer.add_signed(signed)
 
-    def keep(self, peer: Peer, kept: Kept, is_told: bool = False) -> None:
-        """Keeps a line of a peer among its lines; that it contradicts others is told, where it wasn't yet."""
+    def is_full(self, peer: Peer, name: str, most: int) -> bool:
+        """Whether a file of a peer's lines has so many bytes that none is added; that is told once a turn, and counts."""
+        path = peer.kept / name
+        if not files.is_there(path) or os.stat(path).st_size < most:
+            return False
+        told = f"{name_of(path)} has {most:,} bytes or more, and no line is added to it: move it out of the box, and keep it; the next turn begins a new one"
+        if told not in peer.told:
+            peer.need(told)
+        return True
+
+    def keep(self, peer: Peer, kept: Kept, found: Collection[Finding] = ()) -> None:
+        """Keeps a line of a peer among its lines; that it contradicts others is told, where it wasn't yet, as it was by what was found of signed ones."""
+        if self.is_full(peer, "lines", MOST_LINES):
+            return
         for placed in keep(peer.kept / "lines", [kept]):
-            if placed.trouble is not None:
+            if placed.trouble is None:
+                continue
+            if Finding.EVIDENCE in found or placed.outcome is Outcome.NOT_CHOSEN or self.is_disputed(peer, kept.line.step):
                 self.look(Status.CONTRADICTION)
-                if not is_told:
+                if Finding.EVIDENCE not in found:
                     peer.say(placed.trouble.told())
+            elif Finding.DIFFERENT not in found:
+                self.tell_different(peer, kept.line.step)
+
+    def is_disputed(self, peer: Peer, step: int) -> bool:
+        """Whether lines of a peer's step contradict that count by the keys that are noted of it now, and none was chosen."""
+        known = KeptLines([peer.kept / "lines"])
+        counting = list_counting(known.all_at(peer.name, step), known.marks_at(peer.name, step), signatures.fingerprints(self.signers, peer.name))
+        return standing_of(counting.kept, counting.marks).is_disputed
 
     def weigh(self, peer: Peer, held: Signed, new: Signed) -> Finding:
         """What two lines of a peer show that contradict: they are remembered where both signatures are good now; that the held one's isn't is told."""
@@ -316,19 +362,23 @@ class Turn:
             for signed in (held, new):
                 self.remember(peer, signed)
         elif found is Finding.DIFFERENT:
-            peer.say(
-                f"its line of step {new.line.step} is another one than that which was kept as signed, whose signature isn't good by a key that "
-                f"{name_of(self.signers)} has now: that shows nothing against it"
-            )
-            self.look()
+            self.tell_different(peer, new.line.step)
         return found
+
+    def tell_different(self, peer: Peer, step: int) -> None:
+        """Tells that a line of a peer came in the place of one that doesn't count any more."""
+        peer.say(
+            f"its line of step {step} is another one than that which was kept as signed, whose signature isn't good by a key that "
+            f"{name_of(self.signers)} has now: that shows nothing against it"
+        )
+        self.look()
 
     def remember(self, peer: Peer, signed: Signed) -> None:
         """Keeps one of two signed lines that contradict, for good."""
         path = peer.kept / "forks" / name_fork_file(signed.line)
         found = files.read_if_there(path, signatures.MOST_BYTES)
         before = read_signed_line(found or b"")
-        if may_write_fork(found, signed, before is not None and self.key_of(before) is not None):
+        if may_write_fork(found, signed, before is not None and self.key_of(before) is not None, len(peer.fork_names())):
             files.renew(path, signed.data)
 
     def tell_forks(self, peer: Peer) -> None:
@@ -341,27 +391,41 @@ class Turn:
             self.tell_evidence(peer, proved, len(forks))
         elif forks:
             peer.say(
-                f"{name_of(folder)} has different lines of its step {forks[0].step}, of which not two are signed by a key that {name_of(self.signers)} has now: "
-                f"that shows nothing against it. Ask {peer.name}"
+                f"{name_of(folder)} has different lines of its step {forks[0].step}, of which not two are signed by a key that {name_of(self.signers)} "
+                f"has now: that shows nothing against it. Ask {peer.name}"
             )
             self.look()
 
     def tell_evidence(self, peer: Peer, fork: Fork, steps: int) -> None:
         """Tells two lines of a step whose signatures are good."""
         others = f", with those of {steps - 1} more of its steps" if steps > 1 else ""
-        peer.say(
+        peer.accuse(
             f"EVIDENCE: there are two lines of its step {fork.step}, both signed by its key: it has shown two histories, or somebody else has its key. "
             f"Both are kept in {name_of(peer.kept / 'forks')}{others}; show them to all who hold its lines"
         )
-        self.look(Status.CONTRADICTION)
 
     def compare_seen(self, peer: Peer) -> None:
-        """Holds signed lines of other peers, which a peer hands on, against those that were kept."""
+        """Holds signed lines of other peers, which a peer hands on, against those that were kept, and against those that others hand on tonight."""
         by_name = {it.name: it for it in self.peers}
         for signed in peer.seen:
             other = by_name.get(signed.line.service)
-            if other is not None and find_contradicting(signed.line, other.signed_at(signed.line.step)) and self.key_of(signed) is not None:
+            if other is None:
+                continue
+            handed_on = find_contradicting(signed.line, self.handed_on.get(signed.line[:2], ()))
+            held = find_contradicting(signed.line, other.signed_at(signed.line.step))
+            if sum(self.key_of(it) is not None for it in held) >= MOST_AT_STEP:
+                continue
+            if (held or any(self.key_of(it) is not None for it in handed_on)) and self.key_of(signed) is not None:
                 self.note_signed(other, signed, f"signed by {self.key_of(signed)}, handed on by {peer.name}")
+
+    @functools.cached_property
+    def handed_on(self) -> dict[tuple[str, int], list[Signed]]:
+        """The lines that peers hand on tonight, by service and step."""
+        found: dict[tuple[str, int], list[Signed]] = {}
+        for peer in self.peers:
+            for signed in peer.seen:
+                found.setdefault(signed.line[:2], []).append(signed)
+        return found
 
     # ---- messages
 
@@ -369,6 +433,9 @@ class Turn:
         """Takes its message, where it is one of the peer's that may be taken."""
         accepted = peer.accepted()
         first = peer.read("first") if accepted else b""
+        if first and not self.may_take_first(peer):
+            peer.remove("first")
+            first = b""
         data = first or peer.take("message", formats.MOST_MESSAGE)
         if data is None:
             return
@@ -388,6 +455,18 @@ class Turn:
             self.look()
         elif first or self.may_take(peer, message, signed):
             self.receive(peer, message, data, None if first else peer.take("next", formats.MOST_MESSAGE))
+
+    def may_take_first(self, peer: Peer) -> bool:
+        """Whether the message by which a person accepted a peer may be taken: where its line was signed then, that has to be so by a key that is noted now."""
+        signed = read_signed_line(peer.read("first-line"))
+        if signed is None or self.settings.is_unsigned:
+            return True
+        key = self.key_of(signed)
+        if key is not None:
+            self.note_signed(peer, signed, f"signed by {key}, when it was accepted")
+            return True
+        peer.need(f"the message by which it was accepted isn't taken: its line isn't signed by a key that {name_of(self.signers)} has now. Its next one may be")
+        return False
 
     def may_take(self, peer: Peer, message: Message, signed: Optional[Signed]) -> bool:
         """Whether the message's line is signed, by a key that is noted now, or the box takes unsigned ones."""
@@ -491,21 +570,25 @@ class Turn:
         return b"".join(it.data for it in order_lines([lines for name, lines in self.shared.items() if name != peer.name], MOST_SEEN))
 
     def put_next(self, peer: Peer, since: int) -> None:
-        """Puts out the message since the step of the one before, which the peer may have recorded by now though its receipt is still on its way."""
+        """Puts out another message of the last step, since another one than the first, which the peer may have recorded in truth."""
         sent = [int(word) for word in peer.read("sent").split() if word.isdigit()]
         if self.last.step not in sent:
             sent = [*sent, self.last.step][-2:]
             peer.renew("sent", f"{' '.join(map(str, sent))}\n".encode())
-        if since < sent[0] < self.last.step:
-            peer.put("next", self.message(sent[0]))
+        returned = self.returned.get(peer.name)
+        step = choose_other_start(since, returned.step if returned is not None and self.is_of_store(returned) else None, sent[0], self.last.step)
+        if step is not None:
+            peer.put("next", self.message(step))
         else:
             files.remove(peer.out / "next")
 
     @functools.cached_property
     def known_receipts(self) -> list[bytes]:
-        """The receipts that were made here, came here, or were heard of, each once."""
-        parts = [peer.read(name) for name in ("heard", "given", "got") for peer in self.peers]
-        return list(dict.fromkeys(piece for part in parts for piece in formats.receipt_pieces(part)))
+        """The last receipts that are handed on, each once: those that were heard of whom they are of, and those that were made here or came here."""
+        most = OWN_RECEIPTS * formats.RECEIPT_SIZE
+        heard = [piece for peer in self.peers for piece in formats.receipt_pieces(peer.read("heard")) if is_first_hand(peer.name, formats.parties_of(piece))]
+        parts = [peer.read(name)[-most:] for name in ("given", "got") for peer in self.peers]
+        return list(dict.fromkeys([*heard, *(piece for part in parts for piece in formats.receipt_pieces(part))]))
 
     def receipts_for(self, peer: Peer) -> bytes:
         """The receipts that a peer gets."""
@@ -520,7 +603,11 @@ class Turn:
             self.notes.end(self.next_note())
         else:
             self.is_made = False
-        return worst_of([self.status, *(peer.status for peer in self.peers)])
+        return self.ended(None)
+
+    def ended(self, trouble: Optional[Trouble]) -> Status:
+        """How the turn ends: by the worst of what was found, and of what ended it early."""
+        return worst_of([self.status, *(peer.status for peer in self.peers), *([trouble.status] if trouble else [])])
 
     def make_turn(self) -> None:
         """Takes what came, and puts out what is to go."""
@@ -533,8 +620,7 @@ class Turn:
             self.tell_forks(peer)
         self.lines.note(self.last)
         self.settle_links()
-        for peer in self.peers:
-            hearing.listen(peer, not self.settings.is_unsigned and self.has_key(peer), peer.accepted() is not None, self.last.step, now()[:10])
+        self.listen()
         signed = self.signed_last()
         for peer in self.peers:
             asking.answer_peer(self.store, self.peers, peer, peer.take("requests", asking.MOST_BYTES) if peer.accepted() else None)
@@ -543,6 +629,15 @@ class Turn:
             self.tell_end(peer)
         self.told += [*self.unsigned(), *self.share()]
 
+    def listen(self) -> None:
+        """Notes what was heard of each peer, by its own lines and messages, and by what it hands on of others that were heard too."""
+        keys = hearing.Keys(self.key_of, functools.lru_cache(None)(lambda service: signatures.fingerprints(self.signers, service)))
+        names = {peer.name for peer in self.peers if self.has_key(peer)}
+        heard = {peer.name for peer in self.peers if peer.line_heard is Heard.NEW}
+        for peer in self.peers:
+            others = hearing.hear_others(peer, keys, names - {peer.name}, heard - {peer.name})
+            hearing.listen(peer, not self.settings.is_unsigned and peer.name in names, peer.accepted() is not None, others, self.last.step, now()[:10])
+
     def next_note(self) -> Note:
         """What this turn leaves to the next one."""
         holders = sum(bool(peer.signed_lines()) for peer in self.peers)
@@ -550,30 +645,33 @@ class Turn:
 
     def settle_links(self) -> None:
         """Asks peers for the links between their lines that were kept here or handed on by others, and takes their answers."""
-        links = Links(self.judge, self.key_of, self.settings.silent, self.note.turn)
+        links = Links(self.judge, self.key_of, self.note_joined, self.settings.silent, self.note.turn)
         for peer in self.peers:
             if peer.accepted() and not peer.fork_names():
                 others = ([it for it in other.seen if it.line.service == peer.name] for other in self.peers if other is not peer)
                 links.settle(peer, [signed for signed in others if signed])
 
+    def note_joined(self, peer: Peer, signed: Signed) -> None:
+        """Keeps a line of a peer that others handed on, and that a link joined to its history."""
+        self.note_signed(peer, signed, f"signed by {self.key_of(signed)}, handed on, and joined by a link")
+
     def recall_links(self, peer: Peer) -> None:
         """Tells again that a link showed two histories of a peer: what was seen once isn't forgotten. Before it says so it has both signatures checked."""
         links = read_link_files(peer.fork_names())
-        if not links or any("EVIDENCE" in text for text in peer.told):
+        if not links or peer.is_accused:
             return
         folder, (earlier, later) = peer.kept / "forks", links[-1]
         found = [read_signed_line(files.read(folder / name, signatures.MOST_BYTES)) for name in peer.fork_names() if FILE_NAME.fullmatch(name)]
         good = {it.line.step for it in found if it and it.line.service == peer.name and self.key_of(it) is not None}
-        what = "EVIDENCE" if {earlier, later} <= good else "a sign, not both lines of which are signed by its key of now,"
-        peer.need(
-            f"{what} of two histories of it, by its lines of step {earlier} and of step {later} and the link that it gave, is kept in {name_of(folder)}: show that "
-            "to all who hold its lines",
-            Status.CONTRADICTION,
-        )
+        kept = f"of two histories of it, by its lines of step {earlier} and of step {later} and the link that it gave, is kept in {name_of(folder)}"
+        if is_evidence(Meaning.PARTS, [step in good for step in (earlier, later)]):
+            peer.accuse(f"EVIDENCE {kept}: show that to all who hold its lines")
+        else:
+            peer.need(f"a sign {kept}; not both lines are signed by a key that is noted of it now: that shows nothing against it. Ask {peer.name}")
 
     def tell_end(self, peer: Peer) -> None:
         """Tells until when two histories that were found count."""
-        if any("EVIDENCE" in text for text in peer.told):
+        if peer.is_accused:
             peer.say(f"each turn ends with 11 until you move {name_of(peer.kept / 'forks')} out of the box")
 
     def tell_strange(self) -> None:
@@ -600,19 +698,19 @@ class Turn:
             signed = read_signed_line(files.read_if_there(peer.out / "line", SIGNED_BYTES) or b"")
             if signed is not None and signed.line == self.last and self.is_own(signed):
                 return signed
-        return signatures.sign(self.last, self.settings.key)
+        made = signatures.sign(self.last, self.settings.key)
+        if not self.is_own(made):
+            told = f"the public key beside {name_of(self.settings.key)} isn't that of the key"
+            raise Trouble(Status.UNREADABLE, told, "Put the right one there: by it lines of your own that peers hand back are known again. Nothing was signed.")
+        return made
 
     def share(self) -> list[str]:
         """How much of what a history's file may have is used, from half on."""
-        if not self.store.file.exists() or self.store.file.stat().st_size < HALF:
-            return []
-        answer = self.store.ask("export")
-        size = len(answer.output) if answer.status == 0 else formats.MOST_HISTORY
-        if size < HALF:
+        told = shares.told(self.store, self.last.service)
+        if told is None:
             return []
         self.look()
-        share = 100 * size // formats.MOST_HISTORY
-        return [f"The history of {self.last.service} has {share} % of what its file may have: then it can't be exported any more. Plan a new name."]
+        return [told]
 
 
 def refusal_text(name: str, message: Message, refusal: str, fields: list[str]) -> tuple[str, bool]:

@@ -12,9 +12,11 @@ import os
 import secrets
 import stat
 import sys
+from contextlib import contextmanager
 from pathlib import Path
-from typing import Callable, Optional, Union
+from typing import IO, Callable, Iterator, Optional, Union
 
+from weft.output import complain
 from weft.statuses import Status
 from weft.texts import name_of
 from weft.trouble import Trouble
@@ -208,6 +210,28 @@ def renew(path: AnyPath, data: Union[bytes, Callable[[str], bytes]], mode: int =
         raise unwritten(path, failure) from None
 
 
+@contextmanager
+def renewing(path: AnyPath, mode: int = PRIVATE) -> Iterator[IO[bytes]]:
+    """The same of a file that is written piece by piece: what was written is the file where the block ends, and nothing is where it fails."""
+    try:
+        target = target_of(path)
+        old = old_file(target, path)
+        number, new = new_beside(target, mode)
+        with os.fdopen(number, "wb", PIECE) as file:
+            try:
+                take_rights(number, old, mode)
+                yield file
+                file.flush()
+                os.fsync(number)
+                os.replace(new, target)
+            except BaseException:
+                remove_quietly(new)
+                raise
+        sync_folder(os.path.dirname(target) or ".")
+    except OSError as failure:
+        raise unwritten(path, failure) from None
+
+
 def old_file(target: str, path: AnyPath) -> Optional[os.stat_result]:
     """The file that is to be made anew, or None where there is none or a link; raises Trouble where something else has the name."""
     try:
@@ -224,13 +248,15 @@ def old_file(target: str, path: AnyPath) -> Optional[os.stat_result]:
 
 def identity_of_open(number: int) -> str:
     """Which file an open one is: its number on its device, and the generation of that number, by which file systems tell a file from an
-    earlier one of the same number (FS_IOC_GETVERSION of Linux; 0 where a file system tells none)."""
+    earlier one of the same number (FS_IOC_GETVERSION of Linux). Where a file system tells none, that is 0, and behind it stands when the
+    file was last changed there, in seconds since 1970, which no backup brings back."""
     generation = bytearray(8)
     try:
         fcntl.ioctl(number, GET_GENERATION, generation)
     except OSError:
         generation = bytearray(8)
-    return f"{os.fstat(number).st_ino}.{int.from_bytes(generation[:4], sys.byteorder)}"
+    found, state = int.from_bytes(generation[:4], sys.byteorder), os.fstat(number)
+    return f"{state.st_ino}.{found}" if found else f"{state.st_ino}.0.{int(state.st_ctime)}"
 
 
 def identity_of(path: AnyPath) -> Optional[str]:
@@ -253,8 +279,15 @@ def remove_quietly(path: str) -> None:
 
 
 def hand_out(path: AnyPath, data: bytes) -> None:
-    """Makes a file that the user named, to be handed out: a new one as the umask says."""
-    renew(path, data, BY_UMASK)
+    """Makes a file that the user named: a new one as the umask says. A link of that name isn't followed, since whoever sent the folder may have put it there:
+    the file comes in its place, and that is told."""
+    try:
+        target = target_of(path)
+    except OSError as failure:
+        raise unwritten(path, failure) from None
+    renew(path, data, BY_UMASK, follow=False)
+    if target != os.fspath(path):
+        complain(f"{name_of(path)} was a link to {name_of(target)}, which wasn't written over: the file stands in the link's place.")
 
 
 def renew_if_other(path: AnyPath, data: bytes, mode: Optional[int] = None) -> None:
@@ -295,6 +328,26 @@ def append(path: AnyPath, data: bytes) -> None:
             os.fsync(number)
         finally:
             os.close(number)
+    except OSError as failure:
+        raise unwritten(path, failure) from None
+
+
+def extend(path: AnyPath, data: bytes, at: int) -> None:
+    """Puts bytes behind the first ones of a file that grows, and nothing stands behind them then; they are on the disk before this returns. Where it is
+    stopped, a part of them may stand there. A link is followed, and stays."""
+    try:
+        target = target_of(path)
+        is_new = not os.path.lexists(target)
+        number = os.open(target, os.O_WRONLY | os.O_CREAT | os.O_CLOEXEC | os.O_NOFOLLOW, PRIVATE)
+        try:
+            os.ftruncate(number, at)
+            os.lseek(number, at, os.SEEK_SET)
+            write_all(number, data)
+            os.fsync(number)
+        finally:
+            os.close(number)
+        if is_new:
+            sync_folder(os.path.dirname(target) or ".")
     except OSError as failure:
         raise unwritten(path, failure) from None
 

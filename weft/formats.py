@@ -3,28 +3,33 @@
 from __future__ import annotations
 
 import functools
-from typing import NamedTuple, Optional
+from typing import Iterable, NamedTuple, Optional
 
 from weft import files, packages
 from weft.deciding.choosing import Needed as Needed
 from weft.files import AnyPath
+from weft.deciding.lines import can_be
 from weft.kinds import kind_of as kind_of
 from weft.lines import Line
 from weft.statuses import Status
-from weft.texts import name_of, printable
+from weft.texts import name_of
 from weft.trouble import Trouble
 
 if not packages.HAS_REFERENCE:
     raise Trouble(
-        Status.NO_JUDGE, "the Python package timeweave_reference isn't there, by which weft reads files", "Install it beside weft."
+        Status.NO_JUDGE,
+        "the Python package timeweave_reference isn't there, by which weft reads files, or isn't the one that this weft was made with",
+        "Install it. In a checkout of your own that you have changed: python3 -m weft.packages.",
     )
 
-from timeweave_reference import events_files, evidence, map_files, messages, precedence, receipts, verdicts  # noqa: E402
+from timeweave_reference import archives, audits, events_files, evidence, map_files, messages, precedence, receipts, verdicts  # noqa: E402
 from timeweave_reference import fields as fields  # noqa: E402
 from timeweave_reference import histories as histories  # noqa: E402
 from timeweave_reference import proofs as proofs  # noqa: E402
+from timeweave_reference.anchors import Anchor  # noqa: E402
 from timeweave_reference.fields import Malformed as Malformed  # noqa: E402
 from timeweave_reference.hashed_texts import EMPTY_ARCHIVE as EMPTY_ARCHIVE  # noqa: E402
+from timeweave_reference.hashed_texts import genesis  # noqa: E402
 from timeweave_reference.messages import Message as Message  # noqa: E402
 from timeweave_reference.receipts import Receipt as Receipt  # noqa: E402
 from timeweave_reference.timelines import Timeline  # noqa: E402
@@ -52,6 +57,13 @@ def line_of(message: messages.Message) -> Line:
     return Line(message.service, message.step, message.authenticator.hex())
 
 
+def expect_possible(line: Line) -> None:
+    """Raises Trouble where no service can have the line."""
+    if not can_be(line, genesis(line.service).hex()):
+        told = f"this line of step 0 of {line.service} is false: step 0 follows from the name alone, and has the authenticator {genesis(line.service).hex()[:16]}.."
+        raise Trouble(Status.UNREADABLE, told, "Nothing was kept. Ask where it came from what else came that way.")
+
+
 def read_receipt(data: bytes) -> Optional[receipts.Receipt]:
     """The receipt that the bytes are, or None."""
     try:
@@ -73,6 +85,13 @@ def receipt_pieces(data: bytes) -> list[bytes]:
     return [data[at : at + RECEIPT_SIZE] for at in range(0, len(data) - RECEIPT_SIZE + 1, RECEIPT_SIZE)]
 
 
+@functools.lru_cache(maxsize=1 << 16)
+def parties_of(data: bytes) -> tuple[str, ...]:
+    """The recorder of a receipt, and the service that it recorded; of other bytes nobody."""
+    receipt = read_receipt(data)
+    return (receipt.recorder, receipt.service) if receipt else ()
+
+
 def needed_by_proof(data: bytes) -> list[Needed]:
     """The lines that a proof of a kind from 1 to 5 says it is judged under; none where the bytes are none."""
     proof = read_proof(data)
@@ -80,6 +99,19 @@ def needed_by_proof(data: bytes) -> list[Needed]:
         return []
     hops = proof.hops if isinstance(proof, precedence.PrecedenceProof) else ()
     return list(dict.fromkeys([Needed(proof.service, proof.top), *(Needed(hop.entry.service, hop.bind) for hop in hops if hop.bind)]))
+
+
+def lines_shown(data: bytes) -> list[Line]:
+    """The lines of steps beside those of its tops that a proof of a kind from 1 to 5 shows where it is accepted: of each step that it opens, and of each
+    that was received on its way. None where the bytes are none."""
+    proof = read_proof(data)
+    if isinstance(proof, proofs.StepProof):
+        return [Line(proof.service, proof.step, proof.opening.authenticator(proof.step).hex())]
+    if not isinstance(proof, precedence.PrecedenceProof):
+        return []
+    received = [Line(hop.entry.service, hop.entry.step, hop.entry.authenticator.hex()) for hop in proof.hops]
+    second = Line(proof.service, proof.step, proof.opening.authenticator(proof.step).hex())
+    return [second, *received, Line(proof.first_service, proof.first_step, proof.first_opening.authenticator(proof.first_step).hex())]
 
 
 def needed_by_maps(low: bytes, high: bytes) -> list[Needed]:
@@ -130,6 +162,24 @@ def map_head(data: bytes) -> Optional[MapHead]:
         return MapHead("high", high.service, high.step, high.peer)
     except fields.Malformed:
         return None
+
+
+def first_received(data: bytes) -> Optional[archives.Entry]:
+    """The thread that a high map file tells: the first one, of the step that it is of or of a later one, that its service received; None where there is
+    none."""
+    try:
+        high = map_files.read_high(data)
+    except fields.Malformed:
+        return None
+    nearest = high.shown().nearest
+    return nearest if nearest is not None and nearest.service == high.service else None
+
+
+def held_by(data: bytes, lines: Iterable[Line]) -> list[Line]:
+    """The lines that an accepted proof hangs on, in its order: those held that it names, and those that it carries."""
+    proof = read_proof(data)
+    anchors = {line.service: Anchor(line.step, bytes.fromhex(line.authenticator)) for line in lines}
+    return [Line(it.service, it.step, it.authenticator.hex()) for it in audits.held(proof, anchors)] if proof is not None else []
 
 
 def read_proof(data: bytes) -> Optional[proofs.Proof]:
@@ -193,8 +243,3 @@ def read_file(path: AnyPath, follow: bool = True) -> bytes:
     if len(data) > MOST_PROOF and kind_of(data) != "history":
         raise Trouble(Status.UNREADABLE, f"{name_of(path)} has {len(data):,} bytes, and none that is read here has more than {MOST_PROOF:,}")
     return data
-
-
-def printable_text(data: bytes) -> str:
-    """A short text that came from elsewhere, as it is told."""
-    return printable(data.decode("utf-8", "replace").strip())[:200]

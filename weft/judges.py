@@ -124,10 +124,10 @@ class ProgramJudge:
                 raise program.trouble(answer, folder)
             return Verdict(answer.status, answer.text.replace(folder + "/", ""))
 
-    def audit(self, proof: bytes, anchors: bytes, history: bytes) -> Verdict:
-        """Has the program hold a proof against a history's file."""
+    def audit(self, proof: bytes, anchors: bytes, *histories: bytes) -> Verdict:
+        """Has the program hold a proof against the files of histories."""
         with self.working() as folder:
-            names = {LOW: proof, "anchors": anchors, HISTORY: history}
+            names = {LOW: proof, "anchors": anchors, **{f"{HISTORY}{number or ''}": data for number, data in enumerate(histories)}}
             for name, data in names.items():
                 (Path(folder) / name).write_bytes(data)
             answer = program.run("audit", *(str(Path(folder) / name) for name in names))
@@ -160,9 +160,9 @@ class ReferenceJudge:
         answer = getattr(importlib.import_module("timeweave_reference"), call)(*files)
         return Verdict(answer.status, answer.text.decode("ascii"))
 
-    def audit(self, proof: bytes, anchors: bytes, history: bytes) -> Verdict:
-        """Has the reference hold a proof against a history's file."""
-        answer = importlib.import_module("timeweave_reference").audit(proof, anchors, [history])
+    def audit(self, proof: bytes, anchors: bytes, *histories: bytes) -> Verdict:
+        """Has the reference hold a proof against the files of histories."""
+        answer = importlib.import_module("timeweave_reference").audit(proof, anchors, histories)
         return Verdict(answer.status, answer.text.decode("ascii"))
 
     def show(self, history: bytes, step: int, index: int) -> Shown:
@@ -227,14 +227,14 @@ class Bench:
             raise Trouble(Status.DIFFER, "the program and the reference make two proofs of one event of this history", "This is a bug: keep it, and report it.")
         return found[0]
 
-    def audit(self, proof: bytes, anchors: bytes, history: bytes) -> Verdict:
-        """A proof held against a history's file by the first judge that does it. (The reference computed all authenticators of the file before.)"""
+    def audit(self, proof: bytes, anchors: bytes, *histories: bytes) -> Verdict:
+        """A proof held against the files of histories by the first judge that does it."""
         if not self.is_by_reference:
             program.needed()
         first = self.seated("audit")[0]
         if not isinstance(first, (ProgramJudge, ReferenceJudge)):
             raise nobody(self.is_by_reference)
-        return first.audit(proof, anchors, history)
+        return first.audit(proof, anchors, *histories)
 
     def told(self, call: str) -> str:
         """The line behind a verdict."""
@@ -246,6 +246,11 @@ class Bench:
         if self.is_by_reference:
             return Status.SHOWN_BY_REFERENCE if is_shown else Status.NOT_SHOWN_BY_REFERENCE
         return Status.DONE if is_shown else Status.NOT_SHOWN
+
+
+def for_contradictions(judge: Bench) -> Bench:
+    """Who judges whether two files contradict each other: the library, and where it isn't there the reference alone, rather than nobody."""
+    return judge if judge.has("contradict") else bench(True)
 
 
 def nobody(is_by_reference: bool) -> Trouble:
@@ -263,7 +268,7 @@ def nobody(is_by_reference: bool) -> Trouble:
 @functools.lru_cache(maxsize=None)
 def library() -> Optional[LibraryJudge]:
     """The library, or None where it can't be loaded."""
-    if not packages.HAS_BINDING:
+    if not packages.ready("timeweave"):
         return None
     try:
         binding = importlib.import_module("timeweave")

@@ -30,7 +30,7 @@ from weft.statuses import Status
 from weft.texts import beside, name_of, now, printable
 from weft.trouble import Trouble
 
-MOST_BYTES = 64 << 20
+MOST_BYTES = 1 << 32
 MOST_ANCHORS = 64
 ONE_SECOND = 1.0
 

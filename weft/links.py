@@ -12,12 +12,11 @@ from typing import Callable, NamedTuple, Optional, Sequence
 from weft import asking, files
 from weft.box import Peer
 from weft.deciding.forks import name_fork_file
-from weft.deciding.linking import MOST_OPEN, Meaning, Open, Pair, choose_base, count_night, list_loose, must_tell, read_open, weigh_answer
+from weft.deciding.linking import MOST_OPEN, Meaning, Open, Pair, choose_base, count_night, is_evidence, list_loose, must_tell, read_open, weigh_answer
 from weft.deciding.signatures import Signed, read_signed_lines
 from weft.deciding.silence import Heard
 from weft.judges import Bench
 from weft.lines import Line, anchors, read_line
-from weft.statuses import Status
 from weft.texts import name_of
 
 MOST_JOINED = 256
@@ -33,10 +32,11 @@ class Held(NamedTuple):
 
 
 class Links:
-    """The links of a turn: who judges them, by which key a line is signed, after how many nights it is told that none came, and the number of the turn."""
+    """The links of a turn: who judges them, by which key a line is signed, what keeps a signed line of a peer, after how many nights it is told that none
+    came, and the number of the turn."""
 
-    def __init__(self, judge: Bench, key_of: Callable[[Signed], Optional[str]], limit: int, turn: int):
-        self.judge, self.key_of, self.limit, self.turn = judge, key_of, limit, turn
+    def __init__(self, judge: Bench, key_of: Callable[[Signed], Optional[str]], note: Callable[[Peer, Signed], None], limit: int, turn: int):
+        self.judge, self.key_of, self.note, self.limit, self.turn = judge, key_of, note, limit, turn
 
     def settle(self, peer: Peer, handed_on: Sequence[Sequence[Signed]]) -> None:
         """Takes the answers of a peer to what was asked of it, tells those that don't fit or never came, and asks for further links. Others have handed on
@@ -56,7 +56,7 @@ class Links:
 
     def answered(self, peer: Peer, held: Held, one: Open) -> Optional[Open]:
         """An open link, after what came of it in this turn; None where nothing is left to be asked."""
-        if one.loose in held.joined:
+        if one.loose in held.joined or not self.is_good(held, one.loose):
             return None
         answer = asking.known(peer, one.pair.request)
         if answer is None:
@@ -65,12 +65,18 @@ class Links:
         asking.forget_answer(peer, one.pair.request)
         if meaning is Meaning.JOINS:
             held.joined.append(one.loose)
+            self.note(peer, held.signed[one.loose])  # (another line of that step that is handed on later is held against it)
         elif meaning is Meaning.PARTS:
             self.note_parting(peer, held, one.pair, answer)
         else:
             base = choose_base([line for line in held.joined if line.step != one.loose.step]) or one.joined
             return one._replace(joined=base, is_unfit=True, nights=0)
         return None
+
+    def is_good(self, held: Held, line: Line) -> bool:
+        """Whether a line is signed by a key that is noted of its service now."""
+        signed = held.signed.get(line)
+        return signed is not None and self.key_of(signed) is not None
 
     def given(self, pair: Pair, answer: bytes) -> Optional[Line]:
         """The line that a link gives, judged strictly under the later line of the pair; None where it isn't accepted, or is no link."""
@@ -88,8 +94,8 @@ class Links:
         for line in list_loose(sources, held.joined, opened, self.turn):
             if base is None or len(opened) + len(found) >= MOST_OPEN:
                 break
-            if line in held.signed or self.key_of(by_line[line]) is not None:
-                held.signed.setdefault(line, by_line[line])
+            held.signed.setdefault(line, by_line[line])
+            if self.is_good(held, line):
                 found.append(Open(line, base))
         return found
 
@@ -108,21 +114,20 @@ class Links:
         )
 
     def note_parting(self, peer: Peer, held: Held, pair: Pair, link: bytes) -> None:
-        """Keeps the two lines and the link by which the later one's history has another line of the earlier step, and tells it: as evidence where both are
-        signed by a key that is noted of the peer now."""
-        folder = peer.kept / "forks"
-        both = [held.signed.get(line) for line in pair]
-        for signed in both:
-            if signed is not None:
-                files.renew(folder / name_fork_file(signed.line), signed.data)
-        files.renew(folder / pair.file_name, link)
+        """Keeps the two lines and the link by which the later one's history has another line of the earlier step, and tells it, as evidence, where both are
+        signed by a key that is noted of the peer now. Else that is told, and nothing kept."""
         steps = f"step {pair.earlier.step} and one of step {pair.later.step}"
         shown = f"by the link that it gave itself, the history of the later one has another step {pair.earlier.step}"
-        if all(signed is not None and self.key_of(signed) is not None for signed in both):
-            told = f"EVIDENCE: there are a line of its {steps}, both signed by its key, and {shown}: it has shown two histories, or somebody else has its key"
-        else:
-            told = f"there are a line of its {steps}, and {shown}; not both are signed by the key that is noted of it now, so ask {peer.name} for both lines"
-        peer.need(f"{told}. All three are kept in {name_of(folder)}; show them to all who hold its lines", Status.CONTRADICTION)
+        if not is_evidence(Meaning.PARTS, [self.is_good(held, line) for line in pair]):
+            told = f"there are a line of its {steps}, and {shown}; not both are signed by the key that is noted of it now"
+            peer.need(f"{told}: that shows nothing against it. Ask {peer.name} for both lines")
+            return
+        folder = peer.kept / "forks"
+        for line in pair:
+            files.renew(folder / name_fork_file(line), held.signed[line].data)
+        files.renew(folder / pair.file_name, link)
+        told = f"EVIDENCE: there are a line of its {steps}, both signed by its key, and {shown}: it has shown two histories, or somebody else has its key"
+        peer.accuse(f"{told}. All three are kept in {name_of(folder)}; show them to all who hold its lines")
 
 
 def held_of(peer: Peer) -> Held:

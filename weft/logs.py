@@ -1,262 +1,40 @@
-"""The log of a folder's files: an event each in steps of a service.
-
-An event is what sha256sum prints of the file: its digest, two blanks, and its path from the folder on; a backslash stands in front where the path has
-a backslash or a line end, which are escaped then. Of a file that is gone it is `gone`, two blanks and the path. Beside the folder SERVICE stand
+"""The log of a folder's files: an event each in steps of a service. Beside the folder SERVICE stand
 
     SERVICE.lines     the line of each run's last step
     SERVICE.seal      that these files are where they were written, and no copy
     SERVICE.anchor    the last one
     SERVICE.entries   step, index and event of each entry
-    SERVICE.pending   the entries of a step that is being made; a run that was stopped is brought to its end by the next one"""
+    SERVICE.pending   from where on the entries are those of a step that is being made; a run that was stopped is brought to its end by the next one
+    SERVICE.known     what is known of each file since it was read, by which it isn't read again while nothing of it changes"""
 
 from __future__ import annotations
 
-import hashlib
 import os
-import stat
-import time
+import re
 from pathlib import Path
-from typing import Iterator, NamedTuple, Optional
+from typing import Iterable, Iterator, Optional, Sequence
 
-from weft import files, own
-from weft.deciding import gone
-from weft.deciding.gone import GONE, Fate, Kind, State
+from weft import files, own, parts
+from weft.deciding.going_on import must_go_on, next_name
 from weft.deciding.restoring import Beside, Missing, find_missing
-from weft.formats import MOST_EVENT, MOST_EVENTS, MOST_STEP, events_file, read_history
+from weft.entries import Entries
+from weft.formats import MOST_EVENTS, MOST_STEP, events_file
 from weft.judges import Bench
-from weft.lines import Line
+from weft.lines import Line, anchors
 from weft.output import complain
 from weft.own import OwnLines
-from weft.progress import Progress, with_progress
+from weft.parts import Next, Part
+from weft.recorded import expect_true, exported_events, false_entry, find_unkept, make_entries, missing_entries
 from weft.statuses import Status
 from weft.stores import ClockBack, Store
 from weft.texts import beside, count_of, name_of, steps_of
 from weft.trouble import Trouble
 
-ESCAPES = ((b"\\", b"\\\\"), (b"\n", b"\\n"), (b"\r", b"\\r"))
-MOST_ENTRIES = 1 << 34
-PIECE = 1 << 20
-TRIES, PAUSE = 2, 0.025
-OWN_SUFFIXES = (".lines", ".anchor", ".entries", ".pending", ".lock", ".look", ".seal")
-
-
-def event_of(word: bytes, path: bytes) -> bytes:
-    """The event of a path, with its digest or `gone`."""
-    escaped = path
-    for plain, escape in ESCAPES:
-        escaped = escaped.replace(plain, escape)
-    return (b"" if escaped == path else b"\\") + word + b"  " + escaped
-
-
-def read_event(event: bytes) -> Optional[tuple[bytes, bytes]]:
-    """The digest, or `gone`, and the path of an event; None of one that is no entry of a log."""
-    word, mark, path = event.partition(b"  ")
-    if not mark:
-        return None
-    if word.startswith(b"\\"):
-        pieces = path.split(b"\\\\")
-        path = b"\\".join(piece.replace(b"\\n", b"\n").replace(b"\\r", b"\r") for piece in pieces)
-        word = word[1:]
-    return (word, path) if word == GONE or len(word) == 64 else None
-
-
-# ---- what is in the folder
-
-
-class Place(NamedTuple):
-    """A folder of the system, whatever path leads to it: its device and number."""
-
-    device: int
-    number: int
-
-
-class Entered(NamedTuple):
-    """A folder that is open: its number, its path from the logged folder on, and the names in it that are still to be looked at."""
-
-    number: int
-    path: bytes
-    names: Iterator[bytes]
-
-
-class File(NamedTuple):
-    """A regular file: the number of its open folder, its name there, and its path from the logged folder on."""
-
-    folder: int
-    name: bytes
-    path: bytes
-
-
-def place_of(found: os.stat_result) -> Place:
-    """The place of a folder."""
-    return Place(found.st_dev, found.st_ino)
-
-
-def kind_of(mode: int) -> Kind:
-    """What has this mode."""
-    return Kind.FILE if stat.S_ISREG(mode) else Kind.FOLDER if stat.S_ISDIR(mode) else Kind.LINK if stat.S_ISLNK(mode) else Kind.OTHER
-
-
-def kind_at(path: bytes) -> Kind:
-    """What has this path; a link at its end isn't followed."""
-    try:
-        return kind_of(os.lstat(path).st_mode)
-    except FileNotFoundError:
-        return Kind.NOTHING
-    except OSError:
-        return Kind.UNTOLD
-
-
-class Look:
-    """A look at all files of a folder, but for the log itself where it lies there. No link is followed, also none that comes while it
-    goes on: each folder is opened in the one above it."""
-
-    def __init__(self, folder: Path, service: Path):
-        self.root, self.service = os.fsencode(folder), service
-        self.digests: dict[bytes, bytes] = {}
-        self.left_out: set[bytes] = set()
-        self.kinds: dict[bytes, Kind] = {}
-        parent = os.stat(service.parent)
-        self.parent = place_of(parent)
-        self.store = place_of(os.stat(service)) if files.is_there(service) else None
-        self.own_names = {os.fsencode(service.name + suffix) for suffix in OWN_SUFFIXES}
-
-    def run(self) -> None:
-        """Looks."""
-        progress = Progress("reading files:", None)
-        for file in self.walk():
-            self.read(file)
-            progress.add()
-        progress.end()
-
-    def leave_out(self, path: bytes, why: str) -> None:
-        """Leaves out a file, or a folder with all that is below it, and tells it."""
-        self.left_out.add(path)
-        complain(f"left out: {name_of(os.fsdecode(path))}: {why}.")
-
-    def walk(self) -> Iterator[File]:
-        """All regular files that can be looked at."""
-        first = self.enter(None, self.root, b".")
-        entered = [] if first is None else [first]
-        try:
-            while entered:
-                folder = entered[-1]
-                name = next(folder.names, None)
-                if name is None:
-                    os.close(entered.pop().number)
-                    continue
-                path = folder.path + b"/" + name
-                kind = self.kind(folder, name, path)
-                if kind is Kind.FILE:
-                    yield File(folder.number, name, path)
-                below = self.enter(folder.number, name, path) if kind is Kind.FOLDER else None
-                entered += [] if below is None else [below]
-        finally:
-            for folder in entered:
-                os.close(folder.number)
-
-    def enter(self, above: Optional[int], name: bytes, path: bytes) -> Optional[Entered]:
-        """Opens a folder and lists it; None where it is that of the store, isn't there any more, or is left out."""
-        if len(event_of(b"0" * 64, path + b"/x")) > MOST_EVENT:
-            self.leave_out(path, "its path is too long for an event")
-            return None
-        number = None
-        try:
-            number = os.open(name, os.O_RDONLY | os.O_DIRECTORY | os.O_CLOEXEC | (0 if above is None else os.O_NOFOLLOW), dir_fd=above)
-            place = place_of(os.fstat(number))
-            names = [] if place == self.store else sorted(os.fsencode(it) for it in os.listdir(number))
-            return Entered(number, path, iter([it for it in names if place != self.parent or not self.is_own(it)]))
-        except OSError as failure:
-            if number is not None:
-                os.close(number)
-            if above is None or not isinstance(failure, FileNotFoundError):
-                self.leave_out(path, f"it can't be read: {os.strerror(failure.errno or 0)}")
-            return None
-
-    def is_own(self, name: bytes) -> bool:
-        """Whether it is a file of the log itself, or one that a run that was killed left of it. The latter is told: somebody else may have put it there."""
-        if not gone.is_left_over(name, self.own_names):
-            return name in self.own_names
-        complain(f"{name_of(os.fsdecode(name))} isn't logged: a run of weft log that was killed leaves such a file. Remove it if no run is at work.")
-        return True
-
-    def kind(self, folder: Entered, name: bytes, path: bytes) -> Kind:
-        """What has this name in a folder. Where nothing in the folder may be looked at, the whole folder is left out."""
-        if folder.path in self.left_out:
-            return Kind.UNTOLD
-        try:
-            return kind_of(os.stat(name, dir_fd=folder.number, follow_symlinks=False).st_mode)
-        except FileNotFoundError:
-            return Kind.NOTHING
-        except PermissionError:
-            self.leave_out(folder.path, "what is in it can't be looked at: Permission denied")
-        except OSError as failure:
-            self.leave_out(path, f"it can't be looked at: {os.strerror(failure.errno or 0)}")
-        return Kind.UNTOLD
-
-    def read(self, file: File) -> None:
-        """Notes the digest of a file, or leaves it out."""
-        if len(event_of(b"0" * 64, file.path)) > MOST_EVENT:
-            self.leave_out(file.path, "its path is too long for an event")
-            return
-        try:
-            digest = digest_of(file)
-        except Trouble as trouble:
-            if kind_at(os.path.join(self.root, file.path)) is not Kind.NOTHING:
-                self.leave_out(file.path, trouble.sentence)
-        except OSError as failure:
-            self.leave_out(file.path, f"it can't be read: {os.strerror(failure.errno or 0)}")
-        else:
-            if digest is None:
-                self.leave_out(file.path, "it was changed while it was read, twice; what was read may never have been its content")
-            else:
-                self.digests[file.path] = digest
-
-    def fates(self, logged: dict[bytes, bytes]) -> dict[bytes, Fate]:
-        """What became of each logged file that wasn't found; what is neither gone nor left out already is told."""
-        found: dict[bytes, Fate] = {}
-        for path in sorted(logged.keys() - self.digests.keys()):
-            if gone.is_left_out(path, self.left_out):
-                found[path] = Fate.LEFT_OUT
-                continue
-            kinds = [*(self.kind_of_folder(it) for it in gone.list_folders_above(path)), kind_at(os.path.join(self.root, path))]
-            found[path] = gone.judge_missing(kinds)
-            if found[path] is Fate.LEFT_OUT:
-                self.leave_out(path, "it wasn't found in its folder, and the system doesn't say that it isn't there")
-        return found
-
-    def kind_of_folder(self, path: bytes) -> Kind:
-        """What has the path of a folder, each once; the logged folder itself may be named by a link."""
-        if path not in self.kinds:
-            self.kinds[path] = Kind.FOLDER if path == b"." else kind_at(os.path.join(self.root, path))
-        return self.kinds[path]
-
-
-def state_of(number: int) -> State:
-    """The state of an open file."""
-    found = os.fstat(number)
-    return State(found.st_dev, found.st_ino, found.st_size, found.st_mtime_ns, found.st_ctime_ns)
-
-
-def digest_of(file: File) -> Optional[bytes]:
-    """The digest of a file, in hexadecimal; None of one that was changed while it was read, and while it was read once more. Raises
-    Trouble where it can't be opened."""
-    for number in range(TRIES):
-        time.sleep(PAUSE if number else 0)
-        began, digest = time.time_ns(), hashlib.sha256()
-        with os.fdopen(files.opened(os.fsdecode(file.name), follow=False, within=file.folder), "rb") as opened:
-            before = state_of(opened.fileno())
-            for piece in iter(lambda: opened.read(PIECE), b""):
-                digest.update(piece)
-            if gone.was_still(before, state_of(opened.fileno()), began):
-                return digest.hexdigest().encode()
-    return None
-
-
-def look(folder: Path, service: Path) -> Look:
-    """What is in the folder now."""
-    found = Look(folder, service)
-    found.run()
-    return found
+MOST_PENDING = 64
+MOST_OTHERS = 1 << 20
+# What a step takes beside its events in the file of a history.
+MOST_HEAD = 32
+PENDING = re.compile(rb"([0-9]{1,13}) ([0-9]{1,15})\n")
 
 
 # ---- the service and its files
@@ -273,36 +51,65 @@ def is_new(service: Path) -> bool:
 
 
 def has_files(folder: Path) -> bool:
-    """Whether a file stands in the folder, or in one below it, or may stand in one that can't be looked at."""
-    unread: list[OSError] = []
-    return any(names for _, _, names in os.walk(folder, onerror=unread.append)) or bool(unread)
-
-
-def entry_lines(step: int, events: list[bytes]) -> list[bytes]:
-    """The lines of a step's entries."""
-    return [b"%d %d %s\n" % (step, index, event) for index, event in enumerate(events)]
+    """Whether a file stands in the folder, or in one below it, however deep, or may stand in one that can't be looked at."""
+    waiting = [os.fspath(folder)]
+    while waiting:
+        try:
+            with os.scandir(waiting.pop()) as entries:
+                kinds = [(entry.path, entry.is_dir(follow_symlinks=False)) for entry in entries]
+        except OSError:
+            return True
+        if not all(is_folder for _, is_folder in kinds):
+            return True
+        waiting += [path for path, _ in kinds]
+    return False
 
 
 class Log:
     """The log of a service in a folder."""
 
     def __init__(self, service: Path, judge: Bench):
-        self.store, self.lines, self.judge = Store(service), OwnLines(service), judge
-        self.entries, self.pending = beside(service, ".entries"), beside(service, ".pending")
-        self.last = Line("", 0, "")
+        self.service, self.judge = service, judge
+        self.known, self.anchor, self.others = (beside(service, end) for end in (".known", ".anchor", ".others"))
+        self.former: list[Part] = []
+        self.room: Optional[int] = None
         self.needs_look = False
+        self.enter(service, Line("", 0, ""))
+
+    def enter(self, folder: Path, last: Line) -> None:
+        """Goes on in a part."""
+        self.store, self.lines, self.last = Store(folder), OwnLines(folder), last
+        self.entries, self.pending = Entries(beside(folder, ".entries")), beside(folder, ".pending")
+
+    @property
+    def part(self) -> Part:
+        """The part in which it goes on."""
+        return Part(len(self.former) + 1, self.store.folder, self.last)
+
+    @property
+    def all_entries(self) -> list[Entries]:
+        """The entries of all its parts, the last of which grow."""
+        return [*(part.entries for part in self.former), self.entries]
 
     def begin(self, name: Optional[str], adopted: Optional[Line] = None) -> None:
         """Opens the service, and makes it where nothing of it is there; brings a run that was stopped to its end. Raises Trouble where
         nothing shows that the store is the one of the lines, and then no step is made. A person may have named its last line."""
-        service = self.store.folder
         if not files.is_there(self.store.file):
             self.make(name)
         if name is not None:
             self.store.init(name)
-        self.last = self.store.last().line
-        if name is not None and self.last.service != name:
-            raise Trouble(Status.USAGE, f"the service in {name_of(service)} is called {self.last.service}, and not {name}")
+        first = self.store.last().line
+        if name is not None and first.service != name:
+            raise Trouble(Status.USAGE, f"the service in {name_of(self.service)} is called {first.service}, and not {name}")
+        found = parts.whole(self.service, self.judge)
+        parts.expect_kept(self.judge, found)
+        new = parts.being_made(self.service, self.judge, found)
+        if new is None:
+            parts.forget_next(self.service)
+        *self.former, last = found if new is None else found[: new.number - 1]
+        for part in self.former:
+            OwnLines(part.folder).compare(part.store, self.judge, part.last)
+        self.enter(last.folder, last.last)
         if adopted is not None:
             self.lines.adopt(self.store, self.judge, self.last, adopted)
         self.lines.expect_no_look(self.store)
@@ -310,7 +117,45 @@ class Log:
         self.lines.expect_no_copy(self.store, self.last)
         self.expect_entries(adopted is not None)
         self.go_on()
+        if new is not None:
+            self.go_on_in(new)
         self.note_others()
+
+    def go_on_in(self, new: Next) -> None:
+        """Goes on in a new part, which is made or whose making is gone on with."""
+        old = self.part
+        files.remove(self.pending)
+        made = parts.make_next(self.service, self.judge, old, new)
+        self.former.append(old._replace(last=old.store.last().line))
+        self.enter(made.folder, made.last)
+        complain(f"{old.last.service} goes on as {made.last.service}, in {name_of(made.folder)}: its history would have outgrown its file.")
+
+    def make_room(self, events: Sequence[bytes]) -> None:
+        """Goes on in a new part where a step of these events has no room in this one. A service that exchanges with others goes on by hand: they know its
+        name."""
+        added = MOST_HEAD + sum(4 + len(event) for event in events)
+        if self.room is None:
+            self.room = max(0, parts.MOST_PART - parts.size_of(self.store))
+        if must_go_on(parts.MOST_PART - self.room, added, parts.MOST_PART) and self.last.step > 1 and not self.exchanges:
+            name = next_name(self.part_name(), len(self.former) + 2, self.taken())
+            new = Next(len(self.former) + 2, name)
+            parts.begin_next(self.service, new)
+            self.go_on_in(new)
+            self.room = max(0, parts.MOST_PART - parts.size_of(self.store))
+        self.room -= added
+
+    @property
+    def exchanges(self) -> bool:
+        """Whether it exchanges with others, and so doesn't go on by itself."""
+        return bool(files.read_if_there(self.others, MOST_OTHERS))
+
+    def part_name(self) -> str:
+        """The name of the first part."""
+        return self.former[0].last.service if self.former else self.last.service
+
+    def taken(self) -> set[str]:
+        """The names that other services have: those whose lines are kept, and the parts before."""
+        return {*parts.own_kept().services(), *(part.last.service for part in self.former), self.last.service}
 
     def make(self, name: Optional[str]) -> None:
         """Makes the folder of a new service."""
@@ -325,39 +170,42 @@ class Log:
     def expect_entries(self, may_make: bool) -> None:
         """Raises Trouble where the entries don't stand beside a store that has steps with events; where they may be made, they are made
         anew of it."""
-        if files.is_there(self.entries):
+        if self.entries.is_there:
             return
         has_events = any(self.store.count(step, self.last.step) for step in range(1, self.last.step + 1))
         if find_missing(self.last, Beside(True, False, has_events)) is Missing.ENTRIES and not may_make:
-            told = f"{name_of(self.entries)} doesn't stand beside it, by which what was logged is known"
-            raise own.unnamed(self.store, self.last, told, "it")
-        lines = list(self.recorded()) if has_events else []
-        files.renew(self.entries, b"".join(lines))
-        if lines:
-            complain(f"{name_of(self.entries)} was made anew, of the store: {count_of(len(lines), 'entry', 'entries')}.")
+            told = f"{name_of(self.entries.path)} doesn't stand beside it, by which what was logged is known"
+            raise own.unnamed(self.store, self.last, told, "it", f" If it was lost: weft check --entries {name_of(self.store.path)}.")
+        count = make_entries(self.entries, exported_events(self.store, self.judge, self.last) if has_events else [])
+        if count:
+            complain(f"{name_of(self.entries.path)} was made anew, of the store: {count_of(count, 'entry', 'entries')}.")
 
-    def recorded(self) -> Iterator[bytes]:
-        """The lines of the entries that the store has: of its export, or where that is too long of the proof of each event."""
-        answer = self.store.ask("export")
-        if answer.status == 0:
-            for step, it in enumerate(read_history(answer.output), 1):
-                yield from entry_lines(step, it.events)
-            return
-        for step in with_progress(range(1, self.last.step + 1), "reading entries:", self.last.step):
-            count = self.store.count(step, self.last.step)
-            yield from entry_lines(step, [own.event_at(self.store, self.judge, step, index, self.last) for index in range(count)])
+    def expect_all_entries(self, is_full: bool) -> None:
+        """Raises Trouble where entries of a part were lost, at their end or all: what they tell would be logged again; or where they are out of order, and in a
+        run that reads all files where one of them isn't the store's, or one of the store's isn't among them."""
+        for part in [*self.former, self.part]:
+            end = part.entries.last_step()
+            if end.strange is not None:
+                raise false_entry(part.entries, end.strange)
+            if is_full:
+                expect_true(self.service, part.entries, exported_events(part.store, self.judge, part.last))
+                continue
+            step = find_unkept(part.store, self.judge, part.last, end.step, end.count)
+            if step is not None:
+                raise missing_entries(self.service, part.entries, step)
 
     def go_on(self) -> None:
-        """Keeps the entries of a step that a stopped run had made, or forgets those of one that it hadn't."""
-        data = files.read_if_there(self.pending, MOST_ENTRIES)
-        if data is None:
-            return
-        head, _, rest = data.partition(b"\n")
-        entries = [line.split(b" ", 2) for line in rest.split(b"\n")[:-1]]
-        for step in range(int(head), self.last.step + 1):
-            if self.is_of(step, [entry[2] for entry in entries]):
-                self.keep(own.line_at(self.store, self.judge, step, self.last), [entry[2] for entry in entries])
-                return
+        """Keeps the entries of a step that a stopped run had made, or cuts off those of one that it hadn't."""
+        found = PENDING.fullmatch(files.read_if_there(self.pending, MOST_PENDING) or b"")
+        if found is not None:
+            begun, at = int(found[1]), min(int(found[2]), self.entries.size())
+            events = [line.event for line in self.entries.lines(at)]
+            made = next((step for step in range(begun, self.last.step + 1) if self.is_of(step, events)), None)
+            if made is None:
+                self.entries.put(at, begun, [])
+            else:
+                self.entries.put(at, made, events)
+                self.lines.note(own.line_at(self.store, self.judge, made, self.last))
         files.remove(self.pending)
 
     def is_of(self, step: int, events: list[bytes]) -> bool:
@@ -379,55 +227,48 @@ class Log:
         if held != self.last:
             self.lines.note(self.last)
 
-    def logged(self) -> dict[bytes, bytes]:
-        """What was logged last of each path: its digest; of paths that are gone nothing."""
-        found: dict[bytes, bytes] = {}
-        if not files.is_there(self.entries):
-            return found
-        with os.fdopen(files.opened(self.entries), "rb") as file:
-            for line in file:
-                fields = line.rstrip(b"\n").split(b" ", 2)
-                entry = read_event(fields[2]) if len(fields) == 3 else None
-                if entry is None:
-                    continue
-                if entry[0] == GONE:
-                    found.pop(entry[1], None)
-                else:
-                    found[entry[1]] = entry[0]
-        return found
+    def add(self, events: Sequence[bytes], time: Optional[int]) -> Line:
+        """Makes a step of these events, and keeps its line and its entries. These are written first, and the note from where on they stand is taken away
+        once the step is made."""
+        self.make_room(events)
+        at, step = self.entries.size(), self.last.step + 1
+        files.extend(self.pending, b"%d %d\n" % (step, at), 0)
+        self.entries.put(at, step, events)
+        self.last = self.appended(events_file(list(events)), time)
+        if self.last.step != step:
+            self.entries.put(at, self.last.step, events)
+        if self.lines.is_there:
+            self.lines.add(self.last)
+        else:
+            self.lines.note(self.last)
+        return self.last
 
-    def keep(self, line: Line, events: list[bytes]) -> None:
-        """Keeps the line of a step that was made, and its entries. What was kept already isn't kept twice."""
-        own_lines = entry_lines(line.step, events)
-        old = files.read_if_there(self.entries, MOST_ENTRIES) or b""
-        start = b"%d " % line.step
-        if own_lines and not old.startswith(start) and b"\n" + start not in old:
-            files.renew(self.entries, old + b"".join(own_lines))
-        self.lines.note(line)
+    def close(self) -> None:
+        """Ends a run that made steps: the last line is handed out, and of each part its last one; nothing is pending."""
+        self.lines.close(self.last)
+        if self.former:
+            self.lines.put_lines(self.anchor, anchors([*(part.last for part in self.former), self.last]))
         files.remove(self.pending)
 
-    def add(self, events: list[bytes], time: Optional[int]) -> Line:
-        """Makes a step of these events, and keeps its line and its entries."""
-        step = self.last.step + 1
-        files.renew(self.pending, b"%d\n" % step + b"".join(entry_lines(step, events)))
+    def appended(self, events: bytes, time: Optional[int]) -> Line:
+        """The line of a step that is appended; where its time would be refused it claims none, and that is told."""
         try:
-            self.last = self.store.append(events_file(events), time)
+            return self.store.append(events, time)
         except ClockBack as back:
             complain(f"{back.trouble.sentence}: this step claims no time. Is the clock right?")
             self.needs_look = True
-            self.last = self.store.append(events_file(events), None)
-        self.keep(self.last, events)
-        return self.last
+            return self.store.append(events, None)
 
 
-def pieces(events: list[bytes]) -> Iterator[list[bytes]]:
+def pieces(events: Iterable[bytes]) -> Iterator[list[bytes]]:
     """The events of each step: as many as one holds. No events are one step."""
     piece: list[bytes] = []
-    size = 0
+    size, made = 0, 0
     for event in events:
         if piece and (len(piece) == MOST_EVENTS or size + len(event) > MOST_STEP):
             yield piece
-            piece, size = [], 0
+            piece, size, made = [], 0, made + 1
         piece.append(event)
         size += len(event)
-    yield piece
+    if piece or not made:
+        yield piece

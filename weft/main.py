@@ -12,6 +12,7 @@ from types import ModuleType
 from typing import NoReturn, Optional, Sequence
 
 from weft import __version__, output, packages, program
+from weft.deciding.worst import worst_of
 from weft.statuses import Status
 from weft.texts import printable
 from weft.trouble import Trouble
@@ -42,8 +43,7 @@ class Version(argparse.Action):
     def __call__(self, parser: argparse.ArgumentParser, *_: object, **__: object) -> None:
         for line in versions():
             output.say(line)
-        output.finish()
-        parser.exit()
+        parser.exit(max(output.finish(), default=0))
 
 
 def versions() -> list[str]:
@@ -103,22 +103,27 @@ def parser_for(known: Optional[str]) -> Parser:
     return whole
 
 
-def ended(words: Sequence[str]) -> int:
+def ended(words: Sequence[str]) -> Status:
     """Runs the command; answers its status."""
     options = parser(words).parse_args(words)
-    status = options.run(options)
-    output.finish()
-    return int(status)
+    status: Status = options.run(options)
+    return status
+
+
+def run(words: Sequence[str]) -> Status:
+    """Runs the command, and tells the trouble that ended it, where one did."""
+    try:
+        return ended(words)
+    except Trouble as trouble:
+        output.complain(trouble.told())
+        return trouble.status
 
 
 def main(words: Optional[Sequence[str]] = None) -> int:
     """Runs the command of these words, and tells what ended it."""
     output.prepare()
     try:
-        return ended(sys.argv[1:] if words is None else words)
-    except Trouble as trouble:
-        output.complain(trouble.told())
-        return int(trouble.status)
+        return int(worst_of([run(sys.argv[1:] if words is None else words), *output.finish()]))
     except SystemExit as end:
         output.finish_quietly()
         return end.code if isinstance(end.code, int) else int(Status.DONE)

@@ -5,11 +5,12 @@ from __future__ import annotations
 
 import hashlib
 import os
-from typing import NamedTuple, Optional
+from pathlib import Path
+from typing import NamedTuple, Optional, Sequence
 
-from weft import choosing, files, formats, kinds, reports
+from weft import auditing, choosing, files, formats, kinds, reports
 from weft.choosing import BoundHistory, Judgement
-from weft.deciding.choosing import Beside, Extent, Headline, choose_headline, choose_history_headline, hold_line
+from weft.deciding.choosing import Beside, Extent, Headline, choose_headline, choose_history_headline, hold_history, hold_line
 from weft.deciding.worst import worst_of
 from weft.judges import Bench
 from weft.lines import KeptLines, Line, anchors
@@ -86,7 +87,7 @@ def outcome_of(judge: Bench, kept: KeptLines, group: list[Named], judgement: Jud
         told = choosing.missing_sentences(judgement.missing, kept, group[0].data) or [hindrance]
         return Outcome(choose_headline(False, 0, True, False, False), Status.MISSING, told, [])
     report = report_of(judge, group, judgement)
-    others, compared = beside_kept(report, kept) if report else ([], [])
+    others, compared = beside_kept(lines_told(report, group[0].data, judgement), kept) if report else ([], [])
     if judgement.is_shown and report is not None:
         told = map_sentences(report, group) or reports.sentences(report)
     else:
@@ -120,11 +121,16 @@ def map_sentences(report: Report, group: list[Named]) -> list[str]:
 # ---- lines beside the kept ones
 
 
-def beside_kept(report: Report, kept: KeptLines) -> tuple[list[Line], list[str]]:
+def lines_told(report: Report, data: bytes, judgement: Judgement) -> list[Line]:
+    """The lines that an accepted file tells, each once, but for those that it was judged under."""
+    return [line for line in dict.fromkeys([*reports.told_lines(report), *formats.lines_shown(data)]) if line not in judgement.lines]
+
+
+def beside_kept(lines: list[Line], kept: KeptLines) -> tuple[list[Line], list[str]]:
     """What a proof tells of lines beside those of their steps that were kept: the kept ones that are others, and the sentences."""
     others: list[Line] = []
     told = []
-    for line in reports.told_lines(report):
+    for line in lines:
         held = kept.at(line.service, line.step)
         beside = hold_line(line, (it.line for it in held))
         if beside is Beside.SAME:
@@ -156,7 +162,8 @@ def outcome_of_history(judge: Bench, kept: KeptLines, judgement: Judgement, hist
         raise Trouble(Status.DIFFER, told, "This is a bug: keep the history, and report it.")
     bound = bound_sentences(history)
     if history.extent is Extent.WHOLE:
-        return Outcome(headline, judge.status(True), [*bound, *resting], [])
+        status = Status.LOOK if history.held.beyond is not None else judge.status(True)
+        return Outcome(headline, status, [*bound, *resting], [])
     return Outcome(headline, Status.MISSING, [*bound, *choosing.missing_sentences(judgement.missing, kept), *resting], [])
 
 
@@ -225,8 +232,8 @@ def with_file(judge: Bench, outcome: Outcome, judgement: Judgement, path: str) -
     """The outcome of an accepted proof of an event, held against a file: of another file nothing is shown."""
     assert judgement.verdict is not None
     report = reports.read_report(judgement.verdict)
-    if report.kind != "exists" or judgement.history is not None:
-        raise Trouble(Status.USAGE, "--file is for the proof of one event", "Name a proof of an event.")
+    if report.kind not in ("exists", "precedes") or judgement.history is not None:
+        raise Trouble(Status.USAGE, "--file is for the proof of one event, or of one before another", "Name a proof of an event.")
     event = report.events[0].data
     digest, _, name = event.lstrip(b"\\").partition(b"  ")
     if len(digest) != 64:
@@ -260,3 +267,33 @@ def digest_of(path: str) -> str:
         for piece in iter(lambda: file.read(1 << 20), b""):
             digest.update(piece)
     return digest.hexdigest()
+
+
+# ---- a proof beside the histories that it hangs on
+
+
+def with_histories(judge: Bench, kept: KeptLines, outcome: Outcome, judgement: Judgement, proof: bytes, paths: Sequence[Path]) -> Outcome:
+    """The outcome of an accepted proof, held against histories: what they don't have isn't shown. One of these that kept lines contradict shows nothing, whatever
+    the audit says."""
+    if formats.read_proof(proof) is None:
+        raise Trouble(Status.USAGE, "--audit is for proofs", "A history is judged by itself, maps and evidence by the lines that they need.")
+    found = auditing.audited(judge, proof, judgement.lines, paths)
+    told, contradicted = [*outcome.told, found.told, f"audited by: {found.by}"], list(outcome.contradicted)
+    for path in paths:
+        history = held_history(kept, path)
+        if history is not None and history.held.differing:
+            told += contradiction_told(kept, history)
+            contradicted += history.held.differing
+    if contradicted:
+        return outcome._replace(headline=Headline.NOT_SHOWN, status=worst_of([outcome.status, Status.CONTRADICTION]), told=told, contradicted=contradicted)
+    headline = outcome.headline if found.status in (Status.DONE, Status.SHOWN_BY_REFERENCE) else Headline.NOT_SHOWN
+    return outcome._replace(headline=headline, status=worst_of([outcome.status, found.status]), told=told)
+
+
+def held_history(kept: KeptLines, path: Path) -> Optional[BoundHistory]:
+    """A history's file beside the kept lines of its service; None of a file that is none."""
+    history = formats.timeline_of(files.read(path, formats.MOST_HISTORY))
+    if history is None:
+        return None
+    held = hold_history(history.authenticators, choosing.lines_of(kept, history.service))
+    return BoundHistory(history.service, held, history.last, history.last)

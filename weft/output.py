@@ -5,36 +5,50 @@ from __future__ import annotations
 import json
 import os
 import sys
-from typing import Any
+from typing import Any, Optional
 
 from weft.statuses import Status
 from weft.texts import escaped
 from weft.trouble import Trouble
 
 
+class Written:
+    """What became of standard output: the trouble of its first failure, where there was one. The work that was begun is brought to its end all the same, and
+    what it found isn't hidden by that."""
+
+    trouble: Optional[Trouble] = None
+
+
 def prepare() -> None:
     """Lets nothing that can't be encoded stop a sentence."""
+    Written.trouble = None
     for stream in (sys.stdout, sys.stderr):
         if stream is not None and hasattr(stream, "reconfigure"):
             stream.reconfigure(errors="backslashreplace")
 
 
-def failed(failure: OSError) -> Trouble:
-    """Standard output failed; what is left of it is thrown away."""
+def note_failure(failure: OSError) -> None:
+    """Notes that standard output failed; what is left of it is thrown away."""
     null = os.open(os.devnull, os.O_WRONLY)
     os.dup2(null, 1)
     os.close(null)
-    return Trouble(Status.OUTPUT, f"standard output failed: {os.strerror(failure.errno or 0)}", "What was done stands.")
+    note_trouble(f"standard output failed: {os.strerror(failure.errno or 0)}")
+
+
+def note_trouble(sentence: str) -> None:
+    """Notes the first trouble of standard output."""
+    Written.trouble = Written.trouble or Trouble(Status.OUTPUT, sentence, "What was done stands.")
 
 
 def say(text: str) -> None:
-    """Writes a line to standard output, in which nothing stands raw; raises Trouble where that fails."""
+    """Writes a line to standard output, in which nothing stands raw. Where that fails, the trouble is told at the end."""
     if sys.stdout is None:
-        raise Trouble(Status.OUTPUT, "standard output is closed", "What was done stands.")
+        note_trouble("standard output is closed")
+        return
     try:
         sys.stdout.write(escaped(text) + "\n")
     except OSError as failure:
-        raise failed(failure) from None
+        note_failure(failure)
 
 
 def say_json(value: Any) -> None:
@@ -42,14 +56,17 @@ def say_json(value: Any) -> None:
     say(json.dumps(value, ensure_ascii=True, sort_keys=False))
 
 
-def finish() -> None:
-    """Sees to it that all was written."""
-    if sys.stdout is None:
-        return
+def finish() -> list[Status]:
+    """Sees to it that all was written; where standard output failed, that is told, and its status is the answer."""
     try:
-        sys.stdout.flush()
+        if sys.stdout is not None:
+            sys.stdout.flush()
     except OSError as failure:
-        raise failed(failure) from None
+        note_failure(failure)
+    if Written.trouble is None:
+        return []
+    complain(Written.trouble.told())
+    return [Written.trouble.status]
 
 
 def complain(text: str) -> None:

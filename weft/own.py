@@ -14,6 +14,7 @@ from typing import Optional, Sequence
 
 from weft import files, judges
 from weft.deciding.restoring import Beside, Missing, Named, Seal, Told, compare_named, find_lacking, find_missing, is_copied, list_steps_to_prove, read_seal
+from weft.deciding.lines import End, find_end
 from weft.judges import Bench
 from weft.lines import MOST_BYTES, Line, anchors, lines_of, read_line
 from weft.reports import read_report
@@ -24,6 +25,7 @@ from weft.trouble import Trouble
 
 MOST_MOMENT = 32
 MOST_SEAL = 200
+MOST_NAMED = 64 << 20
 
 
 def proved(store: Store, judge: Bench, top: Line, *words: str) -> list[list[str]]:
@@ -72,6 +74,13 @@ def lacking(path: str, last: Line, told: Told) -> Trouble:
     return old_store(path, told.line, found, told.whence)
 
 
+def lacks_all(store: Store, judge: Bench, last: Line, held: Sequence[Line]) -> bool:
+    """Whether the store, whose last line this is, lacks each of these lines."""
+    told = [Told(line, "") for line in held]
+    proved = proved_lines(store, judge, last, told)
+    return all(find_lacking(last, proved, [it]) is not None for it in told)
+
+
 def held_against(store: Store, judge: Bench, last: Line, held: Line, whence: str) -> None:
     """Raises Trouble where the store, whose last line this is, hasn't the step of a line of its own that is held."""
     if held.service != last.service:
@@ -98,7 +107,7 @@ def named_line(word: str) -> Line:
     if not files.is_there(word):
         told = f"{printable(word)} is no line, and there is no such file"
         raise Trouble(Status.USAGE, told, "A line is a name, a step and 64 hexadecimal digits, in one word: 'shop 2 5585fc74..'.")
-    found = lines_of(files.read(word, MOST_BYTES), name_of(word))
+    found = lines_of(files.read(word, MOST_NAMED), name_of(word))
     if len(found) > 1:
         raise Trouble(Status.UNREADABLE, f"{name_of(word)} has {len(found):,} lines", "Name a file that has the last one alone.")
     return found[0]
@@ -109,13 +118,13 @@ def adopting(store: Store) -> str:
     return f"--adopt-store LINE (weft line {name_of(store.path)} prints it; compare it with what others hold of it)"
 
 
-def unnamed(store: Store, last: Line, what: str, missing: str) -> Trouble:
+def unnamed(store: Store, last: Line, what: str, missing: str, further: str = "") -> Trouble:
     """Nothing beside a store with steps tells whether it is the right one."""
     steps = count_of(last.step, "step")
     return Trouble(
         Status.OLD_STORE,
         f"the store in {name_of(store.path)} has {steps}, and {what}: it may be an old one. No step was made",
-        f"Was it copied without {missing}? Put {missing} beside it. If no later line went out than its last one, name that: {adopting(store)}.",
+        f"Was it copied without {missing}? Put {missing} beside it.{further} If no later line went out than its last one, name that: {adopting(store)}.",
     )
 
 
@@ -148,15 +157,31 @@ class OwnLines:
         """The lines that were noted, each once, in their order. Whoever notes lines has the lock of the service, so they are read once."""
         return dict.fromkeys(self.read(self.lines))
 
+    @functools.cached_property
+    def end(self) -> End:
+        """Where the next line is added."""
+        return find_end(files.read_if_there(self.lines, MOST_BYTES) or b"")
+
     def read(self, path: Path) -> list[Line]:
-        """The lines of one of the files, none where it isn't there or has none."""
-        data = files.read_if_there(path, MOST_BYTES)
+        """The lines of one of the files, none where it isn't there or has none; one whose writing was stopped amid it isn't there yet."""
+        data = files.read_if_there(path, MOST_BYTES) or b""
+        end = find_end(data)
+        data = data[: end.place] + end.rest
         return lines_of(data, name_of(path)) if data else []
+
+    def all(self) -> list[Line]:
+        """The lines that were noted, and that to hand out."""
+        return [*self.known, *self.handed_out()]
+
+    def handed_out(self) -> list[Line]:
+        """The lines of the file to hand out that are of this part: where a log has parts, the first of which it is, those of the others stand behind it."""
+        found = self.read(self.anchor)
+        return [line for line in found if line.service == found[0].service]
 
     def last(self) -> Optional[Line]:
         """The last line that was kept."""
         seal = self.sealed()
-        found = [*self.known, *self.read(self.anchor), *([seal.line] if seal else [])]
+        found = [*self.all(), *([seal.line] if seal else [])]
         return max(found, key=step_of) if found else None
 
     def sealed(self) -> Optional[Seal]:
@@ -191,7 +216,13 @@ class OwnLines:
         """Raises Trouble where the store isn't the one of the last line that was kept."""
         held = self.last()
         if held is not None:
-            held_against(store, judge, last, held, f"kept in {name_of(self.lines)}")
+            held_against(store, judge, last, held, f"kept in {name_of(self.place_of(held))}")
+
+    def place_of(self, held: Line) -> Path:
+        """The file beside the folder that has a line."""
+        if held in self.known:
+            return self.lines
+        return self.anchor if held in self.read(self.anchor) else self.seal
 
     def check(self, store: Store, judge: Bench, last: Line) -> None:
         """Raises Trouble where the store may make no step: it has some, and isn't the one of the last line that was kept, or none was
@@ -240,14 +271,28 @@ class OwnLines:
     def note(self, line: Line) -> None:
         """Keeps a line of one's own among the others, and as the one to hand out where it is the last."""
         if line not in self.known:
-            old = files.read_if_there(self.lines, MOST_BYTES) or b""
             self.put_seal(max(line, self.last() or line, key=step_of))
-            files.renew(self.lines, old + f"{line.text}\n".encode())
-            self.known[line] = None
+            self.add(line)
         if all(line.step >= it.step for it in self.known):
             self.put_anchor(f"{line.text}\n".encode())
 
+    def add(self, line: Line) -> None:
+        """Adds a line to those that were noted; what else tells the last one is written by `close`."""
+        if line not in self.known:
+            files.extend(self.lines, self.end.rest + f"{line.text}\n".encode(), self.end.place)
+            self.end = End(self.end.place + len(self.end.rest) + len(line.text) + 1, b"")
+            self.known[line] = None
+
+    def close(self, line: Line) -> None:
+        """Ends a run that added lines, the last of which is this."""
+        self.put_seal(line)
+        self.put_anchor(f"{line.text}\n".encode())
+
     def put_anchor(self, data: bytes) -> None:
         """Makes the file of the line to hand out anew, where it has another one; a link in its place is followed."""
-        if files.read_if_there(os.path.realpath(self.anchor), MOST_BYTES) != data:
-            files.renew(self.anchor, data)
+        self.put_lines(self.anchor, data)
+
+    def put_lines(self, path: Path, data: bytes) -> None:
+        """Makes a file of lines to hand out anew, where it has others."""
+        if files.read_if_there(os.path.realpath(path), MOST_BYTES) != data:
+            files.renew(path, data)

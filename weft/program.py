@@ -8,17 +8,16 @@ import os
 import re
 import shutil
 import subprocess
-from pathlib import Path
-from typing import NamedTuple, Optional
+from typing import NamedTuple, Optional, Sequence
 
 from weft.statuses import Status
 from weft.texts import printable
 from weft.trouble import Trouble
 
-BESIDE = Path(__file__).resolve().parent.parent / "bin/timeweave"
 ILLEGAL_INSTRUCTION = -4
 STOPPING = (-1, -2, -9, -15)
 PRIVATE_UMASK = 0o077
+PIECE = 1 << 16
 
 
 class Answer(NamedTuple):
@@ -49,9 +48,8 @@ MOST_STARTER = 4_096
 
 @functools.lru_cache(maxsize=None)
 def found() -> Optional[str]:
-    """The path of the program: what TIMEWEAVE_PROGRAM names, else that of the path, else the one that was built beside this package."""
-    named = os.environ.get("TIMEWEAVE_PROGRAM")
-    path = shutil.which(named or "timeweave") or (str(BESIDE) if not named and BESIDE.exists() else None)
+    """The path of the program: what TIMEWEAVE_PROGRAM names, else that of the path. What lies beside a weft that was copied may be a sender's."""
+    path = shutil.which(os.environ.get("TIMEWEAVE_PROGRAM") or "timeweave")
     return os.path.realpath(path) if path else None
 
 
@@ -84,13 +82,12 @@ def needed() -> str:
     return path
 
 
-def run(*words: str) -> Answer:
-    """Runs the program with these words; a store that it makes may be read by this user alone. Raises Trouble where it can't be started
-    or ended by a signal."""
+def run(*words: str, handles: Sequence[int] = ()) -> Answer:
+    """Runs the program with these words, and with these open files; a store that it makes may be read by this user alone. Raises Trouble
+    where it can't be started or ended by a signal."""
+    null, pipe = subprocess.DEVNULL, subprocess.PIPE
     try:
-        done = subprocess.run(
-            [needed(), *words], stdin=subprocess.DEVNULL, stdout=subprocess.PIPE, stderr=subprocess.PIPE, check=False, umask=PRIVATE_UMASK
-        )
+        done = subprocess.run([needed(), *words], stdin=null, stdout=pipe, stderr=pipe, check=False, umask=PRIVATE_UMASK, pass_fds=handles)
     except OSError as failure:
         raise Trouble(Status.NO_JUDGE, f"timeweave can't be started: {os.strerror(failure.errno or 0)}") from None
     except ValueError:
@@ -102,6 +99,17 @@ def run(*words: str) -> Answer:
     if done.returncode < 0 or done.returncode > 10:
         raise Trouble(Status.BUG, f"timeweave ended with status {done.returncode}: {printable(done.stderr.decode('utf-8', 'replace'))}")
     return Answer(done.returncode, done.stdout)
+
+
+def counted(*words: str) -> tuple[Answer, int]:
+    """Runs the program, and counts the bytes of its output, of which only the first ones are kept: a history isn't held in memory."""
+    size, first = 0, b""
+    with subprocess.Popen([needed(), *words], stdin=subprocess.DEVNULL, stdout=subprocess.PIPE, stderr=subprocess.DEVNULL, umask=PRIVATE_UMASK) as running:
+        assert running.stdout is not None
+        for piece in iter(functools.partial(running.stdout.read, PIECE), b""):
+            first = first or piece[:PIECE]
+            size += len(piece)
+    return Answer(running.returncode, first), size
 
 
 # What the texts of a failed command mean: status, the text's first words, a sentence, what to do. `{0}` is the folder or file, the others are the

@@ -48,7 +48,7 @@ class Report(NamedTuple):
 
 
 # What stands in the lines of a report, by their first words.
-NAME, NUMBER, DIGEST = "[a-z0-9-]{1,16}", "(?:0|[1-9][0-9]{0,19})", "[0-9a-f]{64}"
+NAME, NUMBER, DIGEST, WORD = "[a-z0-9-]{1,16}", "(?:0|[1-9][0-9]{0,19})", "[0-9a-f]{64}", "[A-Za-z0-9-]{1,64}"
 LINES = {
     "event": f"{NAME} {NUMBER} {NUMBER} (?:-|(?:[0-9a-f]{{2}}){{1,1024}})",
     "time": f"{NAME} {NUMBER} {NUMBER}",
@@ -165,16 +165,31 @@ def fork_sentences(report: Report) -> list[str]:
     return told
 
 
-def contradiction_sentences(verdict: Verdict, first: str, second: str) -> list[str]:
-    """What it says that two files, told by these names, contradict each other."""
+def denial(verdict: Verdict) -> tuple[str, str]:
+    """Whose archives two files show of which the one has a step received, and the other denies it; and what each says."""
     report = read_report(verdict)
     service, _, peer, number, _, archived = report.other("thread")
     upto = report.other("absent")[1]
-    told = [
-        f"{first} and {second} CONTRADICT EACH OTHER: by one {service} received step {number} of {peer} at its step {archived}, by the other it had received "
-        f"no such step up to its step {upto}."
-    ]
-    if report.kind == "broken-rule":
+    return service, (
+        f"by one {service} received step {number} of {peer} at its step {archived}, by the other it had received no such step up to its step {upto}."
+    )
+
+
+def broken_rule(verdict: Verdict) -> tuple[str, str]:
+    """Which service's rule two files show broken, by its number and name as the judge has them, and the judge's lines of what each says; raises ValueError where a
+    line of it is none."""
+    _, rule, *lines = verdict.lines
+    if len(rule) != 3 or not lines or not all(len(words) > 1 and all(re.fullmatch(WORD, word) for word in words) for words in (rule, *lines)):
+        raise ValueError("a line of the broken rule is none")
+    said = "; ".join(" ".join(words) for words in lines)
+    return lines[0][1], f"between them they show rule {rule[1]} of histories, {rule[2]}, broken: {said}."
+
+
+def contradiction_sentences(verdict: Verdict, first: str, second: str) -> list[str]:
+    """What it says that two files, told by these names, contradict each other."""
+    service, what = broken_rule(verdict) if verdict.lines[1][:1] == ["rule"] else denial(verdict)
+    told = [f"{first} and {second} CONTRADICT EACH OTHER: {what}"]
+    if verdict.lines[0][-1] == "broken-rule":
         told.append(f"Both are under one line of {service}, or the link joins their lines: whoever kept {service} broke its rules.")
     else:
         told.append(

@@ -32,6 +32,7 @@ split = read_signed_line
 MOST_SIGNERS = 1 << 20
 MOST_SECONDS = 120
 PATTERN = re.compile(rb"[*?\[]")
+HALF_ADVICE = "No step was made: by the public key, in a file beside it that ends in .pub, lines of your own that peers hand back are known again."
 
 
 def default_signers() -> Path:
@@ -109,6 +110,26 @@ def public_key(path: AnyPath) -> PublicKey:
     return found
 
 
+def public_half(key: Path) -> PublicKey:
+    """The public key of one's own key: of the file itself where it is one, as of a key that an agent has; else as ssh-keygen tells it of the private one, and
+    where that needs a passphrase the file beside it. Raises Trouble where there is none, or another one is beside it: then nothing that the key signed can be
+    known again."""
+    beside_it = key if key.suffix == ".pub" else beside(key, ".pub")
+    public = public_key(beside_it) if beside_it.exists() else None
+    if public is not None and beside_it == key:
+        return public
+    status, told, output = keygen("-y", "-P", "", "-f", os.fspath(key)) if key.exists() else (1, "there is no such file", b"")
+    found = read_public_key(output) if status == 0 else KeyFault.EMPTY
+    if isinstance(found, PublicKey) and public is not None and public.blob != found.blob:
+        told = f"{name_of(beside_it)} isn't the public key of {name_of(key)}"
+        raise Trouble(Status.UNREADABLE, told, f"{HALF_ADVICE} ssh-keygen -y -f {name_of(key)} tells the right one.")
+    if isinstance(found, PublicKey):
+        return found
+    if public is None:
+        raise Trouble(Status.NO_INPUT, f"the key {name_of(key)} has no public half beside it, and ssh-keygen tells none: {told}", HALF_ADVICE)
+    return public
+
+
 # ---- the file of signers
 
 
@@ -117,6 +138,11 @@ def key_lines(signers: AnyPath, service: str) -> list[bytes]:
     found, name = (files.read_if_there(signers, MOST_SIGNERS) or b"").splitlines(), service.encode()
     principals = ((line, line.split()[0].strip(b'"').split(b",")) for line in found if line.strip())
     return [line for line, patterns in principals if name in patterns or any(fnmatchcase(name, it) for it in patterns if PATTERN.search(it))]
+
+
+def fingerprints(signers: AnyPath, service: str) -> set[str]:
+    """The fingerprints of the keys that the file of signers has for the service's name."""
+    return {key.fingerprint for key in map(deciding.read_noted_key, key_lines(signers, service)) if key is not None}
 
 
 def is_noted(signers: AnyPath, service: str, key: PublicKey) -> bool:

@@ -4,11 +4,12 @@ from __future__ import annotations
 
 import os
 import tempfile
+from contextlib import contextmanager
 from pathlib import Path
-from typing import NamedTuple, Optional
+from typing import Iterator, NamedTuple, Optional
 
 from weft import program
-from weft.files import AnyPath
+from weft.files import AnyPath, write_all
 from weft.lines import Line, checked_name, read_line
 from weft.program import Answer
 from weft.statuses import Status
@@ -16,6 +17,7 @@ from weft.texts import name_of
 from weft.trouble import Trouble
 
 NO_SUCH_INDEX = 2**32 - 1
+OPEN_FILES = "/proc/self/fd"
 
 
 class Last(NamedTuple):
@@ -34,6 +36,17 @@ def step_0(name: str) -> Line:
     return line
 
 
+@contextmanager
+def in_memory(data: bytes) -> Iterator[int]:
+    """The number of an open file of these bytes, which lies on no disk."""
+    number = os.memfd_create("weft")
+    try:
+        write_all(number, data)
+        yield number
+    finally:
+        os.close(number)
+
+
 class Store:
     """The service whose store lies in a folder."""
 
@@ -49,6 +62,16 @@ class Store:
     def ask(self, *words: str) -> Answer:
         """Runs a command on the folder."""
         return program.run(words[0], self.path, *words[1:])
+
+    def hand(self, command: str, data: bytes, *words: str) -> Answer:
+        """Runs a command on the folder and on a file of these bytes: in memory, and where open files have no paths, as in a bare chroot, in a temporary one."""
+        if os.path.isdir(OPEN_FILES):
+            with in_memory(data) as number:
+                return program.run(command, self.path, f"{OPEN_FILES}/{number}", *words, handles=[number])
+        with tempfile.NamedTemporaryFile(prefix="weft-") as file:
+            file.write(data)
+            file.flush()
+            return program.run(command, self.path, file.name, *words)
 
     def trouble(self, answer: Answer) -> Trouble:
         """The sentence of a command that failed."""
@@ -85,10 +108,7 @@ class Store:
     def append(self, events: bytes, time: Optional[int]) -> Line:
         """Appends a step of the events of an events file, and answers its line. Where the time is refused since an earlier step claims a
         later one, raises ClockBack, and no step is made."""
-        with tempfile.NamedTemporaryFile(prefix="weft-") as file:
-            file.write(events)
-            file.flush()
-            answer = self.ask("append", file.name, *([] if time is None else [str(time)]))
+        answer = self.hand("append", events, *([] if time is None else [str(time)]))
         if answer.words[:2] == ["refused", "ClockBack"]:
             raise ClockBack(self.trouble(answer), int(answer.words[2]))
         if answer.status:
@@ -100,10 +120,12 @@ class Store:
 
     def receive(self, message: bytes) -> Answer:
         """Receives a message, and answers the receipt or the refusal."""
-        with tempfile.NamedTemporaryFile(prefix="weft-") as file:
-            file.write(message)
-            file.flush()
-            return self.ask("receive", file.name)
+        return self.hand("receive", message)
+
+    def history_size(self) -> Optional[int]:
+        """How many bytes the file of its history has; None where it can't be exported."""
+        answer, size = program.counted("export", self.path)
+        return size if answer.status == 0 else None
 
     def count(self, step: int, top: int) -> int:
         """How many events a step has."""

@@ -8,9 +8,9 @@ from typing import Any, Iterable, Iterator
 
 from weft import formats, reports, signatures
 from weft.judges import Verdict
-from weft.lines import KeptLines, read_kept, read_line, read_mark
+from weft.lines import Kept, KeptLines, read_kept, read_line, read_mark
 from weft.progress import with_progress
-from weft.texts import count_of, date_of, printable, shown_event
+from weft.texts import count_of, date_of, printable, quoted, shown_event
 from weft.trouble import Trouble
 
 from timeweave_reference import events_files, evidence, fields, histories, map_files, messages, precedence, proofs, receipts, verdicts
@@ -180,11 +180,18 @@ def tell_lines(data: bytes) -> tuple[str, list[str]]:
             raise ValueError(NO_FORMAT)
         count += 1
         if count <= MOST_LINES:
-            shown.append(f"{it.line.text}{'' if not it.date else f' ({it.told})'}")
+            shown.append(f"{it.line.text}{kept_words(it)}")
     if not count:
         raise ValueError(NO_FORMAT)
     more = disputes_in(data)
     return "line" if count == 1 else count_of(count, "line"), [*several(shown, count, "lines", MOST_LINES), *several(more, len(more), "such steps", MOST_LINES)]
+
+
+def kept_words(it: Kept) -> str:
+    """When a line of somebody's file was kept, and in quotes how it came, since whoever wrote the file chose these words."""
+    if not it.date:
+        return ""
+    return f" (kept {it.date[:10]}, {quoted(it.how) if it.how else 'nothing is told of how it came'})"
 
 
 def disputes_in(data: bytes) -> list[str]:

@@ -16,17 +16,25 @@ MOST_SHOWN = 4096
 # Letters that Python calls printable and that nobody sees: those that Unicode lets be ignored by default, and the blank of Braille.
 UNSEEN = re.compile("[\u034f\u115f\u1160\u17b4\u17b5\u180b-\u180d\u180f\u2800\u3164\ufe00-\ufe0f\uffa0\U000e0100-\U000e01ef]")
 
-# What could end a quoted text, or look as if it did; a backslash, which begins an escape; and each blank behind two others, since many could fill a line.
-IN_QUOTES = re.compile("[\"\\\\\u201c-\u201f\u2033\u2036\u301d-\u301f\uff02]|(?<=  ) ")
+# Letters beyond ASCII that stand in foreign texts as they are: those of the Latin, Greek and Cyrillic scripts, of Chinese, Japanese and Korean, and few signs.
+# None of them looks like quotes, is written from right to left, or is a mark on the letter before.
+PLAIN = re.compile(
+    "[\u00c0-\u01bf\u01c4-\u024f\u1e00-\u1eff\u0386\u0388-\u0390\u0391-\u03ce\u0400-\u0481\u048a-\u052f\u3041-\u3096\u30a1-\u30fa\u3400-\u9fff\uac00-\ud7a3"
+    "…’‘«»‹›·•§°©®™¿¡±–—€£¥、。・「」『』（）！？：；，]"
+)
 
+# What stands in quotes as an escape: quotes and a backslash; an apostrophe behind another one, or behind a letter that ends as one; each blank behind two
+# others, since many could fill a line; and letters that aren't plain.
+AS_APOSTROPHE = "'`‘’ďťľĽŉ"
+IN_QUOTES = re.compile(rf"[\"\\]|(?<=[{AS_APOSTROPHE}])['`‘’]|(?<=  ) |[^\x00-\x7f]")
 
-# What lets a file's name read as a sentence of its own: a blank behind a mark that ends a part of one, two blanks, and what looks like quotes.
-SPEAKING = re.compile("[:;,.!?] |  |[\"\u201c-\u201f\u2033\u2036\u301d-\u301f\uff02]")
+# A file's name of these letters alone can't be read as a part of a sentence.
+NAME_LETTERS = re.compile(r"[A-Za-z0-9_./+=@%~^-]")
 
 
 def escape(letter: str) -> str:
     """A letter as an escape of Python's."""
-    if letter in '"\\':
+    if letter in "\"\\'`":
         return f"\\{letter}"
     return f"\\x{ord(letter):02x}" if letter == " " else letter.encode("unicode_escape", "surrogatepass").decode("ascii")
 
@@ -45,17 +53,23 @@ def printable(text: str) -> str:
 
 
 def quoted(text: str) -> str:
-    """A foreign text in quotes, in which nothing looks as if the quotes had ended: quotes and backslashes are escaped, and so is each blank
-    behind two others."""
-    return '"' + escaped(IN_QUOTES.sub(lambda found: escape(found[0]), text)) + '"'
+    """A foreign text in quotes, in which nothing looks as if the quotes had ended."""
+
+    def shown(found: re.Match[str]) -> str:
+        letter, before = found[0], text[max(0, found.start() - 1) : found.start()]
+        is_second = letter in "‘’" and before != "" and before in AS_APOSTROPHE
+        return letter if PLAIN.match(letter) and not is_second else escape(letter)
+
+    return '"' + escaped(IN_QUOTES.sub(shown, text)) + '"'
 
 
 def name_of(path: Union[str, os.PathLike[str]]) -> str:
     """The path as it is told in a sentence. A name that could be read as a part of the sentence stands in quotes: whoever sends files chooses their names."""
     text = os.fspath(path)
-    if SPEAKING.search(text):
-        return quoted(text[:MOST_SHOWN]) + ("…" if len(text) > MOST_SHOWN else "")
-    return printable(text)
+    front = text[:MOST_SHOWN]
+    if all(NAME_LETTERS.match(letter) or (letter.isalpha() and PLAIN.match(letter)) for letter in front):
+        return printable(text)
+    return quoted(front) + ("…" if len(text) > MOST_SHOWN else "")
 
 
 def shown_event(data: bytes) -> str:

@@ -1,8 +1,9 @@
 """Tests of what weft check may say of a store after what it looked at."""
 
 import unittest
+from typing import Optional, Sequence
 
-from weft.deciding.checking import Export, Found, Looked, Place, choose_places, judge_check, list_unseen
+from weft.deciding.checking import Differing, Export, Found, Logged, Looked, Place, choose_places, find_differing, follows, judge_check, list_unseen, may_make_entries
 from weft.statuses import Status
 
 GOOD = Found(0, 0, 0)
@@ -29,6 +30,13 @@ class Unseen(unittest.TestCase):
         self.assertEqual(list_unseen(Looked(Export.DAMAGED, 9, 8, False)), [])
 
 
+class Entries(unittest.TestCase):
+    """When entries are made anew."""
+
+    def test_only_of_a_store_that_is_good_as_far_as_it_was_looked_at(self) -> None:
+        self.assertEqual([it for it in Status if may_make_entries(it)], [Status.DONE, Status.LOOK])
+
+
 class Judge(unittest.TestCase):
     """How weft check ends."""
 
@@ -49,7 +57,7 @@ class Judge(unittest.TestCase):
 
     def test_kept_lines_that_contradict_stand_before_damage(self) -> None:
         for export in Export:
-            self.assertEqual(judge_check(Found(3, 0, 1), Looked(export, 900, 0, False)), Status.CONTRADICTION)
+            self.assertEqual(judge_check(Found(3, 0, 1), Looked(export, 900, 0, False)), Status.OLD_STORE)
 
     def test_another_line_stands_before_all(self) -> None:
         for export in Export:
@@ -80,6 +88,47 @@ class Choose(unittest.TestCase):
     def test_a_sample_of_one_or_none(self) -> None:
         self.assertEqual(choose_places([3, 4], 1), [Place(1, 0)])
         self.assertEqual(choose_places([3, 4], 0), [])
+
+
+def is_of_log(events: Sequence[bytes]) -> bool:
+    """Whether a step has events, and none that is somebody else's."""
+    return bool(events) and b"other's" not in events
+
+
+class FindDiffering(unittest.TestCase):
+    """Entries are held against the store."""
+
+    STEPS: list[tuple[int, list[bytes]]] = [(1, [b"a", b"b"]), (2, []), (3, [b"other's"]), (4, [b"c"])]
+    TRUE = (Logged(1, 0, b"a"), Logged(1, 1, b"b"), Logged(4, 0, b"c"))
+
+    def test_an_entry_follows_in_its_step_or_begins_a_later_one(self) -> None:
+        for step, place, last, count in ((1, 0, 0, 0), (1, 1, 1, 1), (4, 0, 1, 2)):
+            self.assertTrue(follows(step, place, last, count))
+        for step, place, last, count in ((1, 0, 1, 2), (1, 1, 0, 0), (1, 2, 1, 1), (1, 0, 4, 1), (1, 1, 4, 1), (4, 1, 1, 2)):
+            self.assertFalse(follows(step, place, last, count))
+
+    def differing(self, *entries: Logged) -> Optional[Differing]:
+        """Where these entries differ."""
+        return find_differing(entries, iter(self.STEPS), is_of_log)
+
+    def test_entries_that_the_store_has_are_true_whatever_others_made(self) -> None:
+        self.assertIsNone(self.differing(*self.TRUE))
+        self.assertIsNone(self.differing(*self.TRUE[:2], Logged(3, 0, b"other's"), self.TRUE[2]))
+        self.assertIsNone(find_differing([], [], is_of_log))
+
+    def test_the_first_that_it_hasnt_is_found(self) -> None:
+        for false in (Logged(0, 0, b"a"), Logged(1, 0, b"x"), Logged(1, 1, b"b")):
+            self.assertEqual(self.differing(false), Differing(false.step, false))
+        for false in (Logged(1, 2, b"a"), Logged(1, 1, b"b"), Logged(2, 0, b"a"), Logged(3, 0, b"x"), Logged(4, 0, b"a"), Logged(1, 0, b"a")):
+            self.assertEqual(self.differing(*self.TRUE[:2], false), Differing(false.step, false))
+        for false in (Logged(5, 0, b"c"), Logged(4, 1, b"c"), Logged(4, 0, b"c")):
+            self.assertEqual(self.differing(*self.TRUE, false), Differing(false.step, false))
+
+    def test_a_step_that_lacks_an_entry_is_found_wherever_it_stands(self) -> None:
+        self.assertEqual(self.differing(), Differing(1, None))
+        self.assertEqual(self.differing(self.TRUE[0], self.TRUE[2]), Differing(1, None))
+        self.assertEqual(self.differing(self.TRUE[2]), Differing(1, None))
+        self.assertEqual(self.differing(*self.TRUE[:2]), Differing(4, None))
 
 
 if __name__ == "__main__":

@@ -57,9 +57,9 @@ class HoldHistory(unittest.TestCase):
         self.assertEqual(hold_history(OWN, [TRUE[7], other(8)]), HeldHistory([], [TRUE[7]], TRUE[7], 8))
         self.assertIsNone(hold_history(OWN, [TRUE[7]]).beyond)
 
-    def test_a_line_of_step_0_is_held_too(self) -> None:
-        self.assertEqual(hold_history(OWN, [other(0)]).differing, [other(0)])
-        self.assertEqual(hold_history(OWN, [TRUE[0]]).bound, TRUE[0])
+    def test_a_line_of_step_0_says_nothing_of_a_history(self) -> None:
+        self.assertEqual(hold_history(OWN, [other(0), TRUE[0]]), HeldHistory([], [], None))
+        self.assertEqual(hold_history(OWN, [other(0), TRUE[4]]), HeldHistory([], [TRUE[4]], TRUE[4]))
 
     def test_under_two_kept_lines_of_one_step_nothing_is_bound(self) -> None:
         held = hold_history(OWN, [TRUE[4], other(4), TRUE[2], TRUE[2]])

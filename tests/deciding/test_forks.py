@@ -2,7 +2,9 @@
 
 import unittest
 
-from weft.deciding.forks import Finding, Fork, contradicts, find_contradicting, may_write_fork, name_fork_file, read_forks, weigh_contradiction
+from weft.deciding.forks import (
+    MOST_REMEMBERED, Finding, Fork, contradicts, find_contradicting, may_write_fork, name_fork_file, read_forks, weigh_contradiction,
+)  # fmt: skip
 from weft.deciding.lines import Line
 from weft.deciding.signatures import BEGIN, END, Signed
 
@@ -66,6 +68,9 @@ class Remembering(unittest.TestCase):
         self.assertTrue(may_write_fork(FIRST.data, again, False))
         self.assertTrue(may_write_fork(None, FIRST, False))
         self.assertTrue(may_write_fork(None, FIRST, True))
+        self.assertTrue(may_write_fork(None, FIRST, False, MOST_REMEMBERED - 1))
+        self.assertFalse(may_write_fork(None, FIRST, False, MOST_REMEMBERED))
+        self.assertTrue(may_write_fork(b"x", FIRST, False, MOST_REMEMBERED))
         for other in (b"", b"x", FIRST.data[:-9], SECOND.data, FIRST.data + SECOND.data):
             self.assertTrue(may_write_fork(other, FIRST, True), other)
 

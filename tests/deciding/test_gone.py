@@ -3,23 +3,19 @@
 import unittest
 
 from weft.deciding.gone import (
-    GONE,
     TICK,
-    Changes,
     Fate,
     Kind,
     State,
-    choose_events,
-    compare_logged,
     has_lost_most,
     is_left_out,
     is_left_over,
     judge_missing,
     list_folders_above,
+    may_log,
     was_still,
 )
 
-FOUND = {b"./a": b"1", b"./b": b"2", b"./c": b"3"}
 ROOT = Kind.FOLDER
 
 
@@ -77,29 +73,6 @@ class LeftOut(unittest.TestCase):
         self.assertFalse(is_left_out(b"./a", set()))
 
 
-class Compare(unittest.TestCase):
-    """What differs from what was logged."""
-
-    def test_new_changed_and_as_they_were(self) -> None:
-        changes = compare_logged(FOUND, {b"./a": b"1", b"./b": b"x"}, {})
-        self.assertEqual(changes, Changes(new=[b"./c"], changed=[b"./b"], same=[b"./a"]))
-
-    def test_what_was_not_found_is_what_its_fate_says(self) -> None:
-        fates = {b"./g": Fate.GONE, b"./r": Fate.REPLACED, b"./l": Fate.LEFT_OUT}
-        changes = compare_logged({}, {b"./l": b"1", b"./r": b"1", b"./g": b"1"}, fates)
-        self.assertEqual(changes, Changes(gone=[b"./g"], replaced=[b"./r"]))
-
-    def test_without_a_fate_nothing_is_gone(self) -> None:
-        self.assertEqual(compare_logged({}, FOUND, {}), Changes())
-
-    def test_what_was_never_logged_is_not_gone(self) -> None:
-        self.assertEqual(compare_logged({}, {}, {b"./g": Fate.GONE}), Changes())
-
-    def test_paths_stand_in_order(self) -> None:
-        changes = compare_logged({b"./b": b"1", b"./a": b"1"}, {b"./d": b"1", b"./c": b"1"}, {b"./d": Fate.GONE, b"./c": Fate.GONE})
-        self.assertEqual((changes.new, changes.gone), ([b"./a", b"./b"], [b"./c", b"./d"]))
-
-
 class LostMost(unittest.TestCase):
     """A folder that may not be mounted."""
 
@@ -120,23 +93,23 @@ class LostMost(unittest.TestCase):
         self.assertFalse(has_lost_most(0, 1, 5, 0))
 
 
-class Events(unittest.TestCase):
-    """What is logged."""
+class Logged(unittest.TestCase):
+    """What is logged as gone."""
 
-    CHANGES = Changes(new=[b"./c"], changed=[b"./a"], gone=[b"./g"], replaced=[b"./d"], same=[b"./b"])
+    def test_what_is_gone_unless_most_is(self) -> None:
+        self.assertTrue(may_log(Fate.GONE, False, False))
+        self.assertFalse(may_log(Fate.GONE, True, False))
 
-    def test_what_is_new_changed_or_gone(self) -> None:
-        self.assertEqual(choose_events(self.CHANGES, FOUND, False, True, False), [(b"./a", b"1"), (b"./c", b"3"), (b"./g", GONE)])
+    def test_what_has_something_else_in_its_place_is_not(self) -> None:
+        self.assertFalse(may_log(Fate.REPLACED, False, False))
+        self.assertFalse(may_log(Fate.REPLACED, True, False))
 
-    def test_nothing_is_called_gone_where_most_is_lost(self) -> None:
-        self.assertEqual(choose_events(self.CHANGES, FOUND, False, False, False), [(b"./a", b"1"), (b"./c", b"3")])
+    def test_both_are_where_a_person_says_so(self) -> None:
+        for fate in (Fate.GONE, Fate.REPLACED):
+            self.assertTrue(may_log(fate, False, True) and may_log(fate, True, True))
 
-    def test_what_has_something_else_in_its_place_only_where_a_person_says_so(self) -> None:
-        self.assertEqual(choose_events(self.CHANGES, FOUND, False, True, True), [(b"./a", b"1"), (b"./c", b"3"), (b"./d", GONE), (b"./g", GONE)])
-        self.assertEqual(choose_events(self.CHANGES, FOUND, False, False, True), [(b"./a", b"1"), (b"./c", b"3"), (b"./d", GONE)])
-
-    def test_all_files(self) -> None:
-        self.assertEqual(choose_events(self.CHANGES, FOUND, True, True, False), [(b"./a", b"1"), (b"./b", b"2"), (b"./c", b"3"), (b"./g", GONE)])
+    def test_what_is_left_out_never_is(self) -> None:
+        self.assertFalse(may_log(Fate.LEFT_OUT, False, True) or may_log(Fate.LEFT_OUT, True, True) or may_log(Fate.LEFT_OUT, False, False))
 
 
 class LeftOver(unittest.TestCase):

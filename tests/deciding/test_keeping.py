@@ -2,7 +2,9 @@
 
 import unittest
 
-from weft.deciding.keeping import Mark, Outcome, Placement, Standing, choose_line, find_standing_choice, place_line, read_mark, standing_of
+from weft.deciding.keeping import (
+    Counting, Mark, Outcome, Placement, Standing, choose_line, find_standing_choice, list_counting, place_line, read_mark, standing_of,
+)  # fmt: skip
 from weft.deciding.lines import LAST_STEP, Kept, Line
 
 A, B, C = "a" * 64, "b" * 64, "c" * 64
@@ -49,6 +51,37 @@ class Marks(unittest.TestCase):
         ):  # fmt: skip
             self.assertIsNone(read_mark(text), text)
         self.assertIsNotNone(read_mark(f"chosen: shop {LAST_STEP} {A} {B}"))
+
+
+class CountingLines(unittest.TestCase):
+    """What counts of lines that came by signatures, by the keys that are noted now."""
+
+    OLD, NEW = f"SHA256:{'o' * 43}", f"SHA256:{'n' * 43}"
+
+    def by(self, authenticator: str, key: str) -> Kept:
+        """A line that came by the signature of a key."""
+        return kept(authenticator, f"signed by ED25519 {key}, by exchange")
+
+    def test_a_line_of_a_key_that_was_taken_out_contradicts_nothing(self) -> None:
+        both, mark = [self.by(A, self.OLD), self.by(B, self.NEW)], seen(A, B)
+        self.assertEqual(list_counting(both, [mark], {self.NEW}), Counting([both[1]], []))
+        self.assertEqual(list_counting(both, [mark], {self.OLD}), Counting([both[0]], []))
+        self.assertEqual(list_counting(both, [mark], {self.OLD, self.NEW}), Counting(both, [mark]))
+        self.assertEqual(list_counting(both, [mark], set()), Counting([], []))
+
+    def test_one_that_came_by_a_person_too_counts(self) -> None:
+        letter = kept(A)
+        lines = [self.by(A, self.OLD), letter, self.by(B, self.NEW)]
+        self.assertEqual(list_counting(lines, [seen(A, B)], {self.NEW}), Counting([letter, lines[2]], [seen(A, B)]))
+
+    def test_what_else_was_seen_of_the_step_is_not_forgotten(self) -> None:
+        lines = [self.by(A, self.OLD), self.by(B, self.NEW)]
+        self.assertEqual(list_counting(lines, [seen(A, B, C)], {self.NEW}), Counting(lines[1:], [seen(A, B, C)]))
+        self.assertEqual(list_counting(lines[1:], [seen(A, B)], {self.NEW}), Counting(lines[1:], [seen(A, B)]))
+
+    def test_a_choice_stays(self) -> None:
+        lines = [self.by(A, self.OLD), self.by(B, self.NEW)]
+        self.assertEqual(list_counting(lines, [seen(A, B), chosen(B, A)], {self.NEW}), Counting(lines[1:], [chosen(B, A)]))
 
 
 class Standings(unittest.TestCase):

@@ -2,10 +2,19 @@
 
 import unittest
 
-from weft.deciding.lines import LAST_STEP, Kept, Line, may_take_name, read_kept, read_line
+from weft.deciding.lines import LAST_STEP, End, Kept, Line, can_be, find_end, may_take_name, read_kept, read_line
 
 HEX = "5585fc74c8b89378088d61ce37d82efe4c25f9ab0bbeb79b20a4618dce62a486"
 LINE = Line("shop", 2, HEX)
+
+
+class CanBe(unittest.TestCase):
+    """Which lines a service can have."""
+
+    def test_step_0_has_the_authenticator_that_follows_from_the_name_and_later_steps_any(self) -> None:
+        self.assertTrue(can_be(Line("shop", 0, HEX), HEX))
+        self.assertFalse(can_be(Line("shop", 0, "a" * 64), HEX))
+        self.assertTrue(can_be(Line("shop", 1, "a" * 64), HEX))
 
 
 class ReadLine(unittest.TestCase):
@@ -75,6 +84,24 @@ class ReadKept(unittest.TestCase):
         self.assertEqual(Kept(LINE, "2026-11-29T09:40:00Z", "by mail").told, "kept 2026-11-29, by mail")
         self.assertEqual(Kept(LINE, "2026-11-29T09:40:00Z", "").told, "kept 2026-11-29, nothing is told of how it came")
         self.assertEqual(Kept(LINE, "", "").told, "nothing is told of how it came")
+
+
+class Ends(unittest.TestCase):
+    """Where a file of lines goes on."""
+
+    def test_it_goes_on_behind_the_last_line_end(self) -> None:
+        text = f"{LINE.text}\n".encode()
+        self.assertEqual((find_end(b""), find_end(text), find_end(text * 2)), (End(0, b""), End(len(text), b""), End(2 * len(text), b"")))
+
+    def test_what_was_stopped_amid_its_writing_goes(self) -> None:
+        text = f"{LINE.text}\n".encode()
+        for cut in range(1, len(text) - 1):
+            self.assertEqual(find_end(text + text[:cut]), End(len(text), b""), cut)
+
+    def test_a_whole_line_without_its_end_stays(self) -> None:
+        text = f"{LINE.text}\n".encode()
+        self.assertEqual(find_end(text + text[:-1]), End(len(text), text))
+        self.assertEqual(find_end(text[:-1]), End(0, text))
 
 
 if __name__ == "__main__":

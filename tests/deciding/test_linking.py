@@ -3,7 +3,7 @@
 import unittest
 
 from weft.deciding.linking import (
-    MOST_TRIED, Meaning, Open, Pair, choose_base, count_night, list_loose, may_ask, must_tell, read_link_files, read_open, weigh_answer,
+    MOST_TRIED, Meaning, Open, Pair, choose_base, count_night, is_evidence, list_loose, may_ask, must_tell, read_link_files, read_open, weigh_answer,
 )  # fmt: skip
 from weft.deciding.lines import Line
 
@@ -24,6 +24,13 @@ class Answers(unittest.TestCase):
 
     def test_another_line_of_the_earlier_step_shows_two_histories(self) -> None:
         self.assertIs(weigh_answer(Pair(SIX, SEVEN), line(6, "b")), Meaning.PARTS)
+
+    def test_two_histories_are_evidence_by_good_signatures_alone(self) -> None:
+        self.assertTrue(is_evidence(Meaning.PARTS, [True, True]))
+        for are_good in ([True, False], [False, True], [False, False]):
+            self.assertFalse(is_evidence(Meaning.PARTS, are_good))
+        for meaning in (Meaning.JOINS, Meaning.NOTHING):
+            self.assertFalse(is_evidence(meaning, [True, True]))
 
     def test_a_link_that_is_not_accepted_shows_nothing(self) -> None:
         self.assertIs(weigh_answer(Pair(SIX, SEVEN), None), Meaning.NOTHING)

@@ -2,7 +2,7 @@
 
 import unittest
 
-from weft.deciding.recording import may_note_recorded
+from weft.deciding.recording import choose_other_start, may_note_recorded
 
 
 class Recorded(unittest.TestCase):
@@ -24,3 +24,24 @@ class Recorded(unittest.TestCase):
     def test_an_old_refusal_that_still_lies_there_changes_nothing(self) -> None:
         self.assertFalse(may_note_recorded(9, 4, 3))
         self.assertFalse(may_note_recorded(9, 4, 10))
+
+
+class OtherStart(unittest.TestCase):
+    """Since which step another message is put out."""
+
+    def test_since_the_step_that_the_peer_hands_back_where_that_is_earlier(self) -> None:
+        self.assertEqual(choose_other_start(9, 4, 8, 10), 4)
+        self.assertEqual(choose_other_start(9, 8, 9, 10), 8)
+
+    def test_else_since_the_step_that_was_sent_before(self) -> None:
+        for handed_back in (None, 0, 4, 5):
+            self.assertEqual(choose_other_start(4, handed_back, 8, 10), 8)
+
+    def test_else_there_is_none(self) -> None:
+        for since, sent, last in ((8, 8, 10), (9, 8, 10), (4, 10, 10)):
+            self.assertIsNone(choose_other_start(since, None, sent, last))
+            self.assertIsNone(choose_other_start(since, since, sent, last))
+
+
+if __name__ == "__main__":
+    unittest.main()

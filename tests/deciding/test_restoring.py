@@ -6,6 +6,7 @@ from weft.deciding.lines import Line
 from weft.deciding.restoring import (
     DAY,
     LONG_AGO,
+    NO_NOTE,
     Answer,
     Beside,
     Go,
@@ -15,14 +16,17 @@ from weft.deciding.restoring import (
     Told,
     Word,
     compare_named,
+    find_claim,
     find_lacking,
     find_missing,
     has_come,
+    is_box_copied,
     is_copied,
     judge_turn,
     list_steps_to_prove,
     must_look,
     read_seal,
+    write_open,
 )
 
 BEGAN = 1_800_000_000
@@ -103,6 +107,14 @@ class Look(unittest.TestCase):
         self.assertFalse(has_come(Word("bank", BEGAN + 4), BEGAN, 5))
 
 
+    def test_an_older_line_than_it_recorded_is_no_word(self) -> None:
+        come = BEGAN + DAY
+        self.assertFalse(has_come(Word("bank", come, (), 8, 9), BEGAN))
+        self.assertFalse(has_come(Word("bank", come, (), 0, 9), BEGAN))
+        for handed_back, recorded in ((9, 9), (10, 9), (0, 0), (3, 0)):
+            self.assertTrue(has_come(Word("bank", come, (), handed_back, recorded), BEGAN))
+
+
 class Turn(unittest.TestCase):
     """What a turn does."""
 
@@ -132,6 +144,20 @@ class Turn(unittest.TestCase):
         later = told(line(27))
         for since in (None, BEGAN):
             self.assertEqual(judge_turn(line(26), {}, later, [Word("bank", None)], since), Answer(Go.OLD, later[0]))
+
+    def test_a_claim_that_nobody_signed_stops_nothing(self) -> None:
+        for claims in ((line(27),), (line(26, "b"), line(99))):
+            self.assertEqual(judge_turn(line(26), {}, told(line(26)), [Word("bank", BEGAN, claims)], None), Answer(Go.ON))
+
+    def test_it_keeps_a_look_open(self) -> None:
+        come = BEGAN + DAY
+        words = [Word("bank", come, (line(26), line(27))), Word("port", come, (line(26),)), Word("mint", come, (line(25, "b"),)), Word("inn", come)]
+        self.assertEqual(judge_turn(line(26), {25: line(25)}, [], words, BEGAN), Answer(Go.WAIT, None, ("bank", "mint")))
+
+    def test_the_first_claim_that_the_store_lacks_is_told(self) -> None:
+        self.assertEqual(find_claim(line(26), {25: line(25)}, Word("bank", 0, (line(25), line(28), line(27)))), line(28))
+        self.assertIsNone(find_claim(line(26), {25: line(25)}, Word("bank", 0, (line(25), line(26), line(0, "f")))))
+        self.assertIsNone(find_claim(line(26), {}, Word("bank", 0)))
 
     def test_a_step_made_anew_in_a_restored_store_is_another_history(self) -> None:
         other = told(line(27, "b"))
@@ -186,13 +212,47 @@ class Seals(unittest.TestCase):
     def test_one_where_it_was_written_is_none(self) -> None:
         self.assertFalse(is_copied(line(9), Seal("41.7", line(9)), "41.7"))
 
+    def test_where_no_generation_is_told_a_file_of_that_number_that_was_changed_later_is_a_copy(self) -> None:
+        seal = Seal("41.0.1800000000", line(9))
+        for seconds in (0, 1, 60):
+            self.assertFalse(is_copied(line(9), seal, f"41.0.{1_800_000_000 + seconds}"))
+        for found in ("41.0.1800000061", "41.0.1799999999", "42.0.1800000000", "41.7", "41.0", None, "", "41"):
+            self.assertTrue(is_copied(line(9), seal, found), found)
+        self.assertTrue(is_copied(line(9), Seal("41.0", line(9)), "41.0.1800000000"))
+        self.assertTrue(is_copied(line(9), Seal("x", line(9)), "41.7"))
+
     def test_a_store_without_steps_is_none(self) -> None:
         self.assertFalse(is_copied(line(0), None, None))
 
     def test_a_seal_is_a_number_and_a_line(self) -> None:
         self.assertEqual(read_seal(f"41.7 {line(9).text}\n"), Seal("41.7", line(9)))
+        self.assertEqual(read_seal(f"41.0.1800000000 {line(9).text}\n"), Seal("41.0.1800000000", line(9)))
         for text in ("", "41.7", f"41 {line(9).text}", f"x.7 {line(9).text}", "41.7 shop 9 aa", f"\u0664.7 {line(9).text}"):
             self.assertIsNone(read_seal(text))
+
+
+class Boxes(unittest.TestCase):
+    """Whether a box is where its last turn was made."""
+
+    def test_one_whose_note_is_another_file_is_a_copy(self) -> None:
+        self.assertFalse(is_box_copied("12 34", 7, "12 34"))
+        for identity in ("12 35", "13 34", NO_NOTE):
+            self.assertTrue(is_box_copied("12 34", 7, identity), identity)
+
+    def test_a_new_box_has_neither(self) -> None:
+        self.assertFalse(is_box_copied(None, 0, NO_NOTE))
+        self.assertTrue(is_box_copied(None, 7, "12 34"))
+
+    def test_one_whose_turn_was_killed_is_none(self) -> None:
+        self.assertFalse(is_box_copied(write_open(7, "12 34"), 7, "12 34"))
+        self.assertFalse(is_box_copied(write_open(7, "12 34"), 8, "12 36"))
+        self.assertFalse(is_box_copied(write_open(0, NO_NOTE), 0, NO_NOTE))
+        self.assertFalse(is_box_copied(write_open(0, NO_NOTE), 1, "12 36"))
+
+    def test_a_copy_of_one_whose_turn_was_killed_is_one(self) -> None:
+        for identity in ("12 35", "13 34", NO_NOTE):
+            self.assertTrue(is_box_copied(write_open(7, "12 34"), 7, identity), identity)
+        self.assertTrue(is_box_copied("open", 7, "12 34"))
 
 
 if __name__ == "__main__":

@@ -7,6 +7,8 @@ import unittest
 from weft.deciding.rows import HEAD, NO_DIGEST, Row, digest_of, is_own_state, may_take_row, name_state, read_row, read_rows, title_of
 from weft.statuses import Status
 
+PASSING = (Status.DIFFER, Status.NO_MEMORY, Status.DISK)
+
 GOOD, FORGED = b"bread", b"bribe"
 DIGEST = hashlib.sha256(GOOD).hexdigest()
 ROW = Row("proof", 5, DIGEST, "shown", 0, "event maker 1 0 00", "maker 3")
@@ -17,20 +19,21 @@ class MayTakeRow(unittest.TestCase):
     """Rows stand for bytes."""
 
     def test_a_row_stands_for_the_bytes_that_it_has_the_digest_of(self) -> None:
-        self.assertTrue(may_take_row(ROW, digest_of(GOOD), Status.DIFFER))
+        self.assertTrue(may_take_row(ROW, digest_of(GOOD), PASSING))
 
     def test_a_forged_file_of_the_same_name_size_and_time_isnt_shown_by_the_row_of_the_good_one(self) -> None:
         self.assertEqual(len(GOOD), len(FORGED))
-        self.assertFalse(may_take_row(ROW, digest_of(FORGED), Status.DIFFER))
+        self.assertFalse(may_take_row(ROW, digest_of(FORGED), PASSING))
 
     def test_without_a_row_none_is_taken(self) -> None:
-        self.assertFalse(may_take_row(None, digest_of(GOOD), Status.DIFFER))
+        self.assertFalse(may_take_row(None, digest_of(GOOD), PASSING))
 
     def test_where_two_judges_differed_it_is_judged_anew(self) -> None:
-        self.assertFalse(may_take_row(ROW._replace(status=13), digest_of(GOOD), Status.DIFFER))
+        self.assertFalse(may_take_row(ROW._replace(status=13), digest_of(GOOD), PASSING))
+        self.assertFalse(may_take_row(ROW._replace(status=6), digest_of(GOOD), PASSING))
 
     def test_a_file_that_couldnt_be_read_is_judged_anew(self) -> None:
-        self.assertFalse(may_take_row(ROW._replace(sha256=NO_DIGEST), digest_of(b""), Status.DIFFER))
+        self.assertFalse(may_take_row(ROW._replace(sha256=NO_DIGEST), digest_of(b""), PASSING))
 
 
 class IsOwnState(unittest.TestCase):

@@ -2,7 +2,7 @@
 
 import unittest
 
-from weft.deciding.sharing import choose_names, choose_receipts, count_nights, move_cursor, order_lines
+from weft.deciding.sharing import choose_names, choose_receipts, count_nights, is_first_hand, move_cursor, order_lines
 
 ROOM = 128
 
@@ -84,6 +84,31 @@ class Receipts(unittest.TestCase):
     def test_what_there_is_no_room_for_are_the_first_of_those_that_it_gets(self) -> None:
         self.assertEqual(choose_receipts("abcde", {"e"}, 2), ["c", "d"])
         self.assertEqual(choose_receipts("abcde", set(), 0), [])
+
+
+class FirstHand(unittest.TestCase):
+    """Which receipts go on."""
+
+    def test_whom_it_is_of_may_tell_it(self) -> None:
+        self.assertTrue(is_first_hand("bank", ("bank", "shop")))
+        self.assertTrue(is_first_hand("shop", ("bank", "shop")))
+
+    def test_what_others_tell_ends_there(self) -> None:
+        self.assertFalse(is_first_hand("port", ("bank", "shop")))
+        self.assertFalse(is_first_hand("port", ()))
+
+    def test_in_a_ring_of_any_size_a_receipt_goes_round_no_more_than_once(self) -> None:
+        for size in range(3, 9):
+            ring = [f"s{number}" for number in range(size)]
+            for parties in ((ring[0], ring[1]), (ring[0], "else"), ("some", "else")):
+                has, told = {ring[0]}, 0
+                for _ in range(4 * size):
+                    place = next((at for at, name in enumerate(ring) if name in has and ring[(at + 1) % size] not in has), None)
+                    if place is None or not (place == 0 or is_first_hand(ring[place - 1], parties)):
+                        break
+                    has.add(ring[(place + 1) % size])
+                    told += 1
+                self.assertLessEqual(told, 3)
 
 
 if __name__ == "__main__":

@@ -7,8 +7,8 @@ import unittest
 
 from weft.deciding.lines import Line
 from weft.deciding.signatures import (
-    BEGIN, END, MOST_BYTES, Addition, KeyFault, PublicKey, Signed, cut_torn, decode_base64, may_sign_lines, place_key, read_armour, read_public_key,
-    read_signed_line, read_signed_lines,
+    BEGIN, END, MOST_BYTES, Addition, KeyFault, PublicKey, Signed, cut_torn, decode_base64, may_rest_on, may_sign_lines, place_key, read_armour,
+    read_noted_key, read_public_key, read_signed_line, read_signed_lines,
 )  # fmt: skip
 
 HEX = "5585fc74c8b89378088d61ce37d82efe4c25f9ab0bbeb79b20a4618dce62a486"
@@ -213,6 +213,22 @@ class Signers(unittest.TestCase):
             self.assertTrue(may_sign_lines(b"bank " + options + bare), options)
         self.assertTrue(may_sign_lines(b"bank " + bare + b" cert-authority"))
         self.assertFalse(may_sign_lines(b"bank cert-authority"))
+
+    def test_the_noted_key_of_a_line_is_read_where_it_may_sign_lines(self) -> None:
+        bare = b"ssh-ed25519 " + GOOD_TEXT
+        for line in (b"bank " + bare, b'bank,port namespaces="timeweave-line" ' + bare + b" a comment"):
+            self.assertEqual(read_noted_key(line), self.key)
+        for line in (b"", b"bank", b"bank ssh-ed25519", b"bank cert-authority " + bare, b"bank ssh-ed25519 AAAA", b"bank " + GOOD_TEXT):
+            self.assertIsNone(read_noted_key(line), line)
+
+    def test_a_kept_line_rests_on_a_key_as_long_as_that_is_noted(self) -> None:
+        one, other = self.key.fingerprint, "SHA256:" + "a" * 43
+        for how in (f"signed by ED25519 {one}, by exchange", f"signed by ED25519 {one}"):
+            self.assertTrue(may_rest_on(how, {one, other}))
+            for noted in (set[str](), {other}):
+                self.assertFalse(may_rest_on(how, noted))
+        for how in ("by letter", "", "unsigned, by exchange", f"compared, signed by ED25519 {one}", f"signed by ED25519 {one}a"):
+            self.assertTrue(may_rest_on(how, set()), how)
 
 
 if __name__ == "__main__":

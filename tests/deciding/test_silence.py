@@ -3,8 +3,11 @@
 import errno
 import unittest
 
+from weft.deciding.lines import Line
+from weft.deciding.signatures import Signed
 from weft.deciding.silence import (
-    MOST_TURNS, NO_SUCH_FILE, Came, Heard, Silence, describe_silence, hear, is_silent, may_count, read_silence, weigh_failure, weigh_heard,
+    MOST_TURNS, NO_SUCH_FILE, Came, Handed, Heard, Silence, begin_handed_on, choose_last_heard, describe_silence, hear, hear_handed_on, is_handed_on_due,
+    is_silent, list_later, may_count, read_handed, read_silence, weigh_failure, weigh_heard,
 )  # fmt: skip
 
 MONDAY, TUESDAY = "2026-11-30", "2026-12-01"
@@ -35,21 +38,27 @@ class Hearing(unittest.TestCase):
 
     def test_a_later_step_is_new(self) -> None:
         for is_whole in (False, True):
-            self.assertIs(weigh_heard(Silence(0, 5), 5, 6, is_whole), Heard.NEW)
-            self.assertIs(weigh_heard(Silence(), 0, 1, is_whole), Heard.NEW)
+            self.assertIs(weigh_heard(5, 6, is_whole), Heard.NEW)
+            self.assertIs(weigh_heard(0, 1, is_whole), Heard.NEW)
 
-    def test_what_a_stopped_turn_took_is_new_to_the_next_one(self) -> None:
-        self.assertIs(weigh_heard(Silence(0, 5), 6, 6, True), Heard.NEW)
-
-    def test_what_a_box_had_before_anything_was_noted_is_not_new(self) -> None:
-        self.assertIs(weigh_heard(Silence(), 6, 6, True), Heard.SAME)
-
-    def test_the_same_line_once_more_is_not_new(self) -> None:
-        self.assertIs(weigh_heard(Silence(0, 6), 6, 6, True), Heard.SAME)
-        self.assertIs(weigh_heard(Silence(0, 7), 6, 6, True), Heard.SAME)
+    def test_the_same_or_an_earlier_line_once_more_is_not_new(self) -> None:
+        self.assertIs(weigh_heard(6, 6, True), Heard.SAME)
+        self.assertIs(weigh_heard(7, 6, True), Heard.SAME)
 
     def test_what_is_missing_or_damaged_is_nothing(self) -> None:
-        self.assertIs(weigh_heard(Silence(0, 6), 6, 6, False), Heard.NOTHING)
+        self.assertIs(weigh_heard(6, 6, False), Heard.NOTHING)
+        self.assertIs(weigh_heard(6, 0, False), Heard.NOTHING)
+
+    def test_what_a_stopped_turn_took_is_new_to_the_next_one(self) -> None:
+        self.assertEqual(choose_last_heard(5, True, 6), 5)
+
+    def test_what_a_box_had_before_anything_was_noted_is_not_new(self) -> None:
+        self.assertEqual(choose_last_heard(0, False, 6), 6)
+        self.assertEqual(choose_last_heard(0, True, 6), 6)
+
+    def test_a_line_of_a_key_that_was_taken_out_hides_no_later_one(self) -> None:
+        self.assertEqual(choose_last_heard(2**40 - 1, False, 6), 6)
+        self.assertIs(weigh_heard(choose_last_heard(2**40 - 1, False, 6), 7, True), Heard.NEW)
 
 
 class Counting(unittest.TestCase):
@@ -87,6 +96,7 @@ class Counting(unittest.TestCase):
     def test_a_box_that_never_counted_begins_with_what_lies_there(self) -> None:
         self.assertEqual(hear(Silence(), Heard.SAME, 5, 10, MONDAY), Silence(0, 5, "-", 10, MONDAY))
         self.assertEqual(hear(Silence(), Heard.NOTHING, 5, 10, MONDAY), Silence(1, 5, "-", 10, MONDAY))
+        self.assertEqual(hear(Silence(0, 5), Heard.SAME, 5, 10, MONDAY), Silence(0, 5, "-", 10, MONDAY))
         self.assertEqual(hear(Silence(), Heard.NEW, 5, 10, MONDAY), Silence(0, 5, MONDAY, 10, MONDAY))
 
     def test_the_last_step_that_came_stays(self) -> None:
@@ -95,6 +105,59 @@ class Counting(unittest.TestCase):
     def test_the_count_ends(self) -> None:
         self.assertEqual(hear(Silence(MOST_TURNS, 5), Heard.NOTHING, 5, 10, MONDAY).turns, MOST_TURNS)
         self.assertEqual(hear(Silence(MOST_TURNS - 1, 5), Heard.NOTHING, 5, 10, MONDAY).turns, MOST_TURNS)
+
+
+def line(service: str, step: int) -> Signed:
+    """A signed line of a service."""
+    return Signed(Line(service, step, "a" * 64), b"armour")
+
+
+class HandingOn(unittest.TestCase):
+    """When a peer hands on no lines of others any more."""
+
+    def test_a_new_good_line_ends_it(self) -> None:
+        for before in (Silence(), Silence(7, 1, MONDAY, 3, MONDAY)):
+            for is_due in (False, True):
+                self.assertEqual(hear_handed_on(before, True, is_due, 9, TUESDAY), Silence(0, 1, TUESDAY, 9, TUESDAY))
+
+    def test_each_turn_without_what_is_due_counts(self) -> None:
+        before = Silence(1, 1, MONDAY, 3, MONDAY)
+        self.assertEqual(hear_handed_on(before, False, True, 9, TUESDAY), Silence(2, 1, MONDAY, 9, TUESDAY))
+        self.assertEqual(hear_handed_on(before, False, False, 9, TUESDAY), before)
+        self.assertEqual(hear_handed_on(Silence(), False, True, 9, TUESDAY), Silence(1, 0, "-", 9, TUESDAY))
+        self.assertEqual(hear_handed_on(Silence(MOST_TURNS, 1), False, True, 9, TUESDAY).turns, MOST_TURNS)
+
+    def test_of_who_handed_on_before_something_is_due_where_others_went_on(self) -> None:
+        before = Silence(0, 1, MONDAY, 3, MONDAY)
+        self.assertTrue(is_handed_on_due(before, True, {"liar"}, {"liar", "port"}, set()))
+        self.assertFalse(is_handed_on_due(before, True, {"bank"}, {"liar", "port"}, {"bank"}))
+        self.assertFalse(is_handed_on_due(before, True, set(), {"liar"}, {"liar"}))
+        self.assertTrue(is_handed_on_due(before, False, set(), set(), set()))
+
+    def test_of_who_never_did_it_is_where_its_receipts_tell_of_others_that_went_on(self) -> None:
+        for has_lines in (False, True):
+            self.assertTrue(is_handed_on_due(Silence(), has_lines, {"liar"}, set(), {"liar", "port"}))
+            self.assertFalse(is_handed_on_due(Silence(), has_lines, {"bank"}, {"bank"}, {"liar", "port"}))
+            self.assertFalse(is_handed_on_due(Silence(), has_lines, set(), set(), {"liar"}))
+
+    def test_a_peer_that_was_accepted_once_more_begins_anew(self) -> None:
+        self.assertEqual(begin_handed_on(False, TUESDAY), Silence())
+        anew = begin_handed_on(True, TUESDAY)
+        self.assertEqual(read_silence(anew.text), anew)
+        for has_lines in (False, True):
+            self.assertFalse(is_handed_on_due(anew, has_lines, {"liar"}, {"liar"}, {"liar"}))
+
+    def test_only_later_lines_can_be_new(self) -> None:
+        lines = [line("liar", 5), line("liar", 7), line("port", 3), line("liar", 6), line("port", 2)]
+        self.assertEqual(list_later(lines, {"liar": 5}), [line("liar", 7), line("port", 3), line("liar", 6), line("port", 2)])
+        self.assertEqual(list_later(lines, {"liar": 7, "port": 3}), [])
+        self.assertEqual(list_later([line("liar", 0), line("liar", 1)], {}), [line("liar", 1)])
+
+    def test_what_was_handed_on_is_read_again(self) -> None:
+        found = Handed("liar", 2**40 - 1, f"SHA256:{'k' * 43}")
+        self.assertEqual(read_handed(found.text), found)
+        for text in ("", "liar 5", f"liar 5 SHA256:{'k' * 42}", f"Liar 5 SHA256:{'k' * 43}", f"liar x SHA256:{'k' * 43}", f"{found.text} "):
+            self.assertIsNone(read_handed(text), text)
 
 
 class Telling(unittest.TestCase):

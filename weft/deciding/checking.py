@@ -1,13 +1,13 @@
 """What `weft check` may say of a store after what it looked at.
 
 A store is called good only where all of it was looked at. What wasn't, since its history is longer than a file may be, or since a sample
-was taken of it, is told and needs a look (10). What is damaged (8), lines that contradict (11) and a line that isn't of the store (17)
-stand before that."""
+was taken of it, is told and needs a look (10). What is damaged (8), and a line that isn't of the store, or that contradicts one that is
+(17), stand before that."""
 
 from __future__ import annotations
 
 from enum import Enum
-from typing import NamedTuple, Optional, Sequence
+from typing import Callable, Iterable, NamedTuple, Optional, Sequence
 
 from weft.statuses import Status
 
@@ -26,6 +26,14 @@ class Place(NamedTuple):
 
     step: int
     index: int  # type: ignore[assignment]
+
+
+class Logged(NamedTuple):
+    """What a log's file of entries tells of an event: its step, its place there, and itself."""
+
+    step: int
+    index: int  # type: ignore[assignment]
+    event: bytes
 
 
 class Looked(NamedTuple):
@@ -64,15 +72,47 @@ def list_unseen(looked: Looked) -> list[str]:
 
 
 def judge_check(found: Found, looked: Looked) -> Status:
-    """A store isn't the one of a kept line (17) before kept lines of it contradict (11), and before it is damaged (8), which it is where
-    a step is bad or the export says so; it needs a look (10) where something wasn't looked at; and else it is good."""
-    if found.other_lines:
+    """A store isn't the one of a kept line, or nothing shows that it is where kept lines of one of its steps contradict: it may have been
+    set back and gone on with (17). Else it may be damaged (8), which it is where a step is bad or the export says so; it needs a look (10)
+    where something wasn't looked at; and else it is good."""
+    if found.other_lines or found.disputed:
         return Status.OLD_STORE
-    if found.disputed:
-        return Status.CONTRADICTION
     if found.bad_steps or looked.export is Export.DAMAGED:
         return Status.BAD_STORE
     return Status.LOOK if list_unseen(looked) else Status.DONE
+
+
+def may_make_entries(status: Status) -> bool:
+    """Entries are made anew only of a store that is good as far as it was looked at: not of one that is damaged, or that isn't the one of a kept line."""
+    return status in (Status.DONE, Status.LOOK)
+
+
+def follows(step: int, place: int, last: int, count: int) -> bool:
+    """An entry follows those before it where it is the next one of their last step, of which there are so many, or the first one of a later step."""
+    return (step, place) == (last, count) or (step > last and place == 0)
+
+
+class Differing(NamedTuple):
+    """Where entries and their store differ: the step, and the entry that isn't its event; None where entries of it are missing."""
+
+    step: int
+    false: Optional[Logged]
+
+
+def find_differing(entries: Iterable[Logged], steps: Iterable[tuple[int, Sequence[bytes]]], is_of_log: Callable[[Sequence[bytes]], bool]) -> Optional[Differing]:
+    """The first place where they differ: an entry that isn't the event that the store has in its step, at its place; or a step of a log of whose events one
+    has no entry. Steps of the store that are of no log are others' work."""
+    left = iter(entries)
+    entry = next(left, None)
+    for step, events in steps:
+        count = 0
+        while entry is not None and entry.step <= step:
+            if entry.step < step or entry.index != count or count >= len(events) or events[count] != entry.event:
+                return Differing(entry.step, entry)
+            entry, count = next(left, None), count + 1
+        if count < len(events) and is_of_log(events):
+            return Differing(step, None)
+    return None if entry is None else Differing(entry.step, entry)
 
 
 def choose_places(counts: Sequence[int], most: Optional[int]) -> list[Place]:

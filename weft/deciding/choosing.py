@@ -81,10 +81,10 @@ def hold_line(told: Line, kept: Iterable[Line]) -> Beside:
 
 
 def hold_history(authenticators: Sequence[str], kept: Iterable[Line]) -> HeldHistory:
-    """A history, as the authenticators of its steps from 0 on, is held against every kept line of its service, of whatever step it has. One that differs
-    contradicts it; it is bound up to the last step whose kept lines all agree. A kept line of a step that it lacks shows that the service went on: the
-    file may have been cut."""
-    lines = set(kept)
+    """A history, as the authenticators of its steps from 0 on, is held against every kept line of its service, of whatever step it has, from 1 on: that of
+    step 0 follows from the name, and says nothing of a history. One that differs contradicts it; it is bound up to the last step whose kept lines all agree.
+    A kept line of a step that it lacks shows that the service went on: the file may have been cut."""
+    lines = {line for line in kept if line.step}
     beyond = max((line.step for line in lines if line.step >= len(authenticators)), default=None)
     within = sorted({line for line in lines if line.step < len(authenticators)}, key=lambda line: (line.step, line.authenticator))
     differing = [line for line in within if line.authenticator != authenticators[line.step]]
@@ -99,7 +99,7 @@ def measure_extent(held: HeldHistory, wanted: int) -> Extent:
     line of that or of a later step binds it, and in part where one of an earlier step, from 1 on, does."""
     if held.differing:
         return Extent.CONTRADICTED
-    if held.bound is None or held.bound.step == 0:
+    if held.bound is None:
         return Extent.UNBOUND
     return Extent.WHOLE if held.bound.step >= wanted else Extent.PART
 

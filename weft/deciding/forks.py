@@ -9,6 +9,10 @@ from typing import Iterable, NamedTuple, Optional
 from weft.deciding.lines import Line
 from weft.deciding.signatures import Signed, read_signed_line
 
+# So many lines of one step that differ, all signed by a key of their service, are kept: one more shows nothing new.
+MOST_AT_STEP = 8
+# Of so many lines that contradict others of their service each is remembered.
+MOST_REMEMBERED = 256
 FILE_NAME = re.compile(r"(0|[1-9][0-9]{0,12})-([0-9a-f]{16}|[0-9a-f]{64})")
 
 
@@ -46,10 +50,12 @@ def name_fork_file(line: Line) -> str:
     return f"{line.step}-{line.authenticator}"
 
 
-def may_write_fork(found: Optional[bytes], new: Signed, is_found_good: bool) -> bool:
+def may_write_fork(found: Optional[bytes], new: Signed, is_found_good: bool, remembered: int = 0) -> bool:
     """What is remembered is replaced only where it isn't a signed line of this step and authenticator, or its signature isn't good by a key that is noted
-    now."""
-    signed = read_signed_line(found) if found is not None else None
+    now. Nothing is added to so many that are remembered: they show what there is to be shown."""
+    if found is None:
+        return remembered < MOST_REMEMBERED
+    signed = read_signed_line(found)
     return signed is None or signed.line != new.line or not is_found_good
 
 

@@ -1,4 +1,4 @@
-"""When a logged file is gone, what is left out of a log, and what differs from what was logged.
+"""When a logged file is gone, and what is left out of a log.
 
 A file is gone only where the system says that there is nothing of its name. What can't be looked at, and all below a folder that can't
 be, is left out: it is told, it counts (10), and of it nothing is logged. Where something else has taken the place of a file or of a
@@ -7,9 +7,8 @@ folder above it, a link or a pipe, it is told too, and a person says whether the
 from __future__ import annotations
 
 import re
-from dataclasses import dataclass, field
 from enum import Enum
-from typing import Collection, Mapping, NamedTuple, Optional, Sequence
+from typing import Collection, NamedTuple, Optional, Sequence
 
 GONE = b"gone"
 TICK = 20_000_000
@@ -48,18 +47,6 @@ class State(NamedTuple):
     changed: int
 
 
-@dataclass
-class Changes:
-    """What differs from what was logged: paths that are new, changed, gone, or have something else in their place, and those that are as
-    they were."""
-
-    new: list[bytes] = field(default_factory=list)
-    changed: list[bytes] = field(default_factory=list)
-    gone: list[bytes] = field(default_factory=list)
-    replaced: list[bytes] = field(default_factory=list)
-    same: list[bytes] = field(default_factory=list)
-
-
 def list_folders_above(path: bytes) -> list[bytes]:
     """The folders above a path, each from the logged folder `.` on, outermost first."""
     parts = path.split(b"/")
@@ -84,37 +71,16 @@ def judge_missing(kinds: Sequence[Kind]) -> Fate:
     return Fate.REPLACED
 
 
-def compare_logged(found: Mapping[bytes, bytes], logged: Mapping[bytes, bytes], fates: Mapping[bytes, Fate]) -> Changes:
-    """Each path that was found is new, changed or as it was, by its digest; each logged one that wasn't found is what its fate says, and
-    one without a fate is neither gone nor changed."""
-    changes = Changes()
-    for path in sorted(found):
-        before = logged.get(path)
-        place = changes.new if before is None else changes.same if before == found[path] else changes.changed
-        place.append(path)
-    for path in sorted(logged.keys() - found.keys()):
-        fate = fates.get(path, Fate.LEFT_OUT)
-        if fate is not Fate.LEFT_OUT:
-            (changes.gone if fate is Fate.GONE else changes.replaced).append(path)
-    return changes
-
-
 def has_lost_most(found: int, left_out: int, logged: int, gone: int) -> bool:
     """A folder may be one that isn't mounted where nothing at all is in it, neither a file nor what was left out, or more than half of
     the logged files are gone. Then none is logged as gone unless a person says so."""
     return (found == 0 and left_out == 0) or 2 * gone > logged
 
 
-def choose_events(
-    changes: Changes, found: Mapping[bytes, bytes], all_files: bool, with_gone: bool, with_replaced: bool
-) -> list[tuple[bytes, bytes]]:
-    """Logged is each new or changed file by its digest, or with `all_files` each one that was found, and by the word `gone` what is
-    gone; what has something else in its place where a person says that it is gone. Each with its path, in the order of paths."""
-    paths = found if all_files else [*changes.new, *changes.changed]
-    events = [(path, found[path]) for path in paths]
-    events += [(path, GONE) for path in (changes.gone if with_gone else [])]
-    events += [(path, GONE) for path in (changes.replaced if with_replaced else [])]
-    return sorted(events)
+def may_log(fate: Fate, is_most_lost: bool, is_said: bool) -> bool:
+    """What is gone is logged so unless most of the log may be lost, and what has something else in its place isn't; both are where a person says so. What is
+    left out never is."""
+    return fate is not Fate.LEFT_OUT and (is_said or (fate is Fate.GONE and not is_most_lost))
 
 
 def is_left_over(name: bytes, own: Collection[bytes]) -> bool:

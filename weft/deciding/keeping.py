@@ -12,9 +12,10 @@ from __future__ import annotations
 
 import re
 from enum import Enum
-from typing import NamedTuple, Optional, Sequence, Union
+from typing import Collection, NamedTuple, Optional, Sequence, Union
 
 from weft.deciding.lines import LAST_STEP, Kept, Line
+from weft.deciding.signatures import may_rest_on
 
 MARK = re.compile(r"(contradiction|chosen): ([a-z0-9-]{1,16}) (0|[1-9][0-9]{0,12})((?: [0-9a-fA-F]{64}){2,})(?: (\S+)(?: (.*))?)?")
 
@@ -80,6 +81,21 @@ def standing_of(kept: Sequence[Kept], marks: Sequence[Mark]) -> Standing:
     last = [mark for mark in choices if mark.date == max(it.date for it in choices)]
     choice = last[-1] if len({mark.chosen for mark in last}) == 1 else None
     return Standing(lines.get(choice.chosen.authenticator) if choice else None, tuple(seen), choice)
+
+
+class Counting(NamedTuple):
+    """The lines of a step that count, and what is told of them."""
+
+    kept: list[Kept]
+    marks: list[Mark]
+
+
+def list_counting(kept: Sequence[Kept], marks: Sequence[Mark], fingerprints: Collection[str]) -> Counting:
+    """Of the lines of a step, and what is told of them, what counts while these keys are noted: no line that came by the signature of another key alone, and
+    no mark of a contradiction with such lines alone. A choice stays: a person made it."""
+    left = [it for it in kept if may_rest_on(it.how, fingerprints)]
+    gone = {it.line.authenticator for it in kept} - {it.line.authenticator for it in left}
+    return Counting(left, [it for it in marks if it.is_choice or len({*it.authenticators} - gone) > 1])
 
 
 # ---- what is added

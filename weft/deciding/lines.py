@@ -58,6 +58,25 @@ def read_line(text: str) -> Optional[Line]:
     return Line(fields[1], int(fields[2]), fields[3].lower())
 
 
+def can_be(line: Line, genesis: str) -> bool:
+    """A line of step 0 follows from its service's name: one with another authenticator than that, `genesis`, is of no service."""
+    return line.step > 0 or line.authenticator == genesis
+
+
+class End(NamedTuple):
+    """Where a file that lines are added to goes on: the place behind the last line end, and a whole line that stands there without one, with it."""
+
+    place: int
+    rest: bytes
+
+
+def find_end(data: bytes) -> End:
+    """What stands behind the last line end was stopped amid its writing, and goes, unless it is a whole line."""
+    place = data.rfind(b"\n") + 1
+    is_whole = read_kept(data[place:].decode("ascii", "replace")) is not None
+    return End(place, data[place:] + b"\n" if is_whole else b"")
+
+
 def read_kept(text: str) -> Optional[Kept]:
     """A kept line is a line, and behind it, where they are told, its date and how it came, as they stand there; of another text the answer is None."""
     words = text.split(" ", 4)

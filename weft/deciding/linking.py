@@ -83,6 +83,12 @@ def weigh_answer(pair: Pair, given: Optional[Line]) -> Meaning:
     return Meaning.JOINS if given == pair.earlier else Meaning.PARTS
 
 
+def is_evidence(meaning: Meaning, are_good: Iterable[bool]) -> bool:
+    """Two lines that no one history has are evidence where both signatures are good, checked now by a key that is noted of the service; nobody is accused by
+    a line that somebody signed with a key that was taken out."""
+    return meaning is Meaning.PARTS and all(are_good)
+
+
 def choose_base(joined: Collection[Line]) -> Optional[Line]:
     """A loose line is held against the line of the latest step of those that are known to be of one history."""
     return max(joined, key=lambda line: line.step) if joined else None

@@ -10,11 +10,13 @@ How these functions, `weft.own`, `weft log` and `weft exchange` go together:
    step and ends with 17.
 2. At its end each turn of `weft exchange` that made no mistake notes the moment in its box. At its beginning the turn asks `must_look`;
    where the answer is yes and no look goes on, it begins one. `weft exchange --look` begins one anew.
-3. The turn reads from each peer of the box that a person accepted (but those of --despite) what that peer hands back of this service, and
-   from all others too what counts as evidence (lines signed by its own key). They are handed to `judge_turn` as `Told`, those of the files
-   beside the store first. Of each accepted peer it hands in a `Word`: when its last word came. That is the time at which the file was
-   changed on this device (`st_ctime`, which no carrier and no restored backup sets back), of `in/yours`; of a peer that has recorded
-   nothing of this service, of `in/line`.
+3. The turn reads from each peer of the box (but those of --despite) the lines of this service that are signed by its own key, whoever
+   handed them on. They are handed to `judge_turn` as `Told`, those of the files beside the store first; in a box that takes unsigned
+   messages so is what an accepted peer says without a signature. Of each accepted peer it hands in a `Word`: when its last word came,
+   and which lines of this service it claims without a signature (what it hands back, its receipt, its refusal): these may be made up by
+   whoever carries the files, so they keep a look open and stop nothing else. A word came at the time at which the file was changed on
+   this device (`st_ctime`, which no carrier and no restored backup sets back), of `in/yours`; of a peer that isn't known to have recorded
+   anything of this service, of `in/line`. What it hands back has to be a line of this service, and none older than it has recorded.
 4. `Go.OLD`: the turn ends with 17 and the sentence of `own.old_store`; nothing is put out. `Go.WAIT`: it takes no message, makes no step,
    signs nothing and puts nothing out, tells for whom it waits, and ends with 10. `Go.ON`: the look is at its end (`end_look`), and the
    turn is made.
@@ -22,9 +24,10 @@ How these functions, `weft.own`, `weft log` and `weft exchange` go together:
    beside it (17), until `--adopt-store LINE` (`own.add_adopt`, `own.named_line`, `OwnLines.adopt`, which goes before `check`) names its
    last line. That ends a look too.
 
-6. `SERVICE.seal` names the very file that it is (its number on its device, and that number's generation), and the line that was noted last. A
-   copy is another file: so a store that was put back with all that stood beside it is known as a copy (`is_copied`). Then `weft log` ends with 17, and `weft exchange` begins a look; where no
-   peer is accepted, who could tell, it ends with 17 too. `--adopt-store`, or a look that is at its end, makes the seal anew.
+6. `SERVICE.seal` names the very file that it is (its number on its device, and that number's generation, or where the file system tells
+   none when it was made), and the line that was noted last. A copy is another file: so a store that was put back with all that stood
+   beside it is known as a copy (`is_copied`). Then `weft log` ends with 17, and `weft exchange` begins a look; where no peer is accepted,
+   who could tell, it ends with 17 too. `--adopt-store`, or a look that is at its end, makes the seal anew.
 
 A word counts a day after the look began: by then a peer that makes a turn each night has taken what was carried to it before, and has
 told so. A peer that is gone for good is passed over by --despite PEER."""
@@ -37,7 +40,11 @@ from typing import Mapping, NamedTuple, Optional, Sequence
 
 from weft.deciding.lines import Line, read_line
 
-IDENTITY = re.compile(r"[0-9]{1,20}\.[0-9]{1,10}")
+NO_NOTE = "none"
+OPEN_BOX = re.compile(r"open ([0-9]{1,15}) (.*)")
+IDENTITY = re.compile(r"([0-9]{1,20}\.[0-9]{1,10})(?:\.([0-9]{1,12}))?")
+# So many seconds after it was made a seal may have been changed for the last time, where its file system tells no generation.
+MOST_WRITING = 60
 DAY = 86_400
 LONG_AGO = 26 * 3_600
 
@@ -50,10 +57,15 @@ class Told(NamedTuple):
 
 
 class Word(NamedTuple):
-    """When an accepted peer's last word of the own service came to the box, in seconds since 1970; None where none is there."""
+    """When an accepted peer's last word of the own service came to the box, in seconds since 1970, None where none is there; the lines of
+    the own service that it claims, which nobody has signed; of which step the line is that it hands back, and which step it is known to
+    have recorded, 0 for none."""
 
     peer: str
     came: Optional[int]
+    claims: tuple[Line, ...] = ()
+    handed_back: int = 0
+    recorded: int = 0
 
 
 class Go(Enum):
@@ -132,20 +144,45 @@ def must_look(is_asked: bool, last_turn: Optional[int], now: int) -> bool:
     return last_turn is not None and not 0 <= now - last_turn <= LONG_AGO
 
 
+def write_open(turn: int, identity: str) -> str:
+    """What the seal of a box says while a turn is made: the number of the turn before, and which file its note is."""
+    return f"open {turn} {identity}"
+
+
+def is_box_copied(seal: Optional[str], turn: int, identity: str) -> bool:
+    """A box is a copy where its note, of this turn, isn't the very file that its seal names. A turn that was killed left the seal as it was while it was made:
+    then it is none where the note is the same file still, or the next turn's, which is written before the seal is. A box without both is new."""
+    if seal is None:
+        return identity != NO_NOTE
+    found = OPEN_BOX.fullmatch(seal)
+    return seal != identity if found is None else found[2] != identity and int(found[1]) + 1 != turn
+
+
 def has_come(word: Word, since: int, settled: int = DAY) -> bool:
-    """A peer's word has come where its file came a day or more after the look began: what came sooner may have been said before."""
-    return word.came is not None and word.came >= since + settled
+    """A peer's word has come where its file came a day or more after the look began, since what came sooner may have been said before; and
+    where it hands back no older line than it is known to have recorded. (Whoever carries it can bring a word once more that was said
+    before: that is seen by nobody.)"""
+    return word.came is not None and word.came >= since + settled and word.handed_back >= word.recorded
+
+
+def find_claim(last: Line, proved: Mapping[int, Line], word: Word) -> Optional[Line]:
+    """The first line that a peer claims without a signature and that the store lacks. While a look goes on it keeps it open: whoever can
+    make it up can hold the peer's word back as well. Else it stops nothing."""
+    found = find_lacking(last, proved, [Told(line, "") for line in word.claims])
+    return found.line if found else None
 
 
 def judge_turn(
     last: Line, proved: Mapping[int, Line], told: Sequence[Told], words: Sequence[Word], since: Optional[int], settled: int = DAY
 ) -> Answer:
     """A turn goes on where the store lacks no line that is told of it and, while a look goes on (since that moment), each peer's word
-    has come. A line that it lacks counts at once, whenever it came."""
+    has come and claims none that it lacks. A line that is told counts at once, whenever it came."""
     lacking = find_lacking(last, proved, told)
     if lacking is not None:
         return Answer(Go.OLD, lacking)
-    waiting = () if since is None else tuple(word.peer for word in words if not has_come(word, since, settled))
+    if since is None:
+        return Answer(Go.ON)
+    waiting = tuple(word.peer for word in words if not has_come(word, since, settled) or find_claim(last, proved, word) is not None)
     return Answer(Go.WAIT, None, waiting) if waiting else Answer(Go.ON)
 
 
@@ -156,10 +193,19 @@ def read_seal(text: str) -> Optional[Seal]:
     return Seal(identity, found) if IDENTITY.fullmatch(identity) and found is not None else None
 
 
+def is_same_file(sealed: str, found: Optional[str]) -> bool:
+    """A file is the sealed one where it has its number and generation. Where no generation is told, a number may be given to another file:
+    so it mustn't have been changed a minute or more after the seal was made, as a copy of that number was."""
+    before, now = IDENTITY.fullmatch(sealed), IDENTITY.fullmatch(found or "")
+    if before is None or now is None or before[1] != now[1]:
+        return False
+    return 0 <= int(now[2] or 0) - int(before[2] or 0) <= MOST_WRITING
+
+
 def is_copied(last: Line, seal: Optional[Seal], identity: Optional[str]) -> bool:
     """A store with steps is a copy where no seal stands beside it, or one that isn't the very file that it names. Whether it is an old one
     nothing beside it can tell then."""
-    return last.step > 0 and (seal is None or seal.identity != identity)
+    return last.step > 0 and (seal is None or not is_same_file(seal.identity, identity))
 
 
 def find_missing(last: Line, beside: Beside) -> Missing:

@@ -7,7 +7,7 @@ from __future__ import annotations
 
 import hashlib
 import re
-from typing import NamedTuple, Optional
+from typing import Collection, NamedTuple, Optional
 
 SIZE, DIGEST, STATUS = re.compile(r"[0-9]{1,12}"), re.compile(r"[0-9a-f]{64}"), re.compile(r"[0-9]{1,3}")
 NO_DIGEST = "-"
@@ -75,7 +75,7 @@ def read_rows(text: str, title: str) -> dict[str, Row]:
     return {row.file: row for row in rows if row is not None}
 
 
-def may_take_row(row: Optional[Row], digest: str, differ: int) -> bool:
+def may_take_row(row: Optional[Row], digest: str, passing: Collection[int]) -> bool:
     """A row stands for a file where it has the SHA-256 digest of the bytes that were read of it now, whatever its name and times are;
-    never where two judges differed, which the status `differ` tells."""
-    return row is not None and row.sha256 == digest and row.status != differ
+    never where two judges differed or the machine failed, which the statuses `passing` tell."""
+    return row is not None and row.sha256 == digest and row.status not in passing

@@ -41,6 +41,12 @@ def order_lines(lines: Sequence[Sequence[Handed]], room: int) -> list[Handed]:
     return [it for it in rows if it is not None][:room]
 
 
+def is_first_hand(teller: str, parties: Collection[str]) -> bool:
+    """A receipt that was heard is handed on where one of both whom it is of told it, the recorder or the service that was recorded. So each goes round once,
+    to the peers of their peers, and one that somebody has made up for others ends where it was heard."""
+    return teller in parties
+
+
 def choose_receipts(known: Sequence[Handed], told: Collection[Handed], room: int) -> list[Handed]:
     """A peer gets the last receipts that are known, but for those that it told itself: handed back to it they would look as if this service told them, and
     whoever told a receipt that fails is doubted."""

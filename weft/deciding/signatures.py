@@ -10,7 +10,7 @@ import hashlib
 import re
 import struct
 from enum import Enum
-from typing import Iterable, NamedTuple, Optional, Union
+from typing import Collection, Iterable, NamedTuple, Optional, Union
 
 from weft.deciding.lines import Line, read_line
 
@@ -18,6 +18,7 @@ NAMESPACE = "timeweave-line"
 BEGIN, END = b"-----BEGIN SSH SIGNATURE-----", b"-----END SSH SIGNATURE-----"
 ARMOUR = re.compile(BEGIN + rb"\n(?:[A-Za-z0-9+/=]{1,128}\n)+" + END + rb"\n")
 NAMESPACES = re.compile(rb'namespaces="([^"]*)"')
+SIGNED_BY = re.compile(r"signed by \S+ (SHA256:[A-Za-z0-9+/]{43})(?![A-Za-z0-9+/])")
 MOST_BYTES = 65_536
 KEY_KINDS = (
     b"ssh-ed25519", b"ssh-rsa", b"ecdsa-sha2-nistp256", b"ecdsa-sha2-nistp384", b"ecdsa-sha2-nistp521", b"sk-ssh-ed25519@openssh.com",
@@ -170,3 +171,20 @@ def place_key(key: PublicKey, noted: Iterable[bytes]) -> Addition:
     if same:
         return Addition.KNOWN if any(map(may_sign_lines, same)) else Addition.LIMITED
     return Addition.OTHER if lines else Addition.NEW
+
+
+def read_noted_key(line: bytes) -> Optional[PublicKey]:
+    """The public key of a line of a file of signers, where it may sign lines; else None."""
+    if not may_sign_lines(line):
+        return None
+    words = line.split()
+    kind = next((place for place, word in enumerate(words) if word in KEY_KINDS), len(words))
+    found = read_public_key(b" ".join(words[kind : kind + 2]))
+    return found if isinstance(found, PublicKey) else None
+
+
+def may_rest_on(how: str, fingerprints: Collection[str]) -> bool:
+    """A kept line of which is told that a key signed it counts while that key is noted of its service; one that came in another way counts by the word of
+    whoever kept it."""
+    found = SIGNED_BY.match(how)
+    return found is None or found[1] in fingerprints

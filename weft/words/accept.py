@@ -9,7 +9,7 @@ from pathlib import Path
 from typing import NamedTuple, Optional
 
 from weft import box as boxes
-from weft import files, formats, lines, locks, signatures
+from weft import files, formats, hearing, lines, locks, signatures
 from weft.box import Peer, Settings
 from weft.deciding.forks import contradicts
 from weft.deciding.signatures import Signed, read_signed_line
@@ -67,8 +67,8 @@ def run(options: argparse.Namespace) -> Status:
         line = formats.line_of(message)
         if given is not None:
             compare(given, line)
-        key = signed_by(options.box, peer, settings, line, given.signed if given is not None else None)
-        accept(options, peer, line, key, data)
+        good = signed_by(options.box, peer, settings, line, given.signed if given is not None else None)
+        accept(options, peer, line, good, data)
     return Status.DONE
 
 
@@ -106,26 +106,33 @@ def compare(given: Given, line: Line) -> None:
         raise Trouble(Status.MISSING, told, advice)
 
 
-def signed_by(box: Path, peer: Peer, settings: Settings, line: Line, given: Optional[Signed]) -> Optional[str]:
-    """The key by which the line is signed, in the peer's folder or in the file that was named; None where the box has no key of the peer, or takes
-    unsigned messages. Raises Trouble where it isn't signed."""
+class Good(NamedTuple):
+    """A signed line, and the key by which it is."""
+
+    signed: Signed
+    key: str
+
+
+def signed_by(box: Path, peer: Peer, settings: Settings, line: Line, given: Optional[Signed]) -> Optional[Good]:
+    """The line as it is signed, in the peer's folder or in the file that was named; None where the box has no key of the peer, or takes unsigned messages.
+    Raises Trouble where it isn't signed."""
     signers = signers_of(box)
     if settings.is_unsigned or not signatures.key_lines(signers, peer.name):
         return None
     waiting = read_signed_line(peer.take("line", signatures.MOST_BYTES) or b"")
-    keys = (signatures.checked(it, signers) for it in (given, waiting) if it is not None and it.line == line)
-    key = next((key for key in keys if key is not None), None)
-    if key is None:
+    both = [(it, signatures.checked(it, signers)) for it in (given, waiting) if it is not None and it.line == line]
+    good = next((Good(it, key) for it, key in both if key is not None), None)
+    if good is None:
         told = f"the line of step {line.step} of {peer.name}'s waiting message isn't signed by the key that {name_of(signers)} has for it"
         raise Trouble(
             Status.LOOK,
             f"{told}, and {peer.name} wasn't accepted",
             f"The signed line may be on its way: run weft accept again once {name_of(peer.incoming / 'line')} came anew. If it is there, ask {peer.name} for its key.",
         )
-    return key
+    return good
 
 
-def accept(options: argparse.Namespace, peer: Peer, line: Line, key: Optional[str], message: bytes) -> None:
+def accept(options: argparse.Namespace, peer: Peer, line: Line, good: Optional[Good], message: bytes) -> None:
     """Notes that the peer was accepted by this line."""
     say(f"{peer.name}: the line of its waiting message is")
     say(f"  {line.text}")
@@ -138,8 +145,10 @@ def accept(options: argparse.Namespace, peer: Peer, line: Line, key: Optional[st
             Status.LOOK, f"{peer.name} wasn't accepted", f"Ask it for its line by another way, and if it is this one: weft accept .. --yes {line.authenticator}"
         )
     how = f"compared with {options.line}" if options.line is not None else "compared by a person"
+    files.renew(peer.kept / "first-line", good.signed.data if good else b"")
     files.renew(peer.kept / "first", message)
-    files.renew(peer.kept / "accepted", f"{lines.kept_now(line, f'{how}, signed by {key}' if key else how).text}\n".encode())
+    hearing.begin_anew(peer, line.step)
+    files.renew(peer.kept / "accepted", f"{lines.kept_now(line, f'{how}, signed by {good.key}' if good else how).text}\n".encode())
     say(f"{peer.name} is accepted: the next weft exchange takes its messages.")
 
 

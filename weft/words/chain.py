@@ -5,15 +5,17 @@ from __future__ import annotations
 import argparse
 import os
 import re
+from contextlib import ExitStack, contextmanager
 from pathlib import Path
+from typing import Iterator, Optional, Sequence
 
-from weft import chains, choosing, files, formats, judges, lines, pictures, reports
-from weft.chains import Event, Part, Plan, Sources
+from weft import chains, choosing, files, formats, judges, lines, locks, pictures, reports
+from weft.chains import Event, Misfit, Part, Plan, Sources
 from weft.lines import LAST_STEP, KeptLines
-from weft.output import say
+from weft.output import complain, say
+from weft.parts import whole
 from weft.statuses import Status
-from weft.stores import Store
-from weft.texts import count_of, name_of, printable
+from weft.texts import count_of, listed, name_of, printable
 from weft.trouble import Trouble
 
 NAME = "chain"
@@ -24,9 +26,10 @@ DETAILS = (
     "judged strictly. Or it says which part is missing and whom to ask. Peers of your boxes are asked, and over them the services that they exchange with; of "
     "others it says the command, to be asked for by hand (--hand). An event is named NAME:STEP:INDEX, or by a file that has its proof."
 )
-STATUSES = (Status.NOT_SHOWN, Status.MISSING, Status.SHOWN_BY_REFERENCE, Status.NOT_SHOWN_BY_REFERENCE)
+STATUSES = (Status.NOT_SHOWN, Status.MISSING, Status.BUSY, Status.SHOWN_BY_REFERENCE, Status.NOT_SHOWN_BY_REFERENCE)
 EXAMPLE = "weft chain data:1:0 sent.proof --store /srv/log --store /srv/bank --box /srv/box --out chain"
 MOST_FILES = 10_000
+WAIT = 30
 
 
 def add(parser: argparse.ArgumentParser) -> None:
@@ -58,12 +61,21 @@ def event_of(word: str) -> Event:
 
 def at_hand(paths: list[Path]) -> list[bytes]:
     """The files that were named, and those of named folders."""
-    found: list[Path] = []
-    for path in paths:
-        found += sorted(it for it in path.iterdir() if it.is_file()) if path.is_dir() else [path]
-    if len(found) > MOST_FILES:
-        raise Trouble(Status.USAGE, f"{len(found):,} files are named by --hand, and {MOST_FILES:,} are read at most", "Name fewer.")
-    return [files.read(path, formats.MOST_PROOF) for path in found]
+    folders = [path for path in paths if path.is_dir()]
+    found = [path for folder in folders for path in sorted(folder.iterdir()) if path.is_symlink() or not path.is_dir()]
+    if len(found) + len(paths) > MOST_FILES:
+        raise Trouble(Status.USAGE, f"{len(found) + len(paths):,} files are named by --hand, and {MOST_FILES:,} are read at most", "Name fewer.")
+    named = [files.read(path, formats.MOST_PROOF) for path in paths if path not in folders]
+    return named + [data for path in found if (data := read_below(path)) is not None]
+
+
+def read_below(path: Path) -> Optional[bytes]:
+    """The bytes of a file of a named folder, which somebody else may have filled: no link is followed there, and what can't be read is told and passed over."""
+    try:
+        return files.read(path, formats.MOST_PROOF, follow=False)
+    except Trouble as trouble:
+        complain(f"passed over: {trouble.told()}")
+        return None
 
 
 def run(options: argparse.Namespace) -> Status:
@@ -73,13 +85,19 @@ def run(options: argparse.Namespace) -> Status:
     if options.kept:
         say(choosing.told_kept(options.kept))
     hand = at_hand(options.hand) + [event.proof for event in (first, second) if event.proof is not None]
-    sources = Sources([Store(folder) for folder in options.store], options.box, hand, kept, judge)
-    plan, parts, proof = chains.gathered(sources, first, second)
+    stores = [part.store for folder in options.store for part in whole(folder, judge)]
+    sources = Sources(stores, options.box, hand, kept, judge)
+    try:
+        plan, parts, proof = chains.gathered(sources, first, second)
+    except Misfit as misfit:
+        raise asked_again(options.box, sources, misfit, misfit.parts) from None
     if proof is None:
-        return tell_missing(sources, plan, parts, chains.further_parts(sources, first, second, plan))
+        further = chains.further_parts(sources, first, second, plan)
+        with held_boxes(options.box):
+            return tell_missing(sources, plan, parts, further)
     judgement = choosing.judge_proof(judge, proof, kept, allow_carried=False)
     if not judgement.is_shown or judgement.verdict is None:
-        return tell_refused(sources, judgement, proof)
+        return tell_refused(options.box, sources, judgement, proof, plan)
     files.hand_out(options.out, proof)
     report = reports.read_report(judgement.verdict)
     say(f"{name_of(options.out)}: shown, {len(proof):,} bytes")
@@ -104,7 +122,26 @@ def tell_missing(sources: Sources, plan: Plan, parts: list[bytes | None], furthe
     return Status.MISSING
 
 
-def tell_refused(sources: Sources, judgement: choosing.Judgement, proof: bytes) -> Status:
+@contextmanager
+def held_boxes(boxes: Sequence[Path]) -> Iterator[None]:
+    """Holds the locks of the boxes, as a turn does: what peers are asked for is noted there."""
+    with ExitStack() as held:
+        for path in sorted({os.path.realpath(it) for it in boxes}):
+            held.enter_context(locks.held(Path(path) / ".lock", WAIT, path))
+        yield
+
+
+def asked_again(boxes: Sequence[Path], sources: Sources, trouble: Trouble, parts: Sequence[Part]) -> Trouble:
+    """The trouble, once peers are asked anew for what was at hand by their answers: any of them may be made up."""
+    with held_boxes(boxes):
+        names = sources.ask_again(parts)
+    if not names:
+        return trouble
+    again = f"The answers of {listed(names)}, which nobody signs, are asked for again by the next weft exchange."
+    return Trouble(trouble.status, trouble.sentence, f"{trouble.advice} {again}")
+
+
+def tell_refused(boxes: Sequence[Path], sources: Sources, judgement: choosing.Judgement, proof: bytes, plan: Plan) -> Status:
     """Why what was joined isn't accepted."""
     if judgement.missing:
         say("What was joined: not judged.")
@@ -112,6 +149,6 @@ def tell_refused(sources: Sources, judgement: choosing.Judgement, proof: bytes) 
             say(sentence)
         return Status.MISSING
     sentence = reports.reason_sentence(judgement.verdict)[0] if judgement.verdict is not None else judgement.hindrance
-    raise Trouble(
-        sources.judge.status(False), f"what was joined isn't accepted: {sentence}", "A part may be of another history than your lines: ask for it again."
-    )
+    told = f"what was joined isn't accepted: {sentence}"
+    refused = Trouble(sources.judge.status(False), told, "A part may be of another history than your lines: ask for it again.")
+    raise asked_again(boxes, sources, refused, plan.parts)

@@ -4,12 +4,14 @@ from __future__ import annotations
 
 import argparse
 from pathlib import Path
-from typing import Iterator, NamedTuple, Optional
+from typing import Iterator, NamedTuple, Optional, Sequence
 
-from weft import checks, files, judges, lines, locks
+from weft import checks, files, judges, lines, locks, parts, recorded
 from weft.checks import Bad, Exported, History, Result, Task
-from weft.deciding.checking import Found, Looked, choose_places, judge_check, list_unseen
-from weft.lines import KeptLines, Line
+from weft.deciding.checking import Found, Looked, choose_places, find_differing, judge_check, list_unseen, may_make_entries
+from weft.deciding.worst import worst_of
+from weft.entries import Entries
+from weft.lines import Kept, KeptLines, Line
 from weft.output import complain, say, say_json
 from weft.own import OwnLines
 from weft.progress import with_progress
@@ -24,9 +26,10 @@ SUMMARY = "checks a store: each step, and each line that was kept of it"
 DETAILS = (
     "The history is exported once and each authenticator computed anew; each is held against the link that the program proves, and against the lines "
     "that were kept. Of the events 200 are proved, or with --all each. Where the history is longer than a file may be, its events are counted and proved "
-    "without the export; what wasn't looked at is told then, and the status is 10. Do it each month, and after each restart that was none of your doing."
+    "without the export; what wasn't looked at is told then, and the status is 10. Of a log all parts are checked, and that one "
+    "follows the other. Do it each month, and after each restart that was none of your doing."
 )
-STATUSES = (Status.LOOK, Status.CONTRADICTION, Status.BUSY, Status.OLD_STORE)
+STATUSES = (Status.LOOK, Status.BUSY, Status.OLD_STORE)
 EXAMPLE = "weft check /srv/log\nweft check /srv/log --all --kept ~/lines"
 SAMPLE = 200
 
@@ -35,6 +38,7 @@ def add(parser: argparse.ArgumentParser) -> None:
     """The words."""
     parser.add_argument("folder", metavar="DIR", type=Path, help="the folder of the service")
     parser.add_argument("--all", action="store_true", help="proves each event")
+    parser.add_argument("--entries", action="store_true", help="makes DIR.entries of a log anew where it was lost, of what the store has")
     parser.add_argument("--kept", metavar="FILE", type=Path, action="append", default=[], help="a file of kept lines, beside DIR.lines; may be repeated")
     parser.add_argument("--workers", metavar="N", type=int, help="how many processes (else one a processor)")
     add_wait(parser)
@@ -48,7 +52,10 @@ def run(options: argparse.Namespace) -> Status:
     if options.workers is not None and options.workers < 1:
         raise Trouble(Status.USAGE, "--workers is 1 at least", "Leave it out for one a processor.")
     with locks.held(beside(folder, ".lock"), options.wait, folder):
-        return checked(options, Store(folder))
+        found, handed_out = parts.parts_of(folder, judges.bench()), OwnLines(folder).read(OwnLines(folder).anchor)
+        status = worst_of([checked(options, part.store, handed_out) for part in found])
+        parts.expect_none_missing(folder, judges.bench(), found)
+        return status
 
 
 class Outcome(NamedTuple):
@@ -66,23 +73,65 @@ class Outcome(NamedTuple):
         return Found(len({it.step for it in self.bad}), len(self.wrong), disputed)
 
 
-def checked(options: argparse.Namespace, store: Store) -> Status:
-    """Checks it, and says what came of it."""
+def checked(options: argparse.Namespace, store: Store, handed_out: Sequence[Line]) -> Status:
+    """Checks a part, and says what came of it; its lines that the log handed out count too."""
     top = store.last().line
-    kept = kept_lines(options, store)
+    kept = kept_lines(options, store, handed_out)
     exported = checks.exported(store)
     outcome = looked_at(options, store, top, exported, *held_lines(store, kept, exported.history, top))
     tell(options, store, top, outcome)
     disputed = [kept.contradiction(service, step) for service, step in kept.disputes() if service == top.service]
     for trouble in disputed:
         complain(trouble.told())
-    return judge_check(outcome.found(len(disputed)), outcome.looked)
+    if disputed:
+        complain(whose(store))
+    status = judge_check(outcome.found(len(disputed)), outcome.looked)
+    if not may_make_entries(status):
+        return status
+    if options.entries:
+        make_entries(store, top, exported.history)
+        return status
+    return worst_of([status, check_entries(options, store, top, exported.history)])
 
 
-def kept_lines(options: argparse.Namespace, store: Store) -> KeptLines:
-    """The lines beside the store, and those of the named files or else of the user's own."""
-    own = OwnLines(store.folder)
-    return KeptLines([own.lines, own.anchor, *(options.kept or [lines.default_kept()])])
+def check_entries(options: argparse.Namespace, store: Store, top: Line, history: Optional[History]) -> Status:
+    """Holds the entries of a log against the events of its store; of a history that is too long for an export with --all alone."""
+    entries = Entries(beside(store.folder, ".entries"))
+    if not entries.is_there or (history is None and not options.all):
+        return Status.DONE
+    if files.is_there(beside(store.folder, ".pending")):
+        complain(f"The entries in {name_of(entries.path)} weren't looked at: a run of weft log was stopped amid a step. Run it again first.")
+        return Status.LOOK
+    steps = enumerate(history.events, 1) if history is not None else recorded.events_of(store, judges.bench(), top)
+    differing = find_differing(entries.lines(), steps, recorded.is_of_log)
+    if differing is None:
+        return Status.DONE
+    complain(recorded.differing_entry(options.folder, entries, differing).told())
+    return Status.BAD_STORE
+
+
+def make_entries(store: Store, top: Line, history: Optional[History]) -> None:
+    """Makes the entries of a log anew: of the history whose authenticators were computed anew, else of proofs."""
+    own, judge, entries = OwnLines(store.folder), judges.bench(), Entries(beside(store.folder, ".entries"))
+    own.check(store, judge, top)
+    had = sum(1 for _ in entries.lines())
+    steps = enumerate(history.events, 1) if history is not None else recorded.events_of(store, judge, top)
+    count = recorded.make_entries(entries, steps)
+    complain(f"{name_of(entries.path)} was made anew, of the store: {count_of(count, 'entry', 'entries')}; {had:,} stood there.")
+
+
+def whose(store: Store) -> str:
+    """What to do where one of two lines of a step is the store's."""
+    return (
+        f"One of them is that of {name_of(store.path)}. Append nothing until you know who made the other one: if it went out from here, this store was set back "
+        "and gone on with, and there are two histories: put back the one that has it, and tell those who hold lines. If somebody made it up, choose this store's."
+    )
+
+
+def kept_lines(options: argparse.Namespace, store: Store, handed_out: Sequence[Line]) -> KeptLines:
+    """The lines beside the store, those that the log handed out, and those of the named files or else of the user's own."""
+    beside_it = [Kept(line, "", "") for line in dict.fromkeys([*OwnLines(store.folder).all(), *handed_out])]
+    return KeptLines(options.kept or [lines.default_kept()], beside_it)
 
 
 def looked_at(options: argparse.Namespace, store: Store, top: Line, exported: Exported, wrong: list[str], agreeing: int) -> Outcome:
@@ -121,6 +170,8 @@ def held_lines(store: Store, kept: KeptLines, history: Optional[History], top: L
             if found == line.authenticator:
                 agreeing += step > 0
                 continue
+            if history is not None and 0 < step < top.step and linked(store, top, step) == line.authenticator:
+                continue  # (the store is the line's, and damaged: its step is told as not good)
             came = "; ".join(it.told for it in kept.at(top.service, step) if it.line == line)
             has = "has no such step" if step > top.step else "has another step of that number" if found else "doesn't prove that step"
             wrong.append(f"the store {has} as the line of step {step}, {line.authenticator[:16]}.. ({came})")
@@ -137,6 +188,11 @@ def authenticator_at(store: Store, history: Optional[History], top: Line, step: 
         return step_0(top.service).authenticator
     if history is not None:
         return history.authenticators[step - 1] if step <= len(history.authenticators) else None
+    return linked(store, top, step)
+
+
+def linked(store: Store, top: Line, step: int) -> Optional[str]:
+    """The authenticator of a step that its link proves; None where it isn't proved."""
     verdict, _ = checks.proved(store, top, "link", str(step))
     return verdict.lines[1][4] if verdict is not None else None
 

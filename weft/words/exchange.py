@@ -4,14 +4,16 @@ from __future__ import annotations
 
 import argparse
 from pathlib import Path
+from typing import Optional
 
 from weft import box as boxes
-from weft import files, judges, locks, own, program
+from weft import files, judges, locks, own, parts, program
 from weft.exchange import Turn
-from weft.output import say, say_json
+from weft.output import complain, say, say_json
+from weft.parts import Part
 from weft.statuses import Status
-from weft.stores import Store
 from weft.texts import beside, name_of
+from weft.trouble import Trouble
 from weft.waiting import add_wait
 
 NAME = "exchange"
@@ -50,22 +52,51 @@ def run(options: argparse.Namespace) -> Status:
     settings = boxes.read_settings(box)
     named = own.named_line(options.adopt_store) if options.adopt_store is not None else None
     with locks.held(beside(folder, ".lock"), options.wait, folder), locks.held(box / ".lock", options.wait, box):
-        turn = Turn(Store(folder), box, settings, judges.bench(), options.despite, named)
+        turn = Turn(open_part(folder).store, box, settings, judges.bench(), options.despite, named)
+        note_others(folder, [peer.name for peer in turn.peers])
+        trouble = None
         try:
-            status = turn.run(options.look)
-        finally:
-            told = [(peer.name, text) for peer in turn.peers for text in peer.told]
-            if not options.json:
-                for name, text in told:
-                    say(f"{name}: {text}.")
-    general = list(turn.told)
-    if settings.is_unsigned:
-        general.append(f"Unsigned messages are taken here ({name_of(box / 'box.conf')}): whoever can write in a folder `in` can speak in a peer's name.")
-    if options.json:
-        say_json({"line": turn.last._asdict(), "peers": {peer.name: peer.told for peer in turn.peers}, "told": general, "status": int(status)})
+            turn.run(options.look)
+        except Trouble as ended:
+            turn.is_made, trouble = False, ended
+        except BaseException:
+            turn.is_made = False
+            say_all(options, turn, None)
+            raise
+        status = turn.ended(trouble)
+        say_all(options, turn, status)
+        if trouble is not None:
+            complain(trouble.told())
         return status
-    for text in general:
-        say(text)
-    if turn.is_made:
-        say(turn.last.text)
-    return status
+
+
+def say_all(options: argparse.Namespace, turn: Turn, status: Optional[Status]) -> None:
+    """Says all that was found, whatever ended the turn; there is no status where weft itself failed, or was stopped."""
+    general = list(turn.told)
+    if turn.settings.is_unsigned:
+        conf = name_of(turn.box / "box.conf")
+        general.append(f"Unsigned messages are taken here ({conf}): whoever can write in a folder `in` can speak in a peer's name.")
+    if options.json:
+        peers = {peer.name: peer.told for peer in turn.peers}
+        say_json({"line": turn.last._asdict(), "peers": peers, "told": general, "status": None if status is None else int(status)})
+    else:
+        for text in [*(f"{peer.name}: {text}." for peer in turn.peers for text in peer.told), *general]:
+            say(text)
+        if turn.is_made:
+            say(turn.last.text)
+
+
+def note_others(folder: Path, names: list[str]) -> None:
+    """Notes with whom a service exchanges: then its log doesn't go on in a new part by itself."""
+    path = beside(folder, ".others")
+    if names or files.is_there(path):
+        files.renew_if_other(path, "".join(f"{name}\n" for name in names).encode(), files.PRIVATE)
+
+
+def open_part(folder: Path) -> Part:
+    """The part of a service in which it goes on; raises Trouble where that has ended, or the next one is still being made."""
+    judge, new = judges.bench(), parts.read_next(folder)
+    if new is not None:
+        told = f"{name_of(folder)} is to go on as {new.name}, and the run of weft log that makes that part was stopped"
+        raise Trouble(Status.LOOK, told, "Run weft log first.")
+    return parts.whole(folder, judge)[-1]

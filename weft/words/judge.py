@@ -5,11 +5,12 @@ from __future__ import annotations
 import argparse
 import itertools
 from pathlib import Path
-from typing import NamedTuple, Optional, Union
+from typing import Callable, Iterator, NamedTuple, Optional, Union
 
 from weft import bulk, choosing, files, formats, judges, lines, outcomes, pictures, reports
 from weft.choosing import Judgement
 from weft.deciding.choosing import Headline
+from weft.deciding.contradicting import Told, find_pairs, read_told
 from weft.deciding.rows import digest_of
 from weft.deciding.worst import worst_of
 from weft.judges import Bench, Verdict
@@ -17,8 +18,8 @@ from weft.lines import KeptLines
 from weft.outcomes import Named, Outcome, map_name
 from weft.output import complain, say, say_json
 from weft.statuses import Status
-from weft.texts import name_of
-from weft.trouble import Trouble
+from weft.texts import count_of, name_of
+from weft.trouble import Trouble, of_machine
 
 NAME = "judge"
 SUMMARY = "judges proofs, map files, evidence and histories under the lines that you kept"
@@ -41,6 +42,8 @@ EXAMPLE = (
 
 # What says something of the lines that a service received.
 ARCHIVE_KINDS = ("thread", "absence", "low map", "high map")
+# So many of these are compared each with each.
+MOST_COMPARED = 32
 
 
 def add(parser: argparse.ArgumentParser) -> None:
@@ -48,6 +51,7 @@ def add(parser: argparse.ArgumentParser) -> None:
     parser.add_argument("proofs", metavar="PROOF", nargs="*", help="proofs, map files, evidence, histories")
     parser.add_argument("--kept", metavar="FILE", type=Path, action="append", help="a file of kept lines; several may be named (else WEFT_KEPT, ..)")
     parser.add_argument("--file", metavar="F", help="holds the event against the digest and the name of this file")
+    parser.add_argument("--audit", metavar="HISTORY", type=Path, action="append", default=[], help="holds what is shown against this history; may be repeated")
     parser.add_argument("--carried", action="store_true", help="accepts proofs that carry lines, and says which")
     parser.add_argument("--top", metavar="STEP", type=int, help="of a history: judges it up to this step (else up to its last one)")
     parser.add_argument("--svg", metavar="OUT", help="draws what is shown as a picture")
@@ -84,8 +88,8 @@ def run(options: argparse.Namespace) -> Status:
 def expect_words(options: argparse.Namespace) -> None:
     """Raises Trouble where words don't go together, before anything is judged."""
     if options.many:
-        if options.proofs or options.file or options.svg or options.top is not None:
-            raise Trouble(Status.USAGE, "--many takes no proofs, --file, --svg or --top beside it", "See weft judge --help.")
+        if options.proofs or options.file or options.svg or options.audit or options.top is not None:
+            raise Trouble(Status.USAGE, "--many takes no proofs, --file, --svg, --audit or --top beside it", "See weft judge --help.")
         return
     if options.dask or options.tls:
         raise Trouble(Status.USAGE, "--dask and --tls are for --many", "See weft judge --help.")
@@ -97,13 +101,13 @@ def judge_named(options: argparse.Namespace, kept: KeptLines, judge: Bench) -> S
     """Judges the files that were named, each of them, whatever came of those before it; the worst of it counts."""
     read = [read_named(options, path) for path in options.proofs]
     groups = grouped([it for it in read if isinstance(it, Named)])
-    if (options.svg or options.file or options.top is not None) and (len(groups) != 1 or len(read) != sum(map(len, groups))):
-        raise Trouble(Status.USAGE, "--svg, --file and --top are of one proof", "Name one proof.")
+    if (options.svg or options.file or options.audit or options.top is not None) and (len(groups) != 1 or len(read) != sum(map(len, groups))):
+        raise Trouble(Status.USAGE, "--svg, --file, --audit and --top are of one proof", "Name one proof.")
     statuses = [it for it in read if isinstance(it, Status)]
     shown = []
     try:
         for group in groups:
-            found = judge_group(options, kept, judge, group)
+            found = judge_or_tell(options, kept, judge, group)
             statuses.append(found.status)
             if found.judgement is not None and found.judgement.is_shown:
                 shown.append((group, found.judgement))
@@ -155,6 +159,19 @@ def grouped(named: list[Named]) -> list[list[Named]]:
     return groups
 
 
+def judge_or_tell(options: argparse.Namespace, kept: KeptLines, judge: Bench, group: list[Named]) -> Judged:
+    """Judges a group; that the machine failed at it is told, and others are judged all the same."""
+    paths = [it.path for it in group]
+    try:
+        with of_machine(" and ".join(paths)):
+            return judge_group(options, kept, judge, group)
+    except Trouble as trouble:
+        if trouble.status not in (Status.NO_MEMORY, Status.DISK):
+            raise
+        tell_trouble(options, paths, trouble)
+        return Judged(group, None, trouble.status)
+
+
 def judge_group(options: argparse.Namespace, kept: KeptLines, judge: Bench, group: list[Named]) -> Judged:
     """Judges a group and says what came of it."""
     try:
@@ -166,7 +183,9 @@ def judge_group(options: argparse.Namespace, kept: KeptLines, judge: Bench, grou
             return Judged(group, None, trouble.status)
         raise
     if judgement.is_shown and options.file:
-        outcome = outcomes.with_file(judge, outcome, judgement, options.file)
+        outcome = unless_troubled(outcome, lambda it: outcomes.with_file(judge, it, judgement, options.file))
+    if judgement.is_shown and options.audit:
+        outcome = unless_troubled(outcome, lambda it: outcomes.with_histories(judge, kept, it, judgement, group[0].data, options.audit))
     if options.json:
         say_json(as_json(options, judge, kept, group, judgement, outcome))
     else:
@@ -174,6 +193,14 @@ def judge_group(options: argparse.Namespace, kept: KeptLines, judge: Bench, grou
     if options.svg and judgement.verdict is not None and judgement.is_shown and outcome.headline is not Headline.NOT_SHOWN:
         files.hand_out(options.svg, pictures.verdict(reports.read_report(judgement.verdict), judgement.lines, map_name(group)).encode())
     return Judged(group, judgement, outcome.status)
+
+
+def unless_troubled(outcome: Outcome, work: Callable[[Outcome], Outcome]) -> Outcome:
+    """What comes of holding an outcome against more; where that can't be done, what was found before stands, and the trouble beside it."""
+    try:
+        return work(outcome)
+    except Trouble as trouble:
+        return outcome._replace(status=worst_of([outcome.status, trouble.status]), told=[*outcome.told, trouble.told()])
 
 
 def tell(judge: Bench, group: list[Named], judgement: Judgement, outcome: Outcome) -> None:
@@ -218,34 +245,53 @@ def bound_step(judgement: Judgement) -> Optional[int]:
     return line.step if line is not None and not judgement.history.held.differing else 0
 
 
+class Held(NamedTuple):
+    """An accepted file that tells what a service received: the file, the bytes of the lines that it is under, and what the judge's words tell of it."""
+
+    it: Named
+    lines: bytes
+    told: Optional[Told]
+
+
 def contradicted(options: argparse.Namespace, judge: Bench, shown: list[tuple[list[Named], Judgement]]) -> Status:
-    """Whether two of the accepted files contradict each other, where a judge has that: what one shows as received the other shows as not
-    received."""
-    if not judge.has("contradict"):
-        return Status.DONE
-    held = [(it, lines.anchors(judgement.lines)) for group, judgement in shown for it in group if it.kind in ARCHIVE_KINDS]
+    """Whether two of the accepted files contradict each other; a file that was named twice, or by two names, is one."""
+    judge = judges.for_contradictions(judge)
+    held = [Held(it, lines.anchors(judgement.lines), told_of(judgement)) for group, judgement in shown for it in group if it.kind in ARCHIVE_KINDS]
+    held = list({(one.it.data, one.lines): one for one in reversed(held)}.values())[::-1]
     links = [it.data for group, _ in shown for it in group if it.kind == "link"]
     status = Status.DONE
-    for (first, first_lines), (second, second_lines) in itertools.combinations(held, 2):
-        verdict = contradiction(judge, (first.data, first_lines, second.data, second_lines), links)
+    for first, second in pairs_of(options, held):
+        verdict = choosing.judge_contradiction(judge, (first.it.data, first.lines, second.it.data, second.lines), links)
         if verdict.is_accepted:
             status = Status.CONTRADICTION
-            told = reports.contradiction_sentences(verdict, name_of(first.path), name_of(second.path))
-            if options.json:
-                by = [one.name for one in judge.seated("contradict")]
-                say_json({"contradiction": [first.path, second.path], "status": int(status), "text": verdict.text, "says": told, "judged_by": by})
-                continue
-            for sentence in told:
-                say(sentence)
-            say(f"  {judge.told('contradict')}")
+            tell_contradiction(options, judge, verdict, first.it.path, second.it.path)
     return status
 
 
-def contradiction(judge: Bench, files: tuple[bytes, bytes, bytes, bytes], links: list[bytes]) -> Verdict:
-    """The verdict on two files, each with its anchors; where they are under two lines of one service, by a link of these that joins
-    both."""
-    verdict = judge.judge("contradict", *files, b"")
-    if verdict.text.startswith("accepted broken-rule-or-fork"):
-        joined = (judge.judge("contradict", *files, link) for link in links)
-        return next((it for it in joined if it.is_accepted), verdict)
-    return verdict
+def told_of(judgement: Judgement) -> Optional[Told]:
+    """What a judge's words tell of a line that was received, or wasn't."""
+    words = judgement.verdict.lines[1:2] if judgement.verdict is not None else []
+    return read_told(words[0]) if words else None
+
+
+def pairs_of(options: argparse.Namespace, held: list[Held]) -> Iterator[tuple[Held, Held]]:
+    """The files that are compared: each with each where they are few; of many those whose steps meet."""
+    if len(held) <= MOST_COMPARED:
+        yield from itertools.combinations(held, 2)
+        return
+    if not options.json:
+        say(f"{count_of(len(held), 'file')} tell what services received: those whose steps meet are compared, and not each with each.")
+    told = [(place, one.told) for place, one in enumerate(held) if one.told is not None]
+    for pair in find_pairs([found for _, found in told]):
+        yield held[told[pair.first][0]], held[told[pair.second][0]]
+
+
+def tell_contradiction(options: argparse.Namespace, judge: Bench, verdict: Verdict, first: str, second: str) -> None:
+    """Says that two files contradict each other."""
+    told = reports.contradiction_sentences(verdict, name_of(first), name_of(second))
+    if options.json:
+        by = [one.name for one in judge.seated("contradict")]
+        say_json({"contradiction": [first, second], "status": int(Status.CONTRADICTION), "text": verdict.text, "says": told, "judged_by": by})
+        return
+    for sentence in [*told, f"  {judge.told('contradict')}"]:
+        say(sentence)

@@ -123,6 +123,8 @@ def run(options: argparse.Namespace) -> Status:
     if signer is not None and options.by is not None:
         raise Trouble(Status.USAGE, "--by is for lines without a signature, and --signer for a signed one", "Leave one of both out.")
     new = named_lines(options, given(options.file), signers, signer)
+    for it in new:
+        expect_possible(it.line)
     placed = [choose(options.file, kept, new)] if options.choose else lines.keep(kept, new)
     if signer is not None:
         note_signer(signers, signer)
@@ -133,6 +135,14 @@ def run(options: argparse.Namespace) -> Status:
 def named_signer(name: str, path: str) -> Signer:
     """Whose key --signer names."""
     return Signer(lines.checked_name(name), path, signatures.public_key(path))
+
+
+def expect_possible(line: Line) -> None:
+    """Raises Trouble where no service can have the line, which of step 0 alone is known."""
+    if line.step == 0:
+        from weft import formats  # (the reference isn't read for other lines)
+
+        formats.expect_possible(line)
 
 
 def choose(path: str, kept: Path, new: list[Kept]) -> Placed:

@@ -5,7 +5,7 @@ from __future__ import annotations
 import argparse
 from pathlib import Path
 
-from weft import files, judges, locks, signatures
+from weft import files, judges, locks, parts, signatures
 from weft.lines import Line
 from weft.output import say, say_json
 from weft.own import OwnLines
@@ -62,6 +62,7 @@ def noted_line(folder: Path) -> Line:
     """The last line of a service, noted among those that stand beside it as one that may have gone out; raises Trouble where the store isn't the one of
     these. Where none stands there, none is noted: a store that was copied alone stays one that nobody has named. That of step 0, which the name alone
     makes, isn't noted either."""
+    folder = parts.whole(folder, judges.bench())[-1].folder
     store, own = Store(folder), OwnLines(folder)
     line = store.last().line
     own.compare(store, judges.bench(), line)

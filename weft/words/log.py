@@ -4,18 +4,20 @@ from __future__ import annotations
 
 import argparse
 import os
-import time
 from pathlib import Path
+from typing import Sequence
 
-from weft import files, judges, lines, locks, logs, own, program
-from weft.deciding import gone
-from weft.deciding.gone import Changes
-from weft.logs import Log, Look
+from weft import files, judges, lines, locks, logs, own, program, shares
+from weft.days import Counts, Day, Wanted
+from weft.deciding.gone import Fate
+from weft.lines import Line
+from weft.logs import Log
 from weft.output import complain, say, say_json
 from weft.statuses import Status
-from weft.texts import beside, count_of, name_of, steps_of
+from weft.texts import beside, count_of, date_of, listed, name_of, steps_of
 from weft.trouble import Trouble
 from weft.waiting import add_wait
+from weft.walking import Look
 
 NAME = "log"
 SUMMARY = "logs the files of a folder in steps of a service"
@@ -24,8 +26,9 @@ DETAILS = (
     "claims this moment. The service lies in the folder SERVICE and is made, under NAME, at the first run. Beside it stand SERVICE.lines, "
     "SERVICE.anchor (the line to hand out), and SERVICE.entries (step, index and event of each entry, by which proofs are made). All of that may be read by "
     "its user alone. Links, pipes and the log itself aren't logged. What can't be looked at, with all that is below it, and what is changed while it is read "
-    "is left out, and isn't called gone. Without SERVICE.lines or SERVICE.entries beside it a store makes no step. A run that was stopped is brought to its "
-    "end by the next one."
+    "is left out, and isn't called gone. Without SERVICE.lines or SERVICE.entries beside it a store makes no step. Files of which nothing changed aren't read "
+    "but once in seven days; SERVICE.known has their states. Before its history outgrows its file the log goes on in a new part, in SERVICE/part-2 and so on, "
+    "unless it exchanges with peers. A run that was stopped is brought to its end by the next one."
 )
 STATUSES = (Status.LOOK, Status.BUSY, Status.FEWER, Status.OLD_STORE)
 EXAMPLE = "weft log /srv/data /srv/log data\nweft log /srv/data /srv/log"
@@ -39,6 +42,9 @@ def add(parser: argparse.ArgumentParser) -> None:
     parser.add_argument("--all", action="store_true", help="logs all files, those that are as they were too")
     parser.add_argument("--no-time", action="store_true", help="lets the step claim no time")
     parser.add_argument("--gone", action="store_true", help="logs what is gone also where most is, or something else is in its place")
+    days = "reads all files after so many days (7), 0 each time; else those whose size, times, number or device changed, or those read within a minute of that"
+    parser.add_argument("--all-read", metavar="DAYS", type=int, default=7, help=days)
+    parser.add_argument("--workers", metavar="N", type=int, help="how many files are read at a time (else one a processor)")
     own.add_adopt(parser)
     add_wait(parser)
     parser.add_argument("--unproved", action="store_true", help="lets the second implementation make the step, which isn't proved")
@@ -50,6 +56,8 @@ def run(options: argparse.Namespace) -> Status:
     program.refuse_second(options.unproved)
     if options.name is not None:
         lines.checked_name(options.name)
+    if options.all_read < 0 or (options.workers is not None and options.workers < 1):
+        raise Trouble(Status.USAGE, "--all-read is 0 at least, and --workers 1", "Leave them out for 7 days, and one a processor.")
     folder, service = options.folder, files.folder_named(options.service)
     adopted = own.named_line(options.adopt_store) if options.adopt_store is not None else None
     check_folders(folder, service)
@@ -59,7 +67,8 @@ def run(options: argparse.Namespace) -> Status:
     with locks.held(beside(service, ".lock"), options.wait, service):
         log = Log(service, judges.bench())
         log.begin(options.name, adopted)
-        return logged(options, log, logs.look(folder, service))
+        day = Day(log, Wanted(options.all, options.gone, options.no_time, options.all_read, options.workers))
+        return logged(options, log, Look(folder, service, day.is_full, options.workers), day)
 
 
 def check_folders(folder: Path, service: Path) -> None:
@@ -74,62 +83,72 @@ def check_folders(folder: Path, service: Path) -> None:
         raise Trouble(Status.USAGE, f"{name_of(service)} is the logged folder itself", "Name another folder for the service.")
 
 
-def logged(options: argparse.Namespace, log: Log, found: Look) -> Status:
+def logged(options: argparse.Namespace, log: Log, look: Look, day: Day) -> Status:
     """Makes the steps, and says what they have."""
-    before = log.logged()
-    changes = gone.compare_logged(found.digests, before, found.fates(before))
-    is_fewer = gone.has_lost_most(len(found.digests), len(found.left_out), len(before), len(changes.gone))
-    with_gone = options.gone or not is_fewer
-    words = gone.choose_events(changes, found.digests, options.all, with_gone, options.gone)
-    moment = None if options.no_time else int(time.time())
-    made = [log.add(piece, moment).step for piece in logs.pieces([logs.event_of(word, path) for path, word in words])]
-    tell(options, log, changes, found, made, with_gone)
-    complain_of(changes, found, options.gone)
-    if is_fewer and not options.gone:
-        complain(fewer(options.folder, found, changes, before))
-        return Status.FEWER
-    return Status.LOOK if found.left_out or log.needs_look or (changes.replaced and not options.gone) else Status.DONE
-
-
-def complain_of(changes: Changes, found: Look, is_gone: bool) -> None:
-    """Tells what was left out, and what has something else in its place."""
-    for path in [] if is_gone else changes.replaced:
-        complain(f"{name_of(os.fsdecode(path))} was a file, and something else is in its place: it isn't logged as gone.")
-    if changes.replaced and not is_gone:
-        complain(f"If {'that file is' if len(changes.replaced) == 1 else 'those files are'} gone for good, run weft log --gone, which logs it.")
-    if found.left_out:
-        what = count_of(len(found.left_out), "file or folder", "files or folders")
+    day.run(look)
+    tell(options, log, look, day)
+    day.tell_replaced()
+    if look.left_out:
+        what = count_of(len(look.left_out), "file or folder", "files or folders")
         complain(f"{what} left out: nothing is logged of them. See to it that they can be read, and run weft log again.")
+    share = shares.told(log.store, log.last.service) if log.exchanges else None
+    if share is not None:
+        complain(share)
+        log.needs_look = True
+    if day.is_fewer and not options.gone:
+        complain(fewer(options.folder, day.counts))
+        return Status.FEWER
+    return Status.LOOK if look.left_out or log.needs_look or (day.counts.replaced and not options.gone) else Status.DONE
 
 
-def fewer(folder: Path, found: Look, changes: Changes, before: dict[bytes, bytes]) -> str:
+def fewer(folder: Path, counts: Counts) -> str:
     """That files are missing which were there."""
-    if not before:
+    if not counts.logged:
         return f"{name_of(folder)} has no files. Is it mounted? If it is to be empty, run weft log --gone."
-    what = "none" if not found.digests else "fewer than half"
+    what = "none" if not counts.found else "fewer than half"
     return (
-        f"{name_of(folder)} has {what} of the {len(before):,} files that were logged. Is it mounted? The {len(changes.gone):,} that are missing weren't logged "
+        f"{name_of(folder)} has {what} of the {counts.logged:,} files that were logged. Is it mounted? The {counts.gone:,} that are missing weren't logged "
         "as gone: if they are gone for good, run weft log --gone, which logs it."
     )
 
 
-def summary(changes: Changes, with_gone: bool, is_gone: bool) -> str:
+def summary(day: Day) -> str:
     """How many files are new, changed, gone, missing, or as they were. Gone are those that are logged so."""
-    number = len(changes.gone) if with_gone else 0
-    number += len(changes.replaced) if is_gone else 0
-    parts = [f"{count_of(len(changes.new), 'file')} new", f"{len(changes.changed):,} changed", f"{number:,} gone"]
-    if changes.gone and not with_gone:
-        parts.append(f"{len(changes.gone):,} missing")
-    return f"{', '.join(parts)}, {len(changes.same):,} as they were"
+    counts, with_gone = day.counts, day.logs(Fate.GONE)
+    number = (counts.gone if with_gone else 0) + (counts.replaced if day.logs(Fate.REPLACED) else 0)
+    parts = [f"{count_of(counts.new, 'file')} new", f"{counts.changed:,} changed", f"{number:,} gone"]
+    if counts.gone and not with_gone:
+        parts.append(f"{counts.gone:,} missing")
+    return f"{', '.join(parts)}, {counts.same:,} as they were"
 
 
-def tell(options: argparse.Namespace, log: Log, changes: Changes, found: Look, made: list[int], with_gone: bool) -> None:
+def told_reading(day: Day) -> str:
+    """How many files were read, and when all were last."""
+    if day.is_full:
+        return f"{count_of(day.counts.read, 'file')} read: all that can be."
+    return f"{count_of(day.counts.read, 'file')} read; all were last read on {date_of(day.full)[:10]}."
+
+
+def made_told(made: Sequence[Line]) -> str:
+    """The steps that were made; of several parts those of each."""
+    steps: dict[str, list[int]] = {}
+    for line in made:
+        steps.setdefault(line.service, []).append(line.step)
+    if len(steps) == 1:
+        return steps_of([line.step for line in made])
+    return listed([f"{steps_of(numbers)} of {service}" for service, numbers in steps.items()])
+
+
+def tell(options: argparse.Namespace, log: Log, look: Look, day: Day) -> None:
     """Says what was logged, and the line to hand out."""
+    counts, with_gone, with_replaced = day.counts, day.logs(Fate.GONE), day.logs(Fate.REPLACED)
     if options.json:
-        counts = {name: len(getattr(changes, name)) for name in ("new", "changed", "same")}
-        went = (len(changes.gone) if with_gone else 0) + (len(changes.replaced) if options.gone else 0)
-        not_logged = {"missing": 0 if with_gone else len(changes.gone), "replaced": 0 if options.gone else len(changes.replaced)}
-        say_json({"steps": made, **counts, "gone": went, **not_logged, "left_out": len(found.left_out), "line": log.last._asdict()})
+        number = (counts.gone if with_gone else 0) + (counts.replaced if with_replaced else 0)
+        not_logged = {"missing": 0 if with_gone else counts.gone, "replaced": 0 if with_replaced else counts.replaced}
+        found = {"new": counts.new, "changed": counts.changed, "same": counts.same, "gone": number, **not_logged, "left_out": len(look.left_out)}
+        say_json({"steps": [line.step for line in day.made], **found, "read": counts.read, "all_read": day.full, "line": log.last._asdict()})
         return
-    say(f"{steps_of(made)}: {summary(changes, with_gone, options.gone)}{', all logged' if options.all else ''}")
-    say(f"Hand out {name_of(log.lines.anchor)}: {log.last.text}")
+    say(f"{made_told(day.made)}: {summary(day)}{', all logged' if options.all else ''}")
+    if counts.logged:
+        say(told_reading(day))
+    say(f"Hand out {name_of(log.anchor)}: {log.last.text}")

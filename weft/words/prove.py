@@ -5,25 +5,30 @@ from __future__ import annotations
 import argparse
 import os
 from pathlib import Path
-from typing import Optional
+from typing import NamedTuple, Optional, Sequence
 
-from weft import choosing, files, formats, judges, logs, own, reports
+from weft import chains, choosing, files, formats, judges, own, parts, reports
+from weft.chains import Event, Sources
 from weft.deciding.gone import GONE
-from weft.lines import KeptLines, kept_now
-from weft.output import say
+from weft.deciding.known import Entry
+from weft.entries import read_event
+from weft.judges import Bench
+from weft.lines import KeptLines, Line, kept_now
+from weft.output import complain, say
 from weft.own import OwnLines
+from weft.parts import Part
 from weft.statuses import Status
-from weft.stores import Store
-from weft.texts import beside, name_of, printable, shown_event
+from weft.texts import beside, listed, name_of, printable, shown_event
 from weft.trouble import Trouble
 
 NAME = "prove"
 SUMMARY = "makes the proof of a file that weft log logged"
 DETAILS = (
     "It looks the file's last entry up in SERVICE.entries, has the service prove it under its last line, or under that of the step --top, which the "
-    "reader has to hold, and judges the proof before it is handed out. Give the reader the proof; he has the line already."
+    "reader has to hold, and judges the proof before it is handed out. Give the reader the proof; he has the line already. Of a file that an earlier part of the "
+    "log has, the proof is that it was recorded before an event of the last part; with --top it is under a line of its own part."
 )
-STATUSES = ()
+STATUSES = (Status.LOOK,)
 EXAMPLE = "weft prove /srv/log paid.csv --top 2 --out paid.proof"
 
 
@@ -36,25 +41,81 @@ def add(parser: argparse.ArgumentParser) -> None:
     parser.add_argument("--out", metavar="PROOF", help="where the proof is written (else the file's name with .proof behind, in this folder, where no other file has it)")
 
 
+class Place(NamedTuple):
+    """A step of a service."""
+
+    service: str
+    step: int
+
+
+class Found(NamedTuple):
+    """An entry: the part in which it stands, its step and index there, and its event; and the later step that logged the file as gone, where one did."""
+
+    part: Part
+    step: int
+    index: int  # type: ignore[assignment]
+    event: bytes
+    gone: Optional[Place] = None
+
+
+class Made(NamedTuple):
+    """A proof that was made, the judgement of it, and the line under which it is."""
+
+    proof: bytes
+    judgement: choosing.Judgement
+    top: Line
+
+
 def run(options: argparse.Namespace) -> Status:
     """Makes the proof."""
     service = files.folder_named(options.service)
-    store, judge = Store(service), judges.bench()
-    step, index, event = entry(service, os.fsencode(options.file), options.step)
-    last = store.last().line
-    OwnLines(service).compare(store, judge, last)
-    if options.top is not None and not step <= options.top <= last.step:
-        told = f"{name_of(options.file)} was logged in step {step}, and the last step is {last.step}"
-        raise Trouble(Status.REFUSED, told, f"Name a --top from {step} to {last.step}.")
-    top = own.line_at(store, judge, options.top or last.step, last)
-    proof = store.done("prove", "event", str(step), str(index), str(top.step))
-    judgement = choosing.judge_proof(judge, proof, KeptLines(more=[kept_now(top, "own")]), allow_carried=False)
-    check(service, judgement, event)
-    out = options.out or own_name(options.file, proof)
-    files.hand_out(out, proof)
-    say(f"{name_of(out)}: {shown_event(event)} in step {step} of {top.service}, for whoever holds its line of step {top.step}: {top.text}")
-    say(f"  {judge.told(judgement.call)}")
+    judge = judges.bench()
+    all_parts = parts.whole(service, judge)
+    found = entry(all_parts, os.fsencode(options.file), options.step)
+    OwnLines(found.part.folder).compare(found.part.store, judge, found.part.last)
+    made = chained(judge, all_parts, found) if options.top is None and found.part is not all_parts[-1] else under(judge, found, options)
+    check(found.part.folder, made.judgement, found.event)
+    out = options.out or own_name(options.file, made.proof)
+    files.hand_out(out, made.proof)
+    where = f"in step {found.step} of {found.part.last.service}"
+    if made.top.service == found.part.last.service:
+        say(f"{name_of(out)}: {shown_event(found.event)} {where}, for whoever holds its line of step {made.top.step}: {made.top.text}")
+    else:
+        between = listed([it.last.text for it in all_parts[found.part.number - 1 : -1]])
+        before = f"before step {made.top.step} of {made.top.service}, for whoever holds {made.top.text}"
+        say(f"{name_of(out)}: {shown_event(found.event)} {where}, {before}; and {between}")
+    say(f"  {judge.told(made.judgement.call)}")
+    if found.gone is not None:
+        complain(f"step {found.gone.step} of {found.gone.service} logged later that {name_of(options.file)} is gone: this is the entry before that.")
+        return Status.LOOK
     return Status.DONE
+
+
+def under(judge: Bench, found: Found, options: argparse.Namespace) -> Made:
+    """The proof of an entry under a line of its own part: the last one, or that of the step --top."""
+    last, store = found.part.last, found.part.store
+    if options.top is not None and not found.step <= options.top <= last.step:
+        told = f"{name_of(options.file)} was logged in step {found.step}, and the last step is {last.step}"
+        raise Trouble(Status.REFUSED, told, f"Name a --top from {found.step} to {last.step}.")
+    top = own.line_at(store, judge, options.top or last.step, last)
+    proof = store.done("prove", "event", str(found.step), str(found.index), str(top.step))
+    return Made(proof, choosing.judge_proof(judge, proof, KeptLines(more=[kept_now(top, "own")]), allow_carried=False), top)
+
+
+def chained(judge: Bench, all_parts: list[Part], found: Found) -> Made:
+    """The proof of an entry of an earlier part under the last line of the last one: that it was recorded before an event there; where there is none, under
+    the last line of its own part."""
+    last = all_parts[-1]
+    step, count, _ = last.entries.last_step()
+    if not 1 < step <= last.last.step:
+        return under(judge, found, argparse.Namespace(top=None, file=""))
+    later = last.store.done("prove", "event", str(step), str(count - 1), str(last.last.step))
+    kept = KeptLines(more=[kept_now(part.last, "own") for part in all_parts])
+    sources = Sources([part.store for part in all_parts], [], [], kept, judge)
+    made = chains.gathered(sources, Event(found.part.last.service, found.step, found.index), Event(last.last.service, step, count - 1, later))
+    if made.proof is None:
+        raise Trouble(Status.BAD_STORE, f"the parts of {all_parts[0].last.service} don't make the chain to their last one", "weft check says which is damaged.")
+    return Made(made.proof, choosing.judge_proof(judge, made.proof, kept, allow_carried=False), last.last)
 
 
 def own_name(file: str, proof: bytes) -> str:
@@ -77,25 +138,29 @@ def check(service: Path, judgement: choosing.Judgement, event: bytes) -> None:
         raise Trouble(Status.BAD_STORE, told, "Were the entries changed, or another store put there? weft check.")
 
 
-def entry(service: Path, name: bytes, step: Optional[int]) -> tuple[int, int, bytes]:
-    """Step, index and event of the last entry of a file, or of that of a step; raises Trouble where there is none, or several files have
-    the name."""
-    found: dict[bytes, tuple[int, int, bytes]] = {}
+def note(found: dict[bytes, Found], read: Entry, it: Found) -> None:
+    """Notes the last entry of a path with a digest, and which later one tells that the file is gone."""
+    if read.word != GONE:
+        found[read.path] = it
+    elif read.path in found:
+        found[read.path] = found[read.path]._replace(gone=Place(it.part.last.service, it.step))
+
+
+def entry(all_parts: Sequence[Part], name: bytes, step: Optional[int]) -> Found:
+    """The last entry of a file, or that of a step; raises Trouble where there is none, or several files have the name."""
+    found: dict[bytes, Found] = {}
     wanted = name[2:] if name.startswith(b"./") else name
-    path = beside(service, ".entries")
-    with os.fdopen(files.opened(path), "rb") as file:
-        for line in file:
-            fields = line.rstrip(b"\n").split(b" ", 2)
-            read = logs.read_event(fields[2]) if len(fields) == 3 else None
-            if read is None or read[0] == GONE or (step is not None and int(fields[0]) != step):
+    for part in all_parts:
+        os.close(files.opened(part.entries.path))
+        for line in part.entries.lines():
+            read = read_event(line.event)
+            if read is None or (step is not None and line.step != step):
                 continue
-            if read[1][2:] == wanted or read[1].endswith(b"/" + wanted):
-                found[read[1]] = int(fields[0]), int(fields[1]), fields[2]
+            if read.path[2:] == wanted or read.path.endswith(b"/" + wanted):
+                note(found, read, Found(part, line.step, line.index, line.event))
     exact = found.get(b"./" + wanted)
     if exact is None and len(found) != 1:
         several = ", ".join(printable(os.fsdecode(it)) for it in sorted(found)[:5])
-        told = f"{name_of(path)} has {'no' if not found else 'several'} entries of {name_of(os.fsdecode(name))}"
+        told = f"{name_of(all_parts[0].entries.path)} has {'no' if not found else 'several'} entries of {name_of(os.fsdecode(name))}"
         raise Trouble(Status.REFUSED, told, f"Name one: {several}." if found else "Is it a path from the logged folder on? weft log logs it.")
     return exact or next(iter(found.values()))
-
-

@@ -218,7 +218,7 @@ def old_copy(room):
     linked(room)
     status, output = script(room, "old_copy.sh", room.program)
     statuses = re.findall(r"^\(status (\d+)\)$", output, re.M)
-    if (status, statuses) != (0, ["10", "17", "17", "17", "11", "17", "11"]) or not output.endswith("shop: 6 of 6 steps good; 6 kept lines agree.\n"):
+    if (status, statuses) != (0, ["10", "17", "17", "17", "17", "17", "11"]) or not output.endswith("shop: 6 of 6 steps good; 6 kept lines agree.\n"):
         raise Wrong(f"  old_copy.sh\n  got    {status} {output}")
 
 

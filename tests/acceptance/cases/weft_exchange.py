@@ -147,6 +147,28 @@ def carrier(room):
             raise Wrong(f"  {name} received {threads}")
 
 
+def old_message(room):
+    """an old message of a peer that comes again, with the signed line of then, isn't taken for its last one: what is handed back to it, and its receipt, stay
+    those of its last step, by which an old store that was put back there is found"""
+    net = pair(room)
+    loom = net.loom
+    old = {name: loom.read(f"box-shop/bank/in/{name}") for name in ("message", "line")}
+    net.turn("shop", 0)
+    for _ in range(2):
+        loom.append("bank", b"x")
+        net.turn("bank", 0)
+        net.carry("bank", "shop")
+        net.turn("shop", 0, "is recorded")
+    kept = {name: loom.read(f"box-shop/bank/{name}") for name in ("kept/taken", "out/yours", "out/receipt")}
+    recorded = received(loom, "shop")
+    for _ in range(2):
+        for name, data in old.items():
+            loom.put(f"box-shop/bank/in/{name}", data)
+        net.turn("shop", 0, absent=("is recorded",))
+        if any(loom.read(f"box-shop/bank/{name}") != data for name, data in kept.items()) or received(loom, "shop") != recorded:
+            raise Wrong(f"  something was set back: {loom.read('box-shop/bank/kept/taken')}")
+
+
 def first_contact(room):
     """a new peer waits until a person confirmed its line: by a file that has it, and not by one that has another"""
     net = Net(room, {"shop": ["bank"], "bank": ["shop"]})
@@ -534,9 +556,9 @@ def nearly_full(room):
     loom = net.loom
 
     def small():
-        from weft import exchange, formats
+        from weft import formats
 
-        exchange.HALF, formats.MOST_HISTORY = 20_000, 40_000
+        formats.MOST_HISTORY = 40_000
 
     net.turn("shop", 0, patch=small, absent=("may have",))
     for number in range(3):
@@ -546,7 +568,7 @@ def nearly_full(room):
 
 def cases():
     works = (
-        two_services, carrier, first_contact, squatter, without_keys, old_store, unsigned_old_store, fork_shown, hostile_folders, requests, chained, passed_on, with_faults,
+        two_services, carrier, old_message, first_contact, squatter, without_keys, old_store, unsigned_old_store, fork_shown, hostile_folders, requests, chained, passed_on, with_faults,
         two_at_once, nearly_full,
     )  # fmt: skip
     return [case(work, "weft exchange") for work in works]

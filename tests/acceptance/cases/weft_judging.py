@@ -12,11 +12,14 @@ import time
 
 import xml.dom.minidom
 
+from keepers import Keeper, KeptStep, tree_of
+
 from harness.making import absent_proof, link_proof, thread_proof
 from harness.places import TOP
 from harness.rooms import Skipped, Wrong, case, needs
 from harness.weft_room import Loom, faulty
-from timeweave_reference.archives import EMPTY, listed
+from timeweave_reference.archives import EMPTY, Entry, listed
+from timeweave_reference.hashed_texts import digest
 from timeweave_reference.histories import Step
 from timeweave_reference.recording import History
 from timeweave_reference.timelines import Timeline
@@ -77,6 +80,138 @@ def sentences(room):
     loom.expect("judge bank.history --svg x", 0)
     loom.put("empty.history", history[:20] + bytes(8))
     loom.expect("judge empty.history", 9, "without steps")
+
+
+def made_anew_below(room):
+    """a proof or a chain from a history that was made anew isn't shown where a line is kept of a step that it is of, or that was received on its way"""
+    loom = two_services(room)
+    old = loom.run("line", "maker").out
+    loom.put("kept", loom.read("lines"))
+    loom.folder.joinpath("maker").rename(loom.folder / "true-maker")
+    loom.service("maker", [b"brot"])
+    loom.put("message", loom.timeweave("thread", "bank", "0"))
+    loom.timeweave("receive", "maker", "message")
+    loom.append("maker", b"more")
+    new = loom.append("maker", b"later")
+    loom.put("first", loom.timeweave("prove", "true-maker", "link", "1", "1")[-32:].hex().join(("maker 1 ", "\n")))
+    loom.put("both", loom.read("first").decode() + new)
+    loom.put("brot", loom.timeweave("prove", "maker", "event", "1", "0", "4"))
+    loom.expect("judge brot --kept both", 11, "brot: not shown", "TWO LINES: the line of step 1 of maker that you kept", absent=("one history",))
+    loom.put("many/brot", loom.read("brot"))
+    loom.expect("judge --many many --kept both", 11, "TWO LINES: 1 file")
+    loom.put("bread4", loom.timeweave("prove", "true-maker", "event", "1", "0", "3"))
+    loom.put("rest", loom.read("first").decode() + old)
+    loom.expect("judge bread4 --kept rest", 0, "bread4: shown", "line of step 1 of maker that you kept: one history")
+    other = b"maker 1 " + b"ab" * 32 + b"\n"
+    loom.put("three", loom.read("kept") + other)
+    loom.expect("judge chain --kept three", 11, "chain: not shown", "TWO LINES: the line of step 1 of maker that you kept")
+
+
+def audited_by_another(room):
+    """a history that a kept line contradicts shows nothing of a proof that it is audited by; and one that can't be read hides no two lines"""
+    loom = two_services(room)
+    old = loom.run("line", "maker").out
+    loom.folder.joinpath("maker").rename(loom.folder / "true-maker")
+    loom.service("maker", [b"bread"])
+    loom.append("maker", b"other")
+    loom.append("maker", b"third")
+    first = loom.timeweave("prove", "maker", "link", "1", "1")[-32:].hex().join(("maker 1 ", "\n"))
+    loom.put("both", first + old)
+    loom.put("p1", loom.timeweave("prove", "maker", "event", "1", "0", "1"))
+    loom.put("anew", loom.timeweave("export", "maker"))
+    loom.put("true", loom.timeweave("export", "true-maker"))
+    loom.expect("judge p1 --kept both --audit true", 0, "The histories have each line that it hangs on")
+    loom.expect("judge p1 --kept both --audit anew", 11, "p1: not shown", "TWO LINES: the line of step 3 of maker")
+    loom.put("another", loom.timeweave("export", "bank"))
+    loom.expect("judge p1 --kept both --audit another", 1, "p1: not shown", "NOT SO: it hangs on step 1 of maker")
+    loom.expect("judge true --kept both --audit true", 2, "--audit is for proofs")
+    loom.expect("judge p1 --kept both --audit nothing", 3, "p1: shown", "no file nothing")
+    loom.put("bread4", loom.timeweave("prove", "true-maker", "event", "1", "0", "3"))
+    loom.put("other", f"maker 1 {'ab' * 32}\n" + old)
+    loom.expect("judge bread4 --kept other --audit nothing", 11, "bread4: not shown", "TWO LINES", "no file nothing")
+
+
+def cut_history(room):
+    """a history behind which a line is kept is told as cut, alone and in a table, and ends with a look at it"""
+    loom = two_services(room)
+    loom.put("many/bank.history", loom.read("bank.history"))
+    loom.append("bank", b"later")
+    loom.put("late", loom.run("line", "bank").out)
+    loom.expect(["keep", "late", "--by", "mail"], 0)
+    loom.expect("judge bank.history", 10, "bank.history: shown", "You hold a line of step 4 of bank, and this file ends at step 3")
+    loom.expect("judge --many many", 10, "1 shown")
+    if b"ends at step 3, and you hold a line of step 4" not in loom.read("many.verdicts.tsv"):
+        raise Wrong(f"  {loom.read('many.verdicts.tsv')}")
+
+
+def full_device(room):
+    """a standard output that fails hides no two lines of one step"""
+    loom = two_services(room)
+    history = loom.read("bank.history")
+    loom.put("other.history", history.replace(b"open", b"shut"))
+    words = ["python3", "-m", "weft", "judge", "other.history"]
+    for out in ("> /dev/full", "--json > /dev/full", ">&-"):
+        script = f"{shlex.join(words)} {out}"
+        done = subprocess.run(["sh", "-c", script], cwd=loom.folder, env=loom.env | {"PYTHONPATH": str(TOP)}, stderr=subprocess.PIPE, check=False)
+        if done.returncode != 11 or b"standard output" not in done.stderr:
+            raise Wrong(f"  {out}: {done}")
+
+
+def failing_machine(room):
+    """where memory is wanting, or the disk fails, for one file, the others are judged all the same, and two lines of one step are told with 11"""
+    loom = two_services(room)
+    loom.put("many/big", loom.read("bread3"))
+    loom.put("many/forged.history", loom.read("bank.history").replace(b"open", b"shut"))
+
+    def failing(error):
+        def patch():
+            from weft import outcomes
+
+            work = outcomes.judgement_of
+
+            def fails(judge, kept, group, *rest):
+                if group[0].path.endswith("big"):
+                    raise error
+                return work(judge, kept, group, *rest)
+
+            outcomes.judgement_of = fails
+
+        return patch
+
+    for error, told in ((MemoryError(), "there was no memory to judge"), (OSError(28, "full"), "No space left on device")):
+        loom.expect("judge many/big many/forged.history", 11, told, "TWO LINES", patch=failing(error))
+        loom.expect("judge --many many --workers 1", 11, "1 not judged", "1 not shown", patch=failing(error))
+    loom.expect("judge --many many --workers 1", 11, "1 shown", "1 not shown")
+
+
+def false_step_0(room):
+    """a line of step 0 that doesn't follow from the name isn't kept, and one that was kept says nothing of a true history"""
+    loom = two_services(room)
+    false = b"bank 0 " + b"ab" * 32 + b"\n"
+    loom.put("false", false)
+    loom.expect(["keep", "false", "--by", "by letter"], 9, "step 0 follows from the name alone", "Nothing was kept")
+    loom.put("lines", loom.read("lines") + false)
+    loom.expect("judge bank.history --kept lines", 0, "bank.history: shown", absent=("TWO LINES",))
+
+
+def deep_folders(room):
+    """files in folders a thousand deep are judged, each with its row"""
+    loom = two_services(room)
+    loom.put("many/good", loom.read("bread3"))
+    at = os.getcwd()
+    try:
+        os.chdir(loom.folder / "many")
+        for _ in range(1100):
+            os.mkdir("d")
+            os.chdir("d")
+        with open("paid", "wb") as file:
+            file.write(loom.read("paid"))
+    finally:
+        os.chdir(at)
+    try:
+        loom.expect("judge --many many", 0, "2 files: 2 shown")
+    finally:
+        subprocess.run(["rm", "-rf", loom.folder / "many"], check=True)
 
 
 def missing_lines(room):
@@ -265,6 +400,38 @@ def dropped(room):
     loom.expect("judge --reference has not", 11, *told, "or it has two histories")
     loom.expect("judge --reference has not link", 11, *told, "whoever kept notary broke its rules")
     loom.expect("judge --reference has has3", 20, absent=("CONTRADICT",))
+    loom.expect("judge has3 not", 11, *told)  # (with a library or without one)
+    for number in range(40):
+        loom.put(f"copy{number}", loom.read("has3"))
+    copies = [f"copy{number}" for number in range(40)]
+    loom.expect(["judge", "--reference", *copies, "not"], 11, "copy0 and not CONTRADICT", absent=("copy1 and",))
+    for name in ("has", "has3"):
+        loom.put(f"many/{name}", loom.read(name))
+    loom.expect("judge --reference --many many", 20, absent=("CONTRADICT",))
+    loom.put("many/not", loom.read("not"))
+    for _ in range(2):
+        loom.expect("judge --reference --many many", 11, "3 files CONTRADICT EACH OTHER", absent=("TWO LINES",))
+    if b"\tCONTRADICTS has: absent notary 2 shop 5" not in loom.read("many.verdicts.tsv"):
+        raise Wrong(f"  {loom.read('many.verdicts.tsv')}")
+
+
+def broken_rules(room):
+    """two accepted files that show another rule broken are told with the rule, and a rule that weft doesn't know is told as broken too"""
+    loom, threads = Loom(room), [Entry("bank", 3, digest(b"bank"), 1), Entry("shop", 5, digest(b"shop"), 1)]
+    notary = Keeper("notary").add(KeptStep(tree=tree_of(threads)))
+    for name, entry in zip(("one", "other"), threads):
+        loom.put(name, notary.thread(1, 1, entry).to_bytes())
+    loom.put("kept", f"notary 1 {notary.auths[1].hex()}\n")
+    told = "CONTRADICT EACH OTHER: between them they show rule"
+    loom.expect("judge --reference one other --kept kept", 11, f"{told} 5 of histories, TwoAtOneStep, broken", "thread notary 1 bank 3", "whoever kept notary broke its rules")
+
+    def patch():
+        import timeweave_reference
+
+        later = timeweave_reference.Answer(0, b"accepted broken-rule-or-fork\nrule 99 Later\nnovel notary 7\n")
+        timeweave_reference.contradict = lambda *files: later
+
+    loom.expect("judge --reference one other --kept kept", 11, f"{told} 99 of histories, Later, broken: novel notary 7.", "or it has two histories", patch=patch)
 
 
 def same_history(room):
@@ -480,7 +647,7 @@ def checked(room):
 
 def cases():
     works = (
-        sentences, missing_lines, rejected, other_kinds, forked, files_held, judges_differ, contradictions, dropped, same_history, tables, cluster, pictures, long_chains, checked,
+        sentences, made_anew_below, audited_by_another, cut_history, full_device, failing_machine, false_step_0, deep_folders, missing_lines, rejected, other_kinds, forked, files_held, judges_differ, contradictions, dropped, broken_rules, same_history, tables, cluster, pictures, long_chains, checked,
     )  # fmt: skip
     return [case(work, "weft judge") for work in works]
 

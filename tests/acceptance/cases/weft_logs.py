@@ -9,7 +9,7 @@ import subprocess
 
 from harness.limits import without_rights
 from harness.places import TOP
-from harness.rooms import Wrong, case
+from harness.rooms import Skipped, Wrong, case
 from harness.weft_room import SHARE, Loom, each_fault, events_file
 
 
@@ -152,6 +152,90 @@ def left_out(room):
     expect_log(loom)
 
 
+def entries_written_over(room):
+    """an entry that somebody writes behind the others makes no changed file pass as it was, and one that is written over in its place is found by weft check and by
+    the next run that reads all; made anew of the store, the log goes on"""
+    loom = Loom(room)
+    loom.put("files/deed", b"to Anna")
+    loom.put("files/other", b"x")
+    loom.expect("log --no-time files s s", 0)
+    loom.put("files/deed", b"to Bert")
+    forged, good = hashlib.sha256(b"to Bert").hexdigest().encode(), loom.read("s.entries")
+    loom.put("s.entries", good + b"1 0 " + forged + b"  ./deed\n")
+    loom.expect("log --no-time files s", 17, "s.entries was changed", "weft check --entries")
+    loom.expect("check s", 8, "s.entries was changed")
+    loom.put("s.entries", good.replace(hashlib.sha256(b"to Anna").hexdigest().encode(), forged))
+    (loom.folder / "s.known").unlink()
+    loom.expect("check s", 8, "s.entries was changed: of step 1, index 0")
+    loom.expect("log --no-time files s", 17, "s.entries was changed")
+    loom.expect("check s --entries", 0)
+    loom.expect("check s", 0)
+    loom.expect("log --no-time files s", 0, "1 changed")
+
+
+def without_proc(room):
+    """where open files have no paths, as in a bare chroot, weft log makes its steps all the same"""
+    loom = Loom(room)
+    loom.put("files/other", b"x")
+
+    def bare():
+        from weft import stores
+
+        stores.OPEN_FILES = "/nowhere"
+
+    loom.expect("log --no-time files s s", 0, "step 1", patch=bare)
+    loom.expect("prove s other", 0)
+
+
+def endless(room):
+    """a file that says that it has more bytes than any disk is left out, told, and stops nothing else"""
+    loom = Loom(room)
+    loom.put("files/other", b"x")
+    loom.put("files/endless", b"")
+    try:
+        os.truncate(loom.folder / "files/endless", (1 << 40) + 1)
+    except OSError:
+        raise Skipped("a file of 1 TiB without content, which the file system here doesn't have") from None
+    loom.expect("log --no-time files s s", 10, "endless: it has 1,099,511,627,777 bytes", "1 file new")
+
+
+def proved_and_gone(room):
+    """the proof of a file that was logged as gone since is that of its last digest, and that it is gone is told; one that came back is as others"""
+    loom = Loom(room)
+    loom.put("files/deed", b"1")
+    loom.put("files/other", b"2")
+    loom.put("files/third", b"3")
+    loom.expect("log --no-time files s s", 0)
+    (loom.folder / "files/deed").unlink()
+    loom.expect("log --no-time files s", 0, "1 gone")
+    loom.expect("prove s deed", 10, "in step 1 of s", "step 2 of s logged later that deed is gone")
+    loom.expect("prove s other", 0, absent=("gone",))
+    loom.put("files/deed", b"1")
+    loom.expect("log --no-time files s", 0)
+    loom.expect("prove s deed --out again", 0, "in step 3 of s", absent=("gone",))
+
+
+def deep_and_alone(room):
+    """a file that lies a thousand folders deep, and is the only one, is logged or left out and told"""
+    loom = Loom(room)
+    loom.put("files/x", b"")
+    (loom.folder / "files/x").unlink()
+    at = os.getcwd()
+    try:
+        os.chdir(loom.folder / "files")
+        for _ in range(1100):
+            os.mkdir("d")
+            os.chdir("d")
+        with open("deep", "wb") as file:
+            file.write(b"1")
+    finally:
+        os.chdir(at)
+    try:
+        loom.expect("log --no-time files s s", 10, "too long for an event")
+    finally:
+        subprocess.run(["rm", "-rf", loom.folder / "files"], check=True)
+
+
 def there_and_not_gone(room):
     """what is there isn't logged as gone: below a folder that may be listed and not entered, or neither, or where the system fails otherwise; it is told,
     with status 10, and what is really gone beside it is logged"""
@@ -237,9 +321,9 @@ def changed_while_read(room):
 
     def growing(times):
         def patch():
-            from weft import logs
+            from weft import walking
 
-            real, left = logs.hashlib.sha256, [times]
+            real, left = walking.hashlib.sha256, [times]
 
             class Digest:
                 """A digest while which the file grows."""
@@ -257,7 +341,7 @@ def changed_while_read(room):
                 def hexdigest(self):
                     return self.digest.hexdigest()
 
-            logs.hashlib = type("hashlib", (), {"sha256": Digest})
+            walking.hashlib = type("hashlib", (), {"sha256": Digest})
 
         return patch
 
@@ -346,7 +430,7 @@ def fewer_files(room):
     loom.expect("log src other other --gone", 0, "0 files new")
     loom.put("file", b"")
     loom.expect("log other file data", 5, "file is a file. Name a folder for the service.")
-    if {it.name for it in loom.folder.iterdir()} - {"tmp", "src", "file", *(f"other{end}" for end in ("", ".lock", ".lines", ".anchor", ".entries", ".seal"))}:
+    if {it.name for it in loom.folder.iterdir()} - {"tmp", "src", "file", *(f"other{end}" for end in ("", ".lock", ".lines", ".anchor", ".entries", ".seal", ".known"))}:
         raise Wrong(f"  left behind: {sorted(it.name for it in loom.folder.iterdir())}")
     folder_of(loom, "a", "b", "c", "d", "e")
     loom.expect("log src log data", 0, "5 files new")
@@ -552,6 +636,6 @@ def cases():
     works = (
         each_day, names_of_files, many_files, left_out, there_and_not_gone, unreadable_whole, replaced, changed_while_read, own_store, copied_alone,
         waiting_for_peers, fewer_files, claimed_times, refused, with_others, with_faults, first_run_with_faults, two_at_once,
-        proof_of_a_file,
+        proof_of_a_file, entries_written_over, without_proc, endless, proved_and_gone, deep_and_alone,
     )  # fmt: skip
     return [case(work, "weft log") for work in works]

@@ -153,7 +153,7 @@ def made_anew(room):
     loom.put("nothing", b"")
     loom.expect("judge true.history --kept nothing", 12, "true.history: not judged", "You hold none of registry")
     loom.put("zero", f"registry 0 {OTHER}\n{loom.read('letter').decode()}")
-    loom.expect("judge true.history --top 3 --kept zero", 11, "TWO LINES: the line of step 0")
+    loom.expect("judge true.history --top 3 --kept zero", 0, "true.history: shown", absent=("TWO LINES",))  # (step 0 follows from the name)
 
 
 def judges_of_histories_differ(room):
@@ -239,8 +239,8 @@ def cut_short(room):
     loom.append("maker", b"fraud")
     loom.put("kept", loom.read("kept") + loom.run("line", "maker").out.encode())
     told = "You hold a line of step 3 of maker, and this file ends at step 2"
-    loom.expect("judge cut", 0, "cut: shown", told, "was cut")
-    if json.loads(loom.expect("judge cut --json", 0).out)["beyond"] != 3:
+    loom.expect("judge cut", 10, "cut: shown", told, "was cut")
+    if json.loads(loom.expect("judge cut --json", 10).out)["beyond"] != 3:
         raise Wrong(f"  {done}")
     loom.put("kept", loom.run("line", "maker").out)
     loom.expect("judge cut", 12, "cut: not judged", told)
@@ -305,7 +305,7 @@ def speaking_names(room):
             if not done.out.startswith('"paid') or " " * 3 in done.out.splitlines()[0]:
                 raise Wrong(f"  {done.out}")
     loom.put("my proof", loom.read("bread3"))
-    loom.expect(["judge", "my proof"], 0, "my proof: shown")
+    loom.expect(["judge", "my proof"], 0, '"my proof": shown')
 
 
 def cases():

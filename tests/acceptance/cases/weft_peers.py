@@ -1,12 +1,15 @@
 """Acceptance cases of what `weft exchange` reads of its peers, asks them and tells of them: what can't be read, peers that are cut off, two histories whose
 steps never meet, lines of many peers, stores and boxes that were put back."""
 
+import fcntl
 import itertools
 import os
 import shutil
+from pathlib import Path
 
 from cases.weft_exchange import Net, pair, shipped_later
-from harness.rooms import Skipped, Wrong, case
+from cases.weft_signed import NO_SIGNATURE, signed
+from harness.rooms import Room, Skipped, Wrong, case
 from harness.weft_room import SHARE, reseal
 from timeweave_reference.receipts import Receipt
 from weft.asking import id_of
@@ -154,6 +157,42 @@ def quiet_days(room):
         raise Wrong(f"  {done}")
 
 
+def seen_held_back(room):
+    """a carrier who holds back alone the file of lines that a peer hands on, by which two histories of others are found, is told of after three turns in which
+    the peer's own lines came, and counts; a person who knows that the peer has no others ends that"""
+    net = Net(room, {"ann": ["bob", "port"], "bob": ["ann", "port"], "port": ["ann", "bob"]}).begun()
+    loom = net.loom
+    net.night()
+    for turn in range(4):
+        for name in net.peers:
+            loom.append(name, b"x")
+            done = loom.run("exchange", name, f"box-{name}")
+            told = "bob: its own lines come, and in 3 turns no line of others" in done.out
+            if name == "ann" and (told, done.status) != ((True, 10) if turn == 3 else (False, 0)):
+                raise Wrong(f"  {turn}: {done}")
+        net.carry_all()
+        seen = loom.folder / "box-ann/bob/in/seen"
+        seen.unlink() if turn % 2 else seen.write_bytes(b"")
+    loom.expect(f"accept box-ann bob --yes {net.waiting('ann', 'bob')}", 0)
+    loom.expect("exchange ann box-ann", 0, absent=("no line of others",))
+
+
+def seen_in_its_place(room):
+    """a carrier who brings an old file of lines that a peer hands on, or one with a line that nobody signed, in the place of the new one, or who leaves it out
+    from the first night on, so that two histories of one step are never seen, is told of after three turns in which the peer's own lines came"""
+    for how in ("old", "made up", "never"):
+        folder = Path(room.folder) / how.replace(" ", "-")
+        folder.mkdir()
+        liar = Liar(Room(room.program, folder))
+        if how == "never":
+            liar.forget_seen()
+        told = [liar.night_without_seen(how) for _ in range(6)]
+        for peer in ("ann", "bob"):
+            statuses = [done[peer].status for done in told]
+            if statuses[0] or statuses[-1] != 10 or {*statuses} != {0, 10} or "no line of others that it hands on was new" not in told[-1][peer].out:
+                raise Wrong(f"  {how}, {peer}: {statuses}\n{told[-1][peer]}")
+
+
 # ---- two histories whose steps never meet
 
 
@@ -181,6 +220,32 @@ class Liar:
         if int(self.loom.run("line", folder).out.split()[1]) % 2 != odd:
             self.step(folder, odd)
 
+    def forget_seen(self):
+        """Nothing was handed on between both peers yet."""
+        for path in ("box-ann/bob", "box-bob/ann"):
+            for name in ("kept/silence", "kept/handed", "in/seen"):
+                (self.loom.folder / path / name).unlink()
+
+    def night_without_seen(self, how):
+        """A night, in which each peer is shown another line of the same step, and what both hand on is replaced; answers what both were told."""
+        loom = self.loom
+        for folder, peer in (("liar", "ann"), ("false", "bob")):
+            line = loom.append(folder, folder.encode()).split()
+            loom.run("exchange", folder, f"box-{folder}", "--despite", "ann", "--despite", "bob")
+            shutil.copytree(loom.folder / f"box-{folder}/{peer}/out", loom.folder / f"box-{peer}/liar/in", dirs_exist_ok=True)
+        for peer in ("ann", "bob"):
+            loom.append(peer, b"x")
+        done = {peer: loom.run("exchange", peer, f"box-{peer}") for peer in ("ann", "bob")}
+        for sender, receiver in (("ann", "bob"), ("bob", "ann")):
+            seen = loom.folder / f"box-{receiver}/{sender}/in/seen"
+            before = seen.read_bytes() if seen.exists() else b""
+            self.net.carry(sender, receiver)
+            armour = loom.read("box-ann/liar/in/line").split(b"\n", 1)[1]
+            seen.write_bytes(before if how == "old" else f"liar {line[1]} {'cd' * 32}\n".encode() + armour)
+            if how == "never":
+                seen.unlink()
+        return done
+
     def night(self, answers=True):
         """A night, in which the liar answers each peer of the history that it shows it, or not at all; answers what both peers were told."""
         loom, done = self.loom, {}
@@ -197,6 +262,8 @@ class Liar:
         self.net.carry("bob", "ann")
         for folder, peer in (("liar", "ann"), ("false", "bob")):
             shutil.copytree(loom.folder / f"box-{peer}/liar/out", loom.folder / f"box-{folder}/{peer}/in", dirs_exist_ok=True)
+        for folder, peer in (("false", "ann"), ("liar", "bob")):  # (each history hands on the lines of the other peer as well)
+            loom.put(f"box-{folder}/{peer}/in/line", loom.read(f"box-{peer}/liar/out/line"))
         return done
 
 
@@ -488,6 +555,21 @@ def look(room):
     net.carry("bank", "shop")
     net.turn("shop", 0, "is recorded", absent=("waited for",), patch=settled)
     loom.expect("log src shop", 0)
+    # of a peer that has recorded this service only what it hands back is its word, and none older than it has recorded
+    old, last = loom.read("box-shop/bank/in/yours"), loom.read("box-bank/shop/out/yours")
+    loom.expect("exchange shop box-shop --look", 10, "its word is waited for")
+    has = loom.read("box-shop/bank/kept/has").split()
+    (loom.folder / "box-shop/bank/in/yours").unlink()
+    for older in (None, b"", b"shop", b"bank 9 " + b"a" * 64 + b"\n", loom.read("shop.lines").splitlines(True)[0]):
+        if older is not None:
+            loom.put("box-shop/bank/in/yours", older)
+        for name in ("line", "message"):
+            loom.put(f"box-shop/bank/in/{name}", loom.read(f"box-bank/shop/out/{name}"))
+        net.turn("shop", 10, "its word is waited for", "No step was made", patch=settled)
+    loom.put("box-shop/bank/in/yours", last)
+    if int(has[1]) > int(last.split()[1]) or old.split()[0] != b"shop":
+        raise Wrong(f"  {has} {last}")
+    net.turn("shop", 0, absent=("waited for",), patch=settled)
     # one that is gone for good is passed over
     loom.expect("exchange shop box-shop --look", 10, "its word is waited for")
     shutil.rmtree(loom.folder / "box-shop/bank/in")
@@ -496,7 +578,7 @@ def look(room):
 
 
 def a_copied_box(room):
-    """a box that is a copy, as one from a backup is, waits for peers' words by itself; one whose turn was stopped isn't one"""
+    """a box that is a copy, as one from a backup is, waits for peers' words by itself; one whose turn was stopped isn't one, and a copy of that is"""
     net = pair(room)
     loom = net.loom
     net.night()
@@ -520,27 +602,131 @@ def a_copied_box(room):
         Notes.end = lambda self, note: os.kill(os.getpid(), signal.SIGKILL)
 
     net.turn("shop", -9, patch=killed)
+    shutil.copytree(loom.folder / "box-shop", loom.folder / "tmp/killed")
+    net.turn("shop", 0)
+    shutil.rmtree(loom.folder / "box-shop")
+    (loom.folder / "tmp/killed").rename(loom.folder / "box-shop")
+    net.turn("shop", 10, "its word is waited for")
+
+
+def two_handed_on(room):
+    """two signed lines of one step of a service, of which one peer hands on the one and another peer the other, are evidence, though neither came from the
+    service itself; made-up ones beside them aren't"""
+    net = Net(room, {"ann": ["liar", "bob", "carol"], "liar": ["ann"], "bob": ["ann"], "carol": ["ann"]}).begun()
+    loom = net.loom
+    net.turn("ann", 0)
+    one, two, three = (b"liar 9 " + letter * 64 + b"\n" for letter in (b"a", b"b", b"c"))
+    loom.put("box-ann/bob/in/seen", signed(loom, "liar", one) + three + NO_SIGNATURE)
+    loom.put("box-ann/carol/in/seen", three + NO_SIGNATURE + signed(loom, "bob", two))
+    loom.expect("exchange ann box-ann", 0, absent=("EVIDENCE", "contradict"))
+    loom.put("box-ann/carol/in/seen", three + NO_SIGNATURE + signed(loom, "liar", two))
+    told = "liar: EVIDENCE: there are two lines of its step 9, both signed by its key"
+    loom.expect("exchange ann box-ann", 11, told, absent=("bob: EVIDENCE", "carol: EVIDENCE"))
+    names = sorted(path.name for path in (loom.folder / "box-ann/liar/kept/forks").iterdir())
+    if names != ["9-" + "a" * 64, "9-" + "b" * 64]:
+        raise Wrong(f"  {names}")
+
+
+def joined_and_other(room):
+    """a line of a service that a peer handed on, and that a link joined to the history that is recorded here, is kept with its signature: another line of that
+    step that is handed on nights later is evidence"""
+    net = Net(room, {"s": ["ann", "bob"], "ann": ["s", "bob"], "bob": ["s", "ann"]}).begun()
+    loom = net.loom
+    for name in net.peers:
+        loom.put(f"box-{name}/box.conf", loom.read(f"box-{name}/box.conf") + b"silent = 0\n")
+    lost = None
+    for number in range(6):
+        loom.append("s", b"%d" % number)
+        for name in net.peers:
+            net.turn(name, 0, absent=("EVIDENCE",))
+        if number == 1:
+            lost = loom.read("box-s/ann/out/line").split()[1]
+        for sender, receiver in ((a, b) for a, others in net.peers.items() for b in others):
+            if (sender, receiver, number) != ("s", "ann", 1):
+                net.carry(sender, receiver)
+    net.turn("ann", 0)
+    if b"s %s " % lost not in loom.read("box-ann/s/kept/signed"):
+        raise Wrong(f"  the line of step {lost} isn't kept: {loom.read('box-ann/s/kept/joined')}")
+    loom.put("box-ann/bob/in/seen", signed(loom, "s", b"s %s %s\n" % (lost, b"e" * 64)))
+    net.turn("ann", 11, f"s: EVIDENCE: there are two lines of its step {lost.decode()}, both signed by its key")
+
+
+def without_public_half(room):
+    """a key whose public half isn't beside it tells it itself; another key's there, or no key at all, ends the turn before anything is made: lines of one's own
+    that peers hand back couldn't be known again"""
+    net = pair(room)
+    loom = net.loom
+    net.night()
+    good = loom.read("shop.key.pub")
+    (loom.folder / "shop.key.pub").unlink()
+    step = net.last("shop")
+    loom.put("box-shop/bank/in/yours", signed(loom, "shop", f"shop {step + 3} {'a' * 64}\n".encode()))
+    net.turn("shop", 17, "signed by its key, and handed back by bank")
+    loom.put("box-shop/box.conf", "key = ../none.key\n")
+    net.turn("shop", 3, "none.key has no public half beside it", "No step was made")
+    loom.put("shop.key.pub", loom.read("bank.key.pub"))
+    loom.put("box-shop/box.conf", "key = ../shop.key\n")
+    loom.put("box-shop/bank/in/yours", b"")
+    loom.append("bank", b"x")
+    net.turn("bank", 0)
+    net.carry("bank", "shop")
+    net.turn("shop", 9, "shop.key.pub isn't the public key of box-shop/../shop.key", "No step was made", absent=("is recorded",))
+    loom.put("shop.key.pub", good)
     net.turn("shop", 0)
 
 
 def told_by_a_receipt(room):
-    """a peer's receipt of a later own step than the store has, which nobody signs, ends the turn with 17 before a step is made; who knows better goes on
-    despite it"""
+    """a receipt, a refusal and a handed-back line of a later own step than the store has, which nobody signed, are told each night, count, and stop no turn;
+    after a restore they keep the look open, until they are gone or somebody who knows better goes on despite them"""
     net = pair(room)
     loom = net.loom
+    loom.put("box-bank/box.conf", loom.read("box-bank/box.conf") + b"silent = 0\n")
     net.night()
     net.turn("shop", 0)
+    false = {
+        "receipt": lambda step: Receipt("bank", 9, b"b" * 32, "shop", step, b"a" * 32).to_bytes(),
+        "refusal": lambda step: f"refused BadLink {step} {'a' * 64}\nmessage 1 since 1\n".encode(),
+        "yours": lambda step: f"shop {step} {'a' * 64}\n".encode(),
+    }
+    for name, made_up in false.items():
+        for _ in range(2):
+            step = net.last("shop")
+            loom.append("bank", b"x")
+            net.turn("bank", 0)
+            net.carry("bank", "shop")
+            loom.put(f"box-shop/bank/in/{name}", made_up(step + 7))
+            told = f"bank: a file of it tells your step {step + 7}, not signed by your key, and the store's last one is {step}"
+            net.turn("shop", 10, told, "bank: its step", "is recorded", "It stops no turn", absent=("No step was made",))
+            if net.last("shop") != step + 1:
+                raise Wrong("  no step was made")
+        net.carry("bank", "shop")
+        (loom.folder / f"box-shop/bank/in/{name}").unlink()
+    net.carry("bank", "shop")
+    net.turn("shop", 0, absent=("not signed by your key",))
+
+    def settled():
+        from weft import exchange
+
+        exchange.SETTLED = 0
+
+    # after a restore
     step = net.last("shop")
-    loom.put("box-shop/bank/in/receipt", Receipt("bank", 9, b"b" * 32, "shop", step + 1, b"a" * 32).to_bytes())
-    net.turn("shop", 17, f"its last step is {step}", "as bank says, unsigned", "weft exchange --despite bank")
-    loom.put("box-shop/bank/in/receipt", b"")
-    loom.put("box-shop/bank/in/refusal", f"refused BadLink {step + 1} {'a' * 64}\nmessage 1 since 1\n")
-    net.turn("shop", 17, "as bank says, unsigned")
+    loom.expect("exchange shop box-shop --look", 10, "its word is waited for")
+    net.carry("bank", "shop")
+    for name, made_up in false.items():
+        true = loom.read(f"box-shop/bank/in/{name}") if (loom.folder / f"box-shop/bank/in/{name}").exists() else b""
+        loom.put(f"box-shop/bank/in/{name}", made_up(step + 7))
+        net.turn("shop", 10, f"tells your step {step + 7}", "No step was made, and nothing was put out.", "weft exchange --despite bank", patch=settled)
+        loom.put(f"box-shop/bank/in/{name}", true)
     if net.last("shop") != step:
         raise Wrong("  a step was made")
-    loom.expect("exchange shop box-shop --despite bank", 10, "it recorded another step")
-    loom.put("box-shop/bank/in/refusal", b"")
-    loom.put("box-shop/bank/in/receipt", Receipt("bank", 9, b"b" * 32, "shop", step, b"a" * 32).to_bytes())
+    saved = (loom.folder / "shop.look").read_bytes()
+    net.turn("shop", 0, absent=("No step was made",), patch=settled)
+    loom.put("shop.look", saved)
+    loom.put("box-shop/bank/in/receipt", false["receipt"](net.last("shop") + 7))
+    net.turn("shop", 10, "keeps a look after a restore open", patch=settled)
+    loom.expect("exchange shop box-shop --despite bank", 0, absent=("No step was made",))
+    loom.put("box-shop/bank/in/receipt", Receipt("bank", 9, b"b" * 32, "shop", net.last("shop"), b"a" * 32).to_bytes())
     net.turn("shop", 0, "nothing is concluded from that")
 
 
@@ -564,8 +750,8 @@ def made_up_receipt(room):
         raise Wrong(f"  {done.out}")
 
 
-def made_up_refusals(room):
-    """whoever carries files, and has no key, answers what was asked by a made-up refusal: weft chain tells it, and ends with a sentence"""
+def chain_to_ask(room):
+    """Two services, and the words of a chain over them whose parts are asked for by bank's box."""
     net = pair(room)
     loom = net.loom
     loom.append("shop", b"sold")
@@ -573,19 +759,94 @@ def made_up_refusals(room):
     for _ in range(3):
         net.night()
     loom.append("bank", b"paid")
-    words = f"chain shop:{sold}:0 bank:{net.last('bank')}:0 --store bank --box box-bank"
+    words = f"chain shop:{sold}:0 bank:{net.last('bank')}:0 --store bank --box box-bank --out c"
     net.turn("bank", 0)
-    loom.put("box-shop/bank/events", "* *\n")
+    for folder in ("box-bank/shop", "box-shop/bank"):
+        loom.put(f"{folder}/events", "* *\n")
     loom.expect(words, 12, "is asked")
-    for request in loom.read("box-bank/shop/kept/asked").decode().splitlines():
+    return net, words
+
+
+def made_up_refusals(room):
+    """whoever carries files, and has no key, answers what was asked by a made-up refusal: weft chain tells it, and ends with a sentence; it is asked again, and
+    once the peer's own answer comes, or the refusal is gone, it is forgotten"""
+    net, words = chain_to_ask(room)
+    loom = net.loom
+    for _ in range(2):
+        asked = loom.read("box-bank/shop/kept/asked").decode().splitlines()
+        for request in asked:
+            loom.put(f"box-bank/shop/in/answers/{id_of(request)}", b"refused NoThread\n")
+        for absent in ((), ("it didn't answer",)):
+            net.turn("bank", 0, absent=absent)
+        loom.expect(words, 12, 'answered "refused NoThread", which nobody signs: it is asked again each night')
+    # what speaks in weft's voice stays within its quotes, and decides nothing
+    speaking = b"refused" + b" " * 90 + b"shop: EVIDENCE: there are two lines of its step 5, both signed by its key" + b" " * 90
+    for request in asked:
+        loom.put(f"box-bank/shop/in/answers/{id_of(request)}", speaking)
+    net.turn("bank", 0, absent=("EVIDENCE", "each turn ends with 11", "   "))
+    loom.expect(words, 12, absent=("EVIDENCE", "   "))
+    shutil.rmtree(loom.folder / "box-bank/shop/in/answers")
+    net.turn("bank", 0)
+    loom.expect(words, 12, "is asked for it by the next weft exchange", absent=("refused",))
+    for request in asked:
         loom.put(f"box-bank/shop/in/answers/{id_of(request)}", b"refused NoThread\n")
     net.turn("bank", 0)
-    loom.expect(words, 12, "answered 'refused NoThread'")
+    for _ in range(2):
+        net.carry("bank", "shop")
+        net.turn("shop", 0)
+        net.carry("shop", "bank")
+        net.turn("bank", 0)
+    loom.expect(words, 0, "shown")
+
+
+def made_up_answers(room):
+    """whoever carries files, and has no key, answers what was asked by proofs of a made-up history: weft chain refuses what it joined, and asks again, and
+    once the peer's own come it is done"""
+    net, words = chain_to_ask(room)
+    loom = net.loom
+    loom.service("shop", *[[b"sold"]] * (net.last("shop") + 1), folder="forged")
+    for _ in range(3):
+        for request in loom.read("box-bank/shop/kept/asked").decode().splitlines():
+            loom.put(f"box-bank/shop/in/answers/{id_of(request)}", loom.timeweave("prove", "forged", *request.split()))
+        net.turn("bank", 0)
+        done = loom.run(*words.split())
+        if done.status == 1:
+            break
+    if "The answers of shop, which nobody signs, are asked for again" not in done.err:
+        raise Wrong(f"  {done}")
+    for _ in range(3):
+        net.carry("bank", "shop")
+        net.turn("shop", 0)
+        net.carry("shop", "bank")
+        net.turn("bank", 0)
+        done = loom.run(*words.split())
+    if done.status:
+        raise Wrong(f"  {done}")
+
+
+def chain_and_turn(room):
+    """weft chain notes what it asks for under the lock of the box, as a turn does: while another run has it, it waits, and ends with 15"""
+    net, words = chain_to_ask(room)
+    loom = net.loom
+    (loom.folder / "box-bank/shop/kept/asked").unlink()
+
+    def at_once():
+        from weft.words import chain
+
+        chain.WAIT = 0
+
+    with open(loom.folder / "box-bank/.lock", "w") as file:
+        fcntl.flock(file, fcntl.LOCK_EX)
+        loom.expect(words, 15, "another run of weft is at work", patch=at_once)
+        if (loom.folder / "box-bank/shop/kept/asked").exists():
+            raise Wrong("  it wrote without the lock")
+    loom.expect(words, 12, "is asked", patch=at_once)
 
 
 def cases():
     works = (
-        unreadable_in, of_another_user, cut_off, quiet_days, even_and_odd, without_links, a_line_that_was_lost, many_peers, made_up_receipts, put_back, look, a_copied_box,
-        told_by_a_receipt, made_up_receipt, made_up_refusals,
+        two_handed_on, joined_and_other, seen_held_back, seen_in_its_place, without_public_half, unreadable_in, of_another_user, cut_off, quiet_days,
+        even_and_odd, without_links, a_line_that_was_lost, many_peers, made_up_receipts, put_back, look, a_copied_box,
+        told_by_a_receipt, made_up_receipt, made_up_refusals, made_up_answers, chain_and_turn,
     )  # fmt: skip
     return [case(work, "weft peers") for work in works]

@@ -1,6 +1,7 @@
 """Acceptance cases of what rests on a signature, a key or a kept line: made-up lines behind a signature's end, files of several keys, revoked keys, lines
 that contradict, and what a person or a carrier types or puts down to have somebody believe, or accuse, what isn't so."""
 
+import json
 import os
 import shutil
 import subprocess
@@ -55,7 +56,8 @@ def second_letter(room):
         (Path(room.folder) / number).mkdir()
         loom = with_letters(type(room)(room.program, f"{room.folder}/{number}"))
         loom.expect(["keep", first, "--by", "by letter"], 0)
-        loom.expect(["keep", second, "--by", "by mail"], 11, "at most one is of shop's history", "by letter", "by mail", "until you choose one: weft keep --choose FILE")
+        told = "at most one is of shop's history", "by letter", "by mail", "until you choose one: weft keep --choose FILE"
+        loom.expect(["keep", second, "--by", "by mail"], 11, *told)
         told = "there are two lines of step 2 of shop"
         for _ in range(2):
             loom.expect("judge proof", 11, told, "weft keep --choose", absent=("shown",))
@@ -75,7 +77,8 @@ def second_letter(room):
         loom.expect(["keep", "--choose", "true", "--by", "asked a third time"], 0)
         loom.expect("judge proof", 0, "shown")
         # a line that is taken out by hand isn't forgotten, and a third one opens it again
-        loom.put("kept", b"".join(line for line in loom.read("kept").splitlines(True) if b"chosen" not in line and not line.startswith(loom.read("false").strip())))
+        false = loom.read("false").strip()
+        loom.put("kept", b"".join(line for line in loom.read("kept").splitlines(True) if b"chosen" not in line and not line.startswith(false)))
         loom.expect("judge proof", 11, told, "was seen, and is no more in the file")
         loom.expect(["keep", "--choose", "true", "--by", "asked shop by telephone"], 0)
         loom.put("third", b"shop 2 " + b"7" * 64 + b"\n")
@@ -135,12 +138,14 @@ def clock_set_back(room):
 
 
 def checked_store(room):
-    """weft check holds nothing against a store by a line of two that differ, says that they do, and goes on by the one that was chosen"""
+    """weft check of a store of whose step there are two lines ends with 17, says where both came from, and both what it may mean and what to do; it goes on
+    by the one that was chosen"""
     loom = with_letters(room)
     loom.expect(["keep", "true", "--by", "by letter"], 0)
     loom.expect("check shop", 0, "agree")
     loom.expect(["keep", "false", "--by", "by mail"], 11)
-    loom.expect("check shop", 11, "two lines of step 2 of shop", "by mail", "--choose", absent=("go back to a backup",))
+    told = "Append nothing until you know who made the other one", "set back and gone on with", "If somebody made it up, choose this store's"
+    loom.expect("check shop", 17, "two lines of step 2 of shop", "by mail", "--choose", *told, absent=("go back to a backup",))
     loom.expect(["keep", "--choose", "true", "--by", "own"], 0)
     loom.expect("check shop", 0, "agree")
     loom.expect(["keep", "--choose", "false", "--by", "own"], 0)
@@ -415,10 +420,149 @@ def revoked(room):
     if received(loom, "shop") != before:
         raise Wrong("  a revoked key brought a message")
     bring_true_step(net)
-    done = net.turn("shop", 11, "is recorded", "shows nothing against it", "--kept box-shop/bank/kept/lines", absent=("EVIDENCE",))
+    done = net.turn("shop", 10, "is recorded", "shows nothing against it", absent=("EVIDENCE", "two lines of step"))
     if received(loom, "shop") == before or forks_of(net, "shop", "bank"):
         raise Wrong(f"  {done}")
     loom.expect(["keep", "--choose", "right", "--by", "by telephone", "--kept", "box-shop/bank/kept/lines"], 0, "It counts")
+    net.turn("shop", 0)
+
+
+def replace_key(net, room_name="bank"):
+    """The key of bank is taken out where shop has noted it, and a new one noted; the old one goes on as old.key."""
+    loom = net.loom
+    (loom.folder / "box-shop/allowed_signers").unlink()
+    os.rename(loom.folder / f"{room_name}.key", loom.folder / "old.key")
+    os.unlink(loom.folder / f"{room_name}.key.pub")
+    loom.key(room_name)
+    loom.expect(f"accept box-shop {room_name} --key {room_name}.key.pub", 10)
+
+
+def revoked_first(room):
+    """a message by which a peer was accepted isn't received where the key that signed its line was taken out before the next turn; the true one then is"""
+    net = Net(room, {"shop": ["bank"], "bank": ["shop"]})
+    loom = net.loom
+    net.night()
+    loom.service("bank", [b"made up"], folder="forged")
+    line = loom.run("line", "forged").out.encode()
+    loom.put("box-shop/bank/in/message", loom.timeweave("thread", "forged", "0"))
+    loom.put("letter", signed(loom, "bank", line))
+    loom.expect("accept box-shop bank letter", 0, "is accepted")
+    replace_key(net)
+    net.turn("shop", 10, "the message by which it was accepted isn't taken", absent=("is recorded",))
+    if received(loom, "shop"):
+        raise Wrong(f"  {received(loom, 'shop')}")
+    net.turn("bank", 10)
+    net.carry("bank", "shop")
+    net.turn("shop", 0, "is recorded")
+
+
+def revoked_links(room):
+    """a line of a later step that a thief signed before the key was taken out has nobody accused once the service comes to that step: no link is asked for it,
+    nothing of two histories or of two lines of a step is told, and the turn in which the service's own line of that step comes ends with 10"""
+    net = quiet_pair(room)
+    loom = net.loom
+    net.night()
+    ahead = net.last("bank") + 4
+    loom.put("box-shop/bank/in/line", signed(loom, "bank", f"bank {ahead} {'ab' * 32}\n".encode()))
+    net.turn("shop", 0)
+    replace_key(net)
+    for _ in range(6):
+        loom.append("bank", b"x")
+        net.turn("bank", 0)
+        net.carry("bank", "shop")
+        step = int(loom.read("box-shop/bank/in/line").split()[1])
+        # (of the step itself there are two kept lines then, of which the thief's doesn't count: that is told once)
+        wanted = (10, "is another one than that which was kept as signed", "shows nothing against it") if step == ahead else (0,)
+        net.turn("shop", *wanted, absent=("EVIDENCE", "it signed a line", "two lines of step", "Ask bank"))
+        net.carry("shop", "bank")
+    if forks_of(net, "shop", "bank"):
+        raise Wrong(f"  {forks_of(net, 'shop', 'bank')}")
+
+
+def revoked_chain(room):
+    """a line that a thief signed and that was kept while the key was noted carries no chain once the key is taken out; one that the new key signs does"""
+    net = quiet_pair(room)
+    loom = net.loom
+    sold = int(loom.append("shop", b"sold").split()[1])
+    for _ in range(3):
+        net.turn("shop", 0)
+        net.carry("shop", "bank")
+        net.turn("bank", 0)
+        net.carry("bank", "shop")
+    shutil.copytree(loom.folder / "bank", loom.folder / "forged")
+    false = loom.append("forged", b"made up")
+    step = false.split()[1]
+    loom.put("later", loom.timeweave("prove", "forged", "event", step, "0", step))
+    loom.put("box-shop/bank/in/line", signed(loom, "bank", false.encode()))
+    net.turn("shop", 0)
+    (loom.folder / "hand").mkdir()
+    words = ["chain", f"shop:{sold}:0", "later", "--store", "shop", "--hand", "hand", "--box", "box-shop", "--out", "c"]
+    loom.expect(words, 12, "bank is asked for it")
+    for number, request in enumerate(loom.read("box-shop/bank/kept/asked").decode().splitlines()):
+        loom.put(f"hand/{number}", loom.timeweave("prove", "forged", *request.split(), status=None))
+    loom.expect(words, 0, "shown", f"bank, step {step}")
+    replace_key(net)
+    loom.expect(words, 12, "whose line you don't hold", absent=("shown\n",))
+    loom.put("box-shop/bank/in/line", signed(loom, "bank", false.encode()))
+    net.turn("shop", 0)
+    loom.expect(words, 0, "shown")
+
+
+def far_ahead(room):
+    """a line that a thief signed for the last step that there is has the peer told as silent only until the key is taken out, or a person accepts the peer
+    anew by the line that waits; the sentence says so"""
+    net = pair(room)
+    loom = net.loom
+    net.night()
+    false = f"bank {2**40 - 1} {'a' * 64}\n".encode()
+    loom.put("box-shop/bank/in/line", signed(loom, "bank", false))
+    net.turn("shop", 0)
+
+    def nights(count):
+        for _ in range(count):
+            loom.append("bank", b"x")
+            loom.append("shop", b"x")
+            net.loom.run("exchange", "bank", "box-bank")
+            net.carry("bank", "shop")
+            done = loom.run("exchange", "shop", "box-shop")
+        return done
+
+    done = nights(4)
+    if done.status != 10 or "no new signed line of it came" not in done.out or f"one of step {2**40 - 1} was signed by its key before" not in done.out:
+        raise Wrong(f"  {done}")
+    if "weft accept box-shop bank" not in done.out:
+        raise Wrong(f"  {done}")
+    loom.expect(f"accept box-shop bank --yes {net.waiting('shop', 'bank')}", 0)
+    done = nights(4)
+    if "no new signed line" in done.out:
+        raise Wrong(f"  {done}")
+    loom.put("box-shop/bank/in/line", signed(loom, "bank", false.replace(b"a" * 64, b"b" * 64)))
+    loom.run("exchange", "shop", "box-shop")
+    shutil.rmtree(loom.folder / "box-shop/bank/kept/forks")
+    replace_key(net)
+    done = nights(4)
+    if "no new signed line" in done.out or "EVIDENCE" in done.out:
+        raise Wrong(f"  {done}")
+
+
+def full_of_lines(room):
+    """a peer's file of lines that is full is told, and counts, with what to do, and ends no turn; of a step for which a peer signs line after line so many are
+    kept as show it, and no more"""
+    net = quiet_pair(room)
+    loom = net.loom
+    net.night()
+    for number in range(12):
+        loom.put("box-shop/bank/in/line", signed(loom, "bank", b"bank 900 %064x\n" % number))
+        net.turn("shop", 11 if number else 0, *(["EVIDENCE"] if number else []))
+    if loom.read("box-shop/bank/kept/signed").count(b"bank 900 ") != 8 or loom.read("box-shop/bank/kept/lines").count(b"\nbank 900 ") != 8:
+        raise Wrong(f"  {loom.read('box-shop/bank/kept/lines')}")
+    shutil.rmtree(loom.folder / "box-shop/bank/kept/forks")
+    whole = loom.read("box-shop/bank/kept/lines")
+    bring_true_step(net)
+    with open(loom.folder / "box-shop/bank/kept/lines", "ab") as file:
+        file.truncate(65 << 20)
+    net.turn("shop", 10, "kept/lines has 33,554,432 bytes or more, and no line is added to it: move it out of the box", "is recorded")
+    loom.put("box-shop/bank/kept/lines", whole)
     net.turn("shop", 0)
 
 
@@ -455,6 +599,42 @@ def long_ago(room):
         net.turn("shop", 11, "EVIDENCE", "two lines of its step 3")
     if len(found) != 2 or forks_of(net, "shop", "bank") != found or loom.read("box-shop/bank/kept/signed").count(b"bank 3 ") != 2:
         raise Wrong(f"  {found} {forks_of(net, 'shop', 'bank')}")
+
+
+def told_though_ended(room):
+    """where trouble ends a turn, what it had found is told all the same, evidence too, in JSON as well; the status is the worst of both"""
+    net = quiet_pair(room)
+    loom = net.loom
+    for text in (loom.run("line", "bank").out.encode(), other_of(loom.run("line", "bank").out)):
+        loom.put("box-shop/bank/in/line", signed(loom, "bank", text))
+        done = loom.run("exchange", "shop", "box-shop")
+    if done.status != 11:
+        raise Wrong(f"  {done}")
+
+    def full():
+        from weft.exchange import Turn
+        from weft.statuses import Status
+        from weft.trouble import Trouble
+
+        def put(self, peer, signed):
+            raise Trouble(Status.DISK, "the device is full")
+
+        Turn.put = put
+
+    def broken():
+        from weft.exchange import Turn
+
+        Turn.put = None
+
+    net.turn("shop", 11, "bank: EVIDENCE", "weft: the device is full.", patch=full)
+    done = loom.expect("exchange shop box-shop --json", 11, "weft: the device is full.", patch=full)
+    told = json.loads(done.out)
+    if told["status"] != 11 or "EVIDENCE" not in " ".join(told["peers"]["bank"]):
+        raise Wrong(f"  {told}")
+    done = loom.run("exchange", "shop", "box-shop", "--json", patch=broken)
+    told = json.loads(done.out)
+    if done.status != 70 or told["status"] is not None or "EVIDENCE" not in " ".join(told["peers"]["bank"]):
+        raise Wrong(f"  {done}")
 
 
 def liars_own(room):
@@ -522,7 +702,8 @@ def appending_carrier(room):
 
 def cases():
     works = (
-        second_letter, choices, clock_set_back, checked_store, handed_out, three_lines, changed_amid, noted_with_options, many_keys, dashes, behind_the_end, appended, false_record, revoked,
-        resigned, long_ago, liars_own, confirmed, appending_carrier,
+        second_letter, choices, clock_set_back, checked_store, handed_out, three_lines, changed_amid, noted_with_options, many_keys, dashes, behind_the_end,
+        appended, false_record, revoked,
+        revoked_first, revoked_links, revoked_chain, far_ahead, full_of_lines, resigned, long_ago, told_though_ended, liars_own, confirmed, appending_carrier,
     )  # fmt: skip
     return [case(work, "weft signed") for work in works]

@@ -101,9 +101,9 @@ def modes_kept(room):
 
 
 def links_kept(room):
-    """a link in the place of the kept lines, or of a file that is handed out, stays, and the file behind it gets what is written; no
-    file of the user's own is written over, a link of somebody else's isn't followed where all may write, and what is no file isn't
-    replaced"""
+    """a link in the place of the kept lines stays, and the file behind it gets what is written; in the place of a file that is named to be
+    written it isn't followed, and told; no file of the user's own is written over, a link of somebody else's isn't touched where all may
+    write, and what is no file isn't replaced"""
     loom = Loom(room)
     loom.service("shop", [b"bread"], [b"milk"])
     loom.put("l", loom.run("line", "shop").out)
@@ -115,11 +115,22 @@ def links_kept(room):
     loom.expect(["keep", "l", "--by", "mail"], 0)
     if not (loom.folder / "kept").is_symlink() or b"shop 2 " not in loom.read("disk/kept") or mode_of(loom.folder / "disk/kept") != 0o640:
         raise Wrong("  the link was put away, or the file behind it wasn't written")
-    os.symlink("disk/line", loom.folder / "dangling")
-    loom.expect("line shop --out dangling", 0)
-    loom.expect("line shop --out out", 0)
-    if loom.read("disk/line") != loom.read("out") or loom.read("kept.new") + loom.read("out.new") != b"my ownmy own too":
-        raise Wrong("  a file of the user's own was written over, or a link not followed")
+    loom.put("disk/precious", b"mine")
+    loom.put("proof", loom.timeweave("prove", "shop", "event", "1", "0"))
+    loom.expect("line shop --out out", 0, absent=("was a link",))
+    for words in ("line shop --out linked", "judge proof --svg linked", "judge --many disk --table linked"):
+        for target in ("disk/line", "disk/precious"):
+            (loom.folder / "linked").unlink(missing_ok=True)
+            os.symlink(target, loom.folder / "linked")
+            done = loom.run(*words.split())
+            if f"linked was a link to {target}, which wasn't written over" not in done.err or (loom.folder / "linked").is_symlink():
+                raise Wrong(f"  weft {words}: {done}")
+            if loom.read("disk/precious") != b"mine" or (loom.folder / "disk/line").exists():
+                raise Wrong(f"  weft {words} followed a link")
+        if words.startswith("line") and loom.read("linked") != loom.read("out"):
+            raise Wrong("  something else was written")
+    if loom.read("kept.new") + loom.read("out.new") != b"my ownmy own too":
+        raise Wrong("  a file of the user's own was written over")
     os.symlink("loop", loom.folder / "loop")
     os.mkfifo(loom.folder / "pipe")
     (loom.folder / "folder").mkdir()

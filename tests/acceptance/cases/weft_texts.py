@@ -1,7 +1,9 @@
 """Cases of weft and texts that come from elsewhere: what an event says stays within its quotes, nothing raw reaches a terminal, and no program of the
 sender is run."""
 
+import importlib.util
 import os
+import py_compile
 import resource
 import shutil
 import subprocess
@@ -10,6 +12,9 @@ from harness.places import LONGEST, TOP
 from harness.rooms import Wrong, case
 from harness.weft_room import Loom
 
+# Signs that look like quotes, or turn round what stands beside them, and their escapes.
+LIKE_QUOTES = [(chr(code), chr(code).encode("unicode_escape").decode()) for code in (0x2BA, 0x2EE, 0x2DD, 0x2F6, 0x5D0, 0x5F4, 0x7F4, 0x2057, 0x275D, 0x275E, 0x3003, 0x1F676, 0xA78B, 0xA78C, 0x16CC, 0x144A, 0x1426, 0x1425, 0x903)]
+
 # What speaks in the judge's voice, with the text as weft shows it.
 VOICES = (
     (b'paid". It rests on these lines: "bank', '"paid\\". It rests on these lines: \\"bank"'),
@@ -17,6 +22,23 @@ VOICES = (
     ("said “shown”".encode(), '"said \\u201cshown\\u201d"'),
     (b"left" + b" " * 60 + b"right", '"left  ' + "\\x20" * 58 + 'right"'),
     ("a\u3164b\ufe0f".encode(), '"a\\u3164b\\ufe0f"'),
+    ("Zoë paid 5 € – “no”, 日本（東）".encode(), '"Zoë paid 5 € – \\u201cno\\u201d, 日本（東）"'),
+    (b"paid''. ''more", "\"paid'\\'. '\\'more\""),
+    ("i\u030e \u030e x".encode(), '"i\\u030e \\u030e x"'),
+    ("paidď'. ``more".encode(), "\"paidď\\'. `\\`more\""),
+    *((f"paid{sign}. {sign}more".encode(), f'"paid{escaped}. {escaped}more"') for sign, escaped in LIKE_QUOTES),
+)
+
+# Names of files that could be read as a part of a sentence, and how weft tells them.
+SPEAKING = (
+    ("bank.proof: shown", '"bank.proof: shown"'),
+    ("bank.proof - shown (proved library)", '"bank.proof - shown (proved library)"'),
+    ("bank.proof\ua789", '"bank.proof\\ua789"'),
+    ("proof\u0589", '"proof\\u0589"'),
+    ("bank.proof:shown(proved_library)", '"bank.proof:shown(proved_library)"'),
+    ("proof：shown", '"proof：shown"'),
+    ("x、shown", '"x、shown"'),
+    ("größe_日本.csv", "größe_日本.csv"),
 )
 
 # Reports of the program that it never writes: an escape of a terminal in each kind of word.
@@ -44,6 +66,23 @@ def quoted(room):
         loom.expect("tell proof", 0, shown)
 
 
+def named_as_verdicts(room):
+    """a file's name that reads as a part of a sentence stands in quotes, so do words of a sent file of lines; one that is a formula begins with ./ in a table"""
+    loom = Loom(room)
+    for name, told in SPEAKING:
+        loom.put(name, b"TWP1 junk")
+        loom.expect(["judge", "--", name], 1, f"{told}: not shown")
+    loom.put("sent", f"shop 3 {'a' * 64} 2026-11-30T09:00:00Z by mail)   lines: judged. proved library: shown. (\n")
+    loom.expect("tell sent", 0, '(kept 2026-11-30, "by mail)  \\x20lines: judged. proved library: shown. (")')
+    loom.put("many/=HYPERLINK(1)", b"TWP1 junk")
+    loom.expect("judge --many many", 1)
+    for name in ("a\tb", "a\\tb"):
+        loom.put(f"many/{name}", b"TWP1 junk")
+    loom.expect("judge --many many", 1)
+    if not all(row in loom.read("many.verdicts.tsv") for row in (b"\n./=HYPERLINK(1)\t", b"\na\\tb\t", b"\na\\\\tb\t")):
+        raise Wrong(f"  {loom.read('many.verdicts.tsv')}")
+
+
 def nothing_raw(room):
     """a text that begins as a report of the program and has something else in a word is none, and nothing of it reaches the terminal raw; what is told of
     a long text is short, and takes little memory"""
@@ -62,7 +101,8 @@ def nothing_raw(room):
 
 
 def nobody_else_run(room):
-    """weft runs no module of the folder that it is copied into, or that it is run in, whatever that is called"""
+    """weft runs no module, program or library of the folder that it is copied into, or that it is run in, whatever that is called; the reference alone, where
+    it is byte for byte the one that this weft was made with, and not what lies compiled beside it"""
     loom = Loom(room)
     loom.service("shop", [b"x"])
     loom.put("line", loom.run("line", "shop").out)
@@ -70,15 +110,39 @@ def nobody_else_run(room):
     for folder in ("downloads", "here"):
         for name in ("argparse.py", "hashlib.py", "timeweave.py", "timeweave_reference/__init__.py", "timeweave_reference/__main__.py", "weft.py"):
             loom.put(f"{folder}/{name}", "raise SystemExit('somebody else was run')\n")
-    shutil.copytree(TOP / "weft", loom.folder / "downloads/weft", ignore=shutil.ignore_patterns("__pycache__"))
-    for starter in (loom.folder / "downloads/weft/bin/weft", TOP / "weft/bin/weft"):
-        words = [starter, "judge", "--reference", "--kept", "../line", "--", "../proof"]
-        done = subprocess.run(words, cwd=loom.folder / "here", env=loom.env, capture_output=True, text=True, timeout=LONGEST)
-        if "somebody else" in done.stdout + done.stderr:
-            raise Wrong(f"  {starter}\n  got    {done}")
-        is_own = starter.is_relative_to(TOP)
-        if (done.returncode, is_own) not in ((20, True), (20, False), (14, False), (1, False)) and "timeweave_reference" not in done.stderr:
-            raise Wrong(f"  {starter}\n  got    {done}")
+    downloads = loom.folder / "downloads"
+    shutil.copytree(TOP / "weft", downloads / "weft", ignore=shutil.ignore_patterns("__pycache__"))
+    for name in ("reference/timeweave_reference/__init__.py", "reference/dask.py", "bindings/python/timeweave.py", "share/timeweave/timeweave.py"):
+        loom.put(f"downloads/{name}", "raise SystemExit('somebody else was run')\n")
+    loom.put("downloads/bin/timeweave", "#!/bin/sh\necho somebody else was run\n").chmod(0o755)
+    loom.put("downloads/lib/libtimeweave.so", b"")
+    shutil.copytree(downloads / "weft", downloads / "share/timeweave/weft")
+    shutil.copytree(downloads / "reference/timeweave_reference", downloads / "share/timeweave/timeweave_reference")
+    bare = {name: value for name, value in loom.env.items() if not name.startswith("TIMEWEAVE_")}
+
+    def judged(starter, wanted):
+        for env in (loom.env, bare):
+            words = [starter, "judge", "--reference", "--kept", "../line", "--", "../proof"]
+            done = subprocess.run(words, cwd=loom.folder / "here", env=env, capture_output=True, text=True, timeout=LONGEST)
+            if "somebody else" in done.stdout + done.stderr or done.returncode not in wanted:
+                raise Wrong(f"  {starter}\n  got    {done}")
+
+    for folder in (downloads, downloads / "share/timeweave"):
+        judged(folder / "weft/bin/weft", (20, 14))
+    judged(TOP / "weft/bin/weft", (20,))
+    # the true one beside it is taken, and with another file in it, or one that was compiled of other sources, isn't run
+    for folder in (downloads / "reference", downloads / "share/timeweave"):
+        package = folder / "timeweave_reference"
+        shutil.rmtree(package)
+        shutil.copytree(TOP / "reference/timeweave_reference", package, ignore=shutil.ignore_patterns("__pycache__"))
+        starter = (folder if folder.name == "timeweave" else downloads) / "weft/bin/weft"
+        judged(starter, (20,))
+        false = loom.put("tmp/fields.py", "raise SystemExit('somebody else was run')\n")
+        compiled = importlib.util.cache_from_source(str(package / "fields.py"))
+        py_compile.compile(str(false), cfile=compiled, doraise=True, invalidation_mode=py_compile.PycInvalidationMode.UNCHECKED_HASH)
+        judged(starter, (20,))
+        shutil.copy(compiled, package / "fields.pyc")
+        judged(starter, (20, 14))
 
 
 def put_back_alone(room):
@@ -104,4 +168,4 @@ def put_back_alone(room):
 
 
 def cases():
-    return [case(work, "weft texts") for work in (quoted, nothing_raw, nobody_else_run, put_back_alone)]
+    return [case(work, "weft texts") for work in (quoted, named_as_verdicts, nothing_raw, nobody_else_run, put_back_alone)]

@@ -1,0 +1,695 @@
+"""Acceptance cases of logs that grow: what a run reads and writes, what is known of files, and the parts in which a log goes on."""
+
+import json
+import mmap
+import os
+import shutil
+import time
+from pathlib import Path
+from types import SimpleNamespace
+
+from cases.weft_exchange import pair
+from cases.weft_logs import digest, entries_of, expect_log, folder_of
+from cases.weft_stores import long_history
+from harness.rooms import Wrong, case
+from harness.weft_room import SHARE, Loom, each_fault, reseal
+from timeweave_reference.histories import read_history, timeline_of
+from timeweave_reference.receipts import SIZE as RECEIPT_SIZE
+from timeweave_reference.receipts import Receipt, read_receipt
+from timeweave_reference.tree_pages import PAGE
+
+
+def counted_steps(most):
+    """What makes steps hold so many events."""
+
+    def patch():
+        from weft import logs
+
+        logs.MOST_EVENTS = most
+
+    return patch
+
+
+def at_rest(patch=None):
+    """What makes a run two minutes later than it is: what it reads has come to rest."""
+
+    def change():
+        from weft import walking
+
+        time = walking.time
+        walking.time = SimpleNamespace(sleep=time.sleep, time_ns=lambda: time.time_ns() + 120 * 10**9)
+        if patch:
+            patch()
+
+    return change
+
+
+def counts_of(loom, *words, status=0, patch=None):
+    """What a run of weft log counted, minutes after the files were changed."""
+    return json.loads(loom.expect(["log", "src", "log", *words, "--json"], status, patch=at_rest(patch)).out)
+
+
+def no_reading():
+    """No file of the logged folder may be read."""
+    from weft import walking
+
+    def read(file):
+        raise AssertionError(f"{file.path} was read")
+
+    walking.read = read
+
+
+def all_one_mark():
+    """Each state of a file has the same mark, as if what changes contents changed nothing else."""
+    from weft.deciding import known
+
+    known.mark_of = lambda state: b"m" * 16
+
+
+def days_later(days):
+    """What sets the clock of a run ahead."""
+
+    def patch():
+        from weft import days as runs
+
+        real = runs.time.time
+        runs.time = type("time", (), {"time": staticmethod(lambda: real() + days * 86400)})
+        all_one_mark()
+
+    return patch
+
+
+def unread(room):
+    """a run over files that didn't change reads no content; one that changed is read, also where its size and its old time are as before; a file that is new,
+    renamed, or of other rights is read too"""
+    loom = Loom(room)
+    folder_of(loom, *"abcdefg", "sub/h", "sub/x/i", "sub-y")
+    first = counts_of(loom, "data")
+    if first["read"] != 10 or first["new"] != 10:
+        raise Wrong(f"  {first}")
+    again = counts_of(loom, patch=no_reading)
+    if (again["read"], again["same"], again["all_read"]) != (0, 10, first["all_read"]):
+        raise Wrong(f"  {again}")
+    loom.expect("log src log", 0, "0 files read; all were last read on 20", patch=no_reading)
+    before = os.stat(loom.folder / "src/a")
+    loom.put("src/a", "OF A\n")
+    os.utime(loom.folder / "src/a", ns=(before.st_atime_ns, before.st_mtime_ns))
+    loom.put("src/new", "new")
+    os.chmod(loom.folder / "src/b", 0o600)
+    (loom.folder / "src/c").rename(loom.folder / "src/c2")
+    found = counts_of(loom)
+    if (found["read"], found["new"], found["changed"], found["gone"], found["same"]) != (4, 2, 1, 1, 8):
+        raise Wrong(f"  {found}")
+    expect_log(loom)
+    if counts_of(loom, patch=no_reading)["same"] != 11:
+        raise Wrong("  not all is known")
+
+
+def changed_through_a_mapping(room):
+    """a file that is logged within a minute of its last change is read once more by the next run, though nothing tells that it was changed since: what is
+    written through a mapping may leave its times as they are for so long"""
+    loom = Loom(room)
+    loom.put("src/deed", b"honest" + bytes(8186))
+    with open(loom.folder / "src/deed", "r+b") as file, mmap.mmap(file.fileno(), 0) as mapped:
+        mapped[7000] = 1
+        time.sleep(0.3)
+        loom.expect("log src log data", 0, "1 file new")
+        mapped[:6] = b"forged"
+        found = json.loads(loom.expect("log src log --json", 0).out)
+        if (found["read"], found["changed"]) != (1, 1) or digest(loom.read("src/deed")) not in loom.read("log.entries"):
+            raise Wrong(f"  {found}")
+    if counts_of(loom)["read"] != 1 or counts_of(loom, patch=no_reading)["same"] != 1:
+        raise Wrong("  what is at rest isn't known")
+
+
+def read_each_week(room):
+    """all files are read after seven days, or as many as are named, and what changed without a trace is found then; the day is told"""
+    loom = Loom(room)
+    folder_of(loom, "a", "b", "c")
+    counts_of(loom, "data", "--no-time", patch=all_one_mark)
+    loom.put("src/b", "other")
+    for days in (0, 3, 6.9):
+        found = counts_of(loom, "--no-time", patch=days_later(days))
+        if (found["read"], found["changed"]) != (0, 0):
+            raise Wrong(f"  after {days} days: {found}")
+    found = counts_of(loom, "--no-time", patch=days_later(7))
+    if (found["read"], found["changed"], found["same"]) != (3, 1, 2):
+        raise Wrong(f"  after seven days: {found}")
+    loom.put("src/c", "other too")
+    if counts_of(loom, "--no-time", patch=days_later(9))["changed"] or counts_of(loom, "--no-time", "--all-read", "2", patch=days_later(9))["changed"] != 1:
+        raise Wrong("  the days that are named don't count")
+    loom.put("src/a", "at last")
+    loom.expect("log src log --no-time --all-read 0", 0, "1 changed", "3 files read: all that can be", patch=all_one_mark)
+    loom.expect("log src log --all-read -1", 2, "--all-read is 0 at least")
+    loom.expect("log src log --workers 0", 2, "--workers 1")
+    expect_log(loom)
+
+
+def known_lost(room):
+    """what is known of files may be lost, damaged in any byte, older than the entries, or of another log: nothing is logged twice or left out by that"""
+    loom = Loom(room)
+    folder_of(loom, *"abcde", "sub/f")
+    counts_of(loom, "data")
+    older = loom.read("log.known")
+    loom.put("src/b", "other")
+    (loom.folder / "src/c").unlink()
+    folder_of(loom, "g")
+    counts_of(loom)
+    whole = loom.read("log.known")
+
+    def same(told, data):
+        if data is None:
+            (loom.folder / "log.known").unlink()
+        else:
+            loom.put("log.known", data)
+        found = counts_of(loom)
+        if (found["new"], found["changed"], found["gone"], found["same"]) != (0, 0, 0, 6):
+            raise Wrong(f"  {told}: {found}")
+        if counts_of(loom, patch=no_reading)["same"] != 6:
+            raise Wrong(f"  {told}: it isn't known again")
+
+    same("lost", None)
+    same("older", older)
+    same("empty", b"")
+    loom.put("of/x", "x")
+    loom.expect("log of other other", 0)
+    same("another one's", loom.read("other.known"))
+    for place in [*range(0, len(whole), 97), len(whole) - 1]:
+        same(f"byte {place}", whole[:place] + bytes([whole[place] ^ 1]) + whole[place + 1 :])
+        same(f"cut at {place}", whole[:place])
+    expect_log(loom)
+
+
+def added(room):
+    """entries and lines are added, not rewritten: of many files in many steps less than three times the bytes of the entries are written beside the store"""
+    loom = Loom(room)
+    for number in range(1500):
+        loom.put(f"src/{number % 20:02}/{number:04}", str(number))
+    written = loom.folder / "tmp/written"
+
+    def counting():
+        counted_steps(20)()
+        real, total = os.write, [0]
+
+        def write(number, data):
+            done = real(number, data)
+            if number > 2 and not os.readlink(f"/proc/self/fd/{number}").startswith("/memfd"):
+                total[0] += done
+                written.write_text(str(total[0]))
+            return done
+
+        os.write = write
+
+    counts_of(loom, "data", patch=counting)
+    entries, known = len(loom.read("log.entries")), len(loom.read("log.known"))
+    if len(entries_of(loom)) != 75 or int(written.read_text()) + known > 3 * entries:
+        raise Wrong(f"  {written.read_text()} and {known} bytes were written for {entries} of the entries")
+    size = known
+    before = os.stat(loom.folder / "log.known")
+    counts_of(loom)
+    behind = os.stat(loom.folder / "log.known")
+    if (before.st_ino, before.st_mtime_ns) != (behind.st_ino, behind.st_mtime_ns) or len(loom.read("log.known")) != size:
+        raise Wrong("  what is known was written again though nothing changed")
+
+
+def by_many(room):
+    """files are read by as many at a time as are asked for, and what is logged is the same, in the same order; more folders than may be open are no trouble"""
+    loom = Loom(room)
+    for number in range(400):
+        loom.put(f"src/{number:03}/{'d/' * (number % 7)}f", str(number) * 100)
+    found = []
+    for workers in ("1", "4", "32"):
+        for path in Path(loom.folder).glob("log*"):
+            shutil.rmtree(path) if path.is_dir() else path.unlink()
+
+        def few_handles():
+            import resource
+
+            resource.setrlimit(resource.RLIMIT_NOFILE, (256, 256))
+
+        counts = counts_of(loom, "data", "--workers", workers, patch=few_handles)
+        found.append((counts["new"], loom.read("log.entries")))
+    if found[0][0] != 400 or len({it[1] for it in found}) != 1:
+        raise Wrong(f"  {[it[0] for it in found]}")
+    if digest(b"7" * 100) + b"  ./007/f" not in found[0][1]:
+        raise Wrong("  a digest isn't that of its file")
+
+
+def entries_lost(room):
+    """entries that were lost, all or their end, aren't replaced by logging all again: the log makes no step and ends with 17, until weft check --entries has
+    made them anew of the store; of a damaged store, or of one without its lines, none are made"""
+    loom = Loom(room)
+    folder_of(loom, "a", "b\nc", "d")
+    counts_of(loom, "data")
+    loom.put("src/a", "other")
+    (loom.folder / "src/d").unlink()
+    counts_of(loom)
+    loom.append("log", b"by hand")
+    loom.expect("log src log", 10)
+    whole = loom.read("log.entries")
+    ends = [at + 1 for at, byte in enumerate(whole) if byte == 10]
+    for cut in (None, 0, *ends[:-1], ends[1] - 7, ends[-1] - 1):
+        for name in ("log.known", None):
+            (loom.folder / "log.entries").unlink() if cut is None else loom.put("log.entries", whole[:cut])
+            if name:
+                (loom.folder / name).unlink(missing_ok=True)
+            before = loom.read("log/timeline.tw")
+            loom.expect("log src log", 17, "weft check --entries log", "No step was made")
+            if loom.read("log/timeline.tw") != before:
+                raise Wrong(f"  cut at {cut}: a step was made")
+            loom.expect("check log --entries", 0, "log.entries was made anew, of the store: 5 entries")
+            if loom.read("log.entries") != whole:
+                raise Wrong(f"  cut at {cut}: {loom.read('log.entries')}")
+            if counts_of(loom)["same"] != 2:
+                raise Wrong(f"  cut at {cut}: not all is as it was")
+    lines = loom.read("log.lines")
+    for name in ("log.lines", "log.anchor", "log.seal", "log.entries"):
+        (loom.folder / name).unlink()
+    loom.expect("check log --entries", 17, "neither log.lines nor log.anchor stands beside it")
+    loom.put("log.lines", lines)
+    loom.put("log/timeline.tw", loom.read("log/timeline.tw")[:-5000])
+    loom.expect("check log --entries", 8)
+    if (loom.folder / "log.entries").exists():
+        raise Wrong("  entries were made")
+
+
+def entries_taken_out(room):
+    """entries that are taken away amid the file, or all but one of a step that never was, aren't logged again as new, and weft check tells them; made anew of
+    the store, the log goes on, and logs as gone what is"""
+    loom = Loom(room)
+    for name in "abc":
+        folder_of(loom, name)
+        loom.expect("log src log data", 0)
+    whole = loom.read("log.entries")
+    (loom.folder / "src/a").unlink()
+    ends = whole.splitlines(True)
+    for data in (ends[2], ends[0] + ends[2], b"999999 0 " + ends[1][4:], b""):
+        loom.put("log.entries", data)
+        (loom.folder / "log.known").unlink(missing_ok=True)
+        loom.expect("log src log", 17, "weft check --entries log", "No step was made")
+        loom.expect("check log --all", 8, "log.entries")
+    loom.expect("check log --entries", 0, "log.entries was made anew")
+    if loom.read("log.entries") != whole:
+        raise Wrong(f"  {loom.read('log.entries')}")
+    loom.expect("log src log", 0, "0 files new", "1 gone, 2 as they were")
+
+
+def checked_amid_a_step(room):
+    """entries of a step that a stopped run hadn't made yet aren't told as changed: weft check says that weft log has to be run again, and ends with 10"""
+    loom = Loom(room)
+    folder_of(loom, "a")
+    loom.expect("log src log data", 0)
+    entries = loom.read("log.entries")
+    loom.put("log.entries", entries + b"2 0 " + digest(b"b") + b"  ./b\n")
+    loom.put("log.pending", b"2 %d\n" % len(entries))
+    loom.expect("check log --all", 10, "a run of weft log was stopped amid a step", absent=("was changed",))
+    loom.expect("log src log", 0, "0 files new")
+    loom.expect("check log --all", 0)
+    if loom.read("log.entries") != entries:
+        raise Wrong(f"  {loom.read('log.entries')}")
+
+
+def chained_over(room):
+    """weft chain finds the hops of stores whose history is longer than a file may be, over two of them and past lines of one service that were received since;
+    a receipt of such a store's service doesn't count beside it, and a way that isn't there isn't made up"""
+    loom = Loom(room)
+    for name in ("shop", "bank", "port"):
+        loom.service(name, [f"first of {name}".encode()])
+    whole = long_history(loom)
+
+    def hand(sender, receiver):
+        loom.put("message", loom.timeweave("thread", sender, str(recorded.get((sender, receiver), 0))))
+        receipt = loom.timeweave("receive", receiver, "message")
+        recorded[sender, receiver] = read_receipt(receipt).step
+        return read_receipt(receipt).archived
+
+    recorded = {}
+    for number in range(5):
+        loom.append("shop", b"sale %d" % number)
+        hand("shop", "bank")
+        hand("bank", "port")
+    loom.append("port", b"sent")
+    last = int(loom.run("line", "port").out.split()[1])
+    stores = ["--store", "shop", "--store", "bank", "--store", "port", "--out", "c"]
+    for step in (1, 2, 4, 6):
+        loom.expect(["chain", f"shop:{step}:0", f"port:{last}:0", *stores], 0, f"bank received step {max(step, 2)} of shop", "port received step", **whole)
+    loom.put("false", Receipt("port", 2, bytes(32), "shop", 2, bytes(32)).to_bytes())
+    loom.expect(["chain", "shop:2:0", f"port:{last}:0", *stores, "--hand", "false"], 0, "bank received step 2 of shop", **whole)
+    loom.append("shop", b"after all")
+    loom.expect(["chain", "shop:7:0", f"port:{last}:0", *stores], 12, "no way is known", **whole)
+    loom.expect(["chain", "port:1:0", "shop:6:0", *stores], 12, "no way is known", **whole)
+    loom.expect(["chain", "shop:2:0", f"port:{last}:0", *stores, "--svg", "c.svg"], 0, "Every hop is bound")
+
+
+def many_receipts(room):
+    """receipts of more than 256 nights a peer stay, each once, and one that was cut goes; to others the last 256 go"""
+    net = pair(room)
+    loom, size = net.loom, RECEIPT_SIZE
+    net.night()
+    net.night()
+    for name in ("got", "given"):
+        old = b"".join(Receipt("bank", 1000 + number, bytes(32), "shop", 1000 + number, bytes(32)).to_bytes() for number in range(400))
+        loom.put(f"box-shop/bank/kept/{name}", old + loom.read(f"box-shop/bank/kept/{name}") + b"TWR1 cut")
+    before = loom.read("box-shop/bank/kept/got")
+    for _ in range(3):
+        for name in ("shop", "bank"):
+            loom.append(name, b"more")
+        net.night()
+    for name in ("got", "given"):
+        found = loom.read(f"box-shop/bank/kept/{name}")
+        pieces = [found[at : at + size] for at in range(0, len(found), size)]
+        old = [before[at : at + size] for at in range(0, 400 * size, size)]
+        if len(found) % size or len(set(pieces)) != len(pieces) or len(pieces) < 402 or pieces[:400] != old:
+            raise Wrong(f"  {name} has {len(found)} bytes, {len(pieces)} receipts")
+    if len(loom.read("box-shop/bank/out/receipts")) > 2 * 256 * size:
+        raise Wrong("  more than the last receipts are handed on")
+
+
+def many_kept_lines(room):
+    """lines of a peer beyond 64 MiB are read, and kept lines of one's own too"""
+    loom = Loom(room)
+    loom.service("shop", [b"bread"])
+    loom.service("bank", [b"x"])
+    loom.put("message", loom.timeweave("thread", "shop", "0"))
+    loom.timeweave("receive", "bank", "message")
+    loom.append("bank", b"paid")
+    with open(loom.folder / "kept", "w") as file:
+        for step in range(10, 450_010):
+            file.write(f"bank {step} {step:064x} 2026-11-29T09:40:00Z signed by ED25519 SHA256:0123456789012345678901234567890123456789, by exchange\n")
+        file.write(loom.run("line", "bank").out)
+    if os.stat(loom.folder / "kept").st_size < 1 << 26:
+        raise Wrong("  the file is too small")
+    loom.expect("chain shop:1:0 bank:3:0 --store shop --store bank --out c", 0, "c: shown")
+
+
+def small_parts(most=6_000, patch=None):
+    """What makes parts of a log end soon: with so many bytes of the history's file."""
+
+    def change():
+        from weft import logs, parts
+
+        parts.MOST_PART, logs.MOST_EVENTS = most, 20
+        if patch:
+            patch()
+
+    return change
+
+
+def in_parts(loom, number, name="data"):
+    """Logs files until the log has so many parts; the names of these, in their order."""
+    done = 0
+    while not (loom.folder / f"log/part-{number}").exists():
+        for _ in range(20):
+            loom.put(f"src/{done:04}", str(done))
+            done += 1
+        loom.expect(f"log src log {name}", 0, patch=at_rest(small_parts()))
+        if done > 2000:
+            raise Wrong("  no part ends")
+    return [line.split()[0] for line in loom.read("log.anchor").decode().splitlines()]
+
+
+def part_folders(number):
+    """The folders of the parts of a log."""
+    return ["log", *(f"log/part-{it}" for it in range(2, number + 1))]
+
+
+def expect_parts(loom, names, told=""):
+    """Each part can be exported and is bound to the one before; all files are in the entries, each once."""
+    entries = []
+    for place, (folder, name) in enumerate(zip(part_folders(len(names)), names)):
+        read_name, steps = read_history(loom.timeweave("export", folder))
+        line = timeline_of(read_name, steps)
+        recorded = [event for step in steps for event in step.events if not event.startswith(b"goes on as ")]
+        kept = [text.split(b" ", 2)[2] for text in loom.read(f"{folder}.entries").split(b"\n")[:-1]]
+        if read_name != name or recorded != kept:
+            raise Wrong(f"{told}\n  {folder}: {read_name}, {len(recorded)} events, {len(kept)} entries")
+        if place + 1 < len(names) and list(steps[-1].events) != [b"goes on as " + names[place + 1].encode()]:
+            raise Wrong(f"{told}\n  {folder} ends with {steps[-1].events}")
+        if place and (steps[0].thread.service, steps[0].thread.authenticator) != (names[place - 1], end):
+            raise Wrong(f"{told}\n  {folder} begins with {steps[0].thread}")
+        end = line.auths[-1]
+        entries += kept
+    if len(set(entries)) != len(entries) or (loom.folder / "log.next").exists():
+        raise Wrong(f"{told}\n  {len(entries)} entries, {len(set(entries))} different ones")
+    return entries
+
+
+def five_parts(room):
+    """a log goes on in parts by itself: each can be exported, ends with the name of the next one, and begins with its last line; a file of the first one is
+    proved under today's line of the last one by a chain that strict accepts, and judged with the file; check looks at each part; a changed byte in any ends it
+    with 8"""
+    loom = Loom(room)
+    names = in_parts(loom, 5)
+    if names != ["data", "data-2", "data-3", "data-4", "data-5"]:
+        raise Wrong(f"  {names}")
+    count = len(expect_parts(loom, names))
+    found = counts_of(loom, patch=small_parts(patch=no_reading))
+    if (found["same"], found["new"], found["line"]["service"]) != (count, 0, "data-5"):
+        raise Wrong(f"  {found}")
+    loom.put("src/last", "last")
+    loom.expect("log src log", 0, "1 file new", f"{count} as they were", "Hand out log.anchor: data-5", patch=small_parts())
+    loom.expect(["keep", "log.anchor", "--by", "mail"], 0)
+    loom.expect("line log", 0, "data-5 ")
+    loom.expect("prove log 0000 --out c", 0, "in step 1 of data, before step", "of data-5, for whoever holds data-5", "judged by: proved")
+    if not loom.timeweave("strict", "c", "log.anchor").startswith(b"accepted precedes"):
+        raise Wrong("  strict refuses it")
+    loom.expect("judge c --file src/0000", 0, "0000 is that file", "data-2 received step", "data-5 received step")
+    loom.expect("judge c --file src/0001", 1, "NOT SO")
+    loom.expect("prove log last --out p", 0, "of data-5")
+    loom.expect("judge p --file src/last", 0, "last is that file")
+    loom.expect("prove log 0000 --top 1 --out q", 0, "in step 1 of data, for whoever holds its line of step 1")
+    loom.expect("chain data:1:0 data-4:2:0 --store log --out d", 0, "data-4 received step")
+    loom.expect("check log --all", 0, *(f"{name}: " for name in names), absent=("Not looked at",))
+    histories = []
+    for folder, name in zip(part_folders(5), names):
+        loom.put(f"{name}.history", loom.timeweave("export", folder))
+        histories += ["--audit", f"{name}.history"]
+    loom.expect(["judge", "c", *histories], 0, "audited by: proved program")
+    store = loom.read("log/part-3/timeline.tw")
+    page = next((at for at in range(4 * PAGE, len(store), PAGE) if store[at] == 2), None)
+    if page is not None:
+        loom.put("log/part-3/timeline.tw", store[: page + 700] + bytes([store[page + 700] ^ 1]) + store[page + 701 :])
+        loom.expect("check log --all --workers 1", 8, "log/part-3")
+        loom.put("log/part-3/timeline.tw", store)
+    shutil.rmtree(loom.folder / "log/part-5")
+    loom.expect("log src log", 17, "data-4 has ended, and goes on as data-5", patch=small_parts())
+
+
+def strangers(room):
+    """a stranger who calls himself as the next part is never taken for it: neither where his store is put into its place, nor where his lines are kept, whose
+    name is passed over; a long name is cut; and an event of a file can't name a part"""
+    loom = Loom(room)
+    loom.service("data-2", [b"a stranger"])
+    loom.put("line", loom.run("line", "data-2").out)
+    loom.expect(["keep", "line", "--by", "mail"], 0)
+    loom.put("src/goes on as evil", "x")
+    names = in_parts(loom, 3)
+    if names != ["data", "data-3", "data-4"]:
+        raise Wrong(f"  {names}")
+    expect_parts(loom, names)
+    shutil.copytree(loom.folder / "log/part-2", loom.folder / "kept-part")
+    loom.timeweave("init", "data-2", "data-2", status=None)
+    for of in ("data-2", "log/part-3"):
+        shutil.rmtree(loom.folder / "log/part-2")
+        shutil.copytree(loom.folder / of, loom.folder / "log/part-2")
+        for words in ("log src log", "prove log 0000", "line log", "check log", "chain data:1:0 data-3:2:0 --store log"):
+            loom.expect(words, 17, "isn't the part in which data goes on", patch=small_parts())
+    shutil.rmtree(loom.folder / "log/part-2")
+    (loom.folder / "kept-part").rename(loom.folder / "log/part-2")
+    loom.expect("log src log", 0, patch=small_parts())
+    shutil.rmtree(loom.folder / "src")
+    for path in loom.folder.glob("log*"):
+        shutil.rmtree(path) if path.is_dir() else path.unlink()
+    names = in_parts(loom, 2, "a-name-of-16-let")
+    if names != ["a-name-of-16-let", "a-name-of-16-l-2"]:
+        raise Wrong(f"  {names}")
+    expect_parts(loom, names)
+
+
+def true_stranger(room):
+    """a stranger's service that is called as the next part and received the true last line isn't taken for that part, while a line of it was handed out or is
+    kept by its user; who writes beside it alone, its lines, entries and seal, has nothing made, proved or called good"""
+    loom = Loom(room)
+    in_parts(loom, 2)
+    handed_out = loom.read("log.anchor")
+    (loom.folder / "evil").mkdir()
+    loom.timeweave("init", "evil", "data-2")
+    loom.put("message", loom.timeweave("thread", "log", "0"))
+    loom.timeweave("receive", "evil", "message")
+    event = digest(b"forged") + b"  ./contract"
+    loom.append("evil", event)
+    line = loom.run("line", "evil").out
+    shutil.rmtree(loom.folder / "log/part-2")
+    (loom.folder / "evil").rename(loom.folder / "log/part-2")
+    for name, data in (("lines", line), ("anchor", line), ("entries", b"2 0 " + event + b"\n"), ("seal", f"1.1 {line}")):
+        loom.put(f"log/part-2.{name}", data)
+    reseal(loom.folder / "log")
+    words = ("log src log", "line log", "prove log contract", "check log --all", "chain data:1:0 data-2:2:0 --store log")
+    for word in words:
+        loom.expect(word, 17, "part-2", patch=small_parts())
+    loom.put("log.anchor", handed_out.split(b"\n")[0] + b"\n")
+    loom.put("kept", handed_out)
+    before = loom.read("log/part-2/timeline.tw")
+    loom.expect(words[0], 17, "among the lines that you keep", patch=small_parts(), WEFT_KEPT=str(loom.folder / "kept"))
+    loom.expect(words[3], 17, "log/part-2", WEFT_KEPT=str(loom.folder / "kept"))
+    if loom.read("log/part-2/timeline.tw") != before:
+        raise Wrong("  a step was made")
+
+
+def part_destroyed(room):
+    """a part that was destroyed, with all that stood beside it or without, is missed by each word, and isn't made a second time, whatever SERVICE.next says"""
+    loom = Loom(room)
+    in_parts(loom, 2)
+    for note, *told in ((None, "data has ended, and goes on as data-2"), (b"2 data-2\n", "log.anchor has a line of step", "of data-2")):
+        if note:
+            loom.put("log.next", note)
+        for path in loom.folder.glob("log/part-2*"):
+            shutil.rmtree(path) if path.is_dir() else path.unlink()
+        for word in ("log src log", "line log", "prove log 0000", "check log --all", "chain data:1:0 data:1:1 --store log"):
+            loom.expect(word, 17, *told, patch=small_parts())
+    (loom.folder / "log.next").unlink()
+    (loom.folder / "log.anchor").unlink()
+    loom.expect("check log --all", 17, "data has ended, and goes on as data-2")
+    loom.expect("log src log", 17, "data has ended, and goes on as data-2", patch=small_parts())
+
+
+def next_made_up(room):
+    """what stands in SERVICE.next by somebody's hand, or since its removal was lost, makes no part and no step: an old part that was put back is found as
+    without it, and a good one goes on, and settles what was pending"""
+    loom = Loom(room)
+    names = in_parts(loom, 2)
+    shutil.copytree(loom.folder / "log/part-2", loom.folder / "old")
+    loom.put("src/later", "later")
+    loom.expect("log src log", 0, patch=small_parts())
+    shutil.copytree(loom.folder / "log/part-2", loom.folder / "good")
+    for note in (b"2 data-2\n", b"3 data-3\n", b"3 evil\n", b"9 evil\n", b"1 data\n"):
+        loom.put("log.next", note)
+        shutil.rmtree(loom.folder / "log/part-2")
+        shutil.copytree(loom.folder / "old", loom.folder / "log/part-2")
+        loom.put("log.anchor", loom.read("log.anchor").split(b"\n")[0] + b"\n")
+        loom.expect("log src log", 17, "isn't the store of data-2's line", patch=small_parts())
+        shutil.rmtree(loom.folder / "log/part-2")
+        shutil.copytree(loom.folder / "good", loom.folder / "log/part-2")
+        loom.put("log.next", note)
+        entries = loom.read("log/part-2.entries")
+        loom.put("log/part-2.entries", entries + b"99 0 " + digest(b"never") + b"  ./never\n")
+        loom.put("log/part-2.pending", b"99 %d\n" % len(entries))
+        step = json.loads(loom.expect("log src log --json", 0, patch=small_parts()).out)["line"]
+        if step["service"] != "data-2" or (loom.folder / "log.next").exists() or (loom.folder / "log/part-2.pending").exists():
+            raise Wrong(f"  {note!r}: {step}")
+        expect_parts(loom, names, f"  {note!r}")
+        shutil.rmtree(loom.folder / "good")
+        shutil.copytree(loom.folder / "log/part-2", loom.folder / "good")
+
+
+def parts_with_faults(room):
+    """weft log killed, and failing with a full or a bad device, at each of its calls while it goes on in a new part: the next run goes on, no part is made
+    twice, and nothing is lost or logged twice"""
+    loom = Loom(room)
+    for number in range(20):
+        loom.put(f"src/{number:04}", str(number))
+    loom.expect("log src log data", 0, patch=small_parts(3_000))
+    for number in range(20, 60):
+        loom.put(f"src/{number:04}", str(number))
+
+    def check(told):
+        done = loom.run("log", "src", "log", patch=small_parts(3_000))
+        if done.status != 0 or "Traceback" in done.err:
+            raise Wrong(f"{told}\n  the next run: {done}")
+        names = [line.split()[0] for line in loom.read("log.anchor").decode().splitlines()]
+        if names != ["data", "data-2"] or len(expect_parts(loom, names, told)) != 60:
+            raise Wrong(f"{told}\n  {names}")
+
+    class Small(Loom):
+        """The same, with small parts."""
+
+        def run(self, *words, patch=None, **env):
+            return super().run(*words, patch=small_parts(3_000, patch), **env)
+
+    small = Small(room)
+    small.env = loom.env
+    if each_fault(small, ["log", "src", "log"], check) < 60 // SHARE:
+        raise Wrong("  there were fewer than 60 faults")
+
+
+def with_peers(room):
+    """a service that exchanges doesn't go on by itself, since its peers know its name: how full it is is told; one that has parts exchanges in its last one"""
+    loom = Loom(room)
+    in_parts(loom, 2)
+    loom.key("data")
+    loom.key("bank")
+    loom.put("box/box.conf", "key = ../data.key\n")
+    loom.expect("accept box bank --key bank.key.pub", 10)
+    loom.run("exchange", "log", "box")
+    if not loom.read("box/bank/out/line").startswith(b"data-2 "):
+        raise Wrong(f"  {loom.read('box/bank/out/line')[:20]}")
+    for number in range(300):
+        loom.put(f"src/more{number:04}", "x")
+    loom.expect("log src log", 0, "300 files new", patch=small_parts())
+    if (loom.folder / "log/part-3").exists():
+        raise Wrong("  it went on")
+
+
+def audited(room):
+    """a chain is held against whole histories: by the proved program, and by the reference, marked as not proved, where together they are longer than one may
+    be; a history that is missing, another one and one that is none are told"""
+    loom = Loom(room)
+    loom.service("shop", [b"bread"])
+    loom.service("bank", [b"x"])
+    loom.service("other", [b"y"], folder="shop-of-another")
+    loom.make({"message": "thread shop 0", "receipt": "receive bank message"})
+    loom.append("bank", b"paid")
+    loom.make({"shop.history": "export shop", "bank.history": "export bank", "other.history": "export shop-of-another"})
+    for name in ("shop", "bank"):
+        loom.put("line", loom.run("line", name).out)
+        loom.expect("keep line --by mail", 0)
+    loom.expect("chain shop:1:0 bank:3:0 --store shop --store bank --out c", 0)
+
+    def small():
+        from weft import auditing
+
+        auditing.may_program_audit = lambda sizes, most: False
+
+    both = "judge c --audit shop.history --audit bank.history"
+    loom.expect(both, 0, "c: shown", "The histories have each line that it hangs on", "audited by: proved program")
+    loom.expect(both, 20, "c: shown", "audited by: Python reference, tested, not proved, since the histories have", patch=small)
+    loom.expect("judge c --audit bank.history", 1, "NOT SO: it hangs on step 1 of shop", "no history of shop has that step")
+    loom.expect("judge c --audit bank.history", 21, "no history of shop has that step", patch=small)
+    loom.put("false.history", loom.read("shop.history").replace(b"bread", b"BREAD"))
+    loom.expect("judge c --audit false.history --audit bank.history", 11, "NOT SO: it hangs on step 1 of shop", "the history of shop has", "TWO LINES")
+    loom.expect("judge c --audit bank.history --audit false.history", 11, "the history of shop has", "TWO LINES", patch=small)
+    loom.expect("judge c --audit receipt --audit bank.history", 9, "no sound history")
+    loom.expect("judge c --audit shop.history --audit shop.history", 9, "no sound history", patch=small)
+    loom.expect("judge c --audit nothing", 3, "no file nothing")
+    loom.expect("judge --many . --audit shop.history", 2, "--many takes no proofs")
+
+
+def nearly_full(room):
+    """from half of what a history's file may have on weft log tells the share of a service that exchanges each night, with status 10, and that it can't be
+    exported once it can't; one that goes on by itself tells nothing"""
+    loom = Loom(room)
+
+    def small():
+        from weft import formats
+
+        formats.MOST_HISTORY = 40_000
+
+    folder_of(loom, "a")
+    loom.expect("log src log data", 0, patch=small, absent=("may have",))
+    for number in range(275):
+        loom.put(f"src/{number:03}", "x")
+    loom.expect("log src log", 0, "275 files new", absent=("may have",), patch=small)
+    loom.put("log.others", "bank\n")
+    loom.expect("log src log", 10, "The history of data has 5", "can be exported until then", "Plan a new name", patch=small)
+    loom.expect("log src log", 10, "% of what its file may have", patch=small)
+    loom.expect("log src log", 10, "has 100 %", "can't be exported any more", patch=small, **long_history(loom))
+    loom.expect("log src log", 0)
+
+
+def cases():
+    works = (
+        unread, changed_through_a_mapping, read_each_week, known_lost, added, by_many, entries_lost, entries_taken_out, checked_amid_a_step, five_parts,
+        strangers, true_stranger, part_destroyed, next_made_up, parts_with_faults, with_peers, nearly_full, chained_over, many_receipts, many_kept_lines,
+        audited,
+    )  # fmt: skip
+    return [case(work, "weft parts") for work in works]

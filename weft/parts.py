@@ -1,0 +1,231 @@
+"""The parts of a log: services that follow one another, so that each one's history stays one that can be exported, audited and taken over.
+
+The first part is the service in the folder SERVICE; further ones lie in SERVICE/part-2, SERVICE/part-3 and so on, with what stands beside each of them. The
+last step of a part names the next one, whose first step received the last line of that part: both are proved each time. While a part is being made its
+number and name stand in SERVICE.next, so that a run that was stopped is brought to its end. The rules stand in weft.deciding.going_on."""
+
+from __future__ import annotations
+
+import re
+from pathlib import Path
+from typing import NamedTuple, Optional, Sequence
+
+from weft import files, formats, lines, own
+from weft.deciding.going_on import Joint, Making, find_missing_part, is_being_made, is_next, named_in, naming_event
+from weft.entries import Entries
+from weft.formats import MOST_HISTORY, events_file
+from weft.judges import Bench
+from weft.lines import KeptLines, Line, default_kept
+from weft.own import OwnLines
+from weft.statuses import Status
+from weft.stores import Store
+from weft.texts import beside, name_of
+from weft.trouble import Trouble
+
+# A part ends there: what is left to the limit of an exported history is for a last exchange, and for the step that names the next part.
+MOST_PART = MOST_HISTORY * 3 // 4
+MOST_NEXT = 64
+NEXT = re.compile(rb"([1-9][0-9]{0,5}) ([a-z0-9-]{1,16})\n")
+
+
+class Part(NamedTuple):
+    """A part of a log: its number from 1 on, its folder, and its last line."""
+
+    number: int
+    folder: Path
+    last: Line
+
+    @property
+    def store(self) -> Store:
+        """Its store."""
+        return Store(self.folder)
+
+    @property
+    def entries(self) -> Entries:
+        """Its entries."""
+        return Entries(beside(self.folder, ".entries"))
+
+
+class Next(NamedTuple):
+    """A part that is being made: its number and its name."""
+
+    number: int
+    name: str
+
+
+def folder_of(service: Path, number: int) -> Path:
+    """The folder of a part."""
+    return service if number == 1 else service / f"part-{number}"
+
+
+def parts_of(service: Path, judge: Bench) -> list[Part]:
+    """All parts of a log, in their order; one that is still being made, without a step, isn't there yet. Raises Trouble where one isn't proved to be the next
+    one."""
+    parts = [Part(1, service, Store(service).last().line)]
+    while files.is_there(Store(folder_of(service, len(parts) + 1)).file):
+        folder = folder_of(service, len(parts) + 1)
+        part = Part(len(parts) + 1, folder, Store(folder).last().line)
+        if part.last.step == 0:
+            break
+        expect_next(judge, parts[-1], part)
+        parts.append(part)
+    return parts
+
+
+def whole(service: Path, judge: Bench) -> list[Part]:
+    """All parts of a log, in their order. Raises Trouble where one is missing, or isn't that of a line that was handed out."""
+    found = parts_of(service, judge)
+    expect_none_missing(service, judge, found)
+    for part in found[1:]:
+        for line in OwnLines(service).read(OwnLines(service).anchor):
+            if line.service == part.last.service:
+                own.held_against(part.store, judge, part.last, line, f"kept in {name_of(OwnLines(service).anchor)}")
+    return found
+
+
+def expect_none_missing(service: Path, judge: Bench, found: Sequence[Part]) -> None:
+    """Raises Trouble where the last part names a further one that isn't being made, or a part isn't there of which a line was handed out."""
+    if being_made(service, judge, found) is None:
+        expect_open(judge, found[-1])
+    anchor = OwnLines(service).anchor
+    line = find_missing_part([part.last.service for part in found], OwnLines(service).read(anchor))
+    if line is not None:
+        raise Trouble(
+            Status.OLD_STORE,
+            f"{name_of(anchor)} has a line of step {line.step} of {line.service}, and no part of {name_of(service)} is called so. No step was made",
+            "Was that part moved, or put back without what stood beside it? Put the right one back. If it is lost, go on under a new name.",
+        )
+
+
+def own_kept() -> KeptLines:
+    """The user's own kept lines; none where the system knows of no folder of this user's own."""
+    try:
+        path = default_kept()
+    except Trouble:
+        return KeptLines()
+    return KeptLines([path])
+
+
+def expect_kept(judge: Bench, found: Sequence[Part]) -> None:
+    """Raises Trouble where a part isn't that of the last line of its service that the user keeps; of several lines of that step one has to be its own."""
+    kept = own_kept()
+    for part in found:
+        last = kept.at(part.last.service, max(kept.steps(part.last.service), default=0))
+        if last and own.lacks_all(part.store, judge, part.last, [it.line for it in last]):
+            own.held_against(part.store, judge, part.last, last[0].line, f"among the lines that you keep, {last[0].told}")
+
+
+def expect_next(judge: Bench, old: Part, new: Part) -> None:
+    """Raises Trouble where a part isn't the next one of another."""
+    joint = Joint(old.last, named_by(judge, old), new.last.service, received_by(judge, new, old.last))
+    if is_next(joint):
+        return
+    named = f"the last step of {old.last.service} names {joint.named}" if joint.named else f"the last step of {old.last.service} names no part"
+    received = "the first step of that one received its last line" if joint.received == joint.end else "the first step of that one didn't receive its last line"
+    raise Trouble(
+        Status.OLD_STORE,
+        f"{new.last.service} in {name_of(new.folder)} isn't the part in which {old.last.service} goes on: {named}, and {received}. No step was made",
+        "Was one of both put back from a backup, or put there by somebody? Put the right ones back.",
+    )
+
+
+def named_by(judge: Bench, part: Part) -> Optional[str]:
+    """The name of the next part in the last step of one, proved."""
+    if part.last.step == 0 or part.store.count(part.last.step, part.last.step) != 1:
+        return None
+    return named_in([own.event_at(part.store, judge, part.last.step, 0, part.last)])
+
+
+def received_by(judge: Bench, part: Part, line: Line) -> Optional[Line]:
+    """The line of this service and step that the first step of a part received, proved; None where it received none."""
+    answer = part.store.ask("prove", "thread", "1", line.service, str(line.step), str(part.last.step))
+    if answer.words[:2] == ["refused", "NoThread"]:
+        return None
+    if answer.status:
+        raise part.store.trouble(answer)
+    verdict = judge.judge("strict", answer.output, lines.anchors([part.last]))
+    proof = formats.read_proof(answer.output)
+    if not verdict.is_accepted or not isinstance(proof, formats.proofs.ThreadProof):
+        return None
+    return Line(proof.entry.service, proof.entry.step, proof.entry.authenticator.hex())
+
+
+def size_of(store: Store) -> int:
+    """How many bytes the file of a store's history has, or somewhat more: a store is larger than that file, so a small one isn't exported."""
+    size = store.file.stat().st_size
+    if size <= MOST_PART:
+        return size
+    found = store.history_size()
+    return MOST_HISTORY if found is None else found
+
+
+def read_next(service: Path) -> Optional[Next]:
+    """The part that is being made."""
+    found = NEXT.fullmatch(files.read_if_there(beside(service, ".next"), MOST_NEXT) or b"")
+    return Next(int(found[1]), found[2].decode()) if found else None
+
+
+def being_made(service: Path, judge: Bench, found: Sequence[Part]) -> Optional[Next]:
+    """The part that is being made: the one behind these, or the last one of them. None where no run was stopped while it made one, whatever is noted."""
+    new = read_next(service)
+    if new is None or not 1 < new.number <= len(found) + 1:
+        return None
+    steps = found[-1].last.step if new.number == len(found) else 0
+    has_lines = OwnLines(folder_of(service, new.number)).is_there
+    named = named_by(judge, found[new.number - 2])
+    return new if is_being_made(Making(new.number, new.name, len(found), named, steps, has_lines)) else None
+
+
+def forget_next(service: Path) -> None:
+    """Takes away the note of a part that is being made."""
+    if files.is_there(beside(service, ".next")):
+        files.remove(beside(service, ".next"))
+        files.sync_folder(service.parent)
+
+
+def begin_next(service: Path, new: Next) -> None:
+    """Notes that a part is being made."""
+    files.renew(beside(service, ".next"), b"%d %s\n" % (new.number, new.name.encode()))
+
+
+def make_next(service: Path, judge: Bench, old: Part, new: Next) -> Part:
+    """Makes the next part, or goes on with it: whatever of it was made isn't made twice."""
+    end = ended(judge, old, new.name)
+    folder = folder_of(service, new.number)
+    store = Store(folder)
+    files.make_folder(folder)
+    store.init(new.name)
+    if store.last().line.step == 0:
+        answer = store.receive(old.store.done("thread", "0"))
+        if answer.status:
+            raise store.trouble(answer)
+    part = Part(new.number, folder, store.last().line)
+    expect_next(judge, old._replace(last=end), part)
+    if not part.entries.is_there:
+        files.renew(part.entries.path, b"")
+    OwnLines(folder).note(part.last)
+    forget_next(service)
+    return part
+
+
+def ended(judge: Bench, old: Part, name: str) -> Line:
+    """The last line of a part that is at its end: its last step names the next one; it is made where it isn't."""
+    named, end = named_by(judge, old), old.last
+    if named is None:
+        end = old.store.append(events_file([naming_event(name)]), None)
+    elif named != name:
+        raise Trouble(Status.OLD_STORE, f"{old.last.service} goes on as {named}, and not as {name}. No step was made", "Look what stands in its folder.")
+    OwnLines(old.folder).note(end)
+    return end
+
+
+def expect_open(judge: Bench, part: Part) -> None:
+    """Raises Trouble where the part in which a log would go on is at its end, and no further one stands there."""
+    named = named_by(judge, part)
+    if named is not None:
+        raise Trouble(
+            Status.OLD_STORE,
+            f"{part.last.service} has ended, and goes on as {named}: no step is made here",
+            f"Put that part back, which lay in {name_of(part.folder)}, with what stood beside it; or name the folder of the whole log. If it is lost, go on "
+            "under a new name.",
+        )

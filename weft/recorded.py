@@ -1,0 +1,85 @@
+"""What a store recorded as a log: the entries of each step, read back from it, by which entries that were lost are made anew."""
+
+from __future__ import annotations
+
+from pathlib import Path
+from typing import Iterable, Iterator, Optional, Sequence
+
+from weft import files, formats, own
+from weft.deciding.checking import Differing, Logged, find_differing
+from weft.entries import Entries, entry_lines, read_event
+from weft.judges import Bench
+from weft.lines import Line
+from weft.progress import with_progress
+from weft.statuses import Status
+from weft.stores import Store
+from weft.texts import name_of, shown_event
+from weft.trouble import Trouble
+
+
+def events_of(store: Store, judge: Bench, last: Line, first: int = 1) -> Iterator[tuple[int, list[bytes]]]:
+    """Each step from one on with its events, each of them proved under the last line."""
+    for step in with_progress(range(first, last.step + 1), "reading entries:", last.step + 1 - first):
+        yield step, [own.event_at(store, judge, step, index, last) for index in range(store.count(step, last.step))]
+
+
+def exported_events(store: Store, judge: Bench, last: Line) -> Iterator[tuple[int, list[bytes]]]:
+    """The same of the export, or where that is too long, of the proofs. (The export isn't held against the line.)"""
+    answer = store.ask("export")
+    if answer.status:
+        yield from events_of(store, judge, last)
+        return
+    for step, it in enumerate(formats.read_history(answer.output), 1):
+        yield step, it.events
+
+
+def is_of_log(events: Sequence[bytes]) -> bool:
+    """Whether a step is one of a log: it has events, and each is an entry."""
+    return bool(events) and all(read_event(event) is not None for event in events)
+
+
+def make_entries(entries: Entries, steps: Iterable[tuple[int, Sequence[bytes]]]) -> int:
+    """Makes the file of entries anew, of those steps that are of a log; answers how many there are."""
+    count = 0
+    with files.renewing(entries.path) as file:
+        for step, events in steps:
+            if is_of_log(events):
+                file.write(entry_lines(step, events))
+                count += len(events)
+    return count
+
+
+def expect_true(service: Path, entries: Entries, steps: Iterable[tuple[int, Sequence[bytes]]]) -> None:
+    """Raises Trouble where an entry isn't the event that the store has in its place, or one is missing."""
+    differing = find_differing(entries.lines(), steps, is_of_log)
+    if differing is not None:
+        raise differing_entry(service, entries, differing)
+
+
+def differing_entry(service: Path, entries: Entries, it: Differing) -> Trouble:
+    """That entries of a log aren't what the store recorded."""
+    return false_entry(entries, it.false) if it.false is not None else missing_entries(service, entries, it.step)
+
+
+def false_entry(entries: Entries, it: Logged) -> Trouble:
+    """That an entry isn't what the store recorded."""
+    told = f"{name_of(entries.path)} was changed: of step {it.step}, index {it.index}, it has {shown_event(it.event)}, and the store hasn't"
+    advice = "What weft log said since rests on it. Keep a copy of it, then let weft check --entries make it anew of the store. No step was made."
+    return Trouble(Status.OLD_STORE, told, advice)
+
+
+def missing_entries(service: Path, entries: Entries, step: int) -> Trouble:
+    """That the store recorded entries of a log that aren't kept."""
+    told = f"the store beside {name_of(entries.path)} has entries of step {step} that aren't in it. No step was made"
+    advice = f"Were they lost, or taken away? Put the file back; or weft check --entries {name_of(service)} makes it anew of the store."
+    return Trouble(Status.OLD_STORE, told, advice)
+
+
+def find_unkept(store: Store, judge: Bench, last: Line, kept: int, count: int) -> Optional[int]:
+    """The first step of a log of which not all entries are kept: the last one of which some are, so many, or one behind it; None where there is none."""
+    if 0 < kept <= last.step and store.count(kept, last.step) != count:
+        return kept
+    for step in range(kept + 1, last.step + 1):
+        if store.count(step, last.step) and read_event(own.event_at(store, judge, step, 0, last)) is not None:
+            return step
+    return None
