@@ -8,10 +8,10 @@ TREES = bin/tree_pages
 PREFIX ?= /usr/local
 LIBDIR ?= $(PREFIX)/lib
 
-# Names of crates, for `make wrong-bodies`; none stands for all.
+# Names of crates, for `make wrong-bodies`.
 NAMES ?=
 
-.PHONY: look build demo test check crash fuzz wrong-bodies bench
+.PHONY: look build demo test check crash fuzz fuzz-pairs wrong-bodies bench
 
 # Shows the README's examples in some seconds, with Python alone: by the second implementation, which isn't proved. Nothing is built.
 look:
@@ -29,7 +29,7 @@ build:
 demo:
 	@python3 tools/demo.py
 
-# The gate: every proof, test and program, 74 chosen wrong bodies, and then the acceptance run. How far it is is shown, and what it says stands in log/test.log;
+# The gate: every proof, test and program, 75 chosen wrong bodies, and then the acceptance run. How far it is is shown, and what it says stands in log/test.log;
 # `.ci/run` by itself says it on the screen.
 test:
 	python3 tools/progress.py test .ci/run
@@ -57,10 +57,20 @@ SEED ?= 1
 fuzz: | $(PROGRAM)
 	python3 tests/acceptance/fuzz.py $(PROGRAM) $(SECONDS) $(SEED)
 
-# All wrong bodies, of which the gate tries those that tell most, over a copy of this tree; before that the crates with what these leave out. It takes hours, and writes
-# docs/wrong-bodies-tried.txt, by which `make package` goes. `make wrong-bodies NAMES="tw_base tw_disk"` tries those of these crates alone, and writes nothing.
+# Asks the built library and the reference which rules so many pairs of files show broken, of keepers who break one or none. The first pair that differs is shrunk and
+# written into tests/acceptance/cases/found_pairs; `make check` asks for 4,000.
+PAIRS ?= 100000
+
+fuzz-pairs:
+	python3 tests/acceptance/fuzz_pairs.py $(PAIRS) $(SEED)
+
+# The wrong bodies, of which the gate tries those that tell most, of each crate that isn't as it was when its own were tried, over a copy of this tree. A
+# crate's line of docs/wrong-bodies-tried.txt, by which `make package` goes, is written as soon as all of its own are refused. ANEW=1 tries those of all
+# crates, and `make wrong-bodies NAMES="tw_base tw_disk"` those of these.
+ANEW ?=
+
 wrong-bodies:
-	python3 tools/wrong_bodies.py $(NAMES)
+	python3 tools/wrong_bodies.py $(if $(ANEW),--anew) $(NAMES)
 
 # Measures the built program beside other programs, prints what it found, and writes bench/RESULTS.md and its picture.
 bench: | $(PROGRAM) $(TREES)
@@ -134,11 +144,13 @@ package:
 
 # Writes dist/ as a release that can be judged by its files alone: what `package` writes, the sources, the vectors, licences, a list of parts, and what the gate said.
 # GATE names the log of a gate that passed on these sources, log/test.log where it isn't said; with RECORD=DIR the release is recorded in a log of Timeweave in DIR.
+# With TRIAL=1 it takes a log and wrong bodies that lack something, and makes a trial, which says in each place that it is none.
 GATE ?=
 RECORD ?=
+TRIAL ?=
 
 release:
-	python3 tools/release.py $(if $(KEY),--key $(KEY)) $(if $(GATE),--gate $(GATE)) $(if $(RECORD),--record $(RECORD))
+	python3 tools/release.py $(if $(KEY),--key $(KEY)) $(if $(GATE),--gate $(GATE)) $(if $(RECORD),--record $(RECORD)) $(if $(TRIAL),--trial)
 
 # Builds program, library, page and packages twice, in two folders, under two users, with nothing that an earlier build left, and compares: hours. With BESIDE=1
 # it builds once, and compares with dist/, where a release may lie that somebody else made.

@@ -3,10 +3,12 @@
 
     python3 tools/judge_release.py FOLDER [--signers FILE] [--line FILE]
 
-It needs Python 3.9 or later and nothing else; take it from another copy of the sources than the release's. With --signers a signature has
-to be of a key of that file (of ssh-keygen, as docs/releases.md has it); with --line the log's proof has to stand under a line of that file,
-which its owner gave you another way. It runs the second implementation and the verifier in Perl, both of the release's source archive, over
-the vectors. Each sentence begins with `good`, `BAD` or `not checked`. Status 0: nothing was bad; 1: something was.
+It needs Python 3.9 or later and nothing else. Take it from a copy of the sources that you got another way than the release, at the commit
+that BUILD names: another judge may look for what that release doesn't have. With --signers a signature has to be of a key of that file (of
+ssh-keygen, as docs/releases.md has it); with --line the log's proof has to stand under a line of that file, which its owner gave you
+another way. It runs code of the release's source archive: the second implementation and the verifier in Perl over the vectors, and what
+tells of which crates the wrong bodies were tried. Each sentence begins with `good`, `BAD` or `not checked`; of a trial, which is no release,
+that is said first, with what it `lacks`. Status 0: nothing was bad; 1: something was; 3: nothing was, but it is a trial.
 """
 
 from __future__ import annotations
@@ -26,13 +28,16 @@ import tempfile
 import zlib
 from fnmatch import fnmatch
 from pathlib import Path
-from typing import Callable, Dict, Iterator, List, NamedTuple, Optional, Tuple
+from typing import Callable, Dict, Iterator, List, NamedTuple, Optional, Set, Tuple
 
 Files = Dict[str, bytes]
 """Files by their paths."""
 
 MOST_BYTES = 1 << 30
 """No archive of a release has more bytes, unpacked."""
+
+TRIAL = "~trial"
+"""How the version of a trial ends, which is made as a release is and lacks something that one has to have."""
 
 READING = (OSError, ValueError, LookupError, EOFError, StopIteration, TypeError, zlib.error, tarfile.TarError, lzma.LZMAError)
 """What the reading of a file raises that isn't what it should be."""
@@ -96,14 +101,15 @@ def parts_of_deb(data: bytes) -> Tuple[Packed, Packed]:
     """The control files and the files of a package for Debian."""
     if data[:8] != b"!<arch>\n":
         raise Bad("a package is no archive of ar")
-    place, found = 8, {}
+    place, found = 8, []
     while place + 60 <= len(data):
         name, size = data[place : place + 16].decode().rstrip(" /"), int(data[place + 48 : place + 58])
-        found[name] = data[place + 60 : place + 60 + size]
+        found.append((name, data[place + 60 : place + 60 + size]))
         place += 60 + size + size % 2
-    if sorted(found) != ["control.tar.xz", "data.tar.xz", "debian-binary"]:
-        raise Bad(f"a package has {', '.join(sorted(found))}")
-    return unpacked(lzma.decompress(found["control.tar.xz"])), unpacked(lzma.decompress(found["data.tar.xz"]))
+    names = [name for name, _ in found]
+    if names != ["debian-binary", "control.tar.xz", "data.tar.xz"] or place != len(data):
+        raise Bad(f"a package has other parts than it may have, or not each once: {', '.join(names)}")
+    return unpacked(lzma.decompress(found[1][1])), unpacked(lzma.decompress(found[2][1]))
 
 
 # ---- what the gate said
@@ -126,6 +132,7 @@ class Gate:
         self.edits: Dict[str, List[str]] = {}
         self.tested: Dict[str, bool] = {}
         self.failed: List[str] = []
+        self.logics: Set[Tuple[str, str]] = set()
         self.has_cases = False
         self.ended, self.skipped, last = "", "0", ""
         for line in (STAMP.sub("", line) for line in log.splitlines()):
@@ -134,7 +141,9 @@ class Gate:
 
     def take(self, line: str, last: str) -> None:
         """Takes a line in; `last` is the closing line before it."""
-        proved, edit, tests = PROVED.match(line), EDIT.match(line), TESTS.match(line)
+        proved, edit, tests, closing = PROVED.match(line), EDIT.match(line), TESTS.match(line), CLOSING.fullmatch(line)
+        if closing:
+            self.logics.add((closing[1], closing[3][:16]))
         if proved:
             self.closing[proved[1]] = last
         if edit and edit[3].startswith("refused"):
@@ -163,9 +172,9 @@ def sources_sum(files: Files, crate: str) -> str:
     return total.hexdigest()
 
 
-def proofs_text(log: bytes, files: Files) -> str:
+def proofs_text(log: bytes, files: Files, is_trial: bool = False) -> str:
     """The file PROOFS of a gate's log and a source tree."""
-    gate, lines = Gate(log.decode("utf-8", "replace")), [f"log {digest(log)}"]
+    gate, lines = Gate(log.decode("utf-8", "replace")), [OF_TRIAL] * is_trial + [f"log {digest(log)}"]
     for crate in crates_of(files):
         closing = gate.closing.get(crate, "")
         functions = CLOSING.fullmatch(closing)
@@ -185,6 +194,8 @@ def lacking(log: bytes, files: Files) -> List[str]:
     and no case may have failed."""
     gate, logic = Gate(log.decode("utf-8", "replace")), named(files["KIT"].decode())["logic"]
     wrong = [f"the log tells: {line[:150]}" for line in gate.failed]
+    others = sorted(gate.logics - {("proved", logic)})
+    wrong += [f"the log has a closing line of another logic than KIT's: {how} {found}" for how, found in others]
     for crate in crates_of(files):
         found = CLOSING.fullmatch(gate.closing.get(crate, ""))
         if found is None:
@@ -196,8 +207,55 @@ def lacking(log: bytes, files: Files) -> List[str]:
         wrong += [f"the log doesn't tell that the planted edits of {crate} were refused: {', '.join(sorted(untried))}"] * bool(untried)
     ended = ENDED.fullmatch(gate.ended)
     if not ended or ended[2] != "0" or ended[1] == "0":
-        wrong.append(f"the acceptance run ended with: {gate.ended or 'nothing'}")
+        wrong.append(f"the acceptance run ended with: {gate.ended}" if gate.ended else "the log tells of no acceptance run that ended")
     return wrong
+
+
+TRIED = "docs/wrong-bodies-tried.txt"
+"""The file of the sources that tells when the wrong bodies of each crate were last tried."""
+
+BESIDE = ("SHA256SUMS", "SHA256SUMS.sig", "SHA256SUMS.proof", "SHA256SUMS.line")
+"""The files of a release whose digests SHA256SUMS can't have."""
+
+OF_TRIAL = "trial, and not a release: the lines `lacks` of BUILD tell what it lacks"
+"""The line with which BUILD and PROOFS of a trial begin."""
+
+
+def lay_out(files: Files, folder: Path) -> None:
+    """Writes files into a folder."""
+    for path, data in files.items():
+        (folder / path).parent.mkdir(parents=True, exist_ok=True)
+        (folder / path).write_bytes(data)
+
+
+def untried(files: Files) -> List[str]:
+    """What tells that not all wrong bodies of these sources were tried, as their own tools/body_trials.py finds by the file that is of them."""
+    if "tools/body_trials.py" not in files:
+        return [f"the sources have no tools/body_trials.py, by which this judge reads {TRIED}; take the judge of the commit that BUILD names"]
+    with tempfile.TemporaryDirectory(prefix="timeweave-judged-") as folder:
+        lay_out(files, Path(folder))
+        done = subprocess.run([sys.executable, "-I", "-c", BY_TRIALS, folder], capture_output=True, text=True, check=False)
+    if done.returncode:
+        return [f"{TRIED} of the sources can't be read: {(done.stderr.strip().splitlines() or ['no reason is told'])[-1][:300]}"]
+    return [f"the wrong bodies of {done.stdout.strip()} weren't tried as these crates are"] * bool(done.stdout.strip())
+
+
+BY_TRIALS = """
+import sys
+from pathlib import Path
+top = Path(sys.argv[1])
+sys.dont_write_bytecode = True
+sys.path.insert(0, str(top / "tools"))
+import body_trials
+paths = [path for part in body_trials.READ for path in (top / part, *(top / part).rglob("*")) if path.is_file()]
+sources = {path.relative_to(top).as_posix(): path.read_bytes() for path in paths}
+print(", ".join(body_trials.unfit_trials((top / "docs/wrong-bodies-tried.txt").read_text(), body_trials.digests(sources))))
+"""
+
+
+def lacks(log: bytes, files: Files) -> List[str]:
+    """What a release of these sources with this log of the gate lacks."""
+    return lacking(log, files) + untried(files)
 
 
 def named(text: str) -> Dict[str, str]:
@@ -320,6 +378,28 @@ def table(files: Files, folders: Dict[str, str], version: str) -> Dict[str, Opti
     return found
 
 
+# ---- what packages say of themselves
+
+# Fields of a control file that are free; what SHLIBS of tools/packages.txt may stand for; and what a library asks for when it is installed.
+FREE = ("Source", "Architecture", "Maintainer", "Installed-Size")
+NEEDED = r"libc6 \(>= [0-9.]+\)"
+LDCONFIG = b"activate-noawait ldconfig\n"
+
+
+def fields_of(text: str) -> Dict[str, str]:
+    """The fields of a control file; raises Bad where a line belongs to none, or one stands twice."""
+    found = re.findall(r"^([A-Za-z-]+): (.*(?:\n .*)*)\n?", text, re.M)
+    if "".join(f"{name}: {value}\n" for name, value in found) != text or len(dict(found)) != len(found):
+        raise Bad("a control file can't be read")
+    return dict(found)
+
+
+def stanzas(text: str) -> List[Dict[str, str]]:
+    """The packages of tools/packages.txt, each as its fields."""
+    parts = re.sub(r"^#.*\n", "", text, flags=re.M).strip().split("\n\n")
+    return [fields_of(f"{part}\n") for part in parts]
+
+
 # ---- the judgement
 
 
@@ -358,6 +438,15 @@ class Release:
         """The version, by the source archive."""
         return self.source("VERSION").decode().strip()
 
+    def label(self) -> str:
+        """The version that names packages and archives."""
+        return self.version() + TRIAL * self.is_trial()
+
+    def is_trial(self) -> bool:
+        """Whether it calls itself a trial, in whatever place."""
+        marks = [text.decode("utf-8", "replace").startswith(OF_TRIAL) for name, text in self.read.items() if name in ("BUILD", "PROOFS")]
+        return any(marks) or any(TRIAL in name for name in self.read)
+
     def source(self, path: str) -> bytes:
         """A file of the source archive; raises Bad where it isn't there."""
         if path not in self.sources:
@@ -366,13 +455,35 @@ class Release:
 
     # ---- each part
 
+    def trial(self) -> None:
+        """A trial says in each place that it is one, and is told first."""
+        if not self.is_trial():
+            return
+        self.said.append("A TRIAL, NOT A RELEASE: take it for nothing else.")
+        self.said += [f"lacks: {text}." for text in self.told_lacks()]
+        silent = [name for name in ("BUILD", "PROOFS") if not self.file(name).decode().startswith(f"{OF_TRIAL}\n")]
+        silent += [name for name in self.read if name.endswith((".deb", ".gz")) and TRIAL not in name]
+        if silent:
+            raise Bad(f"it calls itself a trial, and not in {', '.join(silent)}")
+
+    def told_lacks(self) -> List[str]:
+        """What BUILD tells that it lacks."""
+        lines = self.file("BUILD").decode().splitlines()
+        return [line.partition(" ")[2] for line in lines if line.startswith("lacks ")]
+
     def sums(self) -> None:
         """SHA256SUMS has all files, with their digests."""
         told = {line[66:]: line[:64] for line in self.file("SHA256SUMS").decode().splitlines()}
-        found = {name: digest(data) for name, data in self.read.items() if not name.startswith("SHA256SUMS")}
-        wrong = sorted(name for name in {*told, *found} if told.get(name) != found.get(name))
+        found = {name: digest(data) for name, data in self.read.items() if name not in BESIDE}
+        there = {path.name for path in self.folder.iterdir()} - {*BESIDE}
+        parts = {
+            "it doesn't name": there - {*told},
+            "it names what isn't there, or is no file": {*told} - {*found},
+            "it has another digest of": {name for name in {*told} & {*found} if told[name] != found[name]},
+        }
+        wrong = [f"{how} {', '.join(sorted(names))}" for how, names in parts.items() if names]
         if wrong:
-            raise Bad(f"SHA256SUMS and the files differ in {', '.join(wrong)}")
+            raise Bad(f"SHA256SUMS isn't of these files: {'; '.join(wrong)}")
         self.good(f"the {len(found)} files have the digests that SHA256SUMS tells, and no file is left out.")
 
     def signature(self) -> None:
@@ -385,8 +496,10 @@ class Release:
             return self.left("the signature, since there is no ssh-keygen.")
         how = ["verify", "-f", self.options.signers, "-I", "timeweave"] if self.options.signers else ["check-novalidate"]
         words = ["ssh-keygen", "-Y", *how, "-n", "timeweave", "-s", str(self.folder / "SHA256SUMS.sig")]
-        if subprocess.run(words, input=self.file("SHA256SUMS"), capture_output=True, check=False).returncode:
-            raise Bad("SHA256SUMS.sig isn't a signature of SHA256SUMS" + " by one of the signers" * bool(self.options.signers))
+        done = subprocess.run(words, input=self.file("SHA256SUMS"), capture_output=True, check=False)
+        if done.returncode:
+            why = " ".join((done.stdout + done.stderr).decode("utf-8", "replace").split())
+            raise Bad("SHA256SUMS.sig isn't a signature of SHA256SUMS" + " by one of the signers" * bool(self.options.signers) + f": {why[:200]}")
         if self.options.signers:
             return self.good("SHA256SUMS is signed by one of the signers that you named.")
         return self.left("SHA256SUMS is signed by some key; whose it is was not checked: name the signers by --signers.")
@@ -395,12 +508,13 @@ class Release:
         """The source archive is of the commit that BUILD names."""
         packed = unpacked(gunzipped(self.one("timeweave-*-source.tar.gz")), self.front())
         self.sources = packed.files
+        lay_out(self.sources, self.room)
         build, kit = named(self.file("BUILD").decode()), named(self.source("KIT").decode())
         if packed.commit != build.get("commit"):
             raise Bad(f"the source archive is of the commit {packed.commit}, and BUILD of {build.get('commit')}")
-        if build.get("version") != self.version() or (build.get("kit"), build.get("logic")) != (kit["kit"], kit["logic"]):
+        if build.get("version") != self.label() or (build.get("kit"), build.get("logic")) != (kit["kit"], kit["logic"]):
             raise Bad("BUILD tells another version, kit or logic than the sources")
-        of_kit = f"version {self.version()}, {kit['kit']}, logic {kit['logic']}"
+        of_kit = f"version {self.label()}, {kit['kit']}, logic {kit['logic']}"
         self.good(f"the source archive says that it is of the commit {packed.commit}, as BUILD does, with {of_kit}.")
         self.left("that the archive is that commit's: `git archive` of a repository that you have gives the same bytes.")
 
@@ -412,15 +526,20 @@ class Release:
     def proofs(self) -> None:
         """PROOFS is what the gate's log and the sources give, and nothing of it failed."""
         log = self.file("gate.log")
-        if self.file("PROOFS").decode() != proofs_text(log, self.sources):
+        if self.file("PROOFS").decode() != proofs_text(log, self.sources, self.is_trial()):
             raise Bad("PROOFS isn't what gate.log and the sources give")
-        wrong = lacking(log, self.sources)
+        bodies, told = untried(self.sources), self.told_lacks()
+        found = bodies + lacking(log, self.sources)
+        wrong = [text for text in found if text not in told or not self.is_trial()]
+        wrong += [f"BUILD tells that it lacks what it doesn't: {text}" for text in told if text not in found]
         if wrong:
             raise Bad("; ".join(wrong[:5]))
-        gate, crates = Gate(log.decode("utf-8", "replace")), len(crates_of(self.sources))
-        functions = sum(int(found[2]) for found in map(CLOSING.fullmatch, gate.closing.values()) if found)
-        told = f"{crates} crates and {functions} functions proved, {sum(map(len, gate.edits.values()))} planted edits refused"
-        self.good(f"PROOFS is what the gate's log and the sources give: {told}, the acceptance run {gate.ended}.")
+        gate = Gate(log.decode("utf-8", "replace"))
+        functions = [int(closing[2]) for closing in map(CLOSING.fullmatch, gate.closing.values()) if closing]
+        counts = f"{len(functions)} crates and {sum(functions)} functions proved, {sum(map(len, gate.edits.values()))} planted edits refused"
+        self.good(f"PROOFS is what the gate's log and the sources give: {counts}, the acceptance run {gate.ended or 'not told'}.")
+        if not bodies:
+            self.good(f"all wrong bodies were tried on these very crates, as {TRIED} of the sources tells.")
         self.left("that the log is true: it is a text. Only who runs the prover on the sources, with the kit, sees that they are proved.")
 
     def parts(self) -> Dict[str, str]:
@@ -447,18 +566,37 @@ class Release:
                 raise Bad(f"{where}: {path} isn't {source} of the sources, or of BUILD")
             yield plain
 
+    def control(self, name: str, told: Files) -> None:
+        """Holds what a package says of itself against tools/packages.txt; raises Bad where it says something else."""
+        if not set(told) <= {"control", "md5sums", "shlibs", "triggers"}:
+            raise Bad(f"{name} has scripts: {', '.join(told)}")
+        if told.get("triggers", LDCONFIG) != LDCONFIG:
+            raise Bad(f"{name} asks for more than ldconfig when it is installed")
+        found = fields_of(told["control"].decode())
+        wanted = next((it for it in stanzas(self.source("tools/packages.txt").decode()) if it["Package"] == found.get("Package")), None)
+        if wanted is None or not name.startswith(f"{wanted['Package']}_{self.label()}_"):
+            raise Bad(f"{name} isn't of tools/packages.txt, or of another version")
+        wanted = {**wanted, "Version": self.label(), "Priority": "optional"}
+        for field, text in found.items():
+            pattern = re.escape(wanted.get(field, "")).replace("SAME", re.escape(f"(= {self.label()})"))
+            pattern = pattern.replace("SHLIBS", NEEDED).replace("VERSION", re.escape(self.label()))
+            if field not in FREE and not re.fullmatch(pattern, text):
+                raise Bad(f"{name} says `{field}: {text}`, and tools/packages.txt doesn't")
+
     def packages(self) -> None:
         """The packages and the tar file have the files of the sources, and the built ones that BUILD names."""
-        version, seen = self.version(), set()
+        version, label, seen = self.version(), self.label(), set()
         wanted = table(self.sources, DEBIAN, version)
         names = [name for name in self.read if name.endswith(".deb")]
         for name in names:
             control, data = parts_of_deb(self.read[name])
-            if not set(control.files) <= {"control", "md5sums", "shlibs", "triggers"}:
-                raise Bad(f"{name} has scripts: {', '.join(control.files)}")
+            self.control(name, control.files)
             seen |= {*self.compare(name, data, wanted), *data.links}
+            sums = {f"{hashlib.md5(text).hexdigest()}  {path}" for path, text in data.files.items()}
+            if {*control.files["md5sums"].decode().splitlines()} != sums:
+                raise Bad(f"{name}: md5sums aren't those of its files")
         elsewhere = table(self.sources, ELSEWHERE, version)
-        packed = unpacked(gunzipped(self.one("timeweave-*-x86_64-linux.tar.gz")), f"timeweave-{version}-x86_64-linux/")
+        packed = unpacked(gunzipped(self.one("timeweave-*-x86_64-linux.tar.gz")), f"timeweave-{label}-x86_64-linux/")
         if packed.files.pop("LICENSE", None) != self.source("LICENSE"):
             raise Bad("the tar file has another LICENSE than the sources")
         other = {*self.compare("the tar file", packed, elsewhere), *packed.links}
@@ -488,6 +626,7 @@ class Release:
             raise Bad("SBOM.spdx.json isn't the list of NOTICE's parts")
         count = len(told["packages"])
         self.good(f"LICENCES has the licence, NOTICE, and a part for each crate that NOTICE names; SBOM.spdx.json lists {count} parts.")
+        self.left("that the licence texts of the kit's parts are whole: the sources don't have them.")
 
     def vectors(self) -> None:
         """The vectors are those of the sources, and the judges at hand answer them."""
@@ -495,18 +634,15 @@ class Release:
         wanted = {path[len("vectors/") :]: data for path, data in self.sources.items() if path.startswith("vectors/")}
         if packed.files != wanted:
             raise Bad("the vectors aren't those of the sources")
-        for path, data in self.sources.items():
-            (self.room / path).parent.mkdir(parents=True, exist_ok=True)
-            (self.room / path).write_bytes(data)
         done = self.judged([sys.executable, "-I", "-c", BY_REFERENCE, str(self.room)])
         self.good(f"the second implementation, as the source archive has it, answers {done.strip()} vectors as they say.")
         names = [name for name in sorted(packed.files) if name.endswith(".json") and name != "schema.json"]
         files = [str(self.room / "vectors" / name) for name in names]
-        if shutil.which("perl"):
+        if has_perl():
             told = self.judged(["perl", str(self.room / TRY_IN_PERL), *files]).strip()
             self.good(f"of the vectors by the verifier in Perl: {told}.")
         else:
-            self.left("the vectors by the verifier in Perl, since there is no perl.")
+            self.left("the vectors by the verifier in Perl, since there is no perl, or not all of its own modules (Debian: perl).")
         self.left("the vectors by the release's program: python3 tests/acceptance/run.py PROGRAM -k vectors, in the unpacked sources.")
 
     def judged(self, words: List[str]) -> str:
@@ -521,6 +657,7 @@ class Release:
         if "SHA256SUMS.proof" not in self.read:
             return self.left("no proof of a log is there that the release was recorded.")
         line = self.options.line or self.folder / "SHA256SUMS.line"
+        line.read_bytes()
         judge = [sys.executable, "-I", str(self.room / "reference/timeweave_reference"), "judge"]
         done = subprocess.run([*judge, str(self.folder / "SHA256SUMS.proof"), str(line)], capture_output=True, text=True, check=False)
         found = re.search(r"^event (\S+) (\d+) \d+ ([0-9a-f]+)$", done.stdout, re.M)
@@ -536,7 +673,7 @@ class Release:
 
     def judge(self, to_first: bool = False) -> bool:
         """Says of each part what is so, or where that is said of each up to the first bad one; whether nothing was bad."""
-        checks: List[Callable[[], None]] = [self.sums, self.signature, self.source_archive, self.proofs, self.packages]
+        checks: List[Callable[[], None]] = [self.trial, self.sums, self.signature, self.source_archive, self.proofs, self.packages]
         checks += [self.licences, self.vectors, self.record]
         for check in checks:
             try:
@@ -547,6 +684,12 @@ class Release:
                 if to_first:
                     return False
         return not any(line.startswith("BAD") for line in self.said)
+
+
+def has_perl() -> bool:
+    """Whether Perl is here, with the modules of its own that the verifier and the trying of vectors use; Debian's perl-base lacks some."""
+    words = ["perl", "-MDigest::SHA", "-MList::Util", "-MFindBin", "-MJSON::PP", "-e", "1"]
+    return shutil.which("perl") is not None and subprocess.run(words, capture_output=True, check=False).returncode == 0
 
 
 TRY_IN_PERL = "examples/verifier_in_perl/try_vectors.pl"
@@ -563,8 +706,8 @@ for path in sorted((top / "vectors").glob("*.json")):
         files = {name: bytes.fromhex(digits) for name, digits in vector["files"].items()}
         words = vector["words"]
         wanted = vector["text"].encode() if "text" in vector else bytes.fromhex(vector["bytes"])
-        has_no_command = words[0] == "contradict"
-        found = timeweave_reference.contradict(*(files[word] for word in words[1:])) if has_no_command else commands.answer(words, files)
+        has_no_command = words[0] in ("contradict", "receiver")
+        found = getattr(timeweave_reference, words[0])(*(files[word] for word in words[1:])) if has_no_command else commands.answer(words, files)
         if found != (vector["status"], wanted):
             sys.exit(f"{path.stem}: {vector['name']}")
         count += 1
@@ -581,9 +724,10 @@ def main() -> int:
     options = words.parse_args()
     with tempfile.TemporaryDirectory(prefix="timeweave-judged-") as room:
         release = Release(options.folder, options, Path(room))
-        is_good = release.judge()
-    print(*release.said, "Nothing was bad." if is_good else "Something was bad.", sep="\n")
-    return 0 if is_good else 1
+        is_good, is_trial = release.judge(), release.is_trial()
+    last = "Nothing was bad." if is_good else "Something was bad."
+    print(*release.said, f"{last} This is a trial, not a release." if is_trial else last, sep="\n")
+    return (3 if is_trial else 0) if is_good else 1
 
 
 if __name__ == "__main__":

@@ -1,6 +1,7 @@
 """What the kit's compiler makes of a crate whose libraries the gate has built: the archive of a static library, or a program. Both run on every x86-64 processor;
 the kit's own default is x86-64-v2, of which an older one lacks a part."""
 
+import re
 import subprocess
 from pathlib import Path
 
@@ -27,7 +28,7 @@ def run(*words, **settings):
     subprocess.run(words, check=True, **settings)
 
 
-def words_for(copy, name, kit):
+def words_for(copy, name, kit, jobs=2):
     """The words with which the compiler finds the crates below this one, as the gate has built them."""
     known, uses = crates(), dict(lines_of("crates.txt"))[name]
     rlib = lambda it: copy / "crates" / it / f"out/rlib/{it}.rlib" if it in known else kit / f"rlibs/{it}.rlib"  # noqa: E731
@@ -36,7 +37,17 @@ def words_for(copy, name, kit):
         words += ["--extern", f"{it}={rlib(it)}"]
     for it in sorted(below_all(name, known)):
         words += ["-L", f"dependency={rlib(it).parent}"]
-    return [*words, "--antt-project", kit / "rattle/logic/antt-project.json", "--logic-built", kit / "logic_built", "--jobs", "2"]
+    return [*words, "--antt-project", kit / "rattle/logic/antt-project.json", "--logic-built", kit / "logic_built", "--jobs", str(jobs)]
+
+
+def check(copy, name, folder, kept):
+    """Checks a crate that lies in a folder over what a check of it kept, and over the crates below as they are built in the copy; answers the status, and
+    what was said."""
+    root = next(path for path in ("src/main.rt", "src/lib.rt") if (folder / path).exists())
+    kind = ["--crate-type", "staticlib"] if re.search(rf"^{name} [^:]*staticlib", (copy / "crates.txt").read_text(), re.M) else []
+    words = [KIT / "bin/rattle", "check", *words_for(copy, name, KIT, 1), root, *kind, "--incremental", kept]
+    done = subprocess.run(words, cwd=folder, stdin=subprocess.DEVNULL, stdout=subprocess.PIPE, stderr=subprocess.STDOUT, errors="replace", check=False)
+    return done.returncode, done.stdout
 
 
 def compiled(copy, name, made, *more, kit=KIT):

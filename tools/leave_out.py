@@ -36,15 +36,16 @@ CHANGE = re.compile(r"^(file|old|new): ?(.*)$", re.M)
 
 
 class Function:
-    """A function of a crate: where it stands, its lines, the first line of the block that it is a method of, and whether it stays where its module does: as
-    one of a trait or of an impl of another crate's trait; as a method or one of a cycle of calls that has files of proof, which the check wants to be of something; or
-    since its contract has a text in quotes, which what isn't compiled mayn't have."""
+    """A function of a crate: where it stands, its lines, the line with which its body begins, the first line of the block that it is a method of, and
+    whether it stays where its module does: as one of a trait or of an impl of another crate's trait; as a method or one of a cycle of calls that has files of
+    proof, which the check wants to be of something; or since its contract has a text in quotes, which what isn't compiled mayn't have."""
 
     def __init__(self, module, name, lines, span, block):
         self.module, self.name, self.span, self.block = module, name, span, block or ""
         head, opens = HEAD.match(lines[span[1]]), HEAD.match(lines[span[1]])[1] + "{"
-        body = next((i for i in range(*span[1:]) if lines[i].startswith(opens)), span[1])
-        contract = "".join(lines[span[1] : body]).replace('extern "C"', "")
+        begins = [i for i in range(*span[1:]) if lines[i].startswith(opens)] + [i for i in range(*span[1:]) if lines[i].endswith("{")]
+        self.body = begins[0] if begins else span[1]
+        contract = "".join(lines[span[1] : self.body]).replace('extern "C"', "")
         self.is_bound = "trait " in self.block or '"' in contract
         kind = re.match(r"(?:&|\w+::)*(\w+)", GENERIC.sub("", self.block).split(" for ")[-1])
         self.kind = kind[1] if kind else None

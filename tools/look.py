@@ -72,7 +72,7 @@ def show(is_quiet):
         for command in [*map(unproved, examples()), "weft judge chain --svg way.svg > told; test -s way.svg && echo 'way.svg: a picture of the way'"]:
             status, output = run(command, folder, settings)
             is_good = is_good and status in (0, 20, 21)
-            print(plain(output) if is_quiet else f"$ {command}\n{output}", end="" if is_quiet or output else "\n", flush=True)
+            print(plain(output) if is_quiet else f"$ {command}\n{output}", end="" if is_quiet else "\n", flush=True)
         picture = folder / "way.svg"
         if not is_quiet and picture.exists():
             kept = Path(tempfile.gettempdir()) / f"timeweave-way-{os.getpid()}.svg"

@@ -3,8 +3,8 @@
 
     python3 tools/package.py [--key FILE]      signs the digests by a key of ssh
 
-What is packed has to be built of the sources that lie here, these have to be those of a commit, and all wrong bodies of its crates have to have been tried, as
-docs/wrong-bodies-tried.txt tells: else it is told what is missing, and the status is 1.
+What is packed has to be built of the sources that lie here, these have to be those of a commit, and the wrong bodies of each crate have to have been tried, as its
+line of docs/wrong-bodies-tried.txt tells: else it is told what is missing, and the status is 1.
 Nothing of the time, the folder or the user gets into the files: the same commit, built by the same tools, gives the same bytes.
 """
 
@@ -21,7 +21,9 @@ import tarfile
 import tempfile
 from email.utils import formatdate
 from pathlib import Path
+from typing import NamedTuple
 
+import body_trials
 import build_library
 import build_page
 import built
@@ -29,10 +31,10 @@ import claims
 import declared
 import definitions
 import placed
+from body_trials import TRIED, git, untried
 from crate_copy import TOP
 from kit import CPU, KIT, kit_line, run
 from placed import MAJOR, VERSION
-from wrong_bodies import TRIED, digest_of_crates, git, untried
 
 DIST = TOP / "dist"
 
@@ -81,6 +83,15 @@ def write_tables(folder):
     return {name: Path(folder) / name for name in made}
 
 
+class Making(NamedTuple):
+    """Where packages go, the time that their files get, the built files by their names in the table, and the version that names them."""
+
+    into: Path
+    when: int
+    files: "dict[str, Path]"
+    version: str
+
+
 # ---- a package for Debian
 
 
@@ -94,8 +105,8 @@ def compressed(text):
     return gzip.compress(text if isinstance(text, bytes) else text.encode(), 9, mtime=0)
 
 
-def changelog(name, when):
-    return f"{name} ({VERSION}) stable; urgency=medium\n\n  * Version {VERSION}.\n\n -- {MAINTAINER}  {formatdate(when)}\n"
+def changelog(name, making):
+    return f"{name} ({making.version}) stable; urgency=medium\n\n  * Version {making.version}.\n\n -- {MAINTAINER}  {formatdate(making.when)}\n"
 
 
 def copyright_text():
@@ -123,14 +134,14 @@ def needed_libraries(root):
     return done.stdout.strip().partition("Depends=")[2]
 
 
-def control(fields, root):
+def control(fields, root, version):
     """The control file of a package."""
     size = sum(-(-path.stat().st_size // 1024) if path.is_file() and not path.is_symlink() else 1 for path in root.rglob("*"))
-    depends = fields["Depends"].replace("SAME", f"(= {VERSION})").replace("VERSION", VERSION)
+    depends = fields["Depends"].replace("SAME", f"(= {version})").replace("VERSION", version)
     if "SHLIBS" in depends:
         depends = depends.replace("SHLIBS", needed_libraries(root))
     said = {
-        "Package": fields["Package"], "Source": "timeweave", "Version": VERSION, "Architecture": fields.get("Architecture", ARCHITECTURE),
+        "Package": fields["Package"], "Source": "timeweave", "Version": version, "Architecture": fields.get("Architecture", ARCHITECTURE),
         "Maintainer": MAINTAINER, "Installed-Size": size, "Depends": depends, "Section": fields["Section"], "Priority": "optional",
     }  # fmt: skip
     said |= {"Multi-Arch": fields["Multi-Arch"]} if "Multi-Arch" in fields else {}
@@ -149,28 +160,28 @@ def put_overrides(name, root):
     path.write_text("".join(lines))
 
 
-def put_documents(fields, root, when):
+def put_documents(fields, root, making):
     """What each package has in its folder of documents; and manual pages are compressed."""
     folder = root / f"usr/share/doc/{fields['Package']}"
     folder.mkdir(parents=True, exist_ok=True)
     (folder / "copyright").write_text(copyright_text())
-    (folder / "changelog.gz").write_bytes(compressed(changelog("timeweave", when)))
+    (folder / "changelog.gz").write_bytes(compressed(changelog("timeweave", making)))
     put_overrides(fields["Package"], root)
     for page in root.glob("usr/share/man/man1/*.1"):
         page.with_name(f"{page.name}.gz").write_bytes(compressed(page.read_bytes()))
         page.unlink()
 
 
-def put_control(fields, root):
+def put_control(fields, root, version):
     """What dpkg reads: the control file, digests, and of a library by which name others need it."""
     sums = {path.relative_to(root): hashlib.md5(path.read_bytes()).hexdigest() for path in sorted(root.rglob("*")) if path.is_file() and not path.is_symlink()}
-    text = control(fields, root)
+    text = control(fields, root, version)
     folder = root / "DEBIAN"
     folder.mkdir()
     (folder / "control").write_text(text)
     (folder / "md5sums").write_text("".join(f"{found}  {path}\n" for path, found in sums.items()))
     if "library" in fields["Parts"].split():
-        (folder / "shlibs").write_text(f"libtimeweave {MAJOR} libtimeweave{MAJOR} (>= {VERSION})\n")
+        (folder / "shlibs").write_text(f"libtimeweave {MAJOR} libtimeweave{MAJOR} (>= {version})\n")
         (folder / "triggers").write_text("activate-noawait ldconfig\n")
 
 
@@ -182,18 +193,18 @@ def even(root, when):
         os.utime(path, (when, when), follow_symlinks=False)
 
 
-def package(fields, into, when, files):
+def package(fields, making):
     """Makes a package; answers its path."""
     with tempfile.TemporaryDirectory() as folder:
         root = Path(folder) / "root"
         root.mkdir()
-        placed.copy(fields["Parts"].split(), DEBIAN, root, files)
-        put_documents(fields, root, when)
-        put_control(fields, root)
-        even(root, when)
-        made = into / f"{fields['Package']}_{VERSION}_{fields.get('Architecture', ARCHITECTURE)}.deb"
+        placed.copy(fields["Parts"].split(), DEBIAN, root, making.files)
+        put_documents(fields, root, making)
+        put_control(fields, root, making.version)
+        even(root, making.when)
+        made = making.into / f"{fields['Package']}_{making.version}_{fields.get('Architecture', ARCHITECTURE)}.deb"
         words = ["dpkg-deb", "--root-owner-group", "-Zxz", "-z6", "--threads-max=1", "--build", root, made]
-        run(*words, env=os.environ | {"SOURCE_DATE_EPOCH": str(when)}, stdout=subprocess.DEVNULL)
+        run(*words, env=os.environ | {"SOURCE_DATE_EPOCH": str(making.when)}, stdout=subprocess.DEVNULL)
     made.chmod(0o644)
     return made
 
@@ -201,15 +212,15 @@ def package(fields, into, when, files):
 # ---- a tar file
 
 
-def tar_file(into, when, files):
+def tar_file(making):
     """Makes the tar file, to be unpacked below /usr/local or a folder of one's own; answers its path."""
-    name = f"timeweave-{VERSION}-x86_64-linux"
+    name = f"timeweave-{making.version}-x86_64-linux"
     with tempfile.TemporaryDirectory() as folder:
         root = Path(folder) / name
-        placed.copy(placed.parts(), placed.of_prefix("usr/local"), folder, files)
+        placed.copy(placed.parts(), placed.of_prefix("usr/local"), folder, making.files)
         (Path(folder) / "usr/local").rename(root)
         shutil.copyfile(TOP / "LICENSE", root / "LICENSE")
-        even(root, when)
+        even(root, making.when)
         packed = io.BytesIO()
         with tarfile.open(fileobj=packed, mode="w", format=tarfile.USTAR_FORMAT) as tar:
             for path in [root, *sorted(root.rglob("*"))]:
@@ -218,7 +229,7 @@ def tar_file(into, when, files):
                 info.uname = info.gname = "root"
                 with open(path, "rb") if info.isreg() else io.BytesIO() as data:
                     tar.addfile(info, data)
-    made = into / f"{name}.tar.gz"
+    made = making.into / f"{name}.tar.gz"
     made.write_bytes(compressed(packed.getvalue()))
     return made
 
@@ -235,25 +246,25 @@ def tools():
     return {name: path for name, path in found.items() if name not in ("clang", "ld.lld")}
 
 
-def build_text(files):
+def build_text(files, version):
     """What the files of dist/ were built of, and the digests of the built files that are packed."""
     logic = re.search(r"logic (\w+)", kit_line())
-    lines = [f"version {VERSION}", f"commit {git('rev-parse', 'HEAD')}", f"kit {kit_line().split()[0]}", f"logic {logic[1] if logic else '-'}", f"processor {CPU}"]
+    lines = [f"version {version}", f"commit {git('rev-parse', 'HEAD')}", f"kit {kit_line().split()[0]}", f"logic {logic[1] if logic else '-'}", f"processor {CPU}"]
     lines += [f"part {digest(files.get(part, TOP / part))} {part}" for part in PARTS]
     lines += [f"tool {digest(path)} {name}" for name, path in sorted(tools().items())]
     return "".join(f"{line}\n" for line in lines)
 
 
-def write(into, files=None, key=None):
-    """Writes all of dist/ into a folder."""
-    when, files = placed.epoch(), files or {}
+def write(into, files=None, key=None, version=VERSION):
+    """Writes all of dist/ into a folder; `files` are built files that lie elsewhere, `version` is what the packages are named by."""
+    files = files or {}
     with tempfile.TemporaryDirectory() as folder:
-        packed = files | write_tables(folder)
+        making = Making(into, placed.epoch(), files | write_tables(folder), version)
         for fields in stanzas():
-            package(fields, into, when, packed)
-        tar_file(into, when, packed)
+            package(fields, making)
+        tar_file(making)
     shutil.copyfile(files.get(PAGE, TOP / PAGE), into / "timeweave.html")
-    (into / "BUILD").write_text(build_text(files))
+    (into / "BUILD").write_text(build_text(files, version))
     sums = "".join(f"{digest(path)}  {path.name}\n" for path in sorted(into.iterdir()))
     (into / "SHA256SUMS").write_text(sums)
     if key:
@@ -265,7 +276,7 @@ def lacking():
     lacks = [f"{part} isn't there, or was built of other sources; `{command}` builds it" for part, command in stale()]
     if git("status", "--porcelain"):
         lacks.append("files differ from the commit: commit first, or take them away")
-    return lacks + [why for why in [untried(TRIED.read_text(), digest_of_crates())] if why]
+    return lacks + [why for why in [untried(TRIED.read_text(), body_trials.digests(body_trials.sources_here()))] if why]
 
 
 def main():

@@ -38,17 +38,27 @@ def short(digest):
 # ---- the crates
 
 
-def lines_of(path: str) -> List[Tuple[str, List[str]]]:
+def lines_in(text: str) -> List[Tuple[str, List[str]]]:
     """Each line of a list of crates: a name, and what it stands on."""
-    pairs = [line.split(":") for line in (TOP / path).read_text().splitlines() if not line.startswith("#")]
+    pairs = [line.split(":") for line in text.splitlines() if not line.startswith("#")]
     return [(name.split()[0], uses.split()) for name, uses in pairs]
+
+
+def lines_of(path: str) -> List[Tuple[str, List[str]]]:
+    """The lines of a list of crates that is a file of the tree."""
+    return lines_in((TOP / path).read_text())
+
+
+def known_in(text: str) -> Dict[str, List[str]]:
+    """Each crate of a list with those of it that it stands on."""
+    lines = lines_in(text)
+    names = {name for name, _ in lines}
+    return {name: [below for below in uses if below in names] for name, uses in lines}
 
 
 def crates() -> Dict[str, List[str]]:
     """Each crate with those of this repository that it stands on."""
-    lines = lines_of("crates.txt")
-    names = {name for name, _ in lines}
-    return {name: [below for below in uses if below in names] for name, uses in lines}
+    return known_in((TOP / "crates.txt").read_text())
 
 
 def height(name: str, known: Dict[str, List[str]]) -> int:

@@ -1,11 +1,13 @@
 #!/usr/bin/env python3
 """Writes dist/: a release that can be judged by its files alone. `make release` calls it; docs/releases.md tells what is in one.
 
-    python3 tools/release.py [--key FILE] [--gate FILE] [--record DIR]
+    python3 tools/release.py [--key FILE] [--gate FILE] [--record DIR] [--trial]
 
     --key FILE      signs the digests by a key of ssh
     --gate FILE     the log of a gate that passed on these sources, log/test.log where it isn't said; each crate has to be proved anew in it
     --record DIR    records the digests in a log that `weft log` keeps in DIR: their file lies in DIR/releases, the service in DIR/log
+    --trial         makes a trial, though the gate's log or the wrong bodies lack something: its version ends with `~trial`, BUILD and PROOFS
+                    begin with what it is, BUILD tells what it lacks, and the judge says so first; it is for trying how a release is judged
 
 It has what `make package` writes, and needs what that needs. tools/judge_release.py judges it.
 """
@@ -34,9 +36,14 @@ LOG = TOP / "log/test.log"
 OTHERS = ("memchr", "unicode")
 
 
-def source_archive():
+def source_archive(label=VERSION):
     """The sources of the commit, compressed; their folder is named by the version."""
-    return git_bytes("archive", "--format=tar", f"--prefix=timeweave-{VERSION}/", "HEAD")
+    return git_bytes("archive", "--format=tar", f"--prefix=timeweave-{label}/", "HEAD")
+
+
+def source_files():
+    """The files of the commit, by their paths."""
+    return judge_release.unpacked(source_archive(), f"timeweave-{VERSION}/").files
 
 
 def git_bytes(*words):
@@ -44,9 +51,9 @@ def git_bytes(*words):
     return subprocess.run(["git", "-c", "tar.umask=0022", *words], cwd=TOP, check=True, capture_output=True).stdout
 
 
-def vectors(files, when):
+def vectors(files, when, label):
     """The vectors as a tar archive."""
-    packed, front = io.BytesIO(), f"timeweave-{VERSION}-vectors/"
+    packed, front = io.BytesIO(), f"timeweave-{label}-vectors/"
     with tarfile.open(fileobj=packed, mode="w", format=tarfile.USTAR_FORMAT) as tar:
         for path in sorted(path for path in files if path.startswith("vectors/")):
             info = tarfile.TarInfo(front + path.split("/", 1)[1])
@@ -77,19 +84,29 @@ def versions():
     return "".join(lines)
 
 
-def add_parts(into, log):
+def label_of(is_trial):
+    """The version that names packages and archives."""
+    return VERSION + judge_release.TRIAL * is_trial
+
+
+def head_of_build(log, files, is_trial):
+    """The lines of BUILD that come first: of a trial what it is, and what it lacks."""
+    told = [f"lacks {text}" for text in judge_release.lacks(log, files)]
+    return "".join(f"{line}\n" for line in [judge_release.OF_TRIAL, *told]) if is_trial else ""
+
+
+def add_parts(into, log, is_trial=False):
     """Adds to the packages in a folder what a release has besides, and writes the digests anew."""
-    archive = source_archive()
-    files, when = judge_release.unpacked(archive, f"timeweave-{VERSION}/").files, placed.epoch()
+    files, when, label = source_files(), placed.epoch(), label_of(is_trial)
     created = time.strftime("%Y-%m-%dT%H:%M:%SZ", time.gmtime(when))
-    (into / f"timeweave-{VERSION}-source.tar.gz").write_bytes(compressed(archive))
-    (into / f"timeweave-{VERSION}-vectors.tar.gz").write_bytes(compressed(vectors(files, when)))
+    (into / f"timeweave-{label}-source.tar.gz").write_bytes(compressed(source_archive(label)))
+    (into / f"timeweave-{label}-vectors.tar.gz").write_bytes(compressed(vectors(files, when, label)))
     (into / "LICENCES").write_text(licences(files))
     (into / "SBOM.spdx.json").write_text(judge_release.sbom_text(files["NOTICE"].decode(), VERSION, git("rev-parse", "HEAD"), created))
     (into / "gate.log").write_bytes(log)
-    (into / "PROOFS").write_text(judge_release.proofs_text(log, files))
-    with open(into / "BUILD", "a") as build:
-        build.write(versions())
+    (into / "PROOFS").write_text(judge_release.proofs_text(log, files, is_trial))
+    build = into / "BUILD"
+    build.write_text(head_of_build(log, files, is_trial) + build.read_text() + versions())
     write_sums(into)
 
 
@@ -107,7 +124,8 @@ def sign(into, key):
 
 def record(into, folder, program, *more):
     """Records the digests in the log of a folder, and puts their proof and the log's line beside them."""
-    weft, name = [sys.executable, TOP / "weft/bin/weft"], f"timeweave-{VERSION}-{git('rev-parse', 'HEAD')[:12]}.SHA256SUMS"
+    archive = next(into.glob("*-source.tar.gz")).name
+    weft, name = [sys.executable, TOP / "weft/bin/weft"], archive.replace("source.tar.gz", f"{git('rev-parse', 'HEAD')[:12]}.SHA256SUMS")
     environment = {**os.environ, "TIMEWEAVE_PROGRAM": str(program), "WEFT_KEPT": str(folder / "kept")}
     (folder / "releases").mkdir(parents=True, exist_ok=True)
     shutil.copyfile(into / "SHA256SUMS", folder / "releases" / name)
@@ -120,32 +138,38 @@ def record(into, folder, program, *more):
     shutil.copyfile(folder / "log.anchor", into / "SHA256SUMS.line")
 
 
-def lacks(log):
-    """What isn't there for a release."""
+def missing(log, is_trial):
+    """What isn't there for a release, or for a trial: that takes a log and wrong bodies that lack something."""
     found = [f"{part} isn't there, or was built of other sources; `{command}` builds it" for part, command in package.stale()]
     if git("status", "--porcelain"):
         found.append("files differ from the commit: commit first, or take them away")
     if not log.exists():
         return [*found, f"{log} isn't there; `make test` writes it"]
-    return found + judge_release.lacking(log.read_bytes(), judge_release.unpacked(source_archive(), f"timeweave-{VERSION}/").files)
+    return found if is_trial else found + judge_release.lacks(log.read_bytes(), source_files())
 
 
-def main():
-    """Writes a release; the status to end with."""
+def read_words():
+    """The words that it is called with."""
     words = argparse.ArgumentParser(description=__doc__, formatter_class=argparse.RawDescriptionHelpFormatter)
     words.add_argument("--key", metavar="FILE", help="a key of ssh, by which SHA256SUMS is signed")
     words.add_argument("--gate", metavar="FILE", type=Path, default=LOG, help="the gate's log")
     words.add_argument("--record", metavar="DIR", type=Path, help="where the log of releases is kept")
-    options = words.parse_args()
-    wrong = lacks(options.gate)
+    words.add_argument("--trial", action="store_true", help="a trial, which lacks something and says so")
+    return words.parse_args()
+
+
+def main():
+    """Writes a release; the status to end with."""
+    options = read_words()
+    wrong = missing(options.gate, options.trial)
     for why in wrong:
         print(f"release: {why}", file=sys.stderr)
     if wrong:
         return 1
     shutil.rmtree(DIST, ignore_errors=True)
     DIST.mkdir()
-    package.write(DIST)
-    add_parts(DIST, options.gate.read_bytes())
+    package.write(DIST, version=label_of(options.trial))
+    add_parts(DIST, options.gate.read_bytes(), options.trial)
     if options.key:
         sign(DIST, options.key)
     if options.record:

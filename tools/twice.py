@@ -23,8 +23,9 @@ import tempfile
 from pathlib import Path
 from typing import NamedTuple
 
+import body_trials
 from crate_copy import TOP
-from wrong_bodies import TRIED, digest_of_crates, untried
+from judge_release import OF_TRIAL
 
 BUILT = ("bin", "lib", "web")
 DIST = TOP / "dist"
@@ -74,7 +75,7 @@ def make(place, room, commit="HEAD", is_packs=False, log=None):
     folder, home = prepare(place, room, commit)
     if log:
         shutil.copyfile(log, home / "gate.log")
-    packing = ["tools/release.py", "--gate", str(home / "gate.log")] if log else ["tools/package.py"]
+    packing = ["tools/release.py", "--gate", str(home / "gate.log"), *["--trial"] * is_trial()] if log else ["tools/package.py"]
     if is_packs:
         for name in BUILT:
             shutil.copytree(TOP / name, folder / name, symlinks=True, dirs_exist_ok=True)
@@ -105,10 +106,16 @@ def commit_of(dist):
     return told[1]
 
 
+def is_trial():
+    """Whether what lies in dist/ is a trial, and no release."""
+    return (DIST / "BUILD").exists() and (DIST / "BUILD").read_text().startswith(OF_TRIAL)
+
+
 def why_not_packed(commit):
-    """Why `make package` would take nothing of a commit, after hours; or nothing. (Before docs/wrong-bodies-tried.txt it asked for no trial.)"""
-    told = subprocess.run(["git", "show", f"{commit}:{TRIED.relative_to(TOP)}"], cwd=TOP, capture_output=True, text=True)
-    return untried(told.stdout, digest_of_crates(commit)) if told.returncode == 0 else None
+    """Why `make package` would take nothing of a commit, after hours; or nothing. (Before tools/body_trials.py it asked for no trial of each crate.)"""
+    if subprocess.run(["git", "cat-file", "-e", f"{commit}:tools/body_trials.py"], cwd=TOP, capture_output=True).returncode:
+        return None
+    return body_trials.untried(body_trials.git("show", f"{commit}:{body_trials.TRIED.relative_to(TOP)}"), body_trials.digests(body_trials.sources_of(commit)))
 
 
 def read_words():
@@ -127,7 +134,7 @@ def main():
     if words.processors:
         os.sched_setaffinity(0, sorted(os.sched_getaffinity(0))[: words.processors])
     commit = commit_of(DIST) if words.beside else "HEAD"
-    if why := why_not_packed(commit):
+    if (why := why_not_packed(commit)) and not (words.beside and is_trial()):
         sys.exit(f"twice: {why}")
     log = DIST / "gate.log" if words.beside and (DIST / "gate.log").exists() else None
     with tempfile.TemporaryDirectory(prefix="timeweave_twice_") as name:

@@ -5,14 +5,15 @@ from __future__ import annotations
 import sys
 from dataclasses import dataclass, replace
 from pathlib import Path
-from typing import Dict, Iterator, List, Mapping, Sequence, Tuple
+from typing import Callable, Dict, Iterator, List, Mapping, Sequence, Tuple
 
 TOP = Path(__file__).resolve().parent.parent
 sys.path.insert(0, str(TOP / "reference"))
 
 from timeweave_reference import commands  # noqa: E402
 from timeweave_reference.anchors import Anchor, anchors_to_bytes  # noqa: E402
-from timeweave_reference.contradictions import contradict  # noqa: E402
+from timeweave_reference.answers import Answer  # noqa: E402
+from timeweave_reference.contradictions import contradict, receiver  # noqa: E402
 from timeweave_reference.event_trees import event_root  # noqa: E402
 from timeweave_reference.fields import big_endian  # noqa: E402
 from timeweave_reference.hashed_texts import authenticator, digest, link_label, step_datum  # noqa: E402
@@ -22,6 +23,9 @@ from timeweave_reference.paths import PathLink, greedy_steps, link_level, top_le
 
 WRITE_BYTES = ("show", "join", "adopt", "accuse")
 """The commands that write bytes and no text where they answer with status 0."""
+
+FUNCTIONS: Dict[str, Callable[..., Answer]] = {"contradict": contradict, "receiver": receiver}
+"""What the library alone tells, and is no command of the program."""
 
 Lines = Mapping[str, Anchor]
 
@@ -49,8 +53,9 @@ class Vector:
 
 
 def asked(name: str, words: Sequence[str], files: Dict[str, bytes]) -> Vector:
-    """The vector of these words over files, as the reference answers them; of `contradict`, which is no command, as its function does."""
-    answer = contradict(*(files[word] for word in words[1:])) if words[0] == "contradict" else commands.answer(words, files)
+    """The vector of these words over files, as the reference answers them; of what is no command, as its function does."""
+    function = FUNCTIONS.get(words[0])
+    answer = function(*(files[word] for word in words[1:])) if function else commands.answer(words, files)
     return Vector(name, tuple(words), files, answer.status, answer.text)
 
 

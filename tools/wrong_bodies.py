@@ -1,35 +1,39 @@
 #!/usr/bin/env python3
 """Tries wrong bodies, over a copy of this tree: those that the gate tries, crates/*/must-fail, and those that it doesn't, crates/*/wrong-bodies.txt. The prover
-has to refuse each. With names of crates, those of these alone. Crates are proved, and edits tried, side by side. The file wrong-bodies.txt has a line
-`edit: NAME` before what a file NAME.edit of must-fail would say.
+has to refuse each. The file wrong-bodies.txt has a line `edit: NAME` before what a file NAME.edit of must-fail would say.
 
-First each crate is proved with what its wrong body of the gate leaves out, and no wrong body: so it is the wrong body that is refused then. Where all of all crates
-are refused, docs/wrong-bodies-tried.txt is written anew. It tells of which crates that is, and `make package` takes no others.
+    python3 tools/wrong_bodies.py              those of each crate whose line of docs/wrong-bodies-tried.txt doesn't fit (tools/body_trials.py)
+    python3 tools/wrong_bodies.py --anew       those of all crates
+    python3 tools/wrong_bodies.py NAME ..      those of these crates
 
-    python3 tools/wrong_bodies.py [NAME ..]
-    python3 tools/wrong_bodies.py --list [NAME ..]      tries none: counts them, and tells those that don't fit the sources
-    python3 tools/wrong_bodies.py --kept [NAME ..]      tries none: proves the crates with what is left out alone
+Edits of different functions are tried by one check (tools/body_batches.py), and what isn't refused so is tried alone, by `rt must-fail`. Each crate has to
+be proved without a wrong body too, also with what its wrong body of the gate leaves out: so it is the wrong body that is refused. A crate's line is written
+as soon as all of its wrong bodies are refused; `make package` goes by it.
 """
 
+import argparse
 import os
 import re
+import shutil
 import subprocess
 import sys
 import tempfile
+from concurrent.futures import ThreadPoolExecutor
+from contextlib import contextmanager
 from datetime import date
 from pathlib import Path
+from typing import Callable, Iterator, Optional
 
+import body_trials
+from body_batches import Batch, batches, changed, changes_of, halves, refused, texts_of
+from body_trials import TRIED, Trial, git
 from crate_copy import TOP, copy_crates
-from leave_out import BEGINS
+from leave_out import BEGINS, CHANGE, Crate, body_of
 from leave_out import edits as edits_of_gate
 from pictures import crates
 
-# What tells when all wrong bodies were last tried, and of which crates.
-TRIED = TOP / "docs/wrong-bodies-tried.txt"
-TRIED_HEAD = "# When all wrong bodies were last tried, and of which crates: `make wrong-bodies` tries them, and writes this where the prover refused each.\n"
-
 EDIT = re.compile(r"^edit: (\w+)\n((?:(?!edit: ).*\n?)*)", re.M)
-CHANGE = re.compile(r"^(file|old|new): ?(.*)$", re.M)
+REFUSED = re.compile(r"(?:rt: )?must-fail (\w+)/(\w+)\.edit: refused, as it must be")
 
 
 def wrong_bodies(path):
@@ -84,104 +88,166 @@ def listed(names):
     return 1 if wrong else 0
 
 
-def tried(names, edits):
-    """Tries these edits of the crates over a copy of the tree; answers the status, and what was said."""
+# ---- trying them
+
+
+class Plan:
+    """How the wrong bodies of a crate are tried: in batches, or alone; and the crate without them, also as its wrong bodies of the gate leave it."""
+
+    def __init__(self, name: str, digest: str) -> None:
+        self.name, self.digest, self.crate = name, digest, Crate(name)
+        self.bodies = {edit: body_of(text) for edit, text in all_bodies(name).items()}
+        self.batches, self.count = batches(self.crate, self.bodies)[0], len(self.bodies)
+        self.alone = list(self.bodies)
+        texts = texts_of(self.crate)
+        made = {edit: changed(texts, changes_of(text)) for edit, text in left_out(name).items()}
+        self.right = {"as it stands": texts} | {f"with what {edit} leaves out": found[0] for edit, found in made.items() if found}
+        self.unfit = [edit for edit, found in made.items() if not found]
+
+
+def checked(copy: Path, name: str, texts: dict[str, str]) -> tuple[int, str]:
+    """Checks a crate of the copy with these files, over what the copy's own check of it kept; answers the status, and what was said."""
+    from kit import check  # (who counts edits needs no kit)
+
+    with tempfile.TemporaryDirectory(prefix="timeweave_wrong_body_") as folder:
+        crate, room = copy / "crates" / name, Path(folder)
+        for part in ("src", "specs", "proofs"):
+            if (crate / part).is_dir():
+                shutil.copytree(crate / part, room / part)
+        shutil.copytree(crate / "out/incremental", room / "kept")
+        for path, text in texts.items():
+            (room / path).write_text(text)
+        return check(copy, name, room, room / "kept")
+
+
+def tried(copy: Path, crate: Crate, batch: Batch) -> dict[str, str]:
+    """The edits of a batch that the prover refuses, each with its reason; where a check counts for none of them, each half is tried."""
+    found = refused(crate, batch, checked(copy, crate.name, batch.texts)[1])
+    if found is None:
+        parts = halves(crate, batch) if len(batch.edits) > 1 else []
+        return {edit: why for part in parts for edit, why in tried(copy, crate, part).items()}
+    return found
+
+
+def tried_alone(copy: Path, plans: list[Plan]) -> dict[str, set[str]]:
+    """The edits that the prover refuses, of those that are left to be tried alone: each over its crate, by `rt must-fail`."""
+    for plan in plans:
+        folder = copy / "crates" / plan.name / "must-fail"
+        folder.mkdir()
+        for edit in plan.alone:
+            (folder / f"{edit}.edit").write_text(plan.bodies[edit])
+    found: dict[str, set[str]] = {plan.name: set() for plan in plans}
+    with subprocess.Popen(["rt", "must-fail", *found], cwd=copy, stdout=subprocess.PIPE, text=True) as ran:
+        for line in ran.stdout or []:
+            print(line, end="", flush=True)
+            if told := REFUSED.match(line):
+                found[told[1]].add(told[2])
+    return found
+
+
+def is_right(copy: Path, plan: Plan) -> bool:
+    """Whether a crate is proved with no wrong body, as it stands and as each of the gate leaves it: so it is the wrong body that is refused."""
+    wrong = [f"what {edit} leaves out doesn't fit" for edit in plan.unfit]
+    wrong += [f"it isn't proved {how}" for how, texts in plan.right.items() if checked(copy, plan.name, texts)[0]]
+    print(*(f"{plan.name}: {why}" for why in wrong), sep="\n", end="\n" * bool(wrong), flush=True)
+    return not wrong
+
+
+def try_batches(copy: Path, plan: Plan, pool: ThreadPoolExecutor) -> Callable[[], bool]:
+    """Begins to try the batches of a crate; what is returned waits for them, tells what was refused, leaves the others to be tried alone, and answers
+    whether the crate is proved without them."""
+    right = pool.submit(is_right, copy, plan)
+    begun = [pool.submit(tried, copy, plan.crate, batch) for batch in plan.batches]
+
+    def ended() -> bool:
+        found = {edit: why for work in begun for edit, why in work.result().items()}
+        print(*(f"must-fail {plan.name}/{edit}: refused, as it must be: {why[:160]}\n" for edit, why in found.items()), sep="", end="", flush=True)
+        plan.alone = [edit for edit in plan.bodies if edit not in found]
+        print(f"{plan.name}: {len(found)} of {plan.count} refused in {len(begun)} batches", flush=True)
+        return right.result()
+
+    return ended
+
+
+@contextmanager
+def proved_copy(names: list[str], jobs: int) -> Iterator[Optional[Path]]:
+    """A copy of these crates and those below without wrong bodies, proved; or nothing, where it isn't."""
     with tempfile.TemporaryDirectory(prefix="timeweave_wrong_bodies_") as folder:
         copy = Path(folder) / "tree"
-        copy_crates(names, copy, without=("must-fail",))
-        for name in names:
-            (copy / "crates" / name / "must-fail").mkdir()
-            for edit, text in edits(name).items():
-                (copy / "crates" / name / f"must-fail/{edit}.edit").write_text(text)
+        copy_crates(names, copy, without=("must-fail", "wrong-bodies.txt"))
         subprocess.run(["git", "init", "-q"], cwd=copy, check=True)
         # What another copy on this machine has checked isn't checked anew.
-        checked = subprocess.run(["rt", "all", "check", "--jobs", str(os.cpu_count())], cwd=copy)
-        if checked.returncode:
-            return checked.returncode, ""
-        with subprocess.Popen(["rt", "must-fail", *names], cwd=copy, stdout=subprocess.PIPE, text=True) as ran:
-            said = []
-            for line in ran.stdout:
-                print(line, end="", flush=True)
-                said.append(line)
-        return ran.returncode, "".join(said)
+        yield None if subprocess.run(["rt", "all", "check", "--jobs", str(jobs)], cwd=copy, check=False).returncode else copy
 
 
-def left_out(name):
+def left_out(name: str) -> dict[str, str]:
     """What each wrong body of the gate leaves out, alone."""
     return {edit: text.partition(BEGINS)[2] for edit, text in bodies_of_gate(name).items() if BEGINS in text}
 
 
-def kept(names):
+def kept(names: list[str], jobs: int) -> bool:
     """Whether each crate is proved with what its wrong bodies leave out and no wrong body."""
-    names = [name for name in names if left_out(name)]
-    _, said = tried(names, left_out) if names else (0, "")
-    wanted, proved = sum(len(left_out(name)) for name in names), said.count("NOT REFUSED")
-    print(f"{proved} of {wanted} crates are proved with what a wrong body leaves out (said above as NOT REFUSED)", flush=True)
-    return proved == wanted
+    with proved_copy(names, jobs) as copy, ThreadPoolExecutor(jobs) as pool:
+        return bool(copy) and all(list(pool.map(is_right, [copy] * len(names), [Plan(name, "") for name in names])))
 
 
-# ---- when all were tried
-
-
-def git(*words):
-    return subprocess.run(["git", *words], cwd=TOP, check=True, capture_output=True, text=True).stdout.strip()
-
-
-def digest_of_crates(commit="HEAD"):
-    """What git names the folder crates/ of a commit by: a digest of all that is in it."""
-    return git("rev-parse", f"{commit}:crates")
-
-
-def tried_text(day, commit, digest, count):
-    """The file that tells when so many wrong bodies were tried."""
-    return f"{TRIED_HEAD}day {day}\ncommit {commit}\ncrates {digest}\ntried {count}\n"
-
-
-def untried(text, digest):
-    """What is to be done where that file is of other crates than those of this digest; or nothing."""
-    told = dict(line.split(" ", 1) for line in text.splitlines() if not line.startswith("#"))
-    if told["crates"] == digest:
-        return None
-    return (
-        f"all wrong bodies were last tried on {told['day']}, of the crates of commit {told['commit'][:8]}, which these aren't; "
-        "`make wrong-bodies` tries those of these crates, in some hours, and writes docs/wrong-bodies-tried.txt, which is to be committed"
-    )
-
-
-def commit_of_crates():
+def commit_of_crates() -> Optional[str]:
     """The commit of which the crates that lie here are, or nothing where they differ from it."""
-    return None if git("status", "--porcelain", "crates", "crates.txt") else git("rev-parse", "HEAD")
+    return None if git("status", "--porcelain", *body_trials.READ) else git("rev-parse", "HEAD")
 
 
-def note_trial(commit, count):
-    """Writes that so many wrong bodies of a commit, which are all, were refused; not where the crates were or are others."""
-    if commit is None or commit != commit_of_crates():
-        print(f"{TRIED.relative_to(TOP)} stays as it was: the crates aren't those of one commit")
-        return 1
-    TRIED.write_text(tried_text(date.today().isoformat(), commit, digest_of_crates(commit), count))
-    return 0
+def settled(plan: Plan, commit: Optional[str]) -> bool:
+    """Writes that all wrong bodies of a crate were refused; where the crates that lay here are those of no commit, it is told."""
+    if commit is None:
+        print(f"{plan.name}: all refused; {TRIED.relative_to(TOP)} stays as it was, since the crates are those of no commit")
+        return True
+    body_trials.note(plan.name, Trial(plan.digest, date.today().isoformat(), commit, plan.count))
+    return True
 
 
-def try_all(names, is_whole):
-    """Proves the crates with what is left out, and then tries all their wrong bodies."""
-    commit = commit_of_crates()
-    if not kept(names):
-        return 1
-    status = tried(names, all_bodies)[0]
-    return note_trial(commit, sum(counts(names))) if is_whole and not status else status
+def try_all(names: list[str], digests: dict[str, str], jobs: int) -> int:
+    """Tries all wrong bodies of these crates, and writes the line of each as soon as all of its own are refused; answers the status."""
+    commit, plans = commit_of_crates(), [Plan(name, digests[name]) for name in names]
+    with proved_copy(names, jobs) as copy:
+        if copy is None:
+            return 1
+        with ThreadPoolExecutor(jobs) as pool:
+            begun = [(plan, try_batches(copy, plan, pool)) for plan in plans]
+            right = [plan for plan, ended in begun if ended() and (plan.alone or settled(plan, commit))]
+        alone = [plan for plan in right if plan.alone]
+        found = tried_alone(copy, alone) if alone else {}
+    good = [plan for plan in right if set(plan.alone) <= found.get(plan.name, set()) and (not plan.alone or settled(plan, commit))]
+    print(f"all wrong bodies of {len(good)} of {len(plans)} crates are refused")
+    return 0 if len(good) == len(plans) else 1
 
 
-def main():
-    words = [word for word in sys.argv[1:] if word not in ("--list", "--kept")]
-    names = [name for name in words or crates() if all_bodies(name)]
-    if "--list" in sys.argv:
+def read_words() -> argparse.Namespace:
+    """The words of the command line."""
+    words = argparse.ArgumentParser(description=__doc__, formatter_class=argparse.RawDescriptionHelpFormatter)
+    words.add_argument("names", nargs="*", metavar="NAME", help="a crate; those whose line doesn't fit if none is said")
+    words.add_argument("--anew", action="store_true", help="all crates")
+    words.add_argument("--list", action="store_true", help="tries none: counts them, and tells those that don't fit the sources")
+    words.add_argument("--kept", action="store_true", help="tries none: proves the crates with what is left out alone")
+    words.add_argument("--jobs", type=int, default=os.cpu_count(), metavar="N", help="so many checks at a time; one a processor if it isn't said")
+    return words.parse_args()
+
+
+def main() -> int:
+    """Does what the words say; answers the status to end with."""
+    words = read_words()
+    names = [name for name in words.names or crates() if all_bodies(name)]
+    if words.list:
         return listed(names)
-    if "--kept" in sys.argv:
-        return 0 if kept(names) else 1
+    if words.kept:
+        return 0 if kept(names, words.jobs) else 1
+    digests = body_trials.digests(body_trials.sources_here())
+    if not words.names and not words.anew:
+        unfit = body_trials.unfit_trials(TRIED.read_text(), digests)
+        names = [name for name in names if name in unfit]
     if not names:
-        print("no wrong bodies there")
+        print("no wrong bodies to be tried")
         return 0
-    return try_all(names, not words)
+    return try_all(names, digests, words.jobs)
 
 
 if __name__ == "__main__":

@@ -179,15 +179,17 @@ def untried_crates(room):
     """crates whose wrong bodies weren't all tried aren't packed, and it is told what is to be done"""
     needs("rt", "the kit")
     needs("git", "git")
+    import body_trials
     import package
-    from wrong_bodies import digest_of_crates, tried_text
 
-    for digest, is_told in ((digest_of_crates(), False), ("0" * 40, True)):
-        room.put("tried", tried_text("2026-01-01", "0" * 40, digest, 1).encode())
+    wanted = body_trials.digests(body_trials.sources_here())
+    told = {name: body_trials.Trial(digest, "2026-01-01", "0" * 40, 1) for name, digest in wanted.items()}
+    for name, digest in (("tw_base", wanted["tw_base"]), ("tw_base", "0" * 64)):
+        room.put("tried", body_trials.text_of(told | {name: told[name]._replace(digest=digest)}).encode())
         with mock.patch.object(package, "TRIED", room.folder / "tried"):
-            told = [why for why in package.lacking() if "`make wrong-bodies`" in why]
-        if bool(told) != is_told:
-            raise Wrong(f"  {digest}: {told}")
+            said = [why for why in package.lacking() if "`make wrong-bodies`" in why]
+        if said and digest == wanted[name] or digest != wanted[name] and (len(said) != 1 or f"of {name} weren't" not in said[0]):
+            raise Wrong(f"  {digest}: {said}")
 
 
 def good_packages(room):

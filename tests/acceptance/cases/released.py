@@ -1,15 +1,19 @@
-"""A release is judged by its files alone: a trial release is found good, each fault that is planted in one is found, and what the judge
-didn't check it says."""
+"""A release is judged by its files alone: a good one is found good, each fault that is planted in one is found, a trial is told first and by
+a status of its own, and what the judge didn't check it says."""
 
 import argparse
 import io
 import os
+import re
 import shutil
 import subprocess
+import sys
 import tarfile
 import tempfile
 from pathlib import Path
+from unittest import mock
 
+import body_trials
 import judge_release
 import proved_by
 
@@ -17,14 +21,14 @@ from harness.places import LONGEST, TOP
 from harness.rooms import Skipped, Wrong, case, needs
 
 
-# ---- a trial release
+# ---- a release
 
 
 def tree():
     """What the source archive of a release has now."""
     import release
 
-    return judge_release.unpacked(release.source_archive(), f"timeweave-{release.VERSION}/").files
+    return release.source_files()
 
 
 def good_log(files):
@@ -40,28 +44,51 @@ def good_log(files):
     return "\n".join([*lines, *run]).encode()
 
 
-def trial(room):
-    """Writes a release of the last commit into the room, signed and recorded; for what isn't built a program of the system stands in."""
+def as_tried(archive):
+    """The source archive of a commit in which all wrong bodies were tried on its crates."""
+    return repacked(archive, lambda path, text: tried_text() if path.endswith(f"/{judge_release.TRIED}") else text)
+
+
+def tried_text():
+    """The file that tells that all wrong bodies were tried on the crates that lie here."""
+    wanted = body_trials.digests(body_trials.sources_here())
+    return body_trials.text_of({name: body_trials.Trial(digest, "2026-01-01", "0" * 40, 1) for name, digest in wanted.items()}).encode()
+
+
+def is_built(program):
+    """Whether the program that cases are run by is a built one, and not the second implementation."""
+    return Path(program).read_bytes()[:4] == b"\x7fELF"
+
+
+def packed(into, room, is_trial):
+    """Writes the packages into a folder; for what isn't built a program of the system stands in."""
+    import package
+    import release
+
+    into.mkdir()
+    room.put("page", b"<html></html>")
+    built = {part: Path("/bin/true") for part in package.PARTS} | {package.PAGE: room.folder / "page"}
+    built |= {"bin/timeweave": Path(room.program)} if is_built(room.program) else {}
+    package.write(into, built, version=release.label_of(is_trial))
+
+
+def made(room, name, log=None):
+    """Writes a release of the last commit, signed and recorded, or where a gate's log is named a trial; answers its folder."""
     for program, package in (("rt", "the kit"), ("dpkg-shlibdeps", "dpkg-dev"), ("ssh-keygen", "openssh-client"), ("git", "git")):
         needs(program, package)
     if subprocess.run(["git", "status", "--porcelain"], cwd=TOP, check=True, capture_output=True).stdout:
         raise Skipped("files differ from the commit, or this is none")
-    import package
     import release
 
-    into = room.folder / "release"
-    into.mkdir()
-    room.put("page", b"<html></html>")
-    built = {part: Path("/bin/true") for part in package.PARTS} | {package.PAGE: room.folder / "page"}
-    with open(room.program, "rb") as file:
-        built |= {"bin/timeweave": Path(room.program)} if file.read(4) == b"\x7fELF" else {}
-    package.write(into, built)
-    release.add_parts(into, good_log(tree()))
-    subprocess.run(["ssh-keygen", "-q", "-t", "ed25519", "-N", "", "-f", room.folder / "key"], check=True)
-    (room.folder / "signers").write_text(f"timeweave {(room.folder / 'key.pub').read_text()}")
-    release.sign(into, room.folder / "key")
-    (room.folder / "kept").mkdir()
-    release.record(into, room.folder / "kept", room.program)
+    into, kept, plain = room.folder / name, room.folder / f"{name}-kept", release.source_archive
+    packed(into, room, is_trial=log is not None)
+    with mock.patch.object(release, "source_archive", lambda *label: as_tried(plain(*label))):
+        release.add_parts(into, log or good_log(tree()), is_trial=log is not None)
+    subprocess.run(["ssh-keygen", "-q", "-t", "ed25519", "-N", "", "-f", room.folder / f"{name}-key"], check=True)
+    (room.folder / "signers").write_text(f"timeweave {(room.folder / f'{name}-key.pub').read_text()}")
+    release.sign(into, room.folder / f"{name}-key")
+    kept.mkdir()
+    release.record(into, kept, room.program, *["--unproved"] * (not is_built(room.program)))
     return into
 
 
@@ -77,14 +104,15 @@ def judged(folder, signers, to_first=True):
 
 
 def changed(name, old, new):
-    """The fault that a file of this name has other bytes in the place of some."""
+    """The fault that a file of this name has other bytes where a pattern is found last."""
 
     def plant(folder):
         path = next(folder.glob(name))
         data = path.read_bytes()
-        if old not in data:
+        places = [found.span() for found in re.finditer(old, data, re.M)]
+        if not places:
             raise Wrong(f"  {name} has no {old!r}")
-        path.write_bytes(data.replace(old, new, 1))
+        path.write_bytes(data[: places[-1][0]] + new + data[places[-1][1] :])
 
     return plant
 
@@ -104,18 +132,24 @@ def repacked(data, change, more=()):
 
 
 def in_tar(pattern, path, new=None, more=()):
-    """The fault that a file of a compressed archive has other bytes, or that there are more files."""
+    """The fault that a file of a compressed archive has other bytes, or that there are more files below its folder."""
 
     def plant(folder):
         archive = next(folder.glob(pattern))
         tar = judge_release.gunzipped(archive.read_bytes())
-        data = repacked(tar, lambda name, text: new(text) if path and name.endswith(path) else text, more)
+        below = [(f"{archive.name.removesuffix('.tar.gz')}/{name}", text) for name, text in more]
+        data = repacked(tar, lambda name, text: new(text) if path and name.endswith(path) else text, below)
         archive.write_bytes(judge_release.gzip.compress(data, 1))
 
     return plant
 
 
-def in_deb(pattern, part, path, more=()):
+def commented(text):
+    """A file with a comment more."""
+    return text + b"#\n"
+
+
+def in_deb(pattern, part, path, more=(), change=commented):
     """The fault that a package has another file, or one more, in its control or data."""
 
     def plant(folder):
@@ -126,7 +160,7 @@ def in_deb(pattern, part, path, more=()):
             body = data[place + 60 : place + 60 + size]
             if head.startswith(part.encode()):
                 tar = judge_release.lzma.decompress(body)
-                tar = repacked(tar, lambda name, text: text + b"#\n" if path and name.endswith(path) else text, more)
+                tar = repacked(tar, lambda name, text: change(text) if path and name.endswith(path) else text, more)
                 body = judge_release.lzma.compress(tar, preset=0)
             made += head[:48] + str(len(body)).ljust(10).encode() + head[58:] + body + b"\n" * (len(body) % 2)
             place += 60 + size + size % 2
@@ -135,12 +169,29 @@ def in_deb(pattern, part, path, more=()):
     return plant
 
 
+def with_two_data(folder):
+    """The fault that a package has the data of another one before its own: dpkg installs those that come first."""
+    package, other = (next(folder.glob(pattern)) for pattern in ("timeweave_*.deb", "python3-*.deb"))
+    data, place = package.read_bytes(), other.read_bytes().index(b"data.tar.xz")
+    at = data.index(b"data.tar.xz")
+    package.write_bytes(data[:at] + other.read_bytes()[place:] + data[at:])
+
+
+def in_control(old, new):
+    """The fault that the control file of a package says something else."""
+    return in_deb("timeweave_*.deb", "control.tar.xz", "control", change=lambda text: text.replace(old, new, 1))
+
+
 def in_log(old, new):
     """The fault that the gate's log is another one, to which PROOFS was made."""
 
     def plant(folder):
         changed("gate.log", old, new)(folder)
-        (folder / "PROOFS").write_text(judge_release.proofs_text((folder / "gate.log").read_bytes(), tree()))
+        archive = next(folder.glob("*-source.tar.gz"))
+        front = f"{archive.name.removesuffix('-source.tar.gz')}/"
+        files = judge_release.unpacked(judge_release.gunzipped(archive.read_bytes()), front).files
+        is_trial = (folder / "PROOFS").read_text().startswith(judge_release.OF_TRIAL)
+        (folder / "PROOFS").write_text(judge_release.proofs_text((folder / "gate.log").read_bytes(), files, is_trial))
 
     return plant
 
@@ -169,48 +220,87 @@ def reworded(text):
 # Faults of whoever changes a file alone: each with the part of the judgement that finds it.
 CARELESS = (
     ("a byte of a package", "sums", changed("timeweave_*.deb", b"debian-binary", b"debian-binarz")),
-    ("a file taken away", "sums", lambda folder: (folder / "PROOFS").unlink()),
+    ("a file taken away", "sums", lambda folder: (folder / "LICENCES").unlink()),
     ("a file added", "sums", lambda folder: (folder / "more").write_text("more")),
+    ("a file added that is called like the digests", "sums", lambda folder: (folder / "SHA256SUMS.more").write_text("more")),
+    ("a folder added", "sums", lambda folder: (folder / "more").mkdir()),
+    ("a link added", "sums", lambda folder: (folder / "more").symlink_to("BUILD")),
     ("digests changed behind the signature", "signature", lambda folder: None),
 )
 
-IN_TAR = "timeweave-1.0.0-x86_64-linux"
 REFUSED, UNREFUSED = b": refused, as it must be", b": NOT REFUSED: the crate is still proved"
+
+
+def untold(text):
+    """The file that tells when wrong bodies were tried, of other crates."""
+    return re.sub(rb"^(\w+ )\w\w", rb"\g<1>00", text, flags=re.M)
+
 
 # Faults of whoever changes what belongs to it too, makes the digests anew and leaves the signature out.
 CAREFUL = (
     ("a source of a crate", "proofs", in_tar("*-source.tar.gz", "/crates/tw_base/src/lib.rt", reworded)),
     ("another commit of the sources", "source archive", of_another_commit),
-    ("another commit in BUILD", "source archive", changed("BUILD", b"commit ", b"commit 0")),
-    ("another logic in BUILD", "source archive", changed("BUILD", b"logic ", b"logic 0")),
-    ("a number of PROOFS", "proofs", changed("PROOFS", b"functions proved 1\n", b"functions proved 2\n")),
+    ("another commit in BUILD", "source archive", changed("BUILD", b"^commit ", b"commit 0")),
+    ("another logic in BUILD", "source archive", changed("BUILD", b"^logic ", b"logic 0")),
+    ("a number of PROOFS", "proofs", changed("PROOFS", rb"functions proved \d+$", b"functions proved 4711")),
     ("a crate out of PROOFS", "proofs", changed("PROOFS", b"crate tw_join\n", b"")),
     ("a crate that isn't proved", "proofs", in_log(b"rt: tw_join proved", b"rt: tw_join NOT PROVED")),
     ("a planted edit that wasn't tried", "proofs", in_log(b"rt: must-fail tw_join/", b"rt: must-fail other/")),
     ("a planted edit that wasn't refused", "proofs", in_log(REFUSED, UNREFUSED)),
-    ("a case that failed", "proofs", in_log(b"30 passed, 0 failed", b"29 passed, 1 failed")),
-    ("no acceptance run", "proofs", in_log(b"cases: ", b"words: ")),
-    ("a crate of another logic", "proofs", in_log(b"functions=1 sum=", b"functions=1 sum=0")),
+    ("a case that failed", "proofs", in_log(rb"\Z", b"FAILED data/one\n")),
+    ("wrong bodies that weren't tried", "proofs", in_tar("*-source.tar.gz", f"/{judge_release.TRIED}", untold)),
+    ("a crate of another logic", "proofs", in_log(rb"(?<= sum=)\w\w", b"00")),
     ("a module of a package", "packages", in_deb("python3-*.deb", "data.tar.xz", "/answers.py")),
     ("a file more in a package", "packages", in_deb("python3-*.deb", "data.tar.xz", None, [("./usr/bin/more", b"more")])),
+    ("data of another package before a package's own", "packages", with_two_data),
+    ("bytes behind a package", "packages", changed("timeweave_*.deb", rb"\Z", b"more")),
+    ("a package that wants another", "packages", in_control(b"Depends: ", b"Depends: more, ")),
+    ("a package of another version", "packages", in_control(b"Version: 1.0.0", b"Version: 1.0.1")),
+    ("a field more of a package", "packages", in_control(b"Section: ", b"Essential: yes\nSection: ")),
+    ("another digest in a package", "packages", in_deb("python3-*.deb", "control.tar.xz", "md5sums", change=lambda text: b"0" + text[1:])),
     ("a script of a package", "packages", in_deb("timeweave_*.deb", "control.tar.xz", None, [("./postinst", b"#!/bin/sh\n")])),
-    ("a file more in the tar file", "packages", in_tar("*-linux.tar.gz", None, more=[(f"{IN_TAR}/bin/more", b"more")])),
-    ("a file that lies outside", "packages", in_tar("*-linux.tar.gz", None, more=[(f"{IN_TAR}/../../more", b"more")])),
+    ("a file more in the tar file", "packages", in_tar("*-linux.tar.gz", None, more=[("bin/more", b"more")])),
+    ("a file that lies outside", "packages", in_tar("*-linux.tar.gz", None, more=[("../../more", b"more")])),
     ("the program", "packages", in_tar("*-linux.tar.gz", "/bin/timeweave", lambda text: text[:-1] + bytes([text[-1] ^ 1]))),
-    ("the page", "packages", changed("timeweave.html", b"<html>", b"<HTML>")),
-    ("a licence that was cut", "licences", changed("LICENCES", b"Apache License", b"")),
+    ("the page", "packages", changed("timeweave.html", b"<html", b"<HTML")),
+    ("a licence that was cut", "licences", changed("LICENCES", rb"(?<=Timeweave: LICENSE\n\n).{9}", b"")),
     ("a part that isn't listed", "licences", without_part),
     ("a vector", "vectors", in_tar("*-vectors.tar.gz", "/event.json", lambda text: text.replace(b'"status": 0', b'"status": 1', 1))),
     ("digests that the log didn't record", "record", lambda folder: None),
 )
 
 
-def planted(good, room, fault, is_careful):
-    """A copy of a release with a fault in it."""
+def unmarked(folder):
+    """The fault that a trial calls itself one neither in BUILD and PROOFS nor by the names of its files."""
+    for name in ("BUILD", "PROOFS"):
+        lines = (folder / name).read_text().splitlines(keepends=True)
+        kept = [line for line in lines if not line.startswith((judge_release.OF_TRIAL, "lacks "))]
+        (folder / name).write_text("".join(kept).replace(judge_release.TRIAL, ""))
+    for path in [*folder.iterdir()]:
+        path.rename(folder / path.name.replace(judge_release.TRIAL, ""))
+
+
+# The same, of a log that has an acceptance run; a trial's may have none.
+OF_A_RUN = (
+    ("an acceptance run that failed", "proofs", in_log(rb"^\d+ passed, \d+ failed$", b"28 passed, 2 failed")),
+    ("no acceptance run", "proofs", in_log(rb"^\d+ passed, \d+ failed$", b"30 passed")),
+)
+
+# Faults of whoever would have a trial taken for a release, planted as those of the careful.
+OF_A_TRIAL = (
+    ("a trial without its mark in BUILD", "trial", changed("BUILD", judge_release.OF_TRIAL.encode(), b"made")),
+    ("a trial without its mark in PROOFS", "trial", changed("PROOFS", judge_release.OF_TRIAL.encode() + b"\n", b"")),
+    ("a trial that tells less than it lacks", "proofs", changed("BUILD", b"^lacks ", b"has ")),
+    ("a trial that tells more than it lacks", "proofs", changed("BUILD", b"^lacks ", b"lacks more\nlacks ")),
+    ("a trial without any mark", "source archive", unmarked),
+)
+
+
+def planted(good, folder, fault, is_careful):
+    """Makes a folder a copy of a release with a fault in it."""
     import release
 
     _, check, plant = fault
-    folder = room.folder / "planted"
     shutil.rmtree(folder, ignore_errors=True)
     shutil.copytree(good, folder)
     plant(folder)
@@ -220,24 +310,75 @@ def planted(good, room, fault, is_careful):
         release.write_sums(folder)
     if is_careful:
         (folder / "SHA256SUMS.sig").unlink()
-    return folder
+
+
+def faults_of(good):
+    """All faults for a release or a trial; of each whether it is a careful one's."""
+    is_trial = (good / "BUILD").read_text().startswith(judge_release.OF_TRIAL)
+    has_run = re.search(rb"^cases: ", (good / "gate.log").read_bytes(), re.M) is not None
+    careful = CAREFUL + OF_A_RUN * has_run + OF_A_TRIAL * is_trial
+    return [(fault, False) for fault in CARELESS] + [(fault, True) for fault in careful]
+
+
+def found_by(fault, said):
+    """Whether the first bad thing that was said is by the part of the judgement that has to find this fault."""
+    bad = [line for line in said if line.startswith("BAD")]
+    return bool(bad) and bad[0].startswith(f"BAD: {fault[1]}: ")
+
+
+def hold_found(good, room, faults):
+    """Raises Wrong where one of these faults isn't found in a copy of a release."""
+    folder, wrong = room.folder / "planted", []
+    for fault, is_careful in faults:
+        planted(good, folder, fault, is_careful)
+        said = judged(folder, None if is_careful else room.folder / "signers")
+        wrong += [f"  {fault[0]}: {said[-1]}"] * (not found_by(fault, said))
+    if wrong or not faults:
+        raise Wrong("\n".join(wrong))
 
 
 def judged_by_faults(room):
-    """a trial release is found good, and each of the planted faults is found by the part of the judgement that looks for it"""
-    good, signers = trial(room), room.folder / "signers"
-    said = judged(good, signers, to_first=False)
+    """a release is found good, and each of the planted faults is found by the part of the judgement that looks for it"""
+    good = made(room, "release")
+    said = judged(good, room.folder / "signers", to_first=False)
     heads = [line.partition(":")[0] for line in said]
     if "BAD" in heads or heads.count("good") < 8 or "not checked" not in heads:
         raise Wrong("\n".join(said))
-    wrong = []
-    faults = [(fault, False) for fault in CARELESS] + [(fault, True) for fault in CAREFUL]
-    for fault, is_careful in faults:
-        said = judged(planted(good, room, fault, is_careful), None if is_careful else signers)
-        found = [line for line in said if line.startswith("BAD")]
-        wrong += [f"  {fault[0]}: {found or 'not found'}"] * (not found or not found[0].startswith(f"BAD: {fault[1]}: "))
-    if wrong or len(faults) < 20:
-        raise Wrong("\n".join(wrong))
+    hold_found(good, room, faults_of(good))
+
+
+# ---- a trial
+
+
+def trial_is_told(room):
+    """a trial is told first, with what it lacks, and judged with a status of its own; one that hides what it is, or what it lacks, is bad"""
+    folder = made(room, "trial", good_log(tree()).replace(b"30 passed, 0 failed", b"29 passed, 1 failed"))
+    words = [sys.executable, TOP / "tools/judge_release.py", folder, "--signers", room.folder / "signers"]
+    done = subprocess.run(words, capture_output=True, text=True, timeout=LONGEST)
+    first = "A TRIAL, NOT A RELEASE: take it for nothing else.\nlacks: the acceptance run ended with: 29 passed, 1 failed.\n"
+    if done.returncode != 3 or not done.stdout.startswith(first) or not done.stdout.endswith("\nNothing was bad. This is a trial, not a release.\n"):
+        raise Wrong(f"  {done.returncode}\n{done.stdout}{done.stderr}")
+    hold_found(folder, room, [(fault, True) for fault in OF_A_TRIAL])
+
+
+def untried_is_told(room):
+    """the judge tells the crates whose wrong bodies weren't tried as they are, by the sources alone"""
+    needs("rt", "the kit")
+    needs("git", "git")
+    if not (TOP / ".git").exists():
+        raise Skipped("this is no checkout")
+    files, tried = tree(), tried_text()
+    other = tried.replace(b"tw_base ", b"tw_base 0", 1)
+    for text, wanted in ((tried, []), (other, ["the wrong bodies of tw_base weren't tried as these crates are"])):
+        found = judge_release.untried({**files, judge_release.TRIED: text})
+        if found != wanted:
+            raise Wrong(f"  {found}")
+    found = judge_release.untried({path: data for path, data in files.items() if path != "tools/body_trials.py"})
+    if len(found) != 1 or not found[0].endswith("; take the judge of the commit that BUILD names"):
+        raise Wrong(f"  {found}")
+
+
+# ---- the judge by itself
 
 
 def judge_alone(room):
@@ -269,4 +410,4 @@ def same_archive(room):
 
 
 def cases():
-    return [case(work, "released") for work in (judge_alone, same_archive, judged_by_faults)]
+    return [case(work, "released") for work in (judge_alone, same_archive, untried_is_told, judged_by_faults, trial_is_told)]

@@ -4,11 +4,15 @@ stands twice, want of memory has a cause, the gate tries one wrong body of a cra
 tests."""
 
 import json
+import os
 import re
 import shutil
 import subprocess
+import sys
 from pathlib import Path
 
+import body_batches
+import body_trials
 import leave_out
 import twins
 import wrong_bodies
@@ -299,6 +303,7 @@ NAMED = {
     "tw_atlas/one_leg_to_a_service": "an atlas keeps one way to each service",
     "tw_evidence/path_not_climbed": "the path between two threads isn't climbed",
     "tw_evidence/bottom_not_compared": "the path may begin at the first thread's own authenticator",
+    "tw_contradict/two_authenticators_are_one_entry": "a receiver of two authenticators of one step breaks no rule",
     "tw_adopt/the_whole_history_handed_out": "a history is taken over further than its peers hold it",
     # What a store and a service keep.
     "tw_pages/answered_before_the_last_barrier": "a commit answers before the barrier behind the gate",
@@ -370,14 +375,114 @@ def counted_bodies(program):
 
 
 def trials(program):
-    """What is wrong with the file that tells when all wrong bodies were tried, or with what is said of it"""
-    text = wrong_bodies.TRIED.read_text()
-    told = dict(line.split(" ", 1) for line in text.splitlines() if not line.startswith("#"))
-    if list(told) != ["day", "commit", "crates", "tried"]:
-        return f"  it tells {list(told)}"
-    if wrong_bodies.untried(text, told["crates"]) is not None or "make wrong-bodies" not in (wrong_bodies.untried(text, "0" * 40) or ""):
-        return "  packages of the crates that were tried are refused, or of others aren't"
+    """What is wrong with the file that tells when the wrong bodies of each crate were tried, or with what is said of crates that it doesn't fit"""
+    text = body_trials.TRIED.read_text()
+    told = body_trials.trials(text)
+    if text != body_trials.text_of(told):
+        return "  its lines aren't those of trials, in their order"
+    fitting, name = {name: trial.digest for name, trial in told.items()}, next(iter(told))
+    said = body_trials.untried(text, fitting | {name: "0" * 64, "tw_new": "0" * 64}) or ""
+    if body_trials.untried(text, fitting) is not None or f"of {name}, tw_new weren't tried" not in said or "`make wrong-bodies`" not in said:
+        return f"  packages of the crates that were tried are refused, or of others aren't: {said}"
     return None
+
+
+# Two crates, and what of them changes the digest by which a trial of the upper one's wrong bodies is known.
+LOWER = """\
+/// The most.
+pub const MOST: u32 = 4;
+
+const fn half(of: u32) -> u32 {
+    of / 2
+}
+
+/// Adds one.
+pub fn one_more(to: u32) -> u32
+    requires { to < MOST }
+    ensures { result ≡ to + 1 }
+{
+    to + 1
+}
+"""
+OF_TRIAL = {
+    "crates.txt": "low: sha2\n# Upper ones.\nhigh: low\n", "KIT": "kit 1\n", "crates/low/src/lib.rt": LOWER, "crates/low/specs/Lib.antt": "pub mod A\n",
+    "crates/low/proofs/one_more/Answers.antt": "search\n", "crates/low/proofs/Sums.antt": "sum-one\n", "crates/low/wrong-bodies.txt": "edit: a\n",
+    "crates/low/stdin": "a\n", "crates/high/src/lib.rt": LOWER, "crates/high/proofs/one_more/Answers.antt": "search\n",
+    "crates/high/must-fail/a.edit": "file: src/lib.rt\n",
+}  # fmt: skip
+CHANGES_OF_TRIAL = (
+    ("crates/low/src/lib.rt", "    to + 1\n}", "    1 + to\n}", False), ("crates/low/src/lib.rt", "Adds one", "Gives one more", False),
+    ("crates/low/src/lib.rt", "to < MOST", "to < 3", True), ("crates/low/src/lib.rt", "= 4", "= 5", True), ("crates/low/src/lib.rt", "of / 2", "of", True),
+    ("crates/low/specs/Lib.antt", "A", "B", True), ("crates/low/proofs/Sums.antt", "one", "two", True), ("crates/low/wrong-bodies.txt", "a", "b", False),
+    ("crates/low/proofs/one_more/Answers.antt", "search", "grind", False), ("crates/low/stdin", "a", "b", False), ("crates.txt", "Upper", "Higher", False),
+    ("crates.txt", "sha2", "hex", True), ("KIT", "1", "2", True), ("crates/high/src/lib.rt", "    to + 1\n}", "    1 + to\n}", True),
+    ("crates/high/proofs/one_more/Answers.antt", "search", "grind", True), ("crates/high/must-fail/a.edit", "lib", "main", True),
+)  # fmt: skip
+
+
+def digests_of_trials(program):
+    """The changes that change what a trial is known by and shouldn't, or don't and should."""
+    digest = lambda texts: body_trials.digests({path: text.encode() for path, text in texts.items()})["high"]  # noqa: E731
+    wrong = []
+    for path, old, new, is_other in CHANGES_OF_TRIAL:
+        changed = OF_TRIAL | {path: OF_TRIAL[path].replace(old, new)}
+        if changed == OF_TRIAL or (digest(changed) != digest(OF_TRIAL)) != is_other:
+            wrong.append(f"  {path}: {old!r} as {new!r}")
+    return "\n".join(wrong) or None
+
+
+# What the prover may say of two edits of tw_events in one copy, and which of them it refuses by that; None where that counts for neither.
+TURNED = {"halves_swapped": "root::event_root", "sides_swapped": "check::node_above"}
+WHY = "./proofs/root/+event_root/Answers.antt:11:5: error: `returns`: the two types differ\n"
+NOTE = "note: src/check.rt:20:1: it is not proved that what the function ensures holds when it returns\n"
+SAID = "{}fn tw_events::root::event_root: {}\nfn tw_events::check::node_above: {}\nfn tw_events::check::check_event: {}\n{}\n"
+CALLS = "no proof: it calls `tw_events::root::event_root`, which is not proved"
+TOLD = (
+    (WHY, "not proved", CALLS, CALLS, "logic=not-proved", {"halves_swapped"}),
+    (WHY, "not proved", "proved", "proved", "logic=not-proved", {"halves_swapped"}),
+    ("", "not proved", CALLS, CALLS, "logic=not-proved", set()),
+    (WHY.replace("root/+", "root/+other_"), "not proved", CALLS, CALLS, "logic=not-proved", set()),
+    (WHY.replace("the two types differ", "it has no field `a`"), "not proved", CALLS, CALLS, "logic=not-proved", set()),
+    (WHY, "not proved", CALLS, "not proved", "logic=not-proved", None),
+    (WHY, "not proved", CALLS, CALLS, "rattle: no verdict", None),
+    (WHY + NOTE, "not proved", "no proof: `search` did not prove `returns`", CALLS, "logic=not-proved", set(TURNED)),
+)
+
+
+# Edits of methods, each with the function that it changes, as the prover tells of it.
+METHODS = (
+    ("tw_skiplist", "failed_read_is_a_bad_page", "tw_skiplist::fault::ListFaultFromWalkFault::from"),
+    ("tw_service", "thread_not_counted", "tw_service::recorded::Unstaged::archive"),
+)
+OTHER_METHODS = ("tw_skiplist::fault::ListFaultFromNoMemory::from", "tw_skiplist::fault::RefusalFromListFault::from", "tw_service::unstaged::archive")
+
+
+def bodies_together(program):
+    """What is wrong with how wrong bodies are tried: each once, together or alone; those of a batch in functions of their own, and refused by the
+    prover's word of these."""
+    wrong = []
+    for name in crates():
+        crate, bodies = leave_out.Crate(name), {edit: leave_out.body_of(text) for edit, text in wrong_bodies.all_bodies(name).items()}
+        found, alone = body_batches.batches(crate, bodies)
+        turned = sum(len(set(functions)) for batch in found for _, functions in batch.edits.values())
+        others = sum(len({it for _, functions in batch.edits.values() for it in functions}) for batch in found)
+        if sorted([*alone, *(edit for batch in found for edit in batch.edits)]) != sorted(bodies) or turned != others:
+            wrong.append(f"  {name}")
+    crate = leave_out.Crate("tw_events")
+    bodies = {edit: wrong_bodies.all_bodies("tw_events")[edit] for edit in TURNED}
+    (batch,), _ = body_batches.batches(crate, bodies)
+    for *said, wanted in TOLD:
+        refused = body_batches.refused(crate, batch, SAID.format(*said))
+        if (refused if refused is None else set(refused)) != wanted:
+            wrong.append(f"  {said}: {refused}")
+    for name, edit, told in METHODS:
+        crate = leave_out.Crate(name)
+        (batch,), _ = body_batches.batches(crate, {edit: wrong_bodies.all_bodies(name)[edit]})
+        found = body_batches.names_of(crate, batch.edits[edit][1][0], dict.fromkeys([told, *OTHER_METHODS], "not proved"))
+        wrong += [f"  {edit}: {found}"] * (found != [told])
+    told = wrong_bodies.REFUSED.match("rt: must-fail tw_pages/nothing_written.edit: refused, as it must be: note: src/recorded.rt:133:5: it is not proved")
+    wrong += [] if told and told.groups() == ("tw_pages", "nothing_written") else ["  what `rt must-fail` says of an edit that is tried alone isn't read"]
+    return "\n".join(wrong) or None
 
 
 def is_there(place, name):
@@ -415,6 +520,14 @@ def what_stands_twice(program):
     return f"  {count} pairs, at most {MOST_TWINS} are allowed: `python3 tools/twins.py`" if count > MOST_TWINS else None
 
 
+def known_to_weft(program):
+    """What differs of the digests by which weft knows the packages that may lie beside it."""
+    words = [sys.executable, "-c", "from weft import packages; print(packages.known_text(), end='')"]
+    done = subprocess.run(words, cwd=TOP, env={**os.environ, "PYTHONPATH": str(TOP)}, capture_output=True, text=True, check=False)
+    is_same = done.returncode == 0 and done.stdout == (TOP / "weft/known.py").read_text(encoding="utf-8")
+    return None if is_same else f"  weft/known.py has other digests: `python3 -m weft.packages` notes them anew {done.stderr}"
+
+
 def cases():
     checks = {
         "long functions": long_functions,
@@ -430,8 +543,11 @@ def cases():
         "wrong bodies and the sources": fitting_bodies,
         "the number of wrong bodies": counted_bodies,
         "when wrong bodies were tried": trials,
+        "what a trial is known by": digests_of_trials,
+        "wrong bodies tried together": bodies_together,
         "heights": heights,
         "names of definitions": names_twice,
         "what stands twice": what_stands_twice,
+        "packages that weft knows": known_to_weft,
     }
     yield from checked("sources", checks)

@@ -1,5 +1,6 @@
-"""The second implementation under a name of its own: `make look` and `make demo` show the README's examples by it, and over folders it
-answers as the program does and leaves the same files."""
+"""The second implementation under a name of its own: tools/look.py, `make look` and `make demo` show the README's examples by it, and over
+folders it answers as the program does and leaves the same files. tests/packages/empty_debian.sh holds the first by `hold_look` in an empty
+Debian."""
 
 import os
 import random
@@ -19,8 +20,11 @@ from timeweave_reference.tree_pages import PAGE
 STARTER = TOP / "reference/bin/timeweave-unproved"
 MARK = "NOT PROVED: second implementation"
 
-# An environment in which there are Python 3 and sh, and the kit isn't; and the seconds of a processor that `make look` may take.
+# An environment in which there are Python 3 and sh, and the kit isn't; and the seconds of a processor that the first look may take.
 BARE, MOST_SECONDS = "/usr/bin:/bin", 10
+
+# What README tells to type for it.
+LOOK = ["python3", "tools/look.py"]
 
 
 # ---- what is shown
@@ -32,14 +36,13 @@ def bare(room):
 
 
 def looked(room):
-    """What `make look` prints in such an environment, and the seconds of a processor that it took."""
-    make = needs("make", "make")
-    with subprocess.Popen([make, "-s", "look"], cwd=TOP, env=bare(room), stdout=subprocess.PIPE, stderr=subprocess.STDOUT) as running:
+    """What the first look prints in such an environment, and the seconds of a processor that it took."""
+    with subprocess.Popen(LOOK, cwd=TOP, env=bare(room), stdout=subprocess.PIPE, stderr=subprocess.STDOUT) as running:
         output = running.stdout.read().decode()
         _, status, used = os.wait4(running.pid, 0)
         running.returncode = os.waitstatus_to_exitcode(status)
     if running.returncode:
-        raise Wrong(f"  make look ended with {running.returncode}\n{output}")
+        raise Wrong(f"  {' '.join(LOOK)} ended with {running.returncode}\n{output}")
     return output, used.ru_utime + used.ru_stime
 
 
@@ -53,9 +56,8 @@ def wanted_of_look():
             yield look.unproved(command), output.replace("judged by: proved ..", "judged by: Python reference, tested, not proved")
 
 
-def look_shows(room):
-    """make look shows the README's examples with Python and sh alone, in ten seconds of a processor, and says first that it isn't proved"""
-    output, seconds = looked(room)
+def hold_look(output):
+    """Raises Wrong where what the first look printed isn't what README shows, or doesn't say first that it isn't proved."""
     first, *steps = re.split(r"^\$ ", output, flags=re.M)
     found = [step.partition("\n")[::2] for step in steps]
     wanted = list(wanted_of_look())
@@ -64,11 +66,28 @@ def look_shows(room):
         if command != at or not is_shown(text, got.rstrip("\n") + "\n" * bool(got.strip())):
             wrong.append(f"  $ {command}\n  wanted {text!r}\n  got    {got!r}")
     if not first.startswith(f"{MARK}. ") or len(found) != len(wanted) + 1 or wrong:
-        raise Wrong("\n".join(wrong) or f"  make look\n{output}")
-    if "way.svg: a picture of the way\n" not in found[-1][1] or not list(room.folder.glob("timeweave-way-*.svg")):
-        raise Wrong(f"  no picture is left\n{found[-1]}")
+        raise Wrong("\n".join(wrong) or f"  {' '.join(LOOK)}\n{output}")
+    if "way.svg: a picture of the way\n" not in found[-1][1]:
+        raise Wrong(f"  no picture is made\n{found[-1]}")
+
+
+def look_shows(room):
+    """what README tells to type shows its examples with Python and sh alone, in ten seconds of a processor; first, that it isn't proved"""
+    if f"`{' '.join(LOOK)}`" not in " ".join((TOP / "README.md").read_text().split()):
+        raise Wrong(f"  README doesn't name {' '.join(LOOK)}")
+    output, seconds = looked(room)
+    hold_look(output)
+    if not list(room.folder.glob("timeweave-way-*.svg")):
+        raise Wrong("  no picture is left")
     if seconds > MOST_SECONDS:
-        raise Wrong(f"  make look took {seconds:.1f} seconds of a processor")
+        raise Wrong(f"  it took {seconds:.1f} seconds of a processor")
+
+
+def make_looks(room):
+    """make look runs what README tells to type"""
+    done = subprocess.run([needs("make", "make"), "-n", "look"], cwd=TOP, env=bare(room), capture_output=True, text=True, timeout=LONGEST)
+    if done.returncode or done.stdout != f"{' '.join(LOOK)}\n":
+        raise Wrong(f"  make -n look\n{done}")
 
 
 def demo_without_kit(room):
@@ -95,6 +114,15 @@ def starter(room):
         done = subprocess.run([TOP / "weft/bin/weft", *words, "files", "d", "shop"], env=environment, **settings)
         if done.returncode != status or text not in done.stderr or (room.folder / "d").exists() != (status == 0):
             raise Wrong(f"  weft {' '.join(words)}: {done}")
+
+
+def warns_of_nothing(room):
+    """Python warns of nothing where the second implementation is run as a folder and by its starter, of what later versions show either"""
+    for words in (["-I", TOP / "reference/timeweave_reference", "judge"], ["-I", STARTER, "verify"]):
+        files = [TOP / "web/examples/bound.proof", TOP / "web/examples/three.lines"]
+        done = subprocess.run(["python3", "-W", "error", *words, *files], capture_output=True, text=True, timeout=LONGEST)
+        if done.returncode or done.stderr != f"{MARK}\n":
+            raise Wrong(f"  {done}")
 
 
 # ---- over folders
@@ -235,4 +263,4 @@ def refused_first(room):
 
 
 def cases():
-    return [case(work, "unproved") for work in (look_shows, demo_without_kit, starter, by_chance, damaged, refused_first)]
+    return [case(work, "unproved") for work in (look_shows, make_looks, demo_without_kit, starter, warns_of_nothing, by_chance, damaged, refused_first)]

@@ -139,7 +139,10 @@ ROWS = {
     "receipts that are cut": [("atlases.py", "bad_files")],
     "evidence of a fork under the weak hasher": [("tw_servicetests/worked.rt", "evidence_of_two_first_steps")],
     "no conflict, and steps that don't fit": [("worked.py", "no_conflict")],
-    "a history taken over by one step": [("adoptions.py", "least")],
+    "a history taken over by one step": [
+        ("adoptions.py", "least"),
+        ("tw_servicetests/adoptions.rt", "a_history_is_taken_over_as_far_as_it_was_received"),
+    ],
     "a follower under the weak hasher, stopped at each device call": [
         ("tw_servicetests/followers.rt", "a_head_is_moved_by_seven_device_calls", "a_stopped_move_leaves_the_head_or_the_next_one"),
     ],
