@@ -18,11 +18,11 @@ from weft import choosing, clusters, files, formats, judges, lines, locks, outco
 from weft.choosing import Judgement
 from weft.deciding import rows
 from weft.deciding.choosing import Headline
-from weft.deciding.contradicting import Told, find_pairs, read_told
+from weft.deciding.contradicting import Told, find_pairs, find_two_lines, read_told
 from weft.deciding.rows import HEAD, NO_DIGEST, Row
 from weft.deciding.worst import worst_of
 from weft.judges import Bench
-from weft.lines import KeptLines
+from weft.lines import KeptLines, Line
 from weft.outcomes import Named
 from weft.output import say, say_json
 from weft.progress import Progress
@@ -100,7 +100,8 @@ def row_of(task: Task, name: str, kept: KeptLines, judge: Bench) -> Made:
         return Made(row_of_trouble(name, len(data), digest, trouble), False)
     resting = "; ".join(f"{line.service} {line.step}" for line in judgement.lines)
     reason = printable(reason_of(judgement, outcome))
-    return Made(Row(shown_path(name), len(data), digest, outcome.headline.value, int(outcome.status), reason, resting), False)
+    told = "; ".join(line.text for line in outcomes.all_lines(judge, [named], judgement)) if judgement.is_shown else ""
+    return Made(Row(shown_path(name), len(data), digest, outcome.headline.value, int(outcome.status), reason, resting, told), False)
 
 
 def row_of_trouble(name: str, size: int, digest: str, trouble: Trouble) -> Row:
@@ -250,6 +251,9 @@ def held_together(made: list[Made], names: list[str], folder: Path, kept: KeptLi
     judge = judges.for_contradictions(judge)
     told = [(place, found) for place, it in enumerate(made) if (found := told_by_row(it.row)) is not None]
     marked = list(made)
+    for differing in find_two_lines((place, line) for place, it in enumerate(made) for line in lines_of_row(it.row)):
+        for place, other in ((differing.first, differing.second), (differing.second, differing.first)):
+            marked[place] = Made(contradicted(marked[place].row, made[other].row.file), made[place].is_taken)
     for pair in find_pairs([found for _, found in told]):
         places = [told[it][0] for it in pair]
         parts = [part for place in places for part in file_and_anchors(folder / names[place], made[place].row, kept)]
@@ -257,6 +261,11 @@ def held_together(made: list[Made], names: list[str], folder: Path, kept: KeptLi
             for place, other in (places, places[::-1]):
                 marked[place] = Made(contradicted(marked[place].row, made[other].row.file), made[place].is_taken)
     return marked
+
+
+def lines_of_row(row: Row) -> list[Line]:
+    """The lines that a file tells, as its row has them."""
+    return [line for text in row.told.split("; ") if (line := lines.read_line(text)) is not None]
 
 
 def told_by_row(row: Row) -> Optional[Told]:

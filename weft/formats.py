@@ -27,6 +27,7 @@ from timeweave_reference import fields as fields  # noqa: E402
 from timeweave_reference import histories as histories  # noqa: E402
 from timeweave_reference import proofs as proofs  # noqa: E402
 from timeweave_reference.anchors import Anchor  # noqa: E402
+from timeweave_reference.archives import Entry, TreeProof  # noqa: E402
 from timeweave_reference.fields import Malformed as Malformed  # noqa: E402
 from timeweave_reference.hashed_texts import EMPTY_ARCHIVE as EMPTY_ARCHIVE  # noqa: E402
 from timeweave_reference.hashed_texts import genesis  # noqa: E402
@@ -102,16 +103,42 @@ def needed_by_proof(data: bytes) -> list[Needed]:
 
 
 def lines_shown(data: bytes) -> list[Line]:
-    """The lines of steps beside those of its tops that a proof of a kind from 1 to 5 shows where it is accepted: of each step that it opens, and of each
-    that was received on its way. None where the bytes are none."""
+    """The lines of steps beside those of its tops that a proof, or a map file, shows where it is accepted: of each step that it opens, and of each that was
+    received, as its trees have it. None where the bytes are none."""
+    if kind_of(data).endswith("map"):
+        return shown_by_map(data)
     proof = read_proof(data)
     if isinstance(proof, proofs.StepProof):
-        return [Line(proof.service, proof.step, proof.opening.authenticator(proof.step).hex())]
+        own = Line(proof.service, proof.step, proof.opening.authenticator(proof.step).hex())
+        return [own, *(received_in(proof.tree) if isinstance(proof, (proofs.ThreadProof, proofs.AbsenceProof)) else [])]
     if not isinstance(proof, precedence.PrecedenceProof):
         return []
-    received = [Line(hop.entry.service, hop.entry.step, hop.entry.authenticator.hex()) for hop in proof.hops]
+    received = [line for hop in proof.hops for line in [line_received(hop.entry), *received_in(hop.tree)]]
     second = Line(proof.service, proof.step, proof.opening.authenticator(proof.step).hex())
     return [second, *received, Line(proof.first_service, proof.first_step, proof.first_opening.authenticator(proof.first_step).hex())]
+
+
+def line_received(entry: Entry) -> Line:
+    """The line that an archive has."""
+    return Line(entry.service, entry.step, entry.authenticator.hex())
+
+
+def received_in(tree: TreeProof) -> list[Line]:
+    """The lines that a tree proof shows besides the one that it is of."""
+    return [line_received(ancestor.entry) for ancestor in tree.ancestors]
+
+
+def shown_by_map(data: bytes) -> list[Line]:
+    """The lines that a map file shows: of the step before its own, and of what was received."""
+    try:
+        if kind_of(data) == "high map":
+            return received_in(map_files.read_high(data).tree)
+        low = map_files.read_low(data)
+    except fields.Malformed:
+        return []
+    if low.before is None:
+        return []
+    return [Line(low.service, low.step - 1, low.before.opening.authenticator(low.step - 1).hex()), *received_in(low.before.tree)]
 
 
 def needed_by_maps(low: bytes, high: bytes) -> list[Needed]:

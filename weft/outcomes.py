@@ -87,7 +87,7 @@ def outcome_of(judge: Bench, kept: KeptLines, group: list[Named], judgement: Jud
         told = choosing.missing_sentences(judgement.missing, kept, group[0].data) or [hindrance]
         return Outcome(choose_headline(False, 0, True, False, False), Status.MISSING, told, [])
     report = report_of(judge, group, judgement)
-    others, compared = beside_kept(lines_told(report, group[0].data, judgement), kept) if report else ([], [])
+    others, compared = beside_kept(lines_told(report, group, judgement), kept) if report else ([], [])
     if judgement.is_shown and report is not None:
         told = map_sentences(report, group) or reports.sentences(report)
     else:
@@ -121,9 +121,16 @@ def map_sentences(report: Report, group: list[Named]) -> list[str]:
 # ---- lines beside the kept ones
 
 
-def lines_told(report: Report, data: bytes, judgement: Judgement) -> list[Line]:
-    """The lines that an accepted file tells, each once, but for those that it was judged under."""
-    return [line for line in dict.fromkeys([*reports.told_lines(report), *formats.lines_shown(data)]) if line not in judgement.lines]
+def lines_told(report: Report, group: list[Named], judgement: Judgement) -> list[Line]:
+    """The lines that accepted files tell, each once, but for those that they were judged under."""
+    shown = [line for it in group for line in formats.lines_shown(it.data)]
+    return [line for line in dict.fromkeys([*reports.told_lines(report), *shown]) if line not in judgement.lines]
+
+
+def all_lines(judge: Bench, group: list[Named], judgement: Judgement) -> list[Line]:
+    """The lines that accepted files rest on, and those that they tell."""
+    report = report_of(judge, group, judgement) if judgement.history is None else None
+    return [*judgement.lines, *(lines_told(report, group, judgement) if report is not None else [])]
 
 
 def beside_kept(lines: list[Line], kept: KeptLines) -> tuple[list[Line], list[str]]:

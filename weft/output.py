@@ -19,9 +19,20 @@ class Written:
     trouble: Optional[Trouble] = None
 
 
+def fill_closed() -> None:
+    """Opens nothing in the place of standard input, output and error where they are closed, so that no file of weft's own gets their numbers, which the programs
+    that it runs take for theirs."""
+    for number in range(3):
+        try:
+            os.fstat(number)
+        except OSError:
+            os.open(os.devnull, os.O_RDWR)
+
+
 def prepare() -> None:
     """Lets nothing that can't be encoded stop a sentence."""
     Written.trouble = None
+    fill_closed()
     for stream in (sys.stdout, sys.stderr):
         if stream is not None and hasattr(stream, "reconfigure"):
             stream.reconfigure(errors="backslashreplace")

@@ -24,11 +24,16 @@ def events_of(store: Store, judge: Bench, last: Line, first: int = 1) -> Iterato
 
 
 def exported_events(store: Store, judge: Bench, last: Line) -> Iterator[tuple[int, list[bytes]]]:
-    """The same of the export, or where that is too long, of the proofs. (The export isn't held against the line.)"""
+    """The same of the export, or where that is too long, of the proofs. Raises Trouble where the export isn't a history of the last line: its pages are read as
+    they stand."""
     answer = store.ask("export")
     if answer.status:
         yield from events_of(store, judge, last)
         return
+    history = formats.timeline_of(answer.output)
+    if history is None or history.authenticators[last.step : last.step + 1] != [last.authenticator]:
+        told = f"the store in {name_of(store.path)} has events that aren't those of its own last line"
+        raise Trouble(Status.BAD_STORE, told, "It is damaged, or was written over: go back to a backup, and look at the device. No step was made.")
     for step, it in enumerate(formats.read_history(answer.output), 1):
         yield step, it.events
 

@@ -2,7 +2,8 @@
 
 import unittest
 
-from weft.deciding.contradicting import Pair, Told, find_falling, find_pairs, read_told
+from weft.deciding.contradicting import Differing, Pair, Told, find_falling, find_pairs, find_two_lines, read_told
+from weft.deciding.lines import Line
 
 X, Y = "a" * 64, "b" * 64
 
@@ -23,6 +24,19 @@ class ReadTold(unittest.TestCase):
         self.assertEqual(read_told("absent notary 7 shop 5".split()), lack(5, 7))
         for text in ("event shop 3 0 61", "thread notary 9", "absent notary 7 shop 5 6", ""):
             self.assertIsNone(read_told(text.split()), text)
+
+
+class FindTwoLines(unittest.TestCase):
+    """Lines that files tell of one step."""
+
+    def test_one_line_told_by_many_is_one(self) -> None:
+        self.assertEqual(find_two_lines([(0, Line("shop", 2, X)), (1, Line("shop", 2, X)), (1, Line("shop", 3, Y)), (2, Line("bank", 2, Y))]), [])
+
+    def test_each_file_that_tells_another_one_than_the_first_is_named_once(self) -> None:
+        told = [(0, Line("shop", 2, X)), (1, Line("shop", 2, Y)), (1, Line("shop", 3, Y)), (2, Line("shop", 3, X)), (0, Line("shop", 3, X)), (2, Line("shop", 2, X))]
+        one = Differing(0, 1, Line("shop", 2, X), Line("shop", 2, Y))
+        self.assertEqual(find_two_lines(told), [one, Differing(1, 2, Line("shop", 3, Y), Line("shop", 3, X)), Differing(1, 0, Line("shop", 3, Y), Line("shop", 3, X))])
+        self.assertEqual(find_two_lines([*told[:2], (1, Line("shop", 2, "c" * 64))]), [one])
 
 
 class FindPairs(unittest.TestCase):

@@ -4,6 +4,8 @@ from __future__ import annotations
 
 from typing import Iterable, NamedTuple, Optional, Sequence
 
+from weft.deciding.lines import Line
+
 
 class Told(NamedTuple):
     """What an accepted file tells: the service and the step whose archive it is of; the service and the step that it had received, with the authenticator and
@@ -22,6 +24,26 @@ class Pair(NamedTuple):
 
     first: int
     second: int
+
+
+class Differing(NamedTuple):
+    """Two files, by their places in a list, that tell two lines of one step: that of the first and that of the second."""
+
+    first: int
+    second: int
+    one: Line
+    other: Line
+
+
+def find_two_lines(told: Iterable[tuple[int, Line]]) -> list[Differing]:
+    """Of one step of a service there is one line. Whatever files tell another one than the first that told one are named with that, each such pair once."""
+    firsts: dict[tuple[str, int], tuple[int, Line]] = {}
+    found: dict[tuple[int, int], Differing] = {}
+    for place, line in told:
+        first, one = firsts.setdefault((line.service, line.step), (place, line))
+        if one != line:
+            found.setdefault((first, place), Differing(first, place, one, line))
+    return list(found.values())
 
 
 def read_told(words: Sequence[str]) -> Optional[Told]:

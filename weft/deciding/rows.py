@@ -12,12 +12,13 @@ from typing import Collection, NamedTuple, Optional
 SIZE, DIGEST, STATUS = re.compile(r"[0-9]{1,12}"), re.compile(r"[0-9a-f]{64}"), re.compile(r"[0-9]{1,3}")
 NO_DIGEST = "-"
 KIND, REGULAR, WRITABLE_BY_OTHERS = 0o170000, 0o100000, 0o022
-HEAD = "file\tbytes\tsha256\tverdict\tstatus\treason\tlines"
+HEAD = "file\tbytes\tsha256\tverdict\tstatus\treason\tlines\ttold"
 
 
 class Row(NamedTuple):
     """A row of a table: the path within the folder, how many bytes were read and their SHA-256 digest (- where none could be read), the
-    verdict, the status of this file by itself, why, and the lines that it rests on. Its texts are printable, so none has a tab."""
+    verdict, the status of this file by itself, why, the lines that it rests on, and where it is shown all lines that it tells. Its texts are printable, so none
+    has a tab."""
 
     file: str
     bytes: int
@@ -26,6 +27,7 @@ class Row(NamedTuple):
     status: int
     reason: str
     lines: str
+    told: str = ""
 
     @property
     def text(self) -> str:
@@ -57,12 +59,12 @@ def is_own_state(owner: int, mode: int, user: int) -> bool:
 
 
 def read_row(text: str) -> Optional[Row]:
-    """A row has seven fields, whose second and fifth are numbers and whose third is a digest; of another text, and of a row without
+    """A row has eight fields, whose second and fifth are numbers and whose third is a digest; of another text, and of a row without
     digest, the answer is None."""
     fields = text.split("\t")
-    if len(fields) != 7 or not SIZE.fullmatch(fields[1]) or not DIGEST.fullmatch(fields[2]) or not STATUS.fullmatch(fields[4]):
+    if len(fields) != 8 or not SIZE.fullmatch(fields[1]) or not DIGEST.fullmatch(fields[2]) or not STATUS.fullmatch(fields[4]):
         return None
-    return Row(fields[0], int(fields[1]), fields[2], fields[3], int(fields[4]), fields[5], fields[6])
+    return Row(fields[0], int(fields[1]), fields[2], fields[3], int(fields[4]), *fields[5:])
 
 
 def read_rows(text: str, title: str) -> dict[str, Row]:

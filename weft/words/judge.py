@@ -10,11 +10,11 @@ from typing import Callable, Iterator, NamedTuple, Optional, Union
 from weft import bulk, choosing, files, formats, judges, lines, outcomes, pictures, reports
 from weft.choosing import Judgement
 from weft.deciding.choosing import Headline
-from weft.deciding.contradicting import Told, find_pairs, read_told
+from weft.deciding.contradicting import Differing, Told, find_pairs, find_two_lines, read_told
 from weft.deciding.rows import digest_of
 from weft.deciding.worst import worst_of
 from weft.judges import Bench, Verdict
-from weft.lines import KeptLines
+from weft.lines import KeptLines, Line
 from weft.outcomes import Named, Outcome, map_name
 from weft.output import complain, say, say_json
 from weft.statuses import Status
@@ -44,6 +44,8 @@ EXAMPLE = (
 ARCHIVE_KINDS = ("thread", "absence", "low map", "high map")
 # So many of these are compared each with each.
 MOST_COMPARED = 32
+# And so many pairs of which one is a map file, beyond that.
+MOST_PAIRS = 4_096
 
 
 def add(parser: argparse.ArgumentParser) -> None:
@@ -111,7 +113,7 @@ def judge_named(options: argparse.Namespace, kept: KeptLines, judge: Bench) -> S
             statuses.append(found.status)
             if found.judgement is not None and found.judgement.is_shown:
                 shown.append((group, found.judgement))
-        statuses.append(contradicted(options, judge, shown))
+        statuses += [contradicted(options, judge, shown), told_apart(options, judge, shown)]
     except Trouble as trouble:
         complain(trouble.told())
         statuses.append(trouble.status)
@@ -245,6 +247,33 @@ def bound_step(judgement: Judgement) -> Optional[int]:
     return line.step if line is not None and not judgement.history.held.differing else 0
 
 
+def told_apart(options: argparse.Namespace, judge: Bench, shown: list[tuple[list[Named], Judgement]]) -> Status:
+    """Whether two of the accepted files tell two lines of one step; a history is asked for the steps that others tell."""
+    told = [(place, line) for place, (group, judgement) in enumerate(shown) for line in outcomes.all_lines(judge, group, judgement)]
+    for place, (group, judgement) in enumerate(shown):
+        history = formats.timeline_of(group[0].data) if judgement.history is not None else None
+        if history is not None:
+            steps = dict.fromkeys(line.step for _, line in told if line.service == history.service and line.step <= history.last)
+            told += [(place, Line(history.service, step, history.authenticators[step])) for step in steps]
+    found = find_two_lines(told)
+    for it in found:
+        tell_two_lines(options, it, *(" and ".join(named.path for named in shown[place][0]) for place in (it.first, it.second)))
+    return Status.CONTRADICTION if found else Status.DONE
+
+
+def tell_two_lines(options: argparse.Namespace, it: Differing, first: str, second: str) -> None:
+    """Says that two files tell two lines of one step."""
+    told = (
+        f"TWO LINES: {name_of(first)} tells {it.one.authenticator[:16]}.. of step {it.one.step} of {it.one.service}, and {name_of(second)} "
+        f"{it.other.authenticator[:16]}..: {it.one.service} has shown two histories, or one of both isn't its own. Keep both files, and show them to others who hold "
+        f"lines of {it.one.service}."
+    )
+    if options.json:
+        say_json({"two_lines": [first, second], **it.one._asdict(), "other": it.other.authenticator, "status": int(Status.CONTRADICTION), "says": [told]})
+    else:
+        say(told)
+
+
 class Held(NamedTuple):
     """An accepted file that tells what a service received: the file, the bytes of the lines that it is under, and what the judge's words tell of it."""
 
@@ -259,7 +288,8 @@ def contradicted(options: argparse.Namespace, judge: Bench, shown: list[tuple[li
     held = [Held(it, lines.anchors(judgement.lines), told_of(judgement)) for group, judgement in shown for it in group if it.kind in ARCHIVE_KINDS]
     held = list({(one.it.data, one.lines): one for one in reversed(held)}.values())[::-1]
     links = [it.data for group, _ in shown for it in group if it.kind == "link"]
-    status = Status.DONE
+    maps = sum(one.told is None for one in held)
+    status = Status.DONE if maps * len(held) <= MOST_PAIRS else Status.LOOK
     for first, second in pairs_of(options, held):
         verdict = choosing.judge_contradiction(judge, (first.it.data, first.lines, second.it.data, second.lines), links)
         if verdict.is_accepted:
@@ -284,6 +314,11 @@ def pairs_of(options: argparse.Namespace, held: list[Held]) -> Iterator[tuple[He
     told = [(place, one.told) for place, one in enumerate(held) if one.told is not None]
     for pair in find_pairs([found for _, found in told]):
         yield held[told[pair.first][0]], held[told[pair.second][0]]
+    maps = [one for one in held if one.told is None]
+    with_maps = itertools.chain(itertools.combinations(maps, 2), ((one, other) for one in maps for other in held if other.told is not None))
+    yield from itertools.islice(with_maps, MOST_PAIRS)
+    if next(with_maps, None) is not None and not options.json:
+        say("Not all map files among them were compared: name fewer at a time.")
 
 
 def tell_contradiction(options: argparse.Namespace, judge: Bench, verdict: Verdict, first: str, second: str) -> None:

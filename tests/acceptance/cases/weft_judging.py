@@ -131,6 +131,35 @@ def audited_by_another(room):
     loom.expect("judge bread4 --kept other --audit nothing", 11, "bread4: not shown", "TWO LINES", "no file nothing")
 
 
+def two_lines_in_files(room):
+    """accepted files that tell two lines of one step are told with 11, alone and in a table; so is a map file that rests on another line than the kept one"""
+    loom = two_services(room)
+    loom.folder.joinpath("maker").rename(loom.folder / "true-maker")
+    loom.service("maker", [b"brot"])
+    loom.put("message", loom.timeweave("thread", "bank", "0"))
+    loom.timeweave("receive", "maker", "message")
+    loom.append("maker", b"more")
+    later = loom.append("maker", b"later")
+    loom.put("both", loom.read("lines").decode() + later)
+    loom.put("many/true", loom.timeweave("prove", "true-maker", "event", "1", "0", "3"))
+    loom.put("many/false", loom.timeweave("prove", "maker", "event", "1", "0", "4"))
+    for name in ("true", "false"):
+        loom.expect(f"judge many/{name} --kept both", 0, f"many/{name}: shown")
+    loom.expect("judge many/true many/false --kept both", 11, "TWO LINES: many/true tells", "of step 1 of maker, and many/false")
+    for _ in range(2):
+        loom.expect("judge --many many --kept both", 11, "2 files CONTRADICT EACH OTHER")
+    loom.put("true.history", loom.timeweave("export", "true-maker"))
+    loom.expect("judge true.history many/false --kept both", 11, "TWO LINES:")
+    other = loom.read("lines").decode() + f"maker 1 {'ab' * 32}\n"
+    loom.put("other", other)
+    loom.expect("judge low2 high2 --kept lines", 0, "low2 and high2: shown")
+    loom.expect("judge low high --kept lines", 12)
+    loom.expect("judge thread --kept other", 11, "TWO LINES")
+    loom.put("low3", loom.timeweave("map", "bank", "low", "3", "maker"))
+    loom.put("high3", loom.timeweave("map", "true-maker", "high", "3", "bank"))
+    loom.expect("judge low3 high3 --kept other", 11, "low3 and high3: not shown", "TWO LINES: the line of step 1 of maker")
+
+
 def cut_history(room):
     """a history behind which a line is kept is told as cut, alone and in a table, and ends with a look at it"""
     loom = two_services(room)
@@ -647,7 +676,7 @@ def checked(room):
 
 def cases():
     works = (
-        sentences, made_anew_below, audited_by_another, cut_history, full_device, failing_machine, false_step_0, deep_folders, missing_lines, rejected, other_kinds, forked, files_held, judges_differ, contradictions, dropped, broken_rules, same_history, tables, cluster, pictures, long_chains, checked,
+        sentences, made_anew_below, audited_by_another, two_lines_in_files, cut_history, full_device, failing_machine, false_step_0, deep_folders, missing_lines, rejected, other_kinds, forked, files_held, judges_differ, contradictions, dropped, broken_rules, same_history, tables, cluster, pictures, long_chains, checked,
     )  # fmt: skip
     return [case(work, "weft judge") for work in works]
 

@@ -8,7 +8,7 @@ import shutil
 import subprocess
 
 from harness.limits import without_rights
-from harness.places import TOP
+from harness.places import LONGEST, TOP
 from harness.rooms import Skipped, Wrong, case
 from harness.weft_room import SHARE, Loom, each_fault, events_file
 
@@ -171,6 +171,34 @@ def entries_written_over(room):
     loom.expect("check s --entries", 0)
     loom.expect("check s", 0)
     loom.expect("log --no-time files s", 0, "1 changed")
+
+
+def written_over_alike(room):
+    """a digest that is changed alike in the store's file and in its entries hides no changed file from a run that reads all"""
+    loom = Loom(room)
+    for name, text in (("a", b"1"), ("deed", b"to Anna"), ("x", b"2"), ("y", b"3"), ("z", b"4")):
+        loom.put(f"files/{name}", text)
+    loom.expect("log --no-time files s s", 0)
+    loom.put("files/deed", b"to Bert")
+    good, forged = (hashlib.sha256(text).hexdigest().encode() for text in (b"to Anna", b"to Bert"))
+    for name in ("s/timeline.tw", "s.entries"):
+        data = loom.read(name)
+        if data.count(good) != 1:
+            raise Wrong(f"  {name}")
+        (loom.folder / name).write_bytes(data.replace(good, forged))
+    loom.expect("log --no-time --all-read 0 files s", 8, "aren't those of its own last line", "No step was made")
+    loom.expect("check s", 8)
+
+
+def all_closed(room):
+    """weft log without standard input, output and error makes its step, and ends"""
+    loom = Loom(room)
+    loom.put("files/other", b"x")
+    script = f"exec <&- >&- 2>&-; exec python3 {TOP}/weft/bin/weft log --no-time files s s"
+    done = subprocess.run(["sh", "-c", script], cwd=loom.folder, env=loom.env, timeout=LONGEST, check=False)
+    if done.returncode != 4 or not loom.read("s.entries").startswith(b"1 0 "):
+        raise Wrong(f"  {done}")
+    loom.expect("log --no-time files s", 0, "1 as they were")
 
 
 def without_proc(room):
@@ -636,6 +664,6 @@ def cases():
     works = (
         each_day, names_of_files, many_files, left_out, there_and_not_gone, unreadable_whole, replaced, changed_while_read, own_store, copied_alone,
         waiting_for_peers, fewer_files, claimed_times, refused, with_others, with_faults, first_run_with_faults, two_at_once,
-        proof_of_a_file, entries_written_over, without_proc, endless, proved_and_gone, deep_and_alone,
+        proof_of_a_file, entries_written_over, written_over_alike, all_closed, without_proc, endless, proved_and_gone, deep_and_alone,
     )  # fmt: skip
     return [case(work, "weft log") for work in works]
