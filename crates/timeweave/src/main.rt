@@ -12,7 +12,7 @@ use store_access::access_of;
 use store_path::path_of_store;
 use tw_app::{Store, StoreAccess, end_without_memory, run, store_of};
 use tw_base::NoMemory;
-use tw_hostio::{FileDisk, HostInputs, HostSink};
+use tw_hostio::{FileDisk, HostInputs, HostOutput, HostSink};
 use words::read_arguments;
 
 /// The status where the number of a closed standard stream can't be kept from the files that are opened: that of an
@@ -44,7 +44,10 @@ fn status_of_run(rt: &HostRuntime) -> u8 {
 
 /// Reads the words, does what they say, and answers the status; NoMemory where there is none for the words
 /// or for the path of the store. Nothing was written then.
-fn run_words(rt: &HostRuntime, out: &mut HostSink<'_, HostRuntime>) -> Result<u8, NoMemory> {
+fn run_words(
+    rt: &HostRuntime,
+    out: &mut HostSink<HostOutput<'_, HostRuntime>>,
+) -> Result<u8, NoMemory> {
     let words = read_arguments(rt)?;
     let store = store_of(rt.alloc(), &words)?.unwrap_or(NO_STORE);
     let path = path_of_store(rt.alloc(), store.folder)?;

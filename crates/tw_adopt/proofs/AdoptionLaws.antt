@@ -12,7 +12,7 @@ use Rattle.tw_base.specs.declared.history.report.Claim.TheVariants.{Exists, Prec
 use Rattle.tw_base.specs.declared.history.report.Hop.{Hop}
 use Rattle.tw_base.specs.declared.history.thread.Entry.{Entry}
 use Rattle.tw_base.specs.declared.history.thread.Thread.{Thread}
-use Rattle.tw_base.specs.history.Auth.{auth}
+use Rattle.tw_base.specs.history.Auth.{auth, auth_within}
 use Rattle.tw_base.specs.history.Facts.{Facts, WasReceived}
 use Rattle.tw_base.specs.history.Family.{family_texts}
 use Rattle.tw_base.specs.history.History.{History}
@@ -26,7 +26,6 @@ use Rattle.tw_chain.specs.Accepting.{Accepts, claim_of, hops_of, proof_texts}
 use Rattle.tw_chain.specs.Proofs.{proof_codec}
 use Rattle.tw_chain.proofs.Headline.{headline}
 use Rattle.tw_chain.proofs.ProofCodec.{proof-lawful}
-use Rattle.tw_adopt.specs.FirstSteps.{auth_up_to}
 use Rattle.tw_adopt.proofs.Fronts.{same-first_steps, sound-first_steps}
 use Rattle.tw_adopt.proofs.SameHistories.{histories-same}
 use Rattle.tw_adopt.specs.declared.adopted.AdoptFault.{AdoptFault}
@@ -197,9 +196,9 @@ module _ (dig : List ℕ → List ℕ) (anchors : List Thread) (h : History) whe
       let other = bad.1 in
       let same : t ≡ other.shown = same_Some t other.shown (sym good.0.1 ∙ one_told bytes good.0.0 other.shows.0
       ∙ other.shows.1) in
-      let there : auth_up_to dig h other.shown.entry.thread.step ≡ Some other.shown.entry.thread.auth =
-      subst (λ (u : Receiving). auth_up_to dig h u.entry.thread.step ≡ Some u.entry.thread.auth) same good.1 in
-      other.differs (other.found_is ∙ ap (auth_up_to dig h) other.step_is ∙ there ∙ ap (λ (auth : List ℕ). Some auth)
+      let there : auth_within dig h other.shown.entry.thread.step ≡ Some other.shown.entry.thread.auth =
+      subst (λ (u : Receiving). auth_within dig h u.entry.thread.step ≡ Some u.entry.thread.auth) same good.1 in
+      other.differs (other.found_is ∙ ap (auth_within dig h) other.step_is ∙ there ∙ ap (λ (auth : List ℕ). Some auth)
       (sym other.held_is))
   one-apart number bytes t NoMemory good bad = bad
 

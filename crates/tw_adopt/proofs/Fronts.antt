@@ -20,7 +20,7 @@ use Rattle.tw_base.specs.kinds.Lists.{Each}
 use Rattle.tw_base.proofs.lemmas.history.Plus.{auth-plus, entry_to-plus, forest-plus, received-plus, step_at-plus}
 use Rattle.tw_base.proofs.lemmas.history.Plus.{times-plus, tree-plus}
 use Rattle.tw_history.proofs.ByteCounts.{file-size}
-use Rattle.tw_adopt.specs.FirstSteps.{Same, first_steps}
+use Rattle.tw_adopt.specs.HistoryFronts.{Same, first_steps}
 
 -- ---- one step less
 

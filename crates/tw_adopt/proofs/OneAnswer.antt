@@ -25,7 +25,7 @@ use Rattle.tw_adopt.specs.declared.adopted.Adopted.{Adopted}
 use Rattle.tw_adopt.specs.declared.receiving.Receiving.{Receiving}
 use Rattle.tw_adopt.specs.Adopting.{AreGood, IsAdoptFault, IsAdoption, IsFirstFault, IsGood, IsOther, ShowsNoReceiving}
 use Rattle.tw_adopt.specs.Adopting.{ShowsReceiving, adopted_by, furthest, receiving_of}
-use Rattle.tw_adopt.specs.FirstSteps.{auth_up_to}
+use Rattle.tw_base.specs.history.Auth.{auth_within}
 use Rattle.tw_adopt.specs.Stops.{is_auth_found}
 use Rattle.tw_adopt.proofs.AdoptionLaws.{good-faultless}
 use Rattle.tw_adopt.proofs.LowestReasons.{lowest_once}
@@ -91,7 +91,7 @@ module _ (dig : List ℕ → List ℕ) (anchors : List Thread) (h : History) whe
       let steps : step ≡ step' = one.step_is ∙ ap (λ (r : Receiving). r.entry.thread.step) same ∙ sym other.step_is in (
         steps,
         one.held_is ∙ ap (λ (r : Receiving). r.entry.thread.auth) same ∙ sym other.held_is,
-        one.found_is ∙ ap (auth_up_to dig h) steps ∙ sym other.found_is,
+        one.found_is ∙ ap (auth_within dig h) steps ∙ sym other.found_is,
       )
 
   fault_once : (number : ℕ) (bytes : List ℕ) (f g : AdoptFault) → IsAdoptFault dig anchors h number bytes f
@@ -163,23 +163,23 @@ module _ (dig : List ℕ → List ℕ) (anchors : List Thread) (h : History) whe
   ]
     where
       agrees : (r : Receiving) → ShowsReceiving dig anchors h bytes r → (b : Bool)
-          → is_auth_found (auth_up_to dig h r.entry.thread.step) r.entry.thread.auth ≡ b
+          → is_auth_found (auth_within dig h r.entry.thread.step) r.entry.thread.auth ≡ b
           → ((r : Receiving) × IsGood dig anchors h bytes r) ⊎ ((fault : AdoptFault) × IsAdoptFault dig anchors h number
           bytes fault)
       agrees r shows true test =
-          inl (r, (shows, found-is (auth_up_to dig h r.entry.thread.step) r.entry.thread.auth test))
+          inl (r, (shows, found-is (auth_within dig h r.entry.thread.step) r.entry.thread.auth test))
       agrees r shows false test =
           let other : IsOther dig anchors h bytes r.entry.thread.step r.entry.thread.auth
-          (auth_up_to dig h r.entry.thread.step) = record {
+          (auth_within dig h r.entry.thread.step) = record {
             shown = r;
             shows = shows;
             step_is = refl;
             held_is = refl;
             found_is = refl;
-            differs = found-not (auth_up_to dig h r.entry.thread.step) r.entry.thread.auth test;
+            differs = found-not (auth_within dig h r.entry.thread.step) r.entry.thread.auth test;
           } in
           inr (
-            Differs number r.entry.thread.step r.entry.thread.auth (auth_up_to dig h r.entry.thread.step),
+            Differs number r.entry.thread.step r.entry.thread.auth (auth_within dig h r.entry.thread.step),
             (refl, other),
           )
 
@@ -188,7 +188,7 @@ module _ (dig : List ℕ → List ℕ) (anchors : List Thread) (h : History) whe
           → ((r : Receiving) × IsGood dig anchors h bytes r) ⊎ ((fault : AdoptFault) × IsAdoptFault dig anchors h number
           bytes fault)
       by accepts None none = inr (Stranger number, (refl, (accepts, none)))
-      by accepts (Some r) some = agrees r (accepts, some) (is_auth_found (auth_up_to dig h r.entry.thread.step)
+      by accepts (Some r) some = agrees r (accepts, some) (is_auth_found (auth_within dig h r.entry.thread.step)
           r.entry.thread.auth) refl
 
   pub all-or-fault : (number : ℕ) (proofs : List (List ℕ))

@@ -35,7 +35,7 @@ use Rattle.tw_base.proofs.lemmas.kinds.ListLemmas.{Each-append, Each-in}
 use Rattle.tw_base.proofs.lemmas.kinds.Sizes.{tree_label-size}
 use Rattle.tw_base.proofs.lemmas.kinds.TextFields.{SameDatum, authenticator-fields, datum-fields, link-fields}
 use Rattle.tw_skipproof.proofs.OpeningBinding.{small_time}
-use Rattle.tw_adopt.specs.FirstSteps.{Same, content_at}
+use Rattle.tw_adopt.specs.HistoryFronts.{Same, content_at}
 use Rattle.tw_adopt.proofs.SameTexts.{events-same, trees-same}
 
 -- ---- what a step records

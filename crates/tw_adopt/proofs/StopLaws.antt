@@ -2,18 +2,17 @@
 use Rattle.std.proofs.Common.{◌≡◌, ℕ, ◌≤◌, List, [], ◌∷◌, length, map, ap, sym, ◌∙◌, arith, inl, inr}
 use Rattle.std.specs.Prelude.{Some, None, if◌then◌else◌}
 use Rattle.std.proofs.lemmas.Bool.{cases_lt, le-leb, lt-leb}
-use Rattle.tw_base.specs.history.Auth.{auth}
+use Rattle.tw_base.specs.history.Auth.{auth, auth_within}
 use Rattle.tw_base.specs.history.History.{History}
 use Rattle.tw_base.specs.kinds.Lists.{Each}
 use Rattle.tw_history.specs.declared.stops.Stop.{Stop}
 use Rattle.tw_history.specs.Stops.{auth_to, stopped_at}
-use Rattle.tw_adopt.specs.FirstSteps.{auth_up_to}
 use Rattle.tw_adopt.specs.declared.receiving.Receiving.{Receiving}
 use Rattle.tw_adopt.specs.Stops.{AnswersForShown}
 
 module _ (dig : List ℕ → List ℕ) (h : History) (last : ℕ) (inside : last ≤ length h.steps) where
   -- up to the last step shown that the history has it has as much as up to its own last
-  up-to-last : (step : ℕ) → (step ≤ length h.steps → step ≤ last) → auth_to dig h last step ≡ auth_up_to dig h step
+  up-to-last : (step : ℕ) → (step ≤ length h.steps → step ≤ last) → auth_to dig h last step ≡ auth_within dig h step
   up-to-last step reaches =
       elim (cases_lt (length h.steps) step) [
         | inl past ↦ ap (λ b. if b then Some (auth dig h step) else None)

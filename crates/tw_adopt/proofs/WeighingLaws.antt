@@ -6,10 +6,9 @@ use Rattle.std.proofs.lemmas.Bool.{false≢true, leb-true}
 use Rattle.std.proofs.lemmas.Option.{none-some, same_Some}
 use Rattle.std.proofs.lemmas.Slice.Eq.{bytes_eq-Decides}
 use Rattle.tw_base.specs.declared.history.thread.Thread.{Thread}
-use Rattle.tw_base.specs.history.Auth.{auth}
+use Rattle.tw_base.specs.history.Auth.{auth, auth_within}
 use Rattle.tw_base.specs.history.History.{History}
 use Rattle.tw_base.specs.kinds.Lists.{Each}
-use Rattle.tw_adopt.specs.FirstSteps.{auth_up_to}
 use Rattle.tw_adopt.specs.declared.adopted.AdoptFault.{AdoptFault}
 use Rattle.tw_adopt.specs.declared.adopted.AdoptFault.TheVariants.{Part, Stranger, Differs, NoMemory}
 use Rattle.tw_adopt.specs.declared.receiving.Receiving.{Receiving}
@@ -28,7 +27,7 @@ found-not (Some auth) held is same =
     false≢true (sym is ∙ (bytes_eq-Decides auth held).1 (same_Some auth held same))
 
 -- an authenticator that the history has is of one of its steps
-pub within-some : (dig : List ℕ → List ℕ) (h : History) (step : ℕ) (held : List ℕ) → auth_up_to dig h step ≡ Some held
+pub within-some : (dig : List ℕ → List ℕ) (h : History) (step : ℕ) (held : List ℕ) → auth_within dig h step ≡ Some held
     → (step ≤ length h.steps) × (auth dig h step ≡ held)
 within-some dig h step held is = by (nat_le step (length h.steps)) refl is
   where
@@ -60,20 +59,20 @@ fault-known dig anchors h proofs NoMemory is = tt
 module _ (dig : List ℕ → List ℕ) (h : History) where
   -- the history has the authenticator that was shown
   abbrev pub Agrees : Receiving → Type 0
-  Agrees t = auth_up_to dig h t.entry.thread.step ≡ Some t.entry.thread.auth
+  Agrees t = auth_within dig h t.entry.thread.step ≡ Some t.entry.thread.auth
 
   pub none-differs : (number : ℕ) (shown : List Receiving) → differing dig h number shown ≡ None → Each Agrees shown
   none-differs number [] none = tt
   none-differs number (t ∷ shown) none =
-      by (none-differs (number + 1) shown) (is_auth_found (auth_up_to dig h t.entry.thread.step) t.entry.thread.auth)
+      by (none-differs (number + 1) shown) (is_auth_found (auth_within dig h t.entry.thread.step) t.entry.thread.auth)
       refl none
     where
       by : (differing dig h (number + 1) shown ≡ None → Each Agrees shown) → (b : Bool)
-          → is_auth_found (auth_up_to dig h t.entry.thread.step) t.entry.thread.auth ≡ b
+          → is_auth_found (auth_within dig h t.entry.thread.step) t.entry.thread.auth ≡ b
           → (if b then differing dig h (number + 1) shown else Some
-          (Differs number t.entry.thread.step t.entry.thread.auth (auth_up_to dig h t.entry.thread.step))) ≡ None
+          (Differs number t.entry.thread.step t.entry.thread.auth (auth_within dig h t.entry.thread.step))) ≡ None
           → Agrees t × Each Agrees shown
-      by behind true test rest = (found-is (auth_up_to dig h t.entry.thread.step) t.entry.thread.auth test, behind rest)
+      by behind true test rest = (found-is (auth_within dig h t.entry.thread.step) t.entry.thread.auth test, behind rest)
       by behind false test rest = absurd (none-some _ (sym rest))
 
   module _ (anchors : List Thread) where
@@ -85,22 +84,22 @@ module _ (dig : List ℕ → List ℕ) (h : History) where
     differs-first number [] (t ∷ shown) stopped fault heard some = absurd heard
     differs-first number (bytes ∷ proofs) (t ∷ shown) stopped fault heard some =
         by (differs-first (number + 1) proofs shown stopped fault heard.1)
-        (is_auth_found (auth_up_to dig h t.entry.thread.step) t.entry.thread.auth) refl some
+        (is_auth_found (auth_within dig h t.entry.thread.step) t.entry.thread.auth) refl some
       where
         other : IsOther dig anchors h bytes t.entry.thread.step t.entry.thread.auth
-            (auth_up_to dig h t.entry.thread.step) → IsFirstFault dig anchors h number (bytes ∷ proofs)
-            (Differs number t.entry.thread.step t.entry.thread.auth (auth_up_to dig h t.entry.thread.step))
+            (auth_within dig h t.entry.thread.step) → IsFirstFault dig anchors h number (bytes ∷ proofs)
+            (Differs number t.entry.thread.step t.entry.thread.auth (auth_within dig h t.entry.thread.step))
         other is = inl (refl, is)
 
         by : (differing dig h (number + 1) shown ≡ Some fault → IsFirstFault dig anchors h (number + 1) proofs fault)
             → (b : Bool)
-            → is_auth_found (auth_up_to dig h t.entry.thread.step) t.entry.thread.auth ≡ b
+            → is_auth_found (auth_within dig h t.entry.thread.step) t.entry.thread.auth ≡ b
             → (if b then differing dig h (number + 1) shown else Some
-            (Differs number t.entry.thread.step t.entry.thread.auth (auth_up_to dig h t.entry.thread.step))) ≡ Some
+            (Differs number t.entry.thread.step t.entry.thread.auth (auth_within dig h t.entry.thread.step))) ≡ Some
             fault
             → IsFirstFault dig anchors h number (bytes ∷ proofs) fault
         by behind true test rest =
-            inr (t, (heard.0, found-is (auth_up_to dig h t.entry.thread.step) t.entry.thread.auth test), behind rest)
+            inr (t, (heard.0, found-is (auth_within dig h t.entry.thread.step) t.entry.thread.auth test), behind rest)
         by behind false test rest =
             subst (λ (f : AdoptFault). IsFirstFault dig anchors h number (bytes ∷ proofs) f) (same_Some _ fault rest)
             (other (record {
@@ -109,7 +108,7 @@ module _ (dig : List ℕ → List ℕ) (h : History) where
               step_is = refl;
               held_is = refl;
               found_is = refl;
-              differs = found-not (auth_up_to dig h t.entry.thread.step) t.entry.thread.auth test;
+              differs = found-not (auth_within dig h t.entry.thread.step) t.entry.thread.auth test;
             }))
 
     -- where it agrees with all that was shown, the fault behind these is the first

@@ -8,7 +8,8 @@ use Rattle.tw_base.specs.history.History.{History}
 use Rattle.tw_chain.specs.declared.verdict.Verdict.TheVariants.{No}
 use Rattle.tw_chain.specs.Accepting.{Accepts, claim_of}
 use Rattle.tw_chain.specs.Reasons.{IsVerdict}
-use Rattle.tw_adopt.specs.FirstSteps.{auth_up_to, first_steps}
+use Rattle.tw_base.specs.history.Auth.{auth_within}
+use Rattle.tw_adopt.specs.HistoryFronts.{first_steps}
 use Rattle.tw_adopt.specs.declared.adopted.AdoptFault.{AdoptFault}
 use Rattle.tw_adopt.specs.declared.adopted.AdoptFault.TheVariants.{Part, Stranger, Differs, NoMemory}
 use Rattle.tw_adopt.specs.declared.adopted.Adopted.{Adopted}
@@ -49,7 +50,7 @@ module _ (dig : List ℕ → List ℕ) (anchors : List Thread) (h : History) whe
 
   -- the proof shows this, and the history has the thread's authenticator at the thread's step
   abbrev pub IsGood : List ℕ → Receiving → Type 0
-  IsGood bytes r = ShowsReceiving bytes r × (auth_up_to dig h r.entry.thread.step ≡ Some r.entry.thread.auth)
+  IsGood bytes r = ShowsReceiving bytes r × (auth_within dig h r.entry.thread.step ≡ Some r.entry.thread.auth)
 
   -- the proof shows that the service had this authenticator at this step, where the history has another one, or no such step
   pub record IsOther (bytes : List ℕ) (step : ℕ) (held : List ℕ) (found : Option (List ℕ)) : Type 0 where
@@ -57,7 +58,7 @@ module _ (dig : List ℕ → List ℕ) (anchors : List Thread) (h : History) whe
     pub shows : ShowsReceiving bytes shown
     pub step_is : step ≡ shown.entry.thread.step
     pub held_is : held ≡ shown.entry.thread.auth
-    pub found_is : found ≡ auth_up_to dig h step
+    pub found_is : found ≡ auth_within dig h step
     pub differs : found ≢ Some held
 
   -- the fault of the proof with this number: it isn't accepted, for the lowest reason that stands; it claims nothing of a thread of

@@ -10,7 +10,7 @@ use Rattle.tw_base.specs.history.Sound.{IsSound}
 use Rattle.tw_base.specs.kinds.Clash.{OrClash}
 use Rattle.tw_base.specs.kinds.Lists.{In}
 use Rattle.tw_chain.specs.Accepting.{held, proof_texts}
-use Rattle.tw_adopt.specs.FirstSteps.{Same}
+use Rattle.tw_adopt.specs.HistoryFronts.{Same}
 use Rattle.tw_adopt.specs.declared.adopted.AdoptFault.{AdoptFault}
 use Rattle.tw_adopt.specs.declared.adopted.Adopted.{Adopted}
 use Rattle.tw_adopt.specs.declared.receiving.Receiving.{Receiving}

@@ -1,4 +1,4 @@
-pub mod FirstSteps
+pub mod HistoryFronts
 pub mod Adopting
 pub mod Binding
 pub mod Hearing

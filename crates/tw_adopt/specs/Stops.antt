@@ -6,7 +6,7 @@ use Rattle.tw_base.specs.history.History.{History}
 use Rattle.tw_base.specs.kinds.Lists.{Each}
 use Rattle.tw_history.specs.declared.stops.Stop.{Stop}
 use Rattle.tw_history.specs.Stops.{stopped_at}
-use Rattle.tw_adopt.specs.FirstSteps.{auth_up_to}
+use Rattle.tw_base.specs.history.Auth.{auth_within}
 use Rattle.tw_adopt.specs.declared.adopted.AdoptFault.{AdoptFault}
 use Rattle.tw_adopt.specs.declared.adopted.AdoptFault.TheVariants.{Differs, NoMemory}
 use Rattle.tw_adopt.specs.declared.adopted.Adopted.{Adopted}
@@ -20,14 +20,14 @@ is_auth_found found held = option_map_or (λ auth. bytes_eq auth held) found fal
 module _ (dig : List ℕ → List ℕ) (h : History) where
   -- what was kept tells what the history has at each step shown
   abbrev pub AnswersForShown : List Receiving → List Stop → Type 0
-  AnswersForShown shown stops = Each (λ (t : Receiving). stopped_at stops t.entry.thread.step ≡ auth_up_to dig h t.entry.thread.step) shown
+  AnswersForShown shown stops = Each (λ (t : Receiving). stopped_at stops t.entry.thread.step ≡ auth_within dig h t.entry.thread.step) shown
 
   -- the first of what was shown from which the history differs, counted from this number on
   abbrev pub differing : (number : ℕ) → List Receiving → Option AdoptFault
   differing number [] = None
   differing number (t ∷ shown) =
-      if is_auth_found (auth_up_to dig h t.entry.thread.step) t.entry.thread.auth then differing (number + 1) shown
-      else Some (Differs number t.entry.thread.step t.entry.thread.auth (auth_up_to dig h t.entry.thread.step))
+      if is_auth_found (auth_within dig h t.entry.thread.step) t.entry.thread.auth then differing (number + 1) shown
+      else Some (Differs number t.entry.thread.step t.entry.thread.auth (auth_within dig h t.entry.thread.step))
 
 -- the history is taken over by what was shown, or there was no memory
 abbrev pub IsHistoryTaken : History → Receiving → Result Adopted AdoptFault → Type 0

@@ -2,7 +2,7 @@
 
 ghost use Rattle.std.specs.Prelude.{◌≡◌, ◌≤◌, length, sum_by, IfOk};
 ghost use Rattle.tw_base.specs.declared.kinds.limits.TheConstants.{LAST_STEP};
-ghost use Rattle.tw_adopt.specs.FirstSteps.{first_steps as first_steps_of};
+ghost use Rattle.tw_adopt.specs.HistoryFronts.{first_steps as first_steps_of};
 ghost use Rattle.tw_history.specs.Tables.{IsTable, steps_of_table};
 
 use std::alloc::Global;

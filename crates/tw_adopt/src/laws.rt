@@ -9,7 +9,7 @@ ghost use Rattle.tw_base.specs.history.HistoryTexts.{history_texts};
 ghost use Rattle.tw_base.specs.history.Sound.{IsSound};
 ghost use Rattle.tw_base.specs.kinds.Clash.{OrClash};
 ghost use Rattle.tw_adopt.specs.Adopting.{AreGood, IsAdoption, IsFirstFault, adopted_by, furthest};
-ghost use Rattle.tw_adopt.specs.FirstSteps.{Same, first_steps};
+ghost use Rattle.tw_adopt.specs.HistoryFronts.{Same, first_steps};
 ghost use Rattle.tw_adopt.specs.declared.adopted.AdoptFault.{AdoptFault};
 ghost use Rattle.tw_adopt.specs.declared.adopted.AdoptFault.TheVariants.{NoMemory};
 ghost use Rattle.tw_adopt.specs.declared.adopted.Adopted.{Adopted};

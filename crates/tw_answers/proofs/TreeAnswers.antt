@@ -9,6 +9,7 @@ use Rattle.tw_base.specs.declared.history.thread.Entry.{Entry}
 use Rattle.tw_base.specs.declared.history.tree_proof.Ask.{Ask}
 use Rattle.tw_base.specs.declared.history.tree_proof.Ask.TheVariants as ask
 use Rattle.tw_base.specs.declared.history.tree_proof.TreeProof.{TreeProof}
+use Rattle.tw_base.specs.history.TreeProofs.{IsSo, proof_of}
 use Rattle.tw_disk.specs.Answers.{SaysOf, is_of_disk}
 use Rattle.tw_disk.specs.Found.{when}
 use Rattle.tw_disk.specs.Found.Found.{Is}
@@ -23,7 +24,6 @@ use Rattle.tw_rbtree.specs.Standing.{StandsForTree}
 use Rattle.tw_rbtree.specs.Ways.{end_of_way, nowhere, way}
 use Rattle.tw_rbtree.proofs.RootWays.{root-way, so-found}
 use Rattle.tw_base.specs.history.Tree.{Tree, entries}
-use Rattle.tw_treeproof.specs.Making.{IsSo, proof_of}
 use Rattle.tw_answers.specs.Finds.{is_so_at, same_entry, tree_shown}
 use Rattle.tw_answers.specs.Refusals.{IsFault, refusal_of_tree, service_refusals}
 

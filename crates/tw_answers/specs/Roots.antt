@@ -5,7 +5,7 @@ use Rattle.tw_base.specs.format.Codecs.{Codec, digest_codec, name_codec, number_
 use Rattle.tw_base.specs.history.HistoryCodec.{time_codec}
 use Rattle.tw_disk.specs.declared.limits.TheConstants.{FIRST_PAGE}
 use Rattle.tw_disk.specs.Kinds.{RecordKind}
-use Rattle.tw_steppage.specs.StepBytes.{page_codec}
+use Rattle.tw_base.specs.format.PageBytes.{page_number_codec}
 use Rattle.tw_answers.specs.declared.limits.TheConstants.{MOST_PAGES_OF_A_STEP}
 use Rattle.tw_answers.specs.declared.root.RootRecord.{RootRecord}
 
@@ -21,8 +21,8 @@ root_codec is_timed =
       time = t.1.1.1.1.1.1.1;
     })
     (λ r. (r.name, (r.head.step, (r.head.auth, (r.head.page, (r.archive.page, (r.archive.label, (r.threads, r.time))))))))
-    (pair name_codec (λ name. pair (number_codec 8 0 LAST_STEP) (λ steps. pair digest_codec (λ auth. pair page_codec (λ page.
-    pair page_codec (λ archive. pair digest_codec (λ label. pair (number_codec 8 0 LAST_STEP) (λ threads. optional is_timed time_codec))))))))
+    (pair name_codec (λ name. pair (number_codec 8 0 LAST_STEP) (λ steps. pair digest_codec (λ auth. pair page_number_codec (λ page.
+    pair page_number_codec (λ archive. pair digest_codec (λ label. pair (number_codec 8 0 LAST_STEP) (λ threads. optional is_timed time_codec))))))))
 
 -- 112 bytes, or 120 with a time
 abbrev pub root_bytes : RootRecord → List ℕ

@@ -1,6 +1,7 @@
 -- What is known of each command's work.
 use Rattle.std.proofs.Common.{◌≡◌, ◌∙◌, ℕ, false, true, List, [], ◌∷◌, refl, ap, sym, subst, arith, inl, inr, ◌⊎◌}
 use Rattle.std.specs.Prelude.{Option, Some, None, IsSome, MatchOption, Result, Ok, Err}
+use Rattle.sha2.specs.Sha256.{sha256}
 use Rattle.tw_base.specs.declared.history.question.Question.{Question}
 use Rattle.tw_base.specs.declared.history.thread.Thread.{Thread}
 use Rattle.tw_base.specs.kinds.Faults.{Rose}
@@ -238,7 +239,7 @@ module _ {D : Type 0} (view : D → DiskView)
     memory : Comes (Err NoMemory)
 
   of_service : {X : Type 0} {NamesFile UsesDisk : Type 0} {Comes : Result X CommandFault → Type 0} → (c : Command)
-      → HasCauses IsImageOfHistory o.inputs (found_around view o) NamesFile UsesDisk Comes
+      → HasCauses (IsImageOfHistory sha256) o.inputs (found_around view o) NamesFile UsesDisk Comes
       → Causes c NamesFile UsesDisk Comes
   of_service c causes =
       record { input = causes.input; disk = causes.disk; serves = λ _. causes.serves; memory = causes.memory }
@@ -303,7 +304,7 @@ module _ {D : Type 0} (view : D → DiskView)
         (λ x place is comes. absurd (of_disk.unjoined x (Unfit place) is))
 
   files_row : {X : Type 0} (c : Command) (of : X → Outcome) → Tells of → (Comes : Result X CommandFault → Type 0)
-      → HasCauses IsImageOfHistory o.inputs (found_around view o) (NamesFile c) ⊥ Comes
+      → HasCauses (IsImageOfHistory sha256) o.inputs (found_around view o) (NamesFile c) ⊥ Comes
       → ((x : X) (v : Verdict) → Judged v ≡ of x → Comes (Ok x) → Judges o.inputs.told c v)
       → ((x : X) (place : ℕ) → Joined (Unfit place) ≡ of x → Comes (Ok x) → LeavesGap o.inputs c place)
       → Row c (over_files view o of Comes)
@@ -315,7 +316,7 @@ module _ {D : Type 0} (view : D → DiskView)
 
   -- one that makes a service or a step, and one that asks a service a question
   made_row : {Comes Leaves : Result Thread CommandFault → Type 0} {Safe : Type 0} → (c : Command)
-      → HasCauses IsImageOfHistory o.inputs (found_around view o) (NamesFile c) (Unit {0}) Comes
+      → HasCauses (IsImageOfHistory sha256) o.inputs (found_around view o) (NamesFile c) (Unit {0}) Comes
       → IsSafe view o.disk.before o.disk.after Leaves Safe → Row c (writing_disk view o Made Comes Leaves Safe)
   made_row {Comes} {Leaves} {Safe} c causes is_safe = disk_row c Made made_tells Comes Leaves Safe (Some Write)
       (of_service c causes) made_of_disk is_safe
@@ -344,7 +345,7 @@ module _ {D : Type 0} (view : D → DiskView)
 
   -- one that writes bytes
   written_row : (c : Command) (Comes : Result (List ℕ) CommandFault → Type 0)
-      → HasCauses IsImageOfHistory o.inputs (found_around view o) (NamesFile c) ⊥ Comes
+      → HasCauses (IsImageOfHistory sha256) o.inputs (found_around view o) (NamesFile c) ⊥ Comes
       → Row c (over_files view o Written Comes)
   written_row c Comes causes =
       files_row c Written written_tells Comes causes (λ x v is comes. absurd (written_of_disk.unjudged x v is))
@@ -452,7 +453,7 @@ module _ {D : Type 0} (view : D → DiskView)
 
   -- one over files that reach beyond one proof
   answer_row : {X : Type 0} (c : Command) (of : X → Answer) → (Comes : Result X CommandFault → Type 0)
-      → HasCauses IsImageOfHistory o.inputs (found_around view o) (NamesFile c) ⊥ Comes
+      → HasCauses (IsImageOfHistory sha256) o.inputs (found_around view o) (NamesFile c) ⊥ Comes
       → Row c (over_files view o (λ x. Answered (of x)) Comes)
   answer_row c of Comes causes =
       files_row c (λ x. Answered (of x)) (answered_tells of) Comes causes (λ x v is comes. cc) (λ x place is comes. cc)

@@ -24,13 +24,13 @@ use Rattle.tw_tmap.specs.declared.map_verdict.MapVerdict.TheVariants.{Yes, No, G
 use Rattle.tw_tmap.specs.Binding.{BindsMap}
 use Rattle.tw_tmap.specs.Checking.{map_verdict}
 use Rattle.tw_tmap.specs.MapFiles.{high_layout, low_layout}
-use Rattle.tw_msg.specs.AnchorsFile.{IsFirstBadLine, anchor_on, lines}
+use Rattle.tw_msg.specs.AnchorsFile.{IsFirstBadLine, IsNoAnchors, anchor_on, lines}
 use Rattle.tw_reachcmd.specs.CheckFork.{CheckForkComes}
 use Rattle.tw_reachcmd.specs.Held.{HoldsNone}
 use Rattle.tw_reachcmd.specs.CheckMap.{CheckMapComes, HoldMaps}
 use Rattle.tw_judge.specs.Forks.{IsForkTold, fork_status}
-use Rattle.tw_judge.specs.Maps.{AreMapBytesJudged, AreMaps, AreMapsTold, AreMapsUnjudged, ThreeFiles, map_status}
-use Rattle.tw_judge.specs.Told.{IsUnjudged}
+use Rattle.tw_tmap.specs.Texts.{map_status}
+use Rattle.tw_judge.specs.Maps.{AreMapBytesJudged, AreMaps, AreMapsTold, AreMapsUnjudged, ThreeFiles}
 use Rattle.tw_app.specs.Around.{Around, Writes}
 use Rattle.tw_app.specs.Judging.{JudgesEvidence, JudgesMapFiles, NoneFailed}
 use Rattle.tw_app.specs.Outcomes.{of_fork, of_mapped, outcome_by, status_of, text_of}
@@ -190,7 +190,7 @@ module _ (a : Asked) (evidence_file file evidence anchors : List ℕ) (evidence_
   abbrev ForkComes : Result ForkVerdict CommandFault → Type 0
   ForkComes = CheckForkComes a evidence_file file
 
-  fork-unjudged : (Rose a.before a.after → ⊥) → (f : CommandFault) → ForkComes (Err f) → IsUnjudged file anchors f
+  fork-unjudged : (Rose a.before a.after → ⊥) → (f : CommandFault) → ForkComes (Err f) → IsNoAnchors file anchors f
   fork-unjudged none (Unreadable (BadLine named number)) comes = (comes.0, comes.1.bad anchors anchors_told)
   fork-unjudged none InputFault comes = absurd (none comes)
   fork-unjudged none NoMemory comes = tt
@@ -217,7 +217,7 @@ module _ (a : Asked) (evidence_file file evidence anchors : List ℕ) (evidence_
         },
       )
 
-  fork-fault : (f : CommandFault) → IsUnjudged file anchors f → ForkComes (Err f)
+  fork-fault : (f : CommandFault) → IsNoAnchors file anchors f → ForkComes (Err f)
   fork-fault (Unreadable (BadLine named number)) is = (
     is.0,
     bad_line_of a.told file anchors anchors_told evidence_file number

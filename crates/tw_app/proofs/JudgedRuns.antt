@@ -14,9 +14,9 @@ use Rattle.tw_chain.specs.declared.verdict.Verdict.{Verdict}
 use Rattle.tw_chain.specs.declared.verdict.Verdict.TheVariants.{Yes, No}
 use Rattle.tw_chain.specs.Binding.{BindsHistories}
 use Rattle.tw_chain.specs.Reasons.{IsVerdict}
-use Rattle.tw_msg.specs.AnchorsFile.{anchor_on, lines}
+use Rattle.tw_msg.specs.AnchorsFile.{IsNoAnchors, anchor_on, lines}
 use Rattle.tw_filecmd.specs.Verifying.{HasAnchors, VerifyFileComes}
-use Rattle.tw_judge.specs.Told.{IsJudged, IsTold, IsUnjudged, verdict_status, verdict_text}
+use Rattle.tw_judge.specs.Told.{IsJudged, IsTold, verdict_status, verdict_text}
 use Rattle.tw_app.specs.declared.outcome.Outcome.{Outcome}
 use Rattle.tw_app.specs.declared.outcome.Outcome.TheVariants.{Judged}
 use Rattle.tw_app.specs.Around.{Around, Writes}
@@ -69,13 +69,13 @@ module _ (a : Asked) (proof_file file proof anchors : List ℕ) (proof_told : Te
 
   -- why there is no verdict on the files, where the inputs didn't fail, is why there is none on their bytes
   unjudged_bytes : (Rose a.before a.after → ⊥) → (f : CommandFault) → VerifyFileComes a proof_file file strict (Err f)
-      → IsUnjudged file anchors f
+      → IsNoAnchors file anchors f
   unjudged_bytes none (Unreadable (BadLine named number)) comes = (comes.0, comes.1.bad anchors anchors_told)
   unjudged_bytes none InputFault comes = absurd (none comes)
   unjudged_bytes none NoMemory comes = tt
   unjudged_bytes none _ comes = absurd comes
 
-  unjudged_files : (f : CommandFault) → IsUnjudged file anchors f → VerifyFileComes a proof_file file strict (Err f)
+  unjudged_files : (f : CommandFault) → IsNoAnchors file anchors f → VerifyFileComes a proof_file file strict (Err f)
   unjudged_files (Unreadable (BadLine named number)) is = (
     is.0,
     bad_line_of a.told file anchors anchors_told proof_file number (there a.told proof_file proof proof_told) is.1,
@@ -88,7 +88,7 @@ module _ (a : Asked) (proof_file file proof anchors : List ℕ) (proof_told : Te
       strict r
       → IsTold file strict proof anchors (status_of (outcome_by Judged r)) (text_of (outcome_by Judged r))
   told_bytes none =
-      tells Judged (VerifyFileComes a proof_file file strict) (IsJudged strict proof anchors) (IsUnjudged file anchors)
+      tells Judged (VerifyFileComes a proof_file file strict) (IsJudged strict proof anchors) (IsNoAnchors file anchors)
       status_is text_is judged_bytes (unjudged_bytes none)
 
   -- what is told of their bytes is what judging the files may come to
@@ -96,7 +96,7 @@ module _ (a : Asked) (proof_file file proof anchors : List ℕ) (proof_told : Te
       → ComesTo Judged (VerifyFileComes a proof_file file strict) status text
   told_files =
       comes_to Judged (VerifyFileComes a proof_file file strict) (IsJudged strict proof anchors)
-      (IsUnjudged file anchors) status_is text_is judged_files unjudged_files
+      (IsNoAnchors file anchors) status_is text_is judged_files unjudged_files
 
 -- ---- runs
 

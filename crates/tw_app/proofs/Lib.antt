@@ -20,3 +20,4 @@ pub mod OneAnswer
 pub mod AuditsFound
 pub mod Adoptions
 pub mod Completeness
+mod PlainRuns

@@ -19,10 +19,10 @@ use Rattle.tw_tmap.specs.declared.map_verdict.MapVerdict.{MapVerdict}
 use Rattle.tw_tmap.specs.declared.map_verdict.MapVerdict.TheVariants.{Gap, No, Yes}
 use Rattle.tw_tmap.specs.Checking.{map_verdict}
 use Rattle.tw_tmap.specs.MapFiles.{high_layout, low_layout}
-use Rattle.tw_tmap.specs.Texts.{map_text}
+use Rattle.tw_tmap.specs.Texts.{map_status, map_text}
 use Rattle.tw_tmap.proofs.OwnMaps.{own-accepted}
 use Rattle.tw_reachcmd.specs.Held.{FileHolds}
-use Rattle.tw_reachcmd.specs.CheckMap.{CheckMapComes, map_command_status}
+use Rattle.tw_reachcmd.specs.CheckMap.{CheckMapComes}
 use Rattle.tw_app.specs.declared.outcome.Outcome.{Outcome}
 use Rattle.tw_app.specs.Alike.{TellsEach}
 use Rattle.tw_app.specs.Around.{Around, Writes}
@@ -71,7 +71,7 @@ module _ {D : Type 0} (view : D → DiskView) (a : Around D) (low : LowFile) (hi
       let held_is : comes.2 ≡ anchors = comes.3.1.same is.anchors_bytes is.anchors_tell ∙ sym is.are_anchors.are in
       comes.3.2.is_verdict ∙ (λ k. map_verdict sha256 (held_is k) (low_is k) (high_is k))
 
-  status_is : (verdict : MapVerdict) → status_of (of_mapped verdict) ≡ map_command_status verdict
+  status_is : (verdict : MapVerdict) → status_of (of_mapped verdict) ≡ map_status verdict
   status_is (Yes l h upto) = refl
   status_is (No reason) = refl
   status_is Gap = refl
@@ -82,7 +82,7 @@ module _ {D : Type 0} (view : D → DiskView) (a : Around D) (low : LowFile) (hi
   by_result (Ok verdict) comes outcome came (inl ends) =
       let agrees = verdict_is verdict comes in
       inr (
-        ends.0 ∙ ap status_of came ∙ status_is verdict ∙ ap map_command_status agrees,
+        ends.0 ∙ ap status_of came ∙ status_is verdict ∙ ap map_status agrees,
         subst (λ (v : MapVerdict). Writes a (map_text v)) agrees (subst (λ (o : Outcome). Writes a (text_of o)) came
             ends.1),
       )

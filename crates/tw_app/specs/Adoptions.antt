@@ -13,7 +13,7 @@ use Rattle.tw_words.specs.declared.command.Command.TheVariants.{Adopt}
 use Rattle.tw_adopt.specs.declared.adopted.AdoptFault.{AdoptFault}
 use Rattle.tw_adopt.specs.declared.receiving.Receiving.{Receiving}
 use Rattle.tw_adopt.specs.Adopting.{AreGood, IsFirstFault, furthest}
-use Rattle.tw_adopt.specs.FirstSteps.{first_steps}
+use Rattle.tw_adopt.specs.HistoryFronts.{first_steps}
 use Rattle.tw_filecmd.specs.Showing.{IsHistoryFileOf, OfHistory}
 use Rattle.tw_filecmd.specs.Verifying.{HasAnchors}
 use Rattle.tw_reachcmd.specs.Adopting.{IsTakenOver}

@@ -21,9 +21,9 @@ use Rattle.tw_tmap.specs.Bounds.{high_bound, low_bound}
 use Rattle.tw_tmap.specs.Checking.{AreMapFilesAccepted, high_told, low_told}
 use Rattle.tw_tmap.specs.MapFiles.{high_layout, low_layout}
 use Rattle.tw_tmap.specs.OwnFiles.{IsAnchoredAt, IsOwnHigh, IsOwnLow}
-use Rattle.tw_tmap.specs.Texts.{map_text}
+use Rattle.tw_tmap.specs.Texts.{map_status, map_text}
 use Rattle.tw_reachcmd.specs.Anchors.{AreAnchorsOf}
-use Rattle.tw_reachcmd.specs.CheckMap.{HasBadFile, HoldMaps, map_command_status}
+use Rattle.tw_reachcmd.specs.CheckMap.{HasBadFile, HoldMaps}
 use Rattle.tw_app.specs.Alike.{TellsEach}
 use Rattle.tw_app.specs.Around.{Around, Writes}
 use Rattle.tw_app.specs.Commands.{command_files}
@@ -84,7 +84,7 @@ abbrev pub EndsUnhindered : {D : Type 0} → Around D → (status wanted : ℕ) 
 EndsUnhindered around status wanted text = IsHindered around status ⊎ ((status ≡ wanted) × Writes around text)
 
 abbrev pub TellsMapVerdict : {D : Type 0} → Around D → (status : ℕ) → MapVerdict → Type 0
-TellsMapVerdict around status verdict = EndsUnhindered around status (map_command_status verdict) (map_text verdict)
+TellsMapVerdict around status verdict = EndsUnhindered around status (map_status verdict) (map_text verdict)
 
 -- ---- the map files of two services
 

@@ -1,13 +1,16 @@
-// How a run ends: `run`, which does what the words ask, writes its text, and answers its status.
+// How a run ends: `tell`, which writes the text and answers the status, and `run`, which does what the words ask and tells of it.
 
-ghost use Rattle.std.specs.Prelude.{◌≡◌, ◌⊎◌, ℕ, List, map, string_bytes, IfSome, MatchOption};
+ghost use Rattle.std.specs.Prelude.{◌≡◌, ◌⊎◌, ℕ, List, [], ◌∷◌, ◌++◌, codes, map, string_bytes, Some, IfSome, MatchOption};
+ghost use Rattle.sha2.specs.Sha256.{sha256};
 ghost use Rattle.tw_base.specs.declared.history.thread.Thread.{Thread as Anchor};
 ghost use Rattle.tw_base.specs.history.History.{History};
 ghost use Rattle.tw_base.specs.kinds.Lists.{Each};
 ghost use Rattle.tw_base.specs.kinds.Faults.{Rose};
 ghost use Rattle.tw_diskcmd.specs.Disks.{IsLeft};
 ghost use Rattle.tw_outside.specs.Asked.{asked};
+ghost use Rattle.tw_outside.specs.Files.{file_bytes};
 ghost use Rattle.tw_outside.specs.TakenBytes.{Appends, AppendsPart};
+ghost use Rattle.tw_plain.specs.Plain.{IsPlain};
 ghost use Rattle.tw_words.specs.CommandLine.{command_of};
 ghost use Rattle.tw_text.specs.Lines.{anchor_text, no_memory_text};
 ghost use Rattle.tw_app.specs.declared.outcome.Outcome.TheVariants.{Undone};
@@ -18,19 +21,20 @@ ghost use Rattle.tw_app.specs.Commands.{command_files};
 ghost use Rattle.tw_app.specs.MapRuns.{AsksMap, IsMapRun};
 ghost use Rattle.tw_app.specs.Outcomes.{TakesMemory, status_of as status_of_outcome};
 ghost use Rattle.tw_app.specs.Audits.{AsksAudit, IsAuditOf, IsClashRun, IsFoundRun, IsStandingRun};
-ghost use Rattle.tw_app.specs.Running.{EndsAllowed, EndsWith, work};
+ghost use Rattle.tw_app.specs.Running.{EndsAllowed, EndsWith, work as work_of};
 ghost use Rattle.tw_app.specs.Statuses.{AreWordsOf, IsAcceptedRun, IsIdle, IsStatus, IsVerify};
 
-use crate::following::{Followed, follow_words};
+use crate::following::{Followed, work};
 use crate::outcome::Outcome;
 use crate::printing::print;
 use std::alloc::Global;
-use tw_base::{NoMemory, Thread};
+use tw_base::{NoMemory, Sha, Thread};
 use tw_chain::Verdict;
 use tw_disk::Disk;
 use tw_filecmd::Joined;
 use tw_msg::write_receipt;
 use tw_outside::{Inputs, Sink, write_all};
+use tw_plain::plain_laws;
 use tw_reachcmd::{Accused, Answer, Taken, answer_status};
 use tw_text::{CommandFault, anchor_line, fault_disk, fault_input, fault_status, no_memory};
 
@@ -38,7 +42,7 @@ use tw_text::{CommandFault, anchor_line, fault_disk, fault_input, fault_status, 
 const OUTPUT_FAULT: u8 = 4;
 
 /// Writes the text whole and answers the status, or answers 4 where the sink failed.
-fn tell<S: Sink>(out: &mut S, status: u8, text: &[u8]) -> u8
+fn end<S: Sink>(out: &mut S, status: u8, text: &[u8]) -> u8
     ensures { ((result ≡ status) × Appends (S.taken out.old) (S.taken out.new) text.now)
         ⊎ ((result ≡ 4) × AppendsPart (S.taken out.old) (S.taken out.new) text.now × Rose (S.faults out.old) (S.faults out.new)) }
 {
@@ -50,12 +54,12 @@ fn tell<S: Sink>(out: &mut S, status: u8, text: &[u8]) -> u8
 
 /// Writes the anchor line of the thread whole and answers the status, or answers 4 where the sink
 /// failed. It takes no memory.
-fn tell_thread<S: Sink>(out: &mut S, status: u8, thread: &Thread) -> u8
+fn end_with_line<S: Sink>(out: &mut S, status: u8, thread: &Thread) -> u8
     ensures { ((result ≡ status) × Appends (S.taken out.old) (S.taken out.new) (anchor_text thread.now))
         ⊎ ((result ≡ 4) × AppendsPart (S.taken out.old) (S.taken out.new) (anchor_text thread.now) × Rose (S.faults out.old) (S.faults out.new)) }
 {
     let line = anchor_line(thread);
-    tell(out, status, &line.bytes[..line.count as usize])
+    end(out, status, &line.bytes[..line.count as usize])
 }
 
 /// Ends a run for whose words there was no memory, and answers its status: 6, or 4 where the sink failed. It takes no memory.
@@ -65,7 +69,7 @@ pub fn end_without_memory<S: Sink>(out: &mut S) -> u8
     ensures { ((result ≡ 6) × Appends (S.taken out.old) (S.taken out.new) no_memory_text)
         ⊎ ((result ≡ 4) × AppendsPart (S.taken out.old) (S.taken out.new) no_memory_text × Rose (S.faults out.old) (S.faults out.new)) }
 {
-    tell(out, fault_status(&CommandFault::NoMemory), no_memory())
+    end(out, fault_status(&CommandFault::NoMemory), no_memory())
 }
 
 /// The status of an outcome whose text could be written. (For the library, tw_judge tells that of a verdict.)
@@ -86,28 +90,30 @@ fn status_of(outcome: &Outcome) -> u8
     }
 }
 
-/// Writes the text of the outcome and answers its status; or those of want of memory, where there is
-/// no memory for its text. What became of the disk, a step that was made or a fault, takes none.
-fn conclude<S: Sink>(alloc: Global, outcome: &Outcome, out: &mut S) -> u8
-    ensures { EndsWith (span (S.taken out.old) (S.taken out.new)) (span (S.faults out.old) (S.faults out.new)) result outcome.now
+/// The second half of a run: writes the text of the outcome and answers its status; or those of want of memory, where there is
+/// no memory for its text. What became of the disk, a step that was made or a fault, takes none. It has no disk: `work` is
+/// done with that.
+pub fn tell<S: Sink>(alloc: Global, outcome: &Outcome, out: &mut S) -> u8
+    // The run ends with the outcome's text and status, or, where that text takes memory, with those of want of memory.
+    ensures ends { EndsWith (span (S.taken out.old) (S.taken out.new)) (span (S.faults out.old) (S.faults out.new)) result outcome.now
         ⊎ (TakesMemory outcome.now × EndsWith (span (S.taken out.old) (S.taken out.new)) (span (S.faults out.old) (S.faults out.new)) result (Undone NoMemoryFault)) }
 {
     let status = status_of(outcome);
     match outcome {
-        Outcome::Undone(CommandFault::InputFault) => tell(out, status, fault_input()),
-        Outcome::Undone(CommandFault::DiskFault) => tell(out, status, fault_disk()),
-        Outcome::Undone(CommandFault::NoMemory) => tell(out, status, no_memory()),
-        Outcome::Made(thread) => tell_thread(out, status, thread),
-        Outcome::Received(receipt) => tell(out, status, &write_receipt(receipt)),
-        Outcome::Written(bytes) => tell(out, status, bytes.as_slice()),
-        Outcome::Joined(Joined::Whole(proof)) => tell(out, status, proof.as_slice()),
+        Outcome::Undone(CommandFault::InputFault) => end(out, status, fault_input()),
+        Outcome::Undone(CommandFault::DiskFault) => end(out, status, fault_disk()),
+        Outcome::Undone(CommandFault::NoMemory) => end(out, status, no_memory()),
+        Outcome::Made(thread) => end_with_line(out, status, thread),
+        Outcome::Received(receipt) => end(out, status, &write_receipt(receipt)),
+        Outcome::Written(bytes) => end(out, status, bytes.as_slice()),
+        Outcome::Joined(Joined::Whole(proof)) => end(out, status, proof.as_slice()),
         Outcome::Answered(Answer::Accused(Accused::Whole(evidence))) => {
-            tell(out, status, evidence.as_slice())
+            end(out, status, evidence.as_slice())
         }
-        Outcome::Answered(Answer::Taken(Taken::File(bytes))) => tell(out, status, bytes.as_slice()),
+        Outcome::Answered(Answer::Taken(Taken::File(bytes))) => end(out, status, bytes.as_slice()),
         _ => match print(alloc, outcome) {
-            Ok(text) => tell(out, status, text.as_slice()),
-            Err(NoMemory) => tell(out, fault_status(&CommandFault::NoMemory), no_memory()),
+            Ok(text) => end(out, status, text.as_slice()),
+            Err(NoMemory) => end(out, fault_status(&CommandFault::NoMemory), no_memory()),
         },
     }
 }
@@ -119,7 +125,7 @@ pub struct Ran<D> {
     pub disk: D,
 }
 
-/// Does what the words ask, and ends: `run`, by its first clause alone.
+/// Does what the words ask, and then tells of it: `run`, by its first clause alone.
 fn run_to_the_end<D: Disk, I: Inputs, S: Sink>(
     alloc: Global,
     words: &[String],
@@ -132,8 +138,8 @@ fn run_to_the_end<D: Disk, I: Inputs, S: Sink>(
         (outside (asked (I.told inputs.old) (I.faults inputs.old) (I.faults inputs.new)) disk result.disk)
         (span (S.taken out.old) (S.taken out.new)) (span (S.faults out.old) (S.faults out.new))) result.status }
 {
-    let Followed { outcome, disk } = follow_words(alloc, words, disk, inputs);
-    let status = conclude(alloc, &outcome, out);
+    let Followed { outcome, disk } = work(alloc, words, disk, inputs);
+    let status = tell(alloc, &outcome, out);
     Ran { status, disk }
 }
 
@@ -180,6 +186,15 @@ pub fn run<D: Disk, I: Inputs, S: Sink>(
         (outside (asked (I.told inputs.old) (I.faults inputs.old) (I.faults inputs.new)) disk result.disk)
         (span (S.taken out.old) (S.taken out.new)) (span (S.faults out.old) (S.faults out.new))) result.status }
 
+    // Status 0 of `verify PROOF LINES` and `strict PROOF LINES`, in the words of docs/theorem.md, where the inputs tell the bytes
+    // of both files and the sink tells what it has taken: it took a report's text whole. And in every list of sound histories that
+    // has each of the lines of the file LINES which is of a service that the report names, and each thread that the report
+    // tells as carried, what the report says is so; or two different texts, both of bytes, of those that these histories and
+    // checking the proof hash, have one SHA-256 digest.
+    ensures plain { (proof_file lines_file proof lines before : List ℕ) → result.status ≡ 0
+        → (map string_bytes words.now ≡ codes "verify" ∷ proof_file ∷ lines_file ∷ []) ⊎ (map string_bytes words.now ≡ codes "strict" ∷ proof_file ∷ lines_file ∷ [])
+        → file_bytes (I.told inputs.old) proof_file ≡ Some proof → file_bytes (I.told inputs.old) lines_file ≡ Some lines → S.taken out.old ≡ Some before
+        → (text : List ℕ) × (S.taken out.new ≡ Some (before ++ text)) × IsPlain sha256 proof lines text }
     // Status 0 of `verify` and `strict`: the proof file is there, and its bytes spell a proof that is accepted under the
     // command's anchors. These are the one of its words, or those of the anchors file, which is there and has no bad line.
     // Of `strict` the proof carries no thread. The proof's report was written whole. And in every list of sound histories
@@ -270,10 +285,12 @@ pub fn run<D: Disk, I: Inputs, S: Sink>(
     // `prove`, `thread` and `heads` write nothing. A command without a folder hands the
     // disk back as it is, and so does a run of words that have no form.
     ensures crash { MatchOption (command_of (map string_bytes words.now)) (result.disk ≡ disk)
-        (λ command. (work D.view (outside (asked (I.told inputs.old) (I.faults inputs.old) (I.faults inputs.new)) disk result.disk) command).safe) }
+        (λ command. (work_of D.view (outside (asked (I.told inputs.old) (I.faults inputs.old) (I.faults inputs.new)) disk result.disk) command).safe) }
     // At every other status than 0, 4 and 5 nothing was written. (At 4 the disk is as is right for the outcome whose text
     // wasn't written whole, by `ends`.)
     ensures unwritten { IsIdle result.status → IsLeft D.view disk result.disk }
 {
+    // By the laws of printed reports.
+    plain_laws::<Sha>();
     run_to_the_end(alloc, words, disk, inputs, out)
 }

@@ -9,7 +9,7 @@ ghost use Rattle.tw_app.specs.Around.{outside};
 ghost use Rattle.tw_app.specs.Commands.{command_files};
 ghost use Rattle.tw_app.specs.Outcomes.{outcome_by};
 ghost use Rattle.tw_app.specs.declared.outcome.Outcome.TheVariants.{Made as OfThread, Received as OfReceipt, Written as OfBytes};
-ghost use Rattle.tw_app.specs.Running.{HasOutcome, work};
+ghost use Rattle.tw_app.specs.Running.{HasOutcome, work as work_of};
 
 use crate::generating::generate_world;
 use crate::outcome::{
@@ -31,22 +31,25 @@ use tw_reachcmd::{
 use tw_text::CommandFault;
 use tw_words::{Command, WordFault, read_words};
 
-/// What a run came to on a disk, and that disk.
+/// What a run came to, of which nothing is told yet; and the disk, on which its work is done.
 #[derive(Drop)]
-pub(crate) struct Followed<D> {
-    pub(crate) outcome: Outcome,
-    pub(crate) disk: D,
+pub struct Followed<D> {
+    pub outcome: Outcome,
+    pub disk: D,
 }
 
-/// What the words come to.
-pub(crate) fn follow_words<D: Disk, I: Inputs>(
+/// The first half of a run: what the words come to, with all work on the disk done. It has no sink, so nothing can be told
+/// of it before; `tell` does that.
+pub fn work<D: Disk, I: Inputs>(
     alloc: Global,
     words: &[String],
     disk: D,
     inputs: &mut I,
 ) -> Followed<D>
     requires { IfSome (command_of (map string_bytes words.now)) (λ command. Each (I.may_ask inputs.old) (command_files command)) }
-    ensures { HasOutcome D.view (outside (asked (I.told inputs.old) (I.faults inputs.old) (I.faults inputs.new)) disk result.disk)
+    // The outcome is one that the words, the files, what the disk read as and the counts of faults allow, and the disk is as is right
+    // for it.
+    ensures comes { HasOutcome D.view (outside (asked (I.told inputs.old) (I.faults inputs.old) (I.faults inputs.new)) disk result.disk)
         (map string_bytes words.now) result.outcome }
 {
     match read_words(alloc, words) {
@@ -72,7 +75,7 @@ fn follow<D: Disk, I: Inputs>(
 ) -> Followed<D>
     requires files { Each (I.may_ask inputs.old) (command_files command.now) }
     requires ranges { IsWithinRanges command.now }
-    ensures { (work D.view (outside (asked (I.told inputs.old) (I.faults inputs.old) (I.faults inputs.new)) disk result.disk) command.now).does result.outcome }
+    ensures { (work_of D.view (outside (asked (I.told inputs.old) (I.faults inputs.old) (I.faults inputs.new)) disk result.disk) command.now).does result.outcome }
 {
     match command {
         Command::Init { name } => with_thread(init_service(alloc, disk, *name)),

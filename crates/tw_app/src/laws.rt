@@ -21,10 +21,77 @@ use tw_disk::Disk;
 
 /// What each status says of a run that ends so, by what its command does.
 pub fn status_laws<D: Disk>()
-    // Status 0: the words are of a command that is done, its text was written whole, and the disk is left as is
-    // right for that. What each command writes and leaves is told at its own function, whatever the pages of a
-    // store keep and of histories: `append` and `receive` also say with which record and pages the disk opens then,
-    // `heads` that its lines are of heads of one service whose steps rise.
+    // Status 0: the words are of a command that is done, its text was written whole, and the disk is left as is right for that.
+    // Status 0 of `show`: the history file is there and is that of a sound history. The bytes written are the proof
+    // that this history has of that event, with its last step as the top, and are accepted under any anchors of which
+    // that of the history's name and last step has the history's authenticator.
+    // Status 0 of `join`: each file is there and holds a proof, and the bytes written spell the proof from event to event
+    // that these join to.
+    // Status 0 of `prove event`: what the disk read as opens as a service's store. Step, top and its last step are in their
+    // order, and the bytes written are the proof of the event of that index that is found in its pages, whatever these
+    // keep. And where the disk read as a history, with writes pending or not, they are the proof that this history has of
+    // that event under that top, or under its last step, and a step of the machine; and the disk stands for it, at rest.
+    // They are accepted under any anchors of which that of the history's name and top has the history's authenticator.
+    // Status 0 of `prove link`: the same of the proof of the step's authenticator; the step may be 0.
+    // Status 0 of `prove thread`: the same of the proof that a step up to that one received a thread of the peer's step.
+    // Status 0 of `prove absent`: the same of the proof that none did.
+    // Status 0 of `map low`: what the disk read as opens as a service's store. Step, top and its last step are in their
+    // order, and the bytes written are the low file that is found in its pages, whatever these keep. And where the disk
+    // read as a history, with writes pending or not, they spell the low file that this history has of that step and peer
+    // under that top, and a step of the machine; and the disk stands for it, at rest.
+    // Status 0 of `map high`: the same of the high file of that top for that step of the peer; the top alone is in question.
+    // Status 0 of `export`: what the disk read as opens as a service's store, and the bytes written are the history file that is
+    // found in its pages, whatever these keep. And where the disk read as a history, with writes pending or not, they are this
+    // history's own file, which is read as the same history again, and a step of the machine; and the disk stands for it, at rest.
+    // Status 0 of `thread`: what the disk read as opens as a service's store, which has a step, and whose last one isn't
+    // below the step that is named. The bytes written are the message of the last step that is found in its pages,
+    // whatever these keep. And where the disk read as a history, with writes pending or not, they spell the message that
+    // this history has of its last step since that step, and are a step of the machine; its link climbs from the
+    // history's authenticator of that step to that of the last one; and the disk stands for the history, at rest: so no
+    // loss of power takes what was told.
+    // Status 0 of `init`: no store was there. The line written is that of step 0 of the history of that name without
+    // steps. The disk, where its content was told, stands for that history, at rest.
+    // Status 0 of `append`: the events file is there, within its limit, and spells events that the table doesn't
+    // refuse. What the disk read as opens as a service's store, and the line written is that of its next step with these
+    // events and the time of the words, if any, as it is found in its pages, whatever these keep. And where the disk read
+    // as a history, with writes pending or not, adding these is a step of the machine, the line is that of the longer
+    // history's last step, and the disk stands for the longer history, at rest. Whatever the pages keep, the disk opens with
+    // the record of that step and the pages that are found with it behind the others, at rest.
+    // Status 0 of `receive`: the file is there and holds a message. What the disk read as opens as a service's store, of another
+    // name than the message's, and the bytes written are the receipt of the message's thread: by the step that its archive's
+    // pages tell to have received it, with the authenticator that its page tells; or by its next step, as it is found behind
+    // pages of a tree that has the thread besides what the archive had. And where the disk read as a history, with writes
+    // pending or not, it is the machine's reply by the receiving of that message, at the time of the words, if any: the receipt
+    // of the step that received the thread, and the disk stands for the history, at rest; or that of the last step of the
+    // history with one more, which received it and with which it is sound, and the disk stands for that, at rest. Whatever the
+    // pages keep, the disk opens with the record and pages that were there, or with those of the step that archives the thread, at
+    // rest.
+    // Status 0 of `watch`: no store was there. The line written is that of step 0 of the name. The disk, where its content
+    // was told, stands for the list of that name without heads, at rest.
+    // Status 0 of `offer`: the file is there and holds a message. What the disk read as opens as a follower's store, over
+    // whose head the table says that the message is the head itself or moves it, and the line written is that of the
+    // message's thread. And where the disk read as a list of heads, with writes pending or not, the disk stands for that
+    // list, or, where the message moves the head, for it with that thread, at rest. Whatever the store's pages keep, the disk
+    // opens with the record and pages that were there, or, where the message moves the record's head, with those of that thread,
+    // whose page stands behind the others, at rest.
+    // Status 0 of `heads`: what the disk read as opens as a follower's store, and the lines written are those of the heads
+    // that are found in its pages, oldest first. And where the disk read as a list of heads, with writes pending or not,
+    // they are that list's, and the disk stands for it, at rest. Whatever the pages keep, the lines are of heads of one service
+    // whose steps rise, and the disk rests with the record and pages that were there.
+    // Status 0 of `replay`: the file is there and is a script, and the bytes written are the text of what it is played to: what its lines
+    // are told, one after another, by the rules of worlds, from a world of nothing on, in which no service claims a time; and the summary
+    // of this and of the numbers of steps at the end. Status 0 of `generate`: the line written is the summary
+    // of the three histories to which the words' number leads in so many rounds.
+    // Status 0 of `accuse`: all files are there and hold the proofs of two received threads and, where one is named, a link.
+    // The bytes written spell the evidence that these make, and are accepted, with that fork, under all anchors under
+    // which it shows one. Status 0 of `checkfork`: the file is there, the anchors file is there and has no bad line, and the
+    // lines written are those of the fork that the file's bytes show under these anchors. Status 0 of `audit`: the lines
+    // written are those of the report that stands. Status 0 of `atlas`: all files are there and hold receipts, and the lines
+    // written are those of the atlas of their hops from the step that is named. Status 0 of `checkmap`: all files are there
+    // and hold a low and a high map file; the anchors file has no bad line; both are accepted under its anchors, and the lines
+    // written are those of the bounds that they show. Status 0 of `adopt`: all files are there, the anchors file has no bad line,
+    // the history file is that of a sound history, and the bytes written are the file of what is taken over of it by the
+    // proofs.
     ensures done { (a : Around D) → EndsAllowed D.view a 0 → IsDoneRun D.view a }
 
     // Status 1: the words are `verify` or `strict`, the proof file is there, its bytes spell no proof that is

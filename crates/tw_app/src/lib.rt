@@ -17,7 +17,8 @@ mod store;
 
 pub use alike::one_answer_laws;
 pub use complete::answered_laws;
-pub use ending::{Ran, end_without_memory, run};
+pub use ending::{Ran, end_without_memory, run, tell};
+pub use following::{Followed, work};
 pub use judging::{judging_laws, reach_judging_laws};
 pub use laws::status_laws;
 pub use mapping::map_run_laws;

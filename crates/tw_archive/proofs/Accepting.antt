@@ -20,7 +20,8 @@ use Rattle.tw_msg.specs.HistoryMessages.{IsMessageOf}
 use Rattle.tw_msg.specs.Messages.{Leads}
 use Rattle.tw_skipproof.specs.Paths.{climbed}
 use Rattle.tw_archive.specs.declared.judgement.Judgement.TheVariants.{Known, Forked, Stale, BadLink, Accept}
-use Rattle.tw_archive.specs.Judging.{archive_key, judge_known, judge_new, judged_message, judgement, kept_auth}
+use Rattle.tw_base.specs.history.Entries.{thread_key}
+use Rattle.tw_archive.specs.Judging.{judge_known, judge_new, judged_message, judgement, kept_auth}
 use Rattle.tw_archive.specs.Judging.{last_entry_step, last_of_peer, leads_from_last}
 use Rattle.tw_archive.proofs.Peers.{IsLatest, above-last}
 
@@ -86,15 +87,15 @@ module _ (dig : List ℕ → List ℕ) where
 
   module _ (es : List Entry) (m : Message) (e : Entry) (rising : IsRising es) (there : In e es) where
     -- it is judged by that entry
-    by-entry : archive_key e.thread ≡ archive_key m.thread → judged_message dig es m ≡ judge_known e m
+    by-entry : thread_key e.thread ≡ thread_key m.thread → judged_message dig es m ≡ judge_known e m
     unfolding judgement
     by-entry key =
         ap (λ (o : Option Entry). judgement dig o (last_of_peer es m.thread.from) m)
         (ap (λ (k : Key). entry_with es k) (sym key) ∙ with-in es e rising there)
 
     pub knows : e.thread ≡ m.thread → judged_message dig es m ≡ Known e.archived
-    knows same = by-entry (ap archive_key same) ∙ known-is e m (ap (λ (t : Thread). t.auth) same)
+    knows same = by-entry (ap thread_key same) ∙ known-is e m (ap (λ (t : Thread). t.auth) same)
 
-    pub forks : archive_key e.thread ≡ archive_key m.thread → e.thread.auth ≢ m.thread.auth → judged_message dig es m
+    pub forks : thread_key e.thread ≡ thread_key m.thread → e.thread.auth ≢ m.thread.auth → judged_message dig es m
         ≡ Forked m.thread.step e.thread.auth m.thread.auth
     forks key other = by-entry key ∙ fork-is e m other

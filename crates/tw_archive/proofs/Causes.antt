@@ -8,7 +8,7 @@ use Rattle.std.proofs.lemmas.Slice.Eq.{bytes_eq-Decides}
 use Rattle.tw_base.specs.declared.history.thread.Entry.{Entry}
 use Rattle.tw_base.specs.declared.history.thread.Key.{Key}
 use Rattle.tw_base.specs.history.Asking.{entry_with}
-use Rattle.tw_base.specs.history.Entries.{key_of}
+use Rattle.tw_base.specs.history.Entries.{key_of, thread_key}
 use Rattle.tw_base.specs.kinds.Lists.{In}
 use Rattle.tw_base.proofs.lemmas.history.Members.{each-without, in-with}
 use Rattle.tw_base.proofs.lemmas.kinds.ListLemmas.{Each-in}
@@ -16,11 +16,11 @@ use Rattle.tw_msg.specs.declared.message.Message.{Message}
 use Rattle.tw_msg.specs.Messages.{IsLinked, Leads}
 use Rattle.tw_skipproof.specs.Paths.{climbed}
 use Rattle.tw_archive.specs.declared.judgement.Judgement.TheVariants.{Known, Forked, Stale, BadLink, Accept}
-use Rattle.tw_archive.specs.Judging.{archive_key, judge_known, judge_new, judged_message, judgement, kept_auth}
+use Rattle.tw_archive.specs.Judging.{judge_known, judge_new, judged_message, judgement, kept_auth}
 use Rattle.tw_archive.specs.Judging.{last_entry_step, last_of_peer, leads_from_last}
 use Rattle.tw_archive.proofs.Peers.{IsLatest, up-to-last, with-key}
 
-known-entry : (e : Entry) (m : Message) (archived : ℕ) → key_of e ≡ archive_key m.thread → judge_known e m ≡ Known
+known-entry : (e : Entry) (m : Message) (archived : ℕ) → key_of e ≡ thread_key m.thread → judge_known e m ≡ Known
     archived → (e.thread ≡ m.thread) × (e.archived ≡ archived)
 known-entry e m archived key is = by (bytes_eq e.thread.auth m.thread.auth) refl is
   where
@@ -42,7 +42,7 @@ IsFork e m step kept offered =
     (step ≡ m.thread.step) × (offered ≡ m.thread.auth) × (kept ≢ offered) × (e.thread.from ≡ m.thread.from)
     × (e.thread.step ≡ step) × (e.thread.auth ≡ kept)
 
-forked-entry : (e : Entry) (m : Message) (step : ℕ) (kept offered : List ℕ) → key_of e ≡ archive_key m.thread
+forked-entry : (e : Entry) (m : Message) (step : ℕ) (kept offered : List ℕ) → key_of e ≡ thread_key m.thread
     → judge_known e m ≡ Forked step kept offered → IsFork e m step kept offered
 forked-entry e m step kept offered key is = by (bytes_eq e.thread.auth m.thread.auth) refl is
   where
@@ -120,31 +120,31 @@ module _ (dig : List ℕ → List ℕ) where
     pub judged-known : (archived : ℕ) → judged_message dig es m ≡ Known archived → (e : Entry) × In e es
         × (e.thread ≡ m.thread) × (e.archived ≡ archived)
     unfolding judgement
-    judged-known archived is = by (entry_with es (archive_key m.thread)) refl is
+    judged-known archived is = by (entry_with es (thread_key m.thread)) refl is
       where
-        by : (o : Option Entry) → entry_with es (archive_key m.thread) ≡ o
+        by : (o : Option Entry) → entry_with es (thread_key m.thread) ≡ o
             → judgement dig o (last_of_peer es m.thread.from) m ≡ Known archived
             → (e : Entry) × In e es × (e.thread ≡ m.thread) × (e.archived ≡ archived)
         by None none found = absurd (new-not_known (last_of_peer es m.thread.from) m archived found)
         by (Some e) some found =
-            let k = known-entry e m archived (with-key es (archive_key m.thread) e some) found in
-            (e, in-with es (archive_key m.thread) e some, k.0, k.1)
+            let k = known-entry e m archived (with-key es (thread_key m.thread) e some) found in
+            (e, in-with es (thread_key m.thread) e some, k.0, k.1)
 
     pub judged-forked : (step : ℕ) (kept offered : List ℕ) → judged_message dig es m ≡ Forked step kept offered
         → (step ≡ m.thread.step) × (offered ≡ m.thread.auth) × (kept ≢ offered)
         × ((e : Entry) × In e es × (e.thread.from ≡ m.thread.from) × (e.thread.step ≡ step) × (e.thread.auth ≡ kept))
     unfolding judgement
-    judged-forked step kept offered is = by (entry_with es (archive_key m.thread)) refl is
+    judged-forked step kept offered is = by (entry_with es (thread_key m.thread)) refl is
       where
-        by : (o : Option Entry) → entry_with es (archive_key m.thread) ≡ o
+        by : (o : Option Entry) → entry_with es (thread_key m.thread) ≡ o
             → judgement dig o (last_of_peer es m.thread.from) m ≡ Forked step kept offered
             → (step ≡ m.thread.step) × (offered ≡ m.thread.auth) × (kept ≢ offered)
             × ((e : Entry) × In e es × (e.thread.from ≡ m.thread.from) × (e.thread.step ≡ step)
             × (e.thread.auth ≡ kept))
         by None none found = absurd (new-not_forked (last_of_peer es m.thread.from) m step kept offered found)
         by (Some e) some found =
-            let f = forked-entry e m step kept offered (with-key es (archive_key m.thread) e some) found in
-            (f.0, f.1, f.2, (e, in-with es (archive_key m.thread) e some, f.3, f.4, f.5))
+            let f = forked-entry e m step kept offered (with-key es (thread_key m.thread) e some) found in
+            (f.0, f.1, f.2, (e, in-with es (thread_key m.thread) e some, f.3, f.4, f.5))
 
     pub judged-accepted : ((e : Entry) → In e es → e.thread.from ≡ m.thread.from → IsLatest m.thread.from es e)
         → IsLinked m → judged_message dig es m ≡ Accept
@@ -152,21 +152,21 @@ module _ (dig : List ℕ → List ℕ) where
         × (m.since ≡ last_entry_step (last_of_peer es m.thread.from)) × Leads dig
         (kept_auth dig m.thread.from (last_of_peer es m.thread.from)) m
     unfolding judgement
-    judged-accepted latest linked is = by (entry_with es (archive_key m.thread)) refl is
+    judged-accepted latest linked is = by (entry_with es (thread_key m.thread)) refl is
       where
-        lower : entry_with es (archive_key m.thread) ≡ None → last_entry_step (last_of_peer es m.thread.from)
+        lower : entry_with es (thread_key m.thread) ≡ None → last_entry_step (last_of_peer es m.thread.from)
             ≤ m.thread.step
             → (e : Entry) → In e es → e.thread.from ≡ m.thread.from → e.thread.step < m.thread.step
         lower none low e there same = elim (cases_lt e.thread.step m.thread.step) [
           | inl less ↦ less
           | inr at_least ↦ (let up = up-to-last m.thread.from es latest e there same in
               let steps : e.thread.step ≡ m.thread.step = omega (arith, at_least, up, low) in
-              let key : key_of e ≡ archive_key m.thread = λ i. record { from = same i; step = steps i } in
-              absurd (Each-in (λ (f : Entry). key_of f ≢ archive_key m.thread) es e
-              (each-without es (archive_key m.thread) none) there key))
+              let key : key_of e ≡ thread_key m.thread = λ i. record { from = same i; step = steps i } in
+              absurd (Each-in (λ (f : Entry). key_of f ≢ thread_key m.thread) es e
+              (each-without es (thread_key m.thread) none) there key))
         ]
 
-        by : (o : Option Entry) → entry_with es (archive_key m.thread) ≡ o
+        by : (o : Option Entry) → entry_with es (thread_key m.thread) ≡ o
             → judgement dig o (last_of_peer es m.thread.from) m ≡ Accept
             → ((e : Entry) → In e es → e.thread.from ≡ m.thread.from → e.thread.step < m.thread.step)
             × (m.since ≡ last_entry_step (last_of_peer es m.thread.from)) × Leads dig

@@ -8,7 +8,7 @@ use Rattle.tw_base.specs.declared.history.root.Root.{Root}
 use Rattle.tw_base.specs.declared.history.thread.Entry.{Entry}
 use Rattle.tw_base.specs.declared.history.thread.Key.{Key}
 use Rattle.tw_base.specs.history.Asking.{entry_with, last_below}
-use Rattle.tw_base.specs.history.Entries.{key_of}
+use Rattle.tw_base.specs.history.Entries.{key_of, of_peer, thread_key}
 use Rattle.tw_base.specs.history.Limits.{IsEntryInRange, IsStep}
 use Rattle.tw_base.specs.kinds.Lists.{In}
 use Rattle.tw_base.specs.kinds.Texts.{genesis_text}
@@ -19,9 +19,9 @@ use Rattle.tw_msg.specs.declared.message.Message.{Message}
 use Rattle.tw_rbtree.specs.Ways.{found_before, found_with}
 use Rattle.tw_archive.specs.declared.judgement.Judgement.{Judgement}
 use Rattle.tw_archive.specs.declared.judgement.Judgement.TheVariants.{Known, Forked, Stale, BadLink, Accept}
-use Rattle.tw_archive.specs.Judging.{IsJudgementFor, archive_key, found_judgement, found_known, found_last, judge_known}
+use Rattle.tw_archive.specs.Judging.{IsJudgementFor, found_judgement, found_known, found_last, judge_known}
 use Rattle.tw_archive.specs.Judging.{judge_new, judged_message, judgement, kept_auth, last_entry_step, last_of_peer}
-use Rattle.tw_archive.specs.Judging.{leads_from_last, of_peer, peer_end}
+use Rattle.tw_archive.specs.Judging.{leads_from_last, peer_end}
 use Rattle.tw_archive.proofs.Peers.{IsLatest, above-last}
 
 -- ---- what is told
@@ -67,7 +67,7 @@ module _ (dig : List ℕ → List ℕ) where
           (last-range last m.thread.step range less, less)
       by false above = led (leads_from_last dig last m) (ltb-false m.thread.step (last_entry_step last) above)
 
-  pub is-told : (known last : Option Entry) (m : Message) → IfSome known (λ e. (key_of e ≡ archive_key m.thread)
+  pub is-told : (known last : Option Entry) (m : Message) → IfSome known (λ e. (key_of e ≡ thread_key m.thread)
       × IsEntryInRange e)
       → IfSome last (λ e. (e.thread.from ≡ m.thread.from) × IsEntryInRange e) → IsJudgementFor dig m
       (judgement dig known last m)
@@ -98,10 +98,10 @@ module _ (dig : List ℕ → List ℕ) where
       known-found = by (nat_lt (last_entry_step last) m.thread.step) refl
         where
           by : (b : Bool) → nat_lt (last_entry_step last) m.thread.step ≡ b
-              → (cond b (Is None) (found_with dig ps root (archive_key m.thread)) >>= judge_by) ≡ Is
+              → (cond b (Is None) (found_with dig ps root (thread_key m.thread)) >>= judge_by) ≡ Is
               (judged_message dig es m)
           by true above = ap judge_by (sym (above-last m.thread.from es latest m.thread.step above))
-          by false low = ap (λ (f : Found (Option Entry)). f >>= judge_by) (get (archive_key m.thread))
+          by false low = ap (λ (f : Found (Option Entry)). f >>= judge_by) (get (thread_key m.thread))
 
       pub judgement-found : found_last dig ps root m.thread.from ≡ Is last → found_judgement dig ps root m ≡ Is
           (judged_message dig es m)

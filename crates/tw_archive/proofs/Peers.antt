@@ -13,10 +13,10 @@ use Rattle.std.proofs.lemmas.Slice.Eq.{bytes_eq-Decides}
 use Rattle.tw_base.specs.declared.history.thread.Entry.{Entry}
 use Rattle.tw_base.specs.declared.history.thread.Key.{Key}
 use Rattle.tw_base.specs.history.Asking.{entry_with, last_below}
-use Rattle.tw_base.specs.history.Entries.{key_cmp, key_of}
+use Rattle.tw_base.specs.history.Entries.{key_cmp, key_of, of_peer}
 use Rattle.tw_base.specs.kinds.Lists.{Each, In}
 use Rattle.tw_base.proofs.lemmas.history.Members.{without-each}
-use Rattle.tw_archive.specs.Judging.{last_entry_step, last_of_peer, of_peer, peer_end}
+use Rattle.tw_archive.specs.Judging.{last_entry_step, last_of_peer, peer_end}
 
 pub each-of : {X : Type 0} (P : X → Type 0) (xs : List X) → ((x : X) → In x xs → P x) → Each P xs
 each-of P [] all = tt

@@ -8,6 +8,7 @@ use Rattle.tw_base.specs.declared.history.thread.Thread.{Thread}
 use Rattle.tw_base.specs.history.Asking.{entry_with, last_below}
 use Rattle.tw_base.specs.history.Limits.{IsStep}
 use Rattle.tw_base.specs.kinds.Texts.{genesis_text}
+use Rattle.tw_base.specs.history.Entries.{of_peer, thread_key}
 use Rattle.tw_disk.specs.Found.{Found, ◌>>=◌}
 use Rattle.tw_disk.specs.Found.Found.{Is}
 use Rattle.tw_disk.specs.Image.{Image}
@@ -17,17 +18,9 @@ use Rattle.tw_skipproof.specs.Paths.{climbed}
 use Rattle.tw_archive.specs.declared.judgement.Judgement.{Judgement}
 use Rattle.tw_archive.specs.declared.judgement.Judgement.TheVariants.{Known, Forked, Stale, BadLink, Accept}
 
-abbrev pub archive_key : Thread → Key
-archive_key t = record { from = t.from; step = t.step }
-
 -- above each key of the peer, since a step is at most 2^40 - 1
 abbrev pub peer_end : (peer : List ℕ) → Key
 peer_end peer = record { from = peer; step = 2 ^ 40 }
-
--- the entry, if it is of the peer
-abbrev pub of_peer : (peer : List ℕ) → Option Entry → Option Entry
-of_peer peer None = None
-of_peer peer (Some e) = if bytes_eq e.thread.from peer then Some e else None
 
 -- the peer's entry with the greatest step
 abbrev pub last_of_peer : List Entry → (peer : List ℕ) → Option Entry
@@ -68,7 +61,7 @@ module _ (dig : List ℕ → List ℕ) where
 
   -- by the entries of an archive
   abbrev pub judged_message : List Entry → Message → Judgement
-  judged_message es m = judgement (entry_with es (archive_key m.thread)) (last_of_peer es m.thread.from) m
+  judged_message es m = judgement (entry_with es (thread_key m.thread)) (last_of_peer es m.thread.from) m
 
   -- a judgement of the message by entries within their limits tells steps within theirs: 1 to 2^40 - 1, and of a wrong link from 0 on, of
   -- which the authenticator of the name is kept. A fork is of the message's step and authenticator, and keeps another one
@@ -88,7 +81,7 @@ module _ (dig : List ℕ → List ℕ) where
 
     -- the entry of the thread's key, which isn't looked for where the step is above the last entry's
     unfoldable pub found_known : (last : Option Entry) → Thread → Found (Option Entry)
-    found_known last t = if nat_lt (last_entry_step last) t.step then Is None else found_with dig pages root (archive_key t)
+    found_known last t = if nat_lt (last_entry_step last) t.step then Is None else found_with dig pages root (thread_key t)
 
     -- the judgement by these two
     unfoldable pub found_judgement : Message → Found Judgement

@@ -1,30 +1,20 @@
 // Judging a message by the entries that a service's archive has, and finding these in the archive's pages; services call `near.rt`.
 
 ghost use Rattle.std.specs.Prelude.{◌≡◌, IfOk, IfSome};
-ghost use Rattle.tw_base.specs.history.Entries.{key_of};
+ghost use Rattle.tw_base.specs.history.Entries.{key_of, thread_key};
 ghost use Rattle.tw_base.specs.history.Limits.{IsEntryInRange};
 ghost use Rattle.tw_disk.specs.Answers.{ReadsPages};
 ghost use Rattle.tw_disk.specs.WalkFaults.{walk_faults};
 ghost use Rattle.tw_msg.specs.Messages.{IsLinked};
-ghost use Rattle.tw_archive.specs.Judging.{IsJudgementFor, archive_key, found_judgement, found_known, found_last, judge_known as judge_known_as, judge_new as judge_new_as, judgement, kept_auth, last_entry_step, leads_from_last, of_peer as entry_of};
+ghost use Rattle.tw_archive.specs.Judging.{IsJudgementFor, found_judgement, found_known, found_last, judge_known as judge_known_as, judge_new as judge_new_as, judgement, kept_auth, last_entry_step, leads_from_last};
 
 use crate::judgement::Judgement;
 use tw_base::limits::LAST_STEP;
-use tw_base::{Digest, Entry, Hasher, Key, Name, Root, Thread, genesis};
+use tw_base::{Digest, Entry, Hasher, Key, Name, Root, Thread, entry_of_peer, genesis};
 use tw_disk::{Pages, WalkFault};
 use tw_msg::Message;
 use tw_rbtree::{before, get};
 use tw_skipproof::climb;
-
-/// The entry, if it is of the peer.
-fn of_peer(entry: Option<Entry>, peer: &Name) -> Option<Entry>
-    ensures { result ≡ entry_of peer.now entry }
-{
-    match entry {
-        Some(entry) if entry.thread.from == *peer => Some(entry),
-        _ => None,
-    }
-}
 
 /// The step of the last entry, or 0.
 fn last_step(last: &Option<Entry>) -> u64
@@ -140,7 +130,7 @@ pub fn last_of<P: Pages, H: Hasher>(
         step: LAST_STEP + 1,
     };
     let near = before::<P, H>(pages, root, &end)?;
-    Ok(of_peer(near, peer))
+    Ok(entry_of_peer(near, peer))
 }
 
 /// The entry of the thread's key, which isn't looked for where the step is above the last one's.
@@ -152,7 +142,7 @@ fn known_of<P: Pages, H: Hasher>(
     thread: &Thread,
 ) -> Result<Option<Entry>, WalkFault>
     ensures reads { ReadsPages walk_faults P.view P.same pages.old pages.new (λ e. e) result (λ ps. found_known H.dig ps root.now last.now thread.now) }
-    ensures entry { IfOk result (λ o. IfSome o (λ e. (key_of e ≡ archive_key thread.now) × IsEntryInRange e)) }
+    ensures entry { IfOk result (λ o. IfSome o (λ e. (key_of e ≡ thread_key thread.now) × IsEntryInRange e)) }
 {
     if last_step(last) < thread.step {
         return Ok(None);

@@ -21,7 +21,8 @@ ghost use Rattle.tw_rbtree.specs.Listing.{listed};
 ghost use Rattle.tw_rbtree.specs.Standing.{HasNamed, StandsForTree, StandsWith};
 ghost use Rattle.tw_archive.specs.Archives.{Agree, HasGrown, KeepsTree, KeepsTrees, MayArchive, archiving, named_at};
 ghost use Rattle.tw_archive.specs.declared.judgement.Judgement.TheVariants.{Accept, Forked, Known};
-ghost use Rattle.tw_archive.specs.Judging.{archive_key, found_judgement, found_last, judged_message, kept_auth, last_entry_step, last_of_peer};
+ghost use Rattle.tw_base.specs.history.Entries.{thread_key};
+ghost use Rattle.tw_archive.specs.Judging.{found_judgement, found_last, judged_message, kept_auth, last_entry_step, last_of_peer};
 ghost use Rattle.tw_archive.specs.Numbering.{number_of_page, numbered_archive, new_from};
 
 use tw_base::{Hasher, asking_laws};
@@ -48,7 +49,7 @@ pub fn judgement_laws<H: Hasher>()
     // A message whose thread an entry has is known, with the step that received it, whatever threads of its service came later.
     ensures knows { (es : List Entry) (m : Message) (e : Entry) → IsRising es → In e es → e.thread ≡ m.thread → judged_message H.dig es m ≡ Known e.archived }
     // One of whose service and step an entry has another authenticator is a fork of it.
-    ensures forks { (es : List Entry) (m : Message) (e : Entry) → IsRising es → In e es → archive_key e.thread ≡ archive_key m.thread → e.thread.auth ≢ m.thread.auth →
+    ensures forks { (es : List Entry) (m : Message) (e : Entry) → IsRising es → In e es → thread_key e.thread ≡ thread_key m.thread → e.thread.auth ≢ m.thread.auth →
         judged_message H.dig es m ≡ Forked m.thread.step e.thread.auth m.thread.auth }
     // A message is known only where an entry has its thread, received at the step that is told.
     ensures known { (es : List Entry) (m : Message) (archived : ℕ) → judged_message H.dig es m ≡ Known archived →

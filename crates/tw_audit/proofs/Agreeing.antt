@@ -4,10 +4,10 @@ use Rattle.std.specs.Prelude.{Option, Some, None, find, nat_le, not, option_and_
 use Rattle.std.proofs.lemmas.Bool.{le-leb, leb-true}
 use Rattle.std.proofs.lemmas.Slice.Eq.{bytes_eq-Decides}
 use Rattle.tw_base.specs.declared.history.thread.Thread.{Thread}
-use Rattle.tw_base.specs.history.Auth.{auth}
+use Rattle.tw_base.specs.history.Auth.{auth, auth_within}
 use Rattle.tw_base.specs.history.Family.{HasThread, HasThreads, history_of}
 use Rattle.tw_base.specs.history.History.{History}
-use Rattle.tw_audit.specs.Auditing.{agrees_with, auth_within, is_found}
+use Rattle.tw_audit.specs.Auditing.{agrees_with, is_found}
 
 module _ (dig : List ℕ → List ℕ) (family : List History) where
   pub agrees-has : (t : Thread) → agrees_with dig family t ≡ true → HasThread dig family t

@@ -12,7 +12,8 @@ use Rattle.tw_base.proofs.lemmas.kinds.ListLemmas.{Each-in, Each-map, In-left, I
 use Rattle.tw_history.specs.declared.stops.Stop.{Stop}
 use Rattle.tw_history.specs.Stops.{auth_to, stopped_at}
 use Rattle.tw_audit.specs.declared.passing.Passed.{Passed}
-use Rattle.tw_audit.specs.Auditing.{auth_in, auth_within}
+use Rattle.tw_base.specs.history.Auth.{auth_within}
+use Rattle.tw_audit.specs.Auditing.{auth_in}
 use Rattle.tw_audit.specs.Stops.{AnswerInTurn, AnswersAll, found_by_stops}
 use Rattle.tw_audit.proofs.LoopLaws.{each-more}
 

@@ -1,10 +1,10 @@
 -- What is found when a proof is held against histories.
-use Rattle.std.specs.Prelude.{◌≡◌, ℕ, List, ◌++◌, length, Bool, false, not, Option, Some, None, option_and_then, find, nat_le, if◌then◌else◌, Result, Ok, Err}
+use Rattle.std.specs.Prelude.{◌≡◌, ℕ, List, ◌++◌, Bool, false, not, Option, Some, None, option_and_then, find, Result, Ok, Err}
 use Rattle.std.specs.Option.{option_map_or}
 use Rattle.std.specs.Str.{bytes_eq}
 use Rattle.tw_base.specs.declared.history.report.Report.{Report}
 use Rattle.tw_base.specs.declared.history.thread.Thread.{Thread}
-use Rattle.tw_base.specs.history.Auth.{auth}
+use Rattle.tw_base.specs.history.Auth.{auth_within}
 use Rattle.tw_base.specs.history.Family.{family_texts, history_of}
 use Rattle.tw_base.specs.history.History.{History}
 use Rattle.tw_base.specs.kinds.Clash.{Pair, clash_pair}
@@ -16,10 +16,6 @@ use Rattle.tw_audit.specs.declared.finding.AuditFault.{AuditFault}
 use Rattle.tw_audit.specs.declared.finding.AuditFault.TheVariants.{NotHeld, NoMemory}
 use Rattle.tw_audit.specs.declared.finding.Finding.{Finding}
 use Rattle.tw_audit.specs.declared.finding.Finding.TheVariants.{Stands, Clash, NotAccepted}
-
--- the history's authenticator of this step, 0 its beginning; none above its last step
-abbrev pub auth_within : (dig : List ℕ → List ℕ) → History → (step : ℕ) → Option (List ℕ)
-auth_within dig h step = if nat_le step (length h.steps) then Some (auth dig h step) else None
 
 -- the authenticator that was found is the thread's
 abbrev pub is_found : Option (List ℕ) → Thread → Bool

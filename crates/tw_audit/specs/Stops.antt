@@ -8,7 +8,8 @@ use Rattle.tw_base.specs.kinds.Lists.{Each}
 use Rattle.tw_history.specs.Stops.{stopped_at}
 use Rattle.tw_audit.specs.declared.passing.Missing.{Missing}
 use Rattle.tw_audit.specs.declared.passing.Passed.{Passed}
-use Rattle.tw_audit.specs.Auditing.{agrees_with, auth_in, auth_within}
+use Rattle.tw_base.specs.history.Auth.{auth_within}
+use Rattle.tw_audit.specs.Auditing.{agrees_with, auth_in}
 
 -- what was kept of the first history of the thread's service, at its step
 abbrev pub found_by_stops : List Passed → Thread → Option (List ℕ)

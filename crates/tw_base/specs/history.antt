@@ -6,10 +6,12 @@ pub mod WithLeaf
 pub mod Holding
 pub mod History
 pub mod Tree
+pub mod Ways
 pub mod Limits
 pub mod Rules
 pub mod Sound
 pub mod Auth
+pub mod TreeProofs
 pub mod HistoryTexts
 pub mod Family
 pub mod Chains

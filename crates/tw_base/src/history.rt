@@ -16,3 +16,4 @@ pub(crate) mod thread;
 pub(crate) mod thread_writing;
 pub(crate) mod told_labels;
 pub(crate) mod tree_proof;
+pub(crate) mod way;

@@ -1,9 +1,10 @@
 // Pages with a shelf of their own: how they are made, lent and given back; `paged.rt` reads them.
-ghost use Rattle.std.specs.Prelude.{◌≡◌, IfOk, IfErr};
+ghost use Rattle.std.specs.Prelude.{◌≡◌, ◌≤◌, IfOk, IfErr, length};
 ghost use Rattle.std.specs.Borrow.{sem};
 ghost use Rattle.std.proofs.Props.{props};
 ghost use Rattle.tw_disk.specs.Keeping.{ArePagesOf};
 ghost use Rattle.tw_disk.specs.Shelves.{kept_on};
+ghost use Rattle.tw_disk.specs.declared.limits.TheConstants.{MOST_KEPT};
 
 use std::alloc::Global;
 use tw_base::NoMemory;
@@ -20,7 +21,7 @@ pub struct Cached<P: Pages> {
 }
 
 impl<P: Pages> Cached<P> {
-    ghost use Rattle.tw_cache.specs.Cached.{LendsInner, inner_of};
+    ghost use Rattle.tw_cache.specs.Cached.{LendsInner, inner_of, kept_of};
 
     /// Keeps none of the pages yet. `NoMemory`, with the pages, where there is none for what it keeps beside them.
     pub fn new(alloc: Global, pages: P) -> Result<Cached<P>, (P, NoMemory)>
@@ -33,6 +34,16 @@ impl<P: Pages> Cached<P> {
             Ok(shelf) => Ok(Cached { pages, shelf }),
             Err(none) => Err((pages, none)),
         }
+    }
+
+    /// How many pages are kept, at most 64.
+    pub fn kept(&self) -> usize
+        // It is the number of pages that are kept.
+        ensures count { result ≡ length (kept_of self.now) }
+        // Never are more than 64 pages kept.
+        ensures most { length (kept_of self.now) ≤ MOST_KEPT }
+    {
+        self.shelf.len()
     }
 
     /// The inner pages, to be changed. All that is kept is forgotten first, so no page is answered that was changed or discarded there.

@@ -30,6 +30,7 @@ use Rattle.tw_base.proofs.lemmas.history.Families.{sound_of, texts_within}
 use Rattle.tw_base.proofs.lemmas.kinds.ListLemmas.{Each-parts}
 use Rattle.tw_base.proofs.lemmas.history.SoundEvents.{sound-may_record}
 use Rattle.tw_base.proofs.lemmas.history.Trees.{tree-rising}
+use Rattle.tw_base.specs.history.TreeProofs.{ancestors_of}
 use Rattle.tw_events.proofs.Binding.{ChecksEvent-binds}
 use Rattle.tw_skipproof.specs.declared.existence.Part.{Part}
 use Rattle.tw_skipproof.specs.declared.opening.Opening.{Opening}
@@ -39,7 +40,7 @@ use Rattle.tw_skipproof.specs.Openings.{Binds, HasOpeningSizes, IsOpeningAt, ope
 use Rattle.tw_skipproof.specs.Paths.{Climbs, HasLinkSizes, path_texts}
 use Rattle.tw_skipproof.proofs.OpeningBinding.{opening-binds_sound}
 use Rattle.tw_skipproof.proofs.PathBinding.{climb-binds}
-use Rattle.tw_treeproof.specs.Answers.{Checks, IsAnswer, Shows, ancestors_of, shown_answer, tree_proof_texts}
+use Rattle.tw_treeproof.specs.Answers.{Checks, IsAnswer, Shows, shown_answer, tree_proof_texts}
 use Rattle.tw_treeproof.specs.Sizes.{HasProofSizes}
 use Rattle.tw_treeproof.proofs.Binding.{check-binds}
 use Rattle.tw_chain.specs.declared.proof.LinkProof.{LinkProof}

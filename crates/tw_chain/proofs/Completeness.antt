@@ -21,6 +21,7 @@ use Rattle.tw_base.specs.history.Sound.{IsSound}
 use Rattle.tw_base.specs.history.Tree.{entries, tree}
 use Rattle.tw_base.proofs.lemmas.kinds.ListLemmas.{Each-append}
 use Rattle.tw_base.proofs.lemmas.history.Trees.{tree-rises}
+use Rattle.tw_base.specs.history.TreeProofs.{IsSo, proof_of}
 use Rattle.tw_skipproof.specs.declared.existence.ExistenceProof.{ExistenceProof}
 use Rattle.tw_skipproof.specs.declared.existence.Part.{Part}
 use Rattle.tw_skipproof.specs.Acceptance.{Reaches}
@@ -31,7 +32,6 @@ use Rattle.tw_skipproof.proofs.ExistenceOf.{accepted-made, spelled-made}
 use Rattle.tw_skipproof.proofs.OwnPaths.{path-of}
 use Rattle.tw_skipproof.proofs.PartOf.{reaches-made}
 use Rattle.tw_treeproof.specs.Answers.{Checks}
-use Rattle.tw_treeproof.specs.Making.{IsSo, proof_of}
 use Rattle.tw_treeproof.proofs.OwnProofs.{own-checks}
 use Rattle.tw_chain.specs.declared.proof.AbsenceProof.{AbsenceProof}
 use Rattle.tw_chain.specs.declared.proof.LinkProof.{LinkProof}

@@ -15,11 +15,11 @@ use Rattle.tw_base.specs.history.Tree.{tree}
 use Rattle.tw_base.specs.kinds.Lists.{Each}
 use Rattle.tw_base.specs.kinds.Names.{IsName}
 use Rattle.tw_base.proofs.lemmas.history.Trees.{entry_at-parts}
+use Rattle.tw_base.specs.history.TreeProofs.{proof_of}
 use Rattle.tw_skipproof.specs.declared.existence.Part.{Part}
 use Rattle.tw_skipproof.specs.declared.opening.Opening.{Opening}
 use Rattle.tw_skipproof.specs.HistoryProofs.{IsOpeningOf, IsPartOfHistory, labels_at}
 use Rattle.tw_skipproof.proofs.OwnPaths.{path-made}
-use Rattle.tw_treeproof.specs.Making.{proof_of}
 use Rattle.tw_chain.specs.OwnProofs.{HasOwnAbsence, HasOwnEvent, HasOwnLink, HasOwnThread}
 
 module _ (dig : List ℕ → List ℕ) (h : History) where

@@ -14,12 +14,13 @@ use Rattle.tw_base.specs.history.History.{History}
 use Rattle.tw_base.specs.kinds.Lists.{Each}
 use Rattle.tw_base.specs.kinds.Names.{IsName}
 use Rattle.tw_base.specs.history.Sound.{IsSound}
-use Rattle.tw_base.specs.history.Tree.{entries, tree}
+use Rattle.tw_base.specs.history.Tree.{entries, height, tree}
 use Rattle.tw_base.proofs.lemmas.format.CodecLaws.{spelled-fits}
 use Rattle.tw_base.proofs.lemmas.kinds.DigestBytes.{auth-digest}
 use Rattle.tw_base.proofs.lemmas.kinds.ListLemmas.{Each-in, Each-map}
 use Rattle.tw_base.proofs.lemmas.history.Trees.{IsArchived, entry_at-parts, received-sound, tree-archived, tree-rises}
 use Rattle.tw_base.proofs.lemmas.history.Members.{in-with}
+use Rattle.tw_base.specs.history.TreeProofs.{IsSo, ancestors_of, proof_of}
 use Rattle.tw_skipproof.specs.declared.existence.Part.{Part}
 use Rattle.tw_skipproof.specs.Codecs.{existence_codec, part_codec, path_codec}
 use Rattle.tw_skipproof.specs.Existence.{existence_bytes}
@@ -28,9 +29,8 @@ use Rattle.tw_skipproof.proofs.ExistenceOf.{spelled-made}
 use Rattle.tw_skipproof.proofs.LawfulCodecs.{existence-lawful}
 use Rattle.tw_skipproof.proofs.PartOf.{part-fits-made, part_in_range-made, part_shaped-made, path-fits-made}
 use Rattle.tw_treeproof.specs.declared.limits.TheConstants.{MOST_ABOVE_ENTRY, MOST_ABOVE_PLACE}
-use Rattle.tw_treeproof.specs.Answers.{ancestors_of, asks_entry}
+use Rattle.tw_treeproof.specs.Answers.{asks_entry}
 use Rattle.tw_treeproof.specs.Codecs.{gap_codec, present_codec, tree_proof_codec}
-use Rattle.tw_treeproof.specs.Making.{IsSo, height, proof_of}
 use Rattle.tw_treeproof.proofs.OwnProofs.{own-fits}
 use Rattle.tw_chain.specs.declared.proof.AbsenceProof.{AbsenceProof}
 use Rattle.tw_chain.specs.declared.proof.LinkProof.{LinkProof}

@@ -17,11 +17,10 @@ use Rattle.tw_base.specs.kinds.Bytes.{AreBytes}
 use Rattle.tw_base.specs.kinds.Lists.{Each}
 use Rattle.tw_base.proofs.lemmas.kinds.DigestBytes.{tree_label-digest}
 use Rattle.tw_base.proofs.lemmas.kinds.ListLemmas.{Each-append, Each-parts}
+use Rattle.tw_base.specs.history.TreeProofs.{IsSo, ancestor, ancestors_of, place_of_ask, proof_at, proof_of, way_up}
+use Rattle.tw_base.specs.history.Ways.{has_asked_key, is_left}
 use Rattle.tw_treeproof.specs.declared.limits.TheConstants.{MOST_ABOVE_ENTRY, MOST_ABOVE_PLACE}
-use Rattle.tw_treeproof.specs.Answers.{ancestors_of}
 use Rattle.tw_treeproof.specs.Codecs.{ancestor_codec, gap_codec, present_codec}
-use Rattle.tw_treeproof.specs.Making.{IsSo, ancestor, place_of_ask, proof_at, proof_of, way_up}
-use Rattle.tw_treeproof.specs.Ways.{has_asked_key, is_left}
 use Rattle.tw_treeproof.proofs.Places.{IsAt, at-place}
 
 -- ---- a tree proof that has a spelling has few nodes above its place

@@ -15,14 +15,15 @@ use Rattle.tw_base.specs.events.AuditPath.{path_length, path_sides, root_above}
 use Rattle.tw_base.specs.kinds.Levels.{top_level}
 use Rattle.tw_base.specs.kinds.Lists.{Each}
 use Rattle.tw_base.specs.kinds.Texts.{event_leaf_text}
+use Rattle.tw_base.specs.history.TreeProofs.{ancestors_of}
+use Rattle.tw_base.specs.history.Ways.{IsNotAsked, climbed_tree, has_asked_key, is_left}
 use Rattle.tw_skipproof.specs.declared.existence.Part.{Part}
 use Rattle.tw_skipproof.specs.declared.opening.Opening.{Opening}
 use Rattle.tw_skipproof.specs.declared.path.Link.{Link}
 use Rattle.tw_skipproof.specs.Acceptance.{Reaches, ShowsEvent}
 use Rattle.tw_skipproof.specs.Openings.{IsOpeningAt, opening_auth}
 use Rattle.tw_skipproof.specs.Paths.{Climbs, HasShape, climbed as path_climbed, hop}
-use Rattle.tw_treeproof.specs.Answers.{Checks, ancestors_of, asks_entry, is_of_entry, place_text}
-use Rattle.tw_treeproof.specs.Ways.{IsNotAsked, climbed_tree, has_asked_key, is_left}
+use Rattle.tw_treeproof.specs.Answers.{Checks, asks_entry, is_of_entry, place_text}
 use Rattle.tw_chain.specs.Checks.{Check, link_top}
 use Rattle.tw_chain.specs.Checks.Check.{InOrder, NeedsAnchor, CarriesThread, PathOf, LinkOf, OpeningOf, EventOf}
 use Rattle.tw_chain.specs.Checks.Check.{AnswerOf}

@@ -10,11 +10,10 @@ use Rattle.tw_base.specs.history.Entries.{key_of}
 use Rattle.tw_base.specs.kinds.Lists.{Each}
 use Rattle.tw_base.specs.kinds.Names.{IsName}
 use Rattle.tw_base.specs.history.Tree.{tree}
+use Rattle.tw_base.specs.history.TreeProofs.{ancestors_of, proof_of}
 use Rattle.tw_skipproof.specs.declared.existence.ExistenceProof.{ExistenceProof}
 use Rattle.tw_skipproof.specs.HistoryProofs.{IsExistenceOf, IsPartOfHistory, IsPathOf}
 use Rattle.tw_treeproof.specs.declared.limits.TheConstants.{MOST_ABOVE_ENTRY, MOST_ABOVE_PLACE}
-use Rattle.tw_treeproof.specs.Answers.{ancestors_of}
-use Rattle.tw_treeproof.specs.Making.{proof_of}
 use Rattle.tw_chain.specs.declared.proof.AbsenceProof.{AbsenceProof}
 use Rattle.tw_chain.specs.declared.proof.LinkProof.{LinkProof}
 use Rattle.tw_chain.specs.declared.proof.Proof.{Proof}

@@ -14,11 +14,11 @@ use Rattle.tw_base.specs.kinds.Clash.{Within}
 use Rattle.tw_base.proofs.lemmas.history.Anchoring.{anchor_of-is}
 use Rattle.tw_base.proofs.lemmas.history.Families.{sound_of}
 use Rattle.tw_base.proofs.lemmas.kinds.Clashes.{Among-right, and_then}
+use Rattle.tw_base.specs.history.TreeProofs.{ancestors_of}
 use Rattle.tw_skipproof.specs.declared.existence.Part.{Part}
 use Rattle.tw_skipproof.specs.Acceptance.{Reaches, part_texts}
 use Rattle.tw_skipproof.specs.Openings.{opening_auth, opening_auth_text, opening_texts}
 use Rattle.tw_skipproof.specs.Paths.{Climbs, path_texts}
-use Rattle.tw_treeproof.specs.Answers.{ancestors_of}
 use Rattle.tw_chain.specs.declared.proof.LinkProof.{LinkProof}
 use Rattle.tw_chain.specs.Checks.{Check, link_checks, top_of, under_anchor}
 use Rattle.tw_chain.specs.Checks.Check.{AnswerOf}

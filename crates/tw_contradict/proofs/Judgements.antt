@@ -30,12 +30,12 @@ use Rattle.tw_chain.specs.Accepting.{IsAccepted, held, proof_texts}
 use Rattle.tw_chain.specs.Checks.{Check, under_anchor}
 use Rattle.tw_chain.specs.Checks.Check.{AnswerOf}
 use Rattle.tw_chain.specs.Passing.{Passes}
-use Rattle.tw_chain.specs.Proofs.{proof_layout}
+use Rattle.tw_chain.specs.Proofs.{link_of, proof_layout}
 use Rattle.tw_chain.proofs.Headline.{headline}
 use Rattle.tw_contradict.specs.ArchiveFiles.{IsFileOf, archive_checks, archive_texts, line_of_archive, order_checks}
 use Rattle.tw_contradict.specs.Facts.{facts_of}
 use Rattle.tw_contradict.specs.Rules.{IsBroken, rule_texts}
-use Rattle.tw_contradict.specs.Linking.{IsJoining, IsVerdictOn, joining_by, link_in_proof}
+use Rattle.tw_contradict.specs.Linking.{IsJoining, IsVerdictOn, joining_by}
 use Rattle.tw_contradict.specs.Verdicts.{IsContradictVerdict, NoneHas, Says, link_leads}
 use Rattle.tw_contradict.specs.declared.archive_proof.ArchiveProof.{ArchiveProof}
 use Rattle.tw_contradict.specs.declared.facts.Conflict.{Conflict}
@@ -80,7 +80,7 @@ pub not-empty : (xs : List ℕ) → (length xs == 0) ≡ false → xs ≢ []
 not-empty [] is e = absurd (cc)
 not-empty (x ∷ xs) is e = cc
 
-pub read-small : (link : List ℕ) (p : Proof) → Spells proof_layout link p → IfSome (link_in_proof p)
+pub read-small : (link : List ℕ) (p : Proof) → Spells proof_layout link p → IfSome (link_of p)
     (λ l. l.top ≤ LAST_STEP)
 read-small link (Exists p) spells = tt
 read-small link (Precedes p) spells = tt
@@ -94,7 +94,7 @@ module _ (dig : List ℕ → List ℕ) (one other : Thread) (link : List ℕ) (s
   other-kind p spells other = (some, λ l also. absurd (other l (one_value proof_layout link p (Linked l) spells also)))
 
   pub read-joining : (p : Proof) → Spells proof_layout link p → IsJoining dig one other link
-      (joining_by dig one other (link_in_proof p))
+      (joining_by dig one other (link_of p))
   read-joining (Exists p) spells = other-kind (Exists p) spells (λ l is. cc)
   read-joining (Precedes p) spells = other-kind (Precedes p) spells (λ l is. cc)
   read-joining (Archived p) spells = other-kind (Archived p) spells (λ l is. cc)

@@ -12,7 +12,7 @@ use Rattle.tw_base.specs.declared.history.tree_proof.Ask.{Ask}
 use Rattle.tw_base.specs.declared.history.tree_proof.Ask.TheVariants.{Present, Absent, Below, Above}
 use Rattle.tw_base.specs.declared.kinds.limits.TheConstants.{LAST_STEP}
 use Rattle.tw_base.specs.history.Asking.{IsGreatestBelow, IsLeastAbove, first_above, last_below}
-use Rattle.tw_base.specs.history.Entries.{KeyBelow, key_of}
+use Rattle.tw_base.specs.history.Entries.{KeyBelow, key_of, of_peer}
 use Rattle.tw_base.specs.history.History.{History, entry_at, received}
 use Rattle.tw_base.specs.history.Sound.{IsSound}
 use Rattle.tw_base.specs.history.Tree.{IsRising, entries, tree}
@@ -22,13 +22,13 @@ use Rattle.tw_base.proofs.lemmas.history.AskedLists.{first-above, last-below, no
 use Rattle.tw_base.proofs.lemmas.history.Members.{in-with}
 use Rattle.tw_base.proofs.lemmas.history.Trees.{IsArchived, entry_at-parts, tree-archived, tree-rises}
 use Rattle.tw_base.proofs.lemmas.kinds.ListLemmas.{Each-in, In-right}
+use Rattle.tw_base.specs.history.Ways.{is_left, nearest_left, nearest_right}
 use Rattle.tw_treeproof.specs.Answers.{IsAnswer, shown_answer}
-use Rattle.tw_treeproof.specs.Ways.{is_left, nearest_left, nearest_right}
 use Rattle.tw_chain.proofs.ArchiveAnswers.{lacks-received}
 use Rattle.tw_tmap.specs.Checking.{nearest_in, step_if_of}
 use Rattle.tw_tmap.proofs.KeyNames.{below-step, between, key, step-below}
 use Rattle.tw_tmap.proofs.Risen.{Rises, received-rises}
-use Rattle.tw_contradict.specs.Facts.{asked_entry, before_received, entry_if_of, lack_of}
+use Rattle.tw_contradict.specs.Facts.{asked_entry, before_received, lack_of}
 use Rattle.tw_contradict.specs.declared.facts.Lack.{Lack}
 
 -- the entry was received at its archived step, which isn't above this one
@@ -114,7 +114,7 @@ module _ (h : History) (sound : IsSound h) where
           (step-below from f.thread.step step less)
 
       below-stands : (o : Option Entry) → last_below archive (key from step) ≡ o
-          → EntryStands h i (entry_if_of from o) × Lacks h (below_lack (step_if_of from o))
+          → EntryStands h i (of_peer from o) × Lacks h (below_lack (step_if_of from o))
       below-stands None none = (
         tt,
         λ f there name above last. none-below (key from step) archive rising none f (held f there)
@@ -156,7 +156,7 @@ module _ (h : History) (sound : IsSound h) where
           (step-below from step f.thread.step late)
 
       above-stands : (o : Option Entry) → first_above archive (key from step) ≡ o
-          → EntryStands h i (entry_if_of from o) × Lacks h (above_lack (before_received i (entry_if_of from o)))
+          → EntryStands h i (of_peer from o) × Lacks h (above_lack (before_received i (of_peer from o)))
       above-stands None none =
           (tt, λ f there name above last. none-above (key from step) archive none f (held f there) (over f name above))
       above-stands (Some e) found = with_name (bytes_eq e.thread.from from) refl

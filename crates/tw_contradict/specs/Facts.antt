@@ -7,8 +7,10 @@ use Rattle.tw_base.specs.declared.history.thread.Thread.{Thread}
 use Rattle.tw_base.specs.declared.history.tree_proof.Ask.{Ask}
 use Rattle.tw_base.specs.declared.history.tree_proof.Ask.TheVariants.{Present, Absent, Below, Above}
 use Rattle.tw_base.specs.declared.kinds.limits.TheConstants.{LAST_STEP}
+use Rattle.tw_base.specs.history.Entries.{of_peer}
+use Rattle.tw_base.specs.history.TreeProofs.{ancestors_of}
 use Rattle.tw_skipproof.specs.Openings.{opening_auth}
-use Rattle.tw_treeproof.specs.Answers.{ancestors_of, shown_answer}
+use Rattle.tw_treeproof.specs.Answers.{shown_answer}
 use Rattle.tw_tmap.specs.Checking.{nearest_in, step_if_of}
 use Rattle.tw_contradict.specs.declared.archive_proof.ArchiveProof.{ArchiveProof}
 use Rattle.tw_contradict.specs.declared.facts.Facts.{Facts}
@@ -20,17 +22,12 @@ use Rattle.tw_contradict.specs.declared.facts.Lack.{Lack}
 abbrev pub nearest_of : ArchiveProof → Option Entry
 nearest_of a = nearest_in (shown_answer a.ask (ancestors_of a.shown))
 
--- the entry, where it is of this service
-abbrev pub entry_if_of : (service : List ℕ) → Option Entry → Option Entry
-entry_if_of service None = None
-entry_if_of service (Some e) = if bytes_eq e.thread.from service then Some e else None
-
 -- the entry that the archive has: the one that is asked for, or the one next to the asked key, where it is of the key's service
 abbrev pub asked_entry : Ask → (nearest : Option Entry) → Option Entry
 asked_entry (Present e) nearest = Some e
 asked_entry (Absent key) nearest = None
-asked_entry (Below key) nearest = entry_if_of key.from nearest
-asked_entry (Above key) nearest = entry_if_of key.from nearest
+asked_entry (Below key) nearest = of_peer key.from nearest
+asked_entry (Above key) nearest = of_peer key.from nearest
 
 -- the step before the one that received the entry next above a key; without one of the service the step itself
 abbrev pub before_received : (step : ℕ) → Option Entry → ℕ
@@ -44,7 +41,7 @@ lack_of step (Absent key) nearest = Some (record { peer = key.from; above = key.
 lack_of step (Below key) nearest =
     Some (record { peer = key.from; above = step_if_of key.from nearest; last = key.step - 1; upto = step })
 lack_of step (Above key) nearest =
-    Some (record { peer = key.from; above = key.step; last = LAST_STEP; upto = before_received step (entry_if_of key.from nearest) })
+    Some (record { peer = key.from; above = key.step; last = LAST_STEP; upto = before_received step (of_peer key.from nearest) })
 
 -- what the file says under this line; its opening computes the authenticator of the step
 abbrev pub facts_of : (dig : List ℕ → List ℕ) → Thread → ArchiveProof → Facts

@@ -4,7 +4,6 @@ use Rattle.std.specs.Option.{option_map_or}
 use Rattle.tw_base.specs.declared.history.thread.Thread.{Thread}
 use Rattle.tw_base.specs.format.Formats.{Spells}
 use Rattle.tw_chain.specs.declared.proof.LinkProof.{LinkProof}
-use Rattle.tw_chain.specs.declared.proof.Proof.{Proof}
 use Rattle.tw_chain.specs.declared.proof.Proof.TheVariants.{Linked}
 use Rattle.tw_chain.specs.Proofs.{proof_layout}
 use Rattle.tw_contradict.specs.declared.verdict.Joining.{Joining}
@@ -22,11 +21,6 @@ abbrev pub IsJoining : (dig : List ℕ → List ℕ) → (one other : Thread) (l
 IsJoining dig one other link Joined = (l : Option LinkProof) × IsLink link l × (joins dig one other l ≡ true)
 IsJoining dig one other link Apart = (link ≡ []) × (is_same_line one other ≡ false)
 IsJoining dig one other link BadLink = (link ≢ []) × ((l : LinkProof) → Spells proof_layout link (Linked l) → link_leads dig one other l ≡ false)
-
--- the link that a proof is
-abbrev pub link_in_proof : Proof → Option LinkProof
-link_in_proof (Linked l) = Some l
-link_in_proof _ = None
 
 -- what is told of a proof that was read as a link
 abbrev pub joining_by : (dig : List ℕ → List ℕ) → (one other : Thread) → Option LinkProof → Joining

@@ -6,7 +6,7 @@ ghost use Rattle.tw_base.specs.kinds.Lists.{Each};
 ghost use Rattle.tw_chain.specs.Finding.{found_in, reason_with};
 ghost use Rattle.tw_chain.specs.Passing.{Passes};
 ghost use Rattle.tw_contradict.specs.ArchiveFiles.{IsFileOf, archive_checks, order_checks};
-ghost use Rattle.tw_contradict.specs.Facts.{asked_entry, before_received as before_received_of, entry_if_of as entry_if, facts_of as facts_under, lack_of, nearest_of};
+ghost use Rattle.tw_contradict.specs.Facts.{asked_entry, before_received as before_received_of, facts_of as facts_under, lack_of, nearest_of};
 ghost use Rattle.tw_contradict.specs.Fitting.{IsSmall};
 ghost use Rattle.tw_contradict.specs.Judged.{IsContradictJudged};
 ghost use Rattle.tw_tmap.specs.Checking.{step_if_of as step_if};
@@ -18,7 +18,9 @@ use crate::archive_reading::read_file;
 use crate::facts::{Facts, Lack};
 use std::alloc::Global;
 use tw_base::limits::LAST_STEP;
-use tw_base::{Ask, Digest, Entry, Hasher, Name, NoMemory, Reason, Thread, find_anchor};
+use tw_base::{
+    Ask, Digest, Entry, Hasher, Name, NoMemory, Reason, Thread, entry_of_peer, find_anchor,
+};
 use tw_chain::{under_anchor, with_answer, with_order};
 use tw_skipproof::check_opening;
 use tw_treeproof::{Shown, check};
@@ -68,16 +70,6 @@ fn nearest<H: Hasher>(proof: &ArchiveProof) -> Option<Entry>
     }
 }
 
-/// The entry, where it is of the service.
-fn entry_if_of(service: &Name, entry: &Option<Entry>) -> Option<Entry>
-    ensures { result ≡ entry_if service.now entry.now }
-{
-    match entry {
-        Some(entry) if entry.thread.from == *service => Some(*entry),
-        _ => None,
-    }
-}
-
 /// The step of an entry of the service, and 0 of another one's or of none. (tw_tmap/src/showing.rt asks so of map files.)
 fn step_if_of(service: &Name, entry: &Option<Entry>) -> u64
     ensures { result ≡ step_if service.now entry.now }
@@ -105,7 +97,7 @@ fn entry_by(ask: &Ask, nearest: &Option<Entry>) -> Option<Entry>
     match ask {
         Ask::Present(entry) => Some(*entry),
         Ask::Absent(_) => None,
-        Ask::Below(key) | Ask::Above(key) => entry_if_of(&key.from, nearest),
+        Ask::Below(key) | Ask::Above(key) => entry_of_peer(*nearest, &key.from),
     }
 }
 
@@ -131,7 +123,7 @@ fn lack_by(step: u64, ask: &Ask, nearest: &Option<Entry>) -> Option<Lack>
             peer: key.from,
             above: key.step,
             last: LAST_STEP,
-            upto: before_received(step, &entry_if_of(&key.from, nearest)),
+            upto: before_received(step, &entry_of_peer(*nearest, &key.from)),
         }),
     }
 }

@@ -2,8 +2,9 @@
 
 ghost use Rattle.std.specs.Prelude.{◌≡◌, ◌≤◌, Some, IfOk, IfSome};
 ghost use Rattle.tw_base.specs.declared.kinds.limits.TheConstants.{LAST_STEP};
+ghost use Rattle.tw_chain.specs.Proofs.{link_of as link_in};
 ghost use Rattle.tw_contradict.specs.Facts.{earlier_thread, is_same_line as is_same, later as later_of};
-ghost use Rattle.tw_contradict.specs.Linking.{IsJoining, joining_by, link_in_proof};
+ghost use Rattle.tw_contradict.specs.Linking.{IsJoining, joining_by};
 ghost use Rattle.tw_contradict.specs.Verdicts.{leads_down as leads_between};
 ghost use Rattle.tw_chain.specs.Finding.{climbs as path_climbs};
 
@@ -80,7 +81,7 @@ pub(crate) fn joining_of<H: Hasher>(
 
 /// The link, where the proof is one.
 fn link_of(proof: Proof) -> Option<LinkProof>
-    ensures { result ≡ link_in_proof proof }
+    ensures { result ≡ link_in proof }
 {
     match proof {
         Proof::Linked(link) => Some(link),

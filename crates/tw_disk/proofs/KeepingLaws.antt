@@ -90,3 +90,10 @@ adds-put old new number page (Ok was) put kept =
     rw entries (λ k d lt. adds-put_entries old number page _ (All-contains_itself (put_entries nat_eq old number page) k
     d lt))
 adds-put old new number page (Err refused) put kept = rw kept (λ k d lt. inl (All-contains_itself old.entries k d lt))
+
+-- it leaves the room for pages as it was
+pub room-put : {V E : Type 0} (old new : LruCache ℕ (Box Page)) (number : ℕ) (page : Box Page) (result : Result V E)
+    → OnOk result (new ≡ lru_cache (put_entries nat_eq old number page) old.cap) → OnErr result (new ≡ old)
+    → new.cap ≡ old.cap
+room-put old new number page (Ok was) put kept = ap (λ c. c.cap) put
+room-put old new number page (Err refused) put kept = ap (λ c. c.cap) kept

@@ -1,11 +1,12 @@
 -- The pages on a shelf.
-use Rattle.std.specs.Prelude.{ℕ, List, [], Option, Some, None, IsSome, nat_eq}
+use Rattle.std.specs.Prelude.{◌≡◌, ℕ, List, [], Option, Some, None, IfSome, IsSome, nat_eq}
 use Rattle.std.specs.Global.{Box}
 use Rattle.std.specs.Map.{lookup}
 use Rattle.std.proofs.lemmas.List.Elements.{All-nil}
 use Rattle.lru.specs.LruCache.{LruCache, lru_cache}
 use Rattle.tw_disk.specs.Image.{Image, Page}
 use Rattle.tw_disk.specs.Keeping.{ArePagesOf, IsKeptPageOf}
+use Rattle.tw_disk.specs.declared.limits.TheConstants.{MOST_KEPT}
 use Rattle.tw_disk.specs.declared.shelf.Shelf.{Shelf}
 
 -- those in the room for them, where there was any
@@ -26,9 +27,15 @@ abbrev pub emptied_room : Option (LruCache ℕ (Box Page)) → Option (LruCache 
 emptied_room None = None
 emptied_room (Some kept) = Some (lru_cache [] kept.cap)
 
+-- that room has the same size
+pub emptied_size : (room : Option (LruCache ℕ (Box Page))) → IfSome room (λ kept. kept.cap ≡ MOST_KEPT)
+    → IfSome (emptied_room room) (λ kept. kept.cap ≡ MOST_KEPT)
+emptied_size None size = size
+emptied_size (Some kept) size = size
+
 -- the shelf with no page on it
 abbrev pub emptied_shelf : Shelf → Shelf
-emptied_shelf shelf = record { kept = emptied_room shelf.kept }
+emptied_shelf shelf = record { kept = emptied_room shelf.kept; room = emptied_size shelf.kept shelf.room }
 
 -- what is in such a room is of whatever pages
 none_in_room : (list : Option Image) (room : Option (LruCache ℕ (Box Page))) → ArePagesOf list (shelf_entries (emptied_room room))

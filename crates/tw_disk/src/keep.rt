@@ -7,7 +7,8 @@ use tw_base::Page;
 
 // Keeps a copy of a page under its number; in a full cache the page that was used longest ago goes. Where there is no memory, nothing changes.
 pub(crate) fn keep(kept: &mut LruCache<u64, Box<Page>>, number: u64, page: &Page)
-    ensures { AddsAtMost kept.old.entries kept.new.entries number page.now }
+    ensures adds { AddsAtMost kept.old.entries kept.new.entries number page.now }
+    ensures room { kept.new.cap ≡ kept.old.cap }
 {
     let alloc = *kept.allocator();
     if let Ok(copy) = Box::new(alloc, *page) {

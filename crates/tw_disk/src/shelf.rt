@@ -1,23 +1,23 @@
 // A shelf: pages that are kept in memory by their numbers; `shelved.rt` reads pages over one.
-ghost use Rattle.std.specs.Prelude.{◌≡◌, ◌-◌, [], ℕ, IfOk, IsTrue, Option, Some};
+ghost use Rattle.std.specs.Prelude.{◌≡◌, ◌≤◌, ◌-◌, [], ℕ, length, IfOk, IfSome, IsTrue, Option, Some};
 ghost use Rattle.tw_disk.specs.Keeping.{AddsAtMost, ArePagesOf};
 ghost use Rattle.tw_disk.specs.Image.{Image, page_at};
-ghost use Rattle.tw_disk.specs.declared.limits.TheConstants.{FIRST_PAGE};
+ghost use Rattle.std.proofs.Props.{props};
+ghost use Rattle.tw_disk.specs.declared.limits.TheConstants.{FIRST_PAGE, MOST_KEPT};
 
 use crate::keep::keep;
+use crate::limits::MOST_KEPT;
 use lru::LruCache;
 use std::alloc::Global;
 use std::num::NonZeroUsize;
 use tw_base::{NoMemory, Page};
-
-// How many pages are kept at most: 256 KiB of them.
-const MOST_KEPT: usize = 64;
 
 /// A shelf of pages, which are kept in memory by their numbers: those read last, at most 64. Where there was no memory for the shelf
 /// itself, it keeps none; each page that is kept then takes memory of its own, where there is some.
 #[derive(Drop)]
 pub struct Shelf {
     pub(crate) kept: Option<LruCache<u64, Box<Page>>>,
+    ghost room: { IfSome kept (λ k. k.cap ≡ MOST_KEPT) } by { Prim.hlevel props },
 }
 
 impl Shelf {
@@ -69,6 +69,20 @@ impl Shelf {
             keep(kept, number, page);
         }
     }
+
+    /// How many pages are kept, at most 64.
+    pub fn len(&self) -> usize
+        // It is the number of pages on the shelf.
+        ensures count { result ≡ length (kept_on self.now) }
+        // No shelf has more than 64 pages.
+        ensures most { length (kept_on self.now) ≤ MOST_KEPT }
+    {
+        match &self.kept {
+            None => 0,
+            Some(kept) => kept.len(),
+        }
+    }
+
     /// Keeps none any more.
     pub fn clear(&mut self)
         ensures { self.new ≡ emptied_shelf self.old }

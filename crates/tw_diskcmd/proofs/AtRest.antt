@@ -15,7 +15,7 @@ use Rattle.tw_pages.specs.Slots.{IsTaken}
 use Rattle.tw_service.specs.Adding.{CallSteps}
 use Rattle.tw_service.specs.Machine.{Call, Reply}
 use Rattle.tw_service.specs.Serves.{HasSameDisk, Serves, disk_of, name_of, record_of}
-use Rattle.tw_service.specs.Stands.{StandsFor, StandsForOneOf}
+use Rattle.tw_service.specs.Stands.{IsImageOfHistory, StandsFor, StandsForOneOf}
 use Rattle.tw_service.specs.declared.service.Service.{Service}
 use Rattle.tw_service.proofs.Serving.{rest_for_good}
 use Rattle.tw_diskcmd.specs.Steps.{AddsFrom}
@@ -24,16 +24,16 @@ use Rattle.tw_diskcmd.proofs.StoreAtRest.{opens_taken, same_left}
 use Rattle.tw_diskcmd.proofs.StoreAtRest.{left_keeps as keeps_both}
 use Rattle.tw_diskcmd.proofs.StoreSteps.{nothing_written, refused_adds}
 use Rattle.tw_text.specs.declared.fault.CommandFault.{CommandFault}
-use Rattle.tw_diskcmd.specs.Disks.{IsImageOfHistory, IsLeft, KeepsServiceDisk, NextBy, ReadsAsHistory}
+use Rattle.tw_diskcmd.specs.Disks.{IsLeft, KeepsServiceDisk, NextBy, ReadsAsHistory}
 use Rattle.tw_diskcmd.specs.Disks.{RestsAtHistory, StepsBy}
 use Rattle.tw_diskcmd.specs.Faults.{fault_of_service}
 
 -- a history that an image stands for has its own name
-pub own_name : (name : List ℕ) (h : History) (image : Image) → StandsFor sha256 image name h → IsImageOfHistory h image
+pub own_name : (name : List ℕ) (h : History) (image : Image) → StandsFor sha256 image name h → IsImageOfHistory sha256 h image
 own_name name h image stands = subst (λ (n : List ℕ). StandsFor sha256 image n h) (sym stands.named) stands
 
 own_names : (name : List ℕ) (h next : History) (image : Image) → StandsForOneOf sha256 name h next image
-    → OneOf IsImageOfHistory h next image
+    → OneOf (IsImageOfHistory sha256) h next image
 own_names name h next image each = ⊎_elim (λ is. inl (own_name name h image is))
     (λ is. inr (own_name name next image is)) each
 
@@ -43,17 +43,17 @@ pub served_as : {content : Option Image} (Serves : History → Type 0) → ((ima
 served_as Serves served h reads = served reads.image h.name h reads.told reads.stands
 
 -- an image that stands for a history has a store
-pub stands_taken : (h : History) (image : Image) → IsImageOfHistory h image → IsTaken image
+pub stands_taken : (h : History) (image : Image) → IsImageOfHistory sha256 h image → IsTaken image
 stands_taken h image is = opens_taken root_kind is.stands.w image is.stands.is
 
 pub left_keeps : {D : Type 0} (view : D → DiskView) (old new : D) → IsLeft view old new → KeepsServiceDisk view old new
-left_keeps view old new left = keeps_both root_kind IsImageOfHistory view old new left
+left_keeps view old new left = keeps_both root_kind (IsImageOfHistory sha256) view old new left
 
 -- a disk at rest that stands for a history under some name
 pub own_rest : {D : Type 0} (view : D → DiskView) (d : D) (name : List ℕ) (h : History)
     → IsAtRest (view d) (λ i. StandsFor sha256 i name h) → RestsAtHistory view d h
 own_rest view d name h rest =
-    own_rest_as IsImageOfHistory view d h
+    own_rest_as (IsImageOfHistory sha256) view d h
     (record { image = rest.image; told = rest.told; only = rest.only; has = own_name name h rest.image rest.has })
 
 module _ {D H : Type 0} {g : _} {k : _} (view : D → DiskView) where
@@ -64,19 +64,19 @@ module _ {D H : Type 0} {g : _} {k : _} (view : D → DiskView) where
 
   any_moment : (old new : Service D H g k) (h next : History) → LeavesOnly (view (disk_of old)) (view (disk_of new))
       (StandsForOneOf sha256 (name_of old) h next)
-      → LeavesOnly (view (disk_of old)) (view (disk_of new)) (OneOf IsImageOfHistory h next)
+      → LeavesOnly (view (disk_of old)) (view (disk_of new)) (OneOf (IsImageOfHistory sha256) h next)
   any_moment old new h next left =
       leaves_weaker (view (disk_of old)) (view (disk_of new)) (StandsForOneOf sha256 (name_of old) h next)
-      (OneOf IsImageOfHistory h next) (own_names (name_of old) h next) left
+      (OneOf (IsImageOfHistory sha256) h next) (own_names (name_of old) h next) left
 
 module _ {D H X : Type 0} {g : _} {k : _} {view : D → DiskView} (only_now : (d : D) (image : Image)
     → (view d).left_since (view d).moment image → (view d).may_leave image)
     {call : Call} {reply : X → Reply} {old new : Service D H g k} {disk : D} where
   -- an answer, and a refusal, on the disk that the service gives back
   pub answered_steps : {x : X} {h : History} → CallSteps sha256 view call reply old new (Ok x) h → disk ≡ disk_of new
-      → AddsFrom IsImageOfHistory view (disk_of old) disk (NextBy call) (λ x. StepsBy call (reply x)) h (Ok x)
+      → AddsFrom (IsImageOfHistory sha256) view (disk_of old) disk (NextBy call) (λ x. StepsBy call (reply x)) h (Ok x)
   answered_steps {x = x} {h = h} made closed =
-      subst (λ d. AddsFrom IsImageOfHistory view (disk_of old) d (NextBy call) (λ x. StepsBy call (reply x)) h (Ok x))
+      subst (λ d. AddsFrom (IsImageOfHistory sha256) view (disk_of old) d (NextBy call) (λ x. StepsBy call (reply x)) h (Ok x))
       (sym closed) (
         made.next,
         (made.is_next, made.done.0),
@@ -86,11 +86,11 @@ module _ {D H X : Type 0} {g : _} {k : _} {view : D → DiskView} (only_now : (d
 
   pub refused_steps : {r : Refusal} {came : CommandFault} {h : History} → came ≡ fault_of_service r
       → CallSteps sha256 view call reply old new (Err r) h → disk ≡ disk_of new
-      → AddsFrom IsImageOfHistory view (disk_of old) disk (NextBy call) (λ x. StepsBy call (reply x)) h (Err came)
+      → AddsFrom (IsImageOfHistory sha256) view (disk_of old) disk (NextBy call) (λ x. StepsBy call (reply x)) h (Err came)
   refused_steps {r = r} {came = came} {h = h} is made closed =
-      subst (λ d. AddsFrom IsImageOfHistory view (disk_of old) d (NextBy call) (λ x. StepsBy call (reply x)) h (Err came))
+      subst (λ d. AddsFrom (IsImageOfHistory sha256) view (disk_of old) d (NextBy call) (λ x. StepsBy call (reply x)) h (Err came))
       (sym closed)
-      (refused_adds IsImageOfHistory view (NextBy call) (λ x. StepsBy call (reply x)) service.DiskFault fault_of_service
+      (refused_adds (IsImageOfHistory sha256) view (NextBy call) (λ x. StepsBy call (reply x)) service.DiskFault fault_of_service
       refl (disk_of old) (disk_of new) h made.next made.is_next
       (any_moment view old new h made.next made.any_moment)
       (record {

@@ -16,7 +16,8 @@ use Rattle.tw_follow.specs.HeadLists.{Kept, RiseTo}
 use Rattle.tw_follow.specs.HeadPages.{found_heads}
 use Rattle.tw_follow.specs.Refusals.{IsFollowerFault, follower_refusals}
 use Rattle.tw_follow.specs.Stands.{IsNotOpenedFor, OpensWith}
-use Rattle.tw_follow.specs.Stands.Served.{Opened, Unopened}
+use Rattle.tw_pages.specs.Records.{written_record}
+use Rattle.tw_pages.specs.Records.Served.{Opened, Unopened}
 use Rattle.tw_follow.proofs.Answering.{not_both}
 use Rattle.tw_follow.proofs.Standing.{stands_opened}
 use Rattle.tw_text.specs.declared.fault.CommandFault.{CommandFault}
@@ -44,7 +45,7 @@ module _ (found : Option Image) (before after : ℕ) where
         → ((ps : Image) → pages ≡ Some ps → result ≡ as_lines (found_heads ps root)) → IsListed found result
     is_listed result table is = record {
       answer = λ image told. let o = opens image told in
-          (Opened root o.0, o.1, is o.0 o.2);
+          (Opened (written_record root o.0), o.1, is o.0 o.2);
       table = table;
       list = λ k reads. let own = lists k reads in is own.0 own.1 ∙ ap as_lines own.2;
     }

@@ -20,7 +20,8 @@ use Rattle.tw_follow.specs.Offers.{AnswersOffer, JudgesOffer, judged_offer}
 use Rattle.tw_follow.specs.Runs.{GoesByMove}
 use Rattle.tw_follow.specs.Runs.Move.{Answered, Stopped}
 use Rattle.tw_follow.specs.Stands.{IsNotOpenedFor, OpensWith, StandsFor, StandsForOneOf}
-use Rattle.tw_follow.specs.Stands.Served.{Opened, Unopened}
+use Rattle.tw_pages.specs.Records.{written_record}
+use Rattle.tw_pages.specs.Records.Served.{Opened, Unopened}
 use Rattle.tw_follow.proofs.Offering.{IsOfTable, of-table, one-message}
 use Rattle.tw_follow.proofs.Standing.{stands_opened}
 use Rattle.tw_text.specs.declared.fault.CommandFault.{CommandFault}
@@ -74,7 +75,7 @@ module _ (bytes : List ℕ) (m : Message) (spells : Spells message_layout bytes 
         → IsOffered found m result
     is_offered result is table = record {
       answer = λ image told. let o = opens image told in
-          (Opened root o.0, o.1, is);
+          (Opened (written_record root o.0), o.1, is);
       table = table;
       list = λ k reads. is ∙ ap (λ (head : Thread). offered_to head m) (sym (list_head k reads));
     }

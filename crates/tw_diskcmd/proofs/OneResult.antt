@@ -5,7 +5,8 @@ use Rattle.sha2.specs.Sha256.{sha256}
 use Rattle.tw_base.specs.declared.history.thread.Thread.{Thread}
 use Rattle.tw_disk.specs.Image.{Image}
 use Rattle.tw_msg.specs.declared.message.Message.{Message}
-use Rattle.tw_follow.specs.Stands.{Served}
+use Rattle.tw_pages.specs.Records.{Served}
+use Rattle.tw_follow.specs.declared.root.RootRecord.{RootRecord}
 use Rattle.tw_follow.proofs.Standing.{served_once}
 use Rattle.tw_text.specs.declared.fault.CommandFault.{CommandFault}
 use Rattle.tw_text.specs.declared.fault.CommandFault.TheVariants as fault
@@ -31,7 +32,7 @@ one_offering image m before after one other tells also comes goes =
     comes).answer image refl in
     let second = (told_result (λ found r. IsOffered found m r) (found_disk (Some image) before after) other also
     goes).answer image refl in
-    first.2 ∙ ap (λ (s : Served). offered_over m s) (served_once sha256 image first.0 second.0 first.1 second.1)
+    first.2 ∙ ap (λ (s : Served RootRecord). offered_over m s) (served_once sha256 image first.0 second.0 first.1 second.1)
     ∙ sym second.2
 
 pub one_listing : (image : Image) (before after : ℕ) (one other : Result (List ℕ) CommandFault) → TellsContent one
@@ -40,5 +41,5 @@ pub one_listing : (image : Image) (before after : ℕ) (one other : Result (List
 one_listing image before after one other tells also comes goes =
     let first = (listed image before after one tells comes).answer image refl in
     let second = (listed image before after other also goes).answer image refl in
-    first.2 ∙ ap (λ (s : Served). lines_over s) (served_once sha256 image first.0 second.0 first.1 second.1)
+    first.2 ∙ ap (λ (s : Served RootRecord). lines_over s) (served_once sha256 image first.0 second.0 first.1 second.1)
     ∙ sym second.2

@@ -12,8 +12,9 @@ use Rattle.tw_disk.specs.Found.Found.{Is}
 use Rattle.tw_answers.specs.Finds.{IsRefusalFound}
 use Rattle.tw_service.specs.Machine.{AnswersByMachine, Call, Reply}
 use Rattle.tw_answers.specs.Refusals.{IsFault}
-use Rattle.tw_service.specs.Stands.{IsNotOpenedFor, Served}
-use Rattle.tw_service.specs.Stands.Served.{Opened, Unopened}
+use Rattle.tw_service.specs.Stands.{IsNotOpenedFor}
+use Rattle.tw_pages.specs.Records.{Served, written_record}
+use Rattle.tw_pages.specs.Records.Served.{Opened, Unopened}
 use Rattle.tw_base.specs.declared.history.refusal.Refusal.{Refusal}
 use Rattle.tw_base.specs.declared.history.refusal.Refusal.TheVariants as service
 use Rattle.tw_answers.specs.declared.root.RootRecord.{RootRecord}
@@ -148,7 +149,7 @@ module _ (X : Type 0) (Further : Refusal → Type 0) (table : (last : ℕ) → O
 
 -- ---- what a command comes to
 
-module _ {X : Type 0} (Over : Served → Result X CommandFault → Type 0) (ByTable : Result X CommandFault → Type 0)
+module _ {X : Type 0} (Over : Served RootRecord → Result X CommandFault → Type 0) (ByTable : Result X CommandFault → Type 0)
     (ByMachine : History → Result X CommandFault → Type 0) where
   abbrev pub ComesBy : FoundDisk → Result X CommandFault → Type 0
   ComesBy t result = ComesOver Over ByTable ByMachine t result
@@ -158,10 +159,10 @@ module _ {X : Type 0} (Over : Served → Result X CommandFault → Type 0) (ByTa
 
   -- of a service that was opened
   module _ (t : FoundDisk) (root : RootRecord) (pages : Option Image) (opens : IsOpened t.found root pages) where
-    pub opened_result : (r : Result X CommandFault) → ((ps : Image) → pages ≡ Some ps → Over (Opened root ps) r)
+    pub opened_result : (r : Result X CommandFault) → ((ps : Image) → pages ≡ Some ps → Over (Opened (written_record root ps)) r)
         → ByTable r → ((h : History) → ReadsAsHistory t.found h → ByMachine h r) → IsOneOver t.found r
     opened_result r is table machine = record {
-      answer = λ image told. let o = opens image told in (Opened root o.0, o.1, is o.0 o.2);
+      answer = λ image told. let o = opens image told in (Opened (written_record root o.0), o.1, is o.0 o.2);
       table = table;
       machine = machine;
     }
@@ -239,4 +240,4 @@ module _ {X : Type 0} (finds : RootRecord → Image → Found (Result X Refusal)
         let Is : Option Image → Result X CommandFault → Type 0 = IsResult finds ByTable ByMachine in
         let x = (told_result Is (found_disk (Some image) before after) one tells a).answer image refl in
         let y = (told_result Is (found_disk (Some image) before after) other tells' b).answer image refl in
-        x.2 ∙ ap (λ (s : Served). answer_over finds s) (served_once image x.0 y.0 x.1 y.1) ∙ sym y.2
+        x.2 ∙ ap (λ (s : Served RootRecord). answer_over finds s) (served_once image x.0 y.0 x.1 y.1) ∙ sym y.2

@@ -10,7 +10,7 @@ use Rattle.tw_disk.specs.Found.Found.{Is}
 use Rattle.tw_base.specs.declared.history.refusal.Refusal.{Refusal}
 use Rattle.tw_base.specs.declared.history.refusal.Refusal.TheVariants as service
 use Rattle.tw_answers.specs.declared.root.RootRecord.{RootRecord}
-use Rattle.tw_service.specs.EventSteps.{with_events_at}
+use Rattle.tw_service.specs.EventStep.{with_events_at}
 use Rattle.tw_answers.specs.Refusals.{IsFault}
 use Rattle.tw_answers.specs.Finds.{IsRefusalFound}
 use Rattle.tw_service.specs.Finds.{found_thread}

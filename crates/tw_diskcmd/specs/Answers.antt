@@ -7,8 +7,9 @@ use Rattle.tw_disk.specs.Found.{Found}
 use Rattle.tw_disk.specs.Found.Found.{Is, Bad}
 use Rattle.tw_service.specs.Machine.{Call, IsStepOf}
 use Rattle.tw_service.specs.Machine.Reply.{Refused}
-use Rattle.tw_service.specs.Stands.{IsServed, OpensWith, Served}
-use Rattle.tw_service.specs.Stands.Served.{Opened, Unopened}
+use Rattle.tw_service.specs.Stands.{IsServed, OpensWith}
+use Rattle.tw_pages.specs.Records.{Served}
+use Rattle.tw_pages.specs.Records.Served.{Opened, Unopened}
 use Rattle.tw_base.specs.declared.history.refusal.Refusal.{Refusal}
 use Rattle.tw_answers.specs.declared.root.RootRecord.{RootRecord}
 use Rattle.tw_text.specs.declared.refusal.StoreCause.TheVariants.{BadPage}
@@ -27,8 +28,8 @@ IsOpened found root pages = (image : Image) → found ≡ Some image → OpensWi
 
 module _ {X : Type 0} where
   -- where what the disk read as is told, this holds of what it is served as, and of the result
-  abbrev pub IsAnswerOver : (Over : Served → Result X CommandFault → Type 0) → (found : Option Image) → Result X CommandFault → Type 0
-  IsAnswerOver Over found result = (image : Image) → found ≡ Some image → (served : Served) × IsServed image served × Over served result
+  abbrev pub IsAnswerOver : (Over : Served RootRecord → Result X CommandFault → Type 0) → (found : Option Image) → Result X CommandFault → Type 0
+  IsAnswerOver Over found result = (image : Image) → found ≡ Some image → (served : Served RootRecord) × IsServed image served × Over served result
 
   -- what is found in a service's pages, as the command's result
   abbrev pub result_of : Found (Result X Refusal) → Result X CommandFault
@@ -37,12 +38,12 @@ module _ {X : Type 0} where
   result_of (Bad page) = Err (fault.Unserved (BadPage page))
 
   -- the answer: what is found in the pages of the service, or why there is none
-  abbrev pub answer_over : (finds : RootRecord → Image → Found (Result X Refusal)) → Served → Result X CommandFault
-  answer_over finds (Opened root pages) = result_of (finds root pages)
+  abbrev pub answer_over : (finds : RootRecord → Image → Found (Result X Refusal)) → Served RootRecord → Result X CommandFault
+  answer_over finds (Opened w) = result_of (finds w.root w.pages)
   answer_over finds (Unopened why) = Err (fault_of_store why)
 
   -- the result is the answer over what the disk is served as
-  abbrev pub IsTheAnswer : (finds : RootRecord → Image → Found (Result X Refusal)) → Served → Result X CommandFault → Type 0
+  abbrev pub IsTheAnswer : (finds : RootRecord → Image → Found (Result X Refusal)) → Served RootRecord → Result X CommandFault → Type 0
   IsTheAnswer finds served result = result ≡ answer_over finds served
 
 -- ---- refusals
@@ -83,7 +84,7 @@ module _ {X : Type 0} where
 -- ---- what a command comes to
 
 module _ {X : Type 0} where
-  module _ (Over : Served → Result X CommandFault → Type 0) (ByTable : Result X CommandFault → Type 0) (ByMachine : History → Result X CommandFault → Type 0) where
+  module _ (Over : Served RootRecord → Result X CommandFault → Type 0) (ByTable : Result X CommandFault → Type 0) (ByMachine : History → Result X CommandFault → Type 0) where
     -- the result is an answer, the table allows it, and where the disk reads as a history, it is what the machine does
     pub record IsResultOver (found : Option Image) (result : Result X CommandFault) : Type 0 where
       pub answer : IsAnswerOver Over found result

@@ -11,7 +11,7 @@ use Rattle.tw_outside.specs.Asked.{Asked}
 use Rattle.tw_outside.specs.Files.{Files, IsThere, TellsBytes}
 use Rattle.tw_base.specs.declared.history.refusal.Refusal.{Refusal as ServiceRefusal}
 use Rattle.tw_disk.specs.Found.{Found}
-use Rattle.tw_service.specs.EventSteps.{with_events_at}
+use Rattle.tw_service.specs.EventStep.{with_events_at}
 use Rattle.tw_service.specs.Finds.{found_thread}
 use Rattle.tw_answers.specs.Limits.{append_refusal}
 use Rattle.tw_service.specs.Machine.{IsStepOf, last_thread}
@@ -27,7 +27,8 @@ use Rattle.tw_diskcmd.specs.Comes.{FoundDisk, TellsContent}
 use Rattle.tw_diskcmd.specs.Files.{FileComes}
 use Rattle.tw_diskcmd.specs.Leaves.{StaysOr, WriteLeaves, WriteSafe}
 use Rattle.tw_diskcmd.specs.Answers.{ComesTo, IsResult, MachineRefuses, TableRefuses}
-use Rattle.tw_diskcmd.specs.Disks.{IsImageOfHistory, NextBy, StepsBy}
+use Rattle.tw_service.specs.Stands.{IsImageOfHistory}
+use Rattle.tw_diskcmd.specs.Disks.{NextBy, StepsBy}
 
 -- the file is there; where the inputs tell its bytes, they are the events file of these events
 pub record AreEventsOf (told : Option Files) (file : List ℕ) (events : List (List ℕ)) : Type 0 where
@@ -82,11 +83,11 @@ module _ {D : Type 0} (view : D → DiskView) (old new : D) (told : Option Files
   -- the next history is the machine's by the adding of the file's events, and the next record and pages those of the step that is found
   abbrev pub AppendSafe : Type 0
   AppendSafe =
-      WriteSafe root_kind IsImageOfHistory view old new (AreEventsOf told file) (λ events. NextBy (Append events time)) (λ events. StaysOr (AppendsTo sha256 events time))
+      WriteSafe root_kind (IsImageOfHistory sha256) view old new (AreEventsOf told file) (λ events. NextBy (Append events time)) (λ events. StaysOr (AppendsTo sha256 events time))
 
   -- the answer is the machine's, and the thread of that record
   abbrev pub AppendLeaves : Result Thread CommandFault → Type 0
   AppendLeaves result =
-      WriteLeaves root_kind IsImageOfHistory view old new (AreEventsOf told file) (λ events. NextBy (Append events time)) (λ events. StaysOr (AppendsTo sha256 events time))
+      WriteLeaves root_kind (IsImageOfHistory sha256) view old new (AreEventsOf told file) (λ events. NextBy (Append events time)) (λ events. StaysOr (AppendsTo sha256 events time))
       (λ events found came. IsStepResult found events time came) (λ events thread. StepsBy (Append events time) (OfThread thread))
       (λ events thread. IsThreadOfNext sha256 events time thread) result

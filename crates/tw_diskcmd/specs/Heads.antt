@@ -7,10 +7,12 @@ use Rattle.tw_disk.specs.Disk.{DiskView}
 use Rattle.tw_disk.specs.Found.{Found}
 use Rattle.tw_disk.specs.Found.Found.{Is, Bad}
 use Rattle.tw_disk.specs.Image.{Image}
+use Rattle.tw_follow.specs.declared.root.RootRecord.{RootRecord}
 use Rattle.tw_follow.specs.HeadLists.{Kept, RiseTo}
 use Rattle.tw_follow.specs.HeadPages.{found_heads}
-use Rattle.tw_follow.specs.Stands.{IsServed, Served, root_kind}
-use Rattle.tw_follow.specs.Stands.Served.{Opened, Unopened}
+use Rattle.tw_follow.specs.Stands.{IsServed, root_kind}
+use Rattle.tw_pages.specs.Records.{Served}
+use Rattle.tw_pages.specs.Records.Served.{Opened, Unopened}
 use Rattle.tw_text.specs.Lines.{anchor_text}
 use Rattle.tw_text.specs.declared.refusal.StoreCause.TheVariants.{BadPage}
 use Rattle.tw_text.specs.declared.fault.CommandFault.{CommandFault}
@@ -29,8 +31,8 @@ as_lines (Is heads) = Ok (head_lines heads)
 as_lines (Bad page) = Err (fault.Unserved (BadPage page))
 
 -- of the follower that the disk is served as, or why there is none
-abbrev pub lines_over : Served → Result (List ℕ) CommandFault
-lines_over (Opened root pages) = as_lines (found_heads pages root)
+abbrev pub lines_over : Served RootRecord → Result (List ℕ) CommandFault
+lines_over (Opened w) = as_lines (found_heads w.pages w.root)
 lines_over (Unopened why) = Err (fault_of_store why)
 
 -- the lines are those of heads that rise to this one
@@ -45,7 +47,7 @@ TableLists _ = Unit {0}
 -- where what the disk read as is told, the result is that of the follower that it is served as; the table allows it; and where the disk
 -- reads as a list of heads, it is the list's lines
 pub record IsListed (found : Option Image) (result : Result (List ℕ) CommandFault) : Type 0 where
-  pub answer : (image : Image) → found ≡ Some image → (served : Served) × IsServed sha256 image served × (result ≡ lines_over served)
+  pub answer : (image : Image) → found ≡ Some image → (served : Served RootRecord) × IsServed sha256 image served × (result ≡ lines_over served)
   pub table : TableLists result
   pub list : (kept : Kept) → ReadsAsHeads found kept → result ≡ Ok (head_lines kept.heads)
 

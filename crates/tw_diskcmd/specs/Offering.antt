@@ -14,9 +14,10 @@ use Rattle.tw_base.specs.declared.history.refusal.FollowRefusal.{FollowRefusal}
 use Rattle.tw_follow.specs.declared.root.RootRecord.{RootRecord}
 use Rattle.tw_follow.specs.HeadLists.{Kept, last_head, with_head}
 use Rattle.tw_follow.specs.Offers.{answer_to, judged_offer}
-use Rattle.tw_follow.specs.Stands.{IsServed, Served, root_kind}
+use Rattle.tw_follow.specs.Stands.{IsServed, root_kind}
 use Rattle.tw_follow.specs.Writing.{record_after}
-use Rattle.tw_follow.specs.Stands.Served.{Opened, Unopened}
+use Rattle.tw_pages.specs.Records.{Served}
+use Rattle.tw_pages.specs.Records.Served.{Opened, Unopened}
 use Rattle.tw_text.specs.declared.fault.CommandFault.{CommandFault}
 use Rattle.tw_text.specs.declared.fault.CommandFault.TheVariants as fault
 use Rattle.tw_diskcmd.specs.Comes.{DiskComes}
@@ -38,8 +39,8 @@ abbrev pub offered_to : (head : Thread) → Message → Result Thread CommandFau
 offered_to head m = offer_as_told head (judged_offer sha256 head m)
 
 -- of the follower that the disk is served as, or why there is none
-abbrev pub offered_over : Message → Served → Result Thread CommandFault
-offered_over m (Opened root pages) = offered_to root.head m
+abbrev pub offered_over : Message → Served RootRecord → Result Thread CommandFault
+offered_over m (Opened w) = offered_to w.root.head m
 offered_over m (Unopened why) = Err (fault_of_store why)
 
 -- over whatever disk: it is that of some head, or tells of the disk
@@ -50,7 +51,7 @@ TableOffers m result = (head : Thread) × (result ≡ offered_to head m)
 -- where what the disk read as is told, the result is that of the follower that it is served as; the table allows it; and where the disk
 -- reads as a list of heads, it is that of the list's head
 pub record IsOffered (found : Option Image) (m : Message) (result : Result Thread CommandFault) : Type 0 where
-  pub answer : (image : Image) → found ≡ Some image → (served : Served) × IsServed sha256 image served × (result ≡ offered_over m served)
+  pub answer : (image : Image) → found ≡ Some image → (served : Served RootRecord) × IsServed sha256 image served × (result ≡ offered_over m served)
   pub table : TableOffers m result
   pub list : (kept : Kept) → ReadsAsHeads found kept → result ≡ offered_to (last_head sha256 kept) m
 

@@ -20,8 +20,9 @@ use Rattle.tw_service.specs.Machine.{IsStepOf}
 use Rattle.tw_service.specs.Machine.Call.{Receive}
 use Rattle.tw_service.specs.Machine.Reply.{OfReceipt}
 use Rattle.tw_service.specs.Receiving.{TellsOfMessage}
-use Rattle.tw_service.specs.Stands.{Served}
-use Rattle.tw_service.specs.Stands.Served.{Opened, Unopened}
+use Rattle.tw_service.specs.Stands.{IsImageOfHistory}
+use Rattle.tw_pages.specs.Records.{Served}
+use Rattle.tw_pages.specs.Records.Served.{Opened, Unopened}
 use Rattle.tw_text.specs.declared.fault.CommandFault.{CommandFault}
 use Rattle.tw_text.specs.declared.fault.CommandFault.TheVariants as fault
 use Rattle.tw_answers.specs.Roots.{root_kind}
@@ -31,7 +32,7 @@ use Rattle.tw_diskcmd.specs.StoreFaults.{fault_of_store}
 use Rattle.tw_diskcmd.specs.Files.{FileComes, IsBadMessageByte, IsMessageIn}
 use Rattle.tw_diskcmd.specs.Leaves.{StaysOr, WriteLeaves, WriteSafe}
 use Rattle.tw_diskcmd.specs.Answers.{ComesOver, IsRefusal, IsResultOver, MachineRefuses}
-use Rattle.tw_diskcmd.specs.Disks.{IsImageOfHistory, NextBy, StepsBy}
+use Rattle.tw_diskcmd.specs.Disks.{NextBy, StepsBy}
 use Rattle.tw_diskcmd.specs.Faults.{fault_of_service}
 
 -- ---- the message
@@ -52,8 +53,8 @@ module _ (m : Message) (time : Option ℕ) where
       (λ refusal. answer ≡ Err refusal)
 
   -- the result is such an answer of the service that the disk is served as, or tells why there is none
-  abbrev pub IsReceivedOver : Served → Result Receipt CommandFault → Type 0
-  IsReceivedOver (Opened root pages) result = (answer : Result Receipt ServiceRefusal) × AnswersMessage root pages answer × (result ≡ receipt_as_told answer)
+  abbrev pub IsReceivedOver : Served RootRecord → Result Receipt CommandFault → Type 0
+  IsReceivedOver (Opened w) result = (answer : Result Receipt ServiceRefusal) × AnswersMessage w.root w.pages answer × (result ≡ receipt_as_told answer)
   IsReceivedOver (Unopened why) result = result ≡ Err (fault_of_store why)
 
   -- a service with this root record refuses the message so, by the record, or with what it tells of the message
@@ -98,10 +99,10 @@ module _ {D : Type 0} (view : D → DiskView) (old new : D) (told : Option Files
   -- the next history is one by the machine's receiving of the file's message, and the next record and pages those of a step that archives it
   abbrev pub ReceiveSafe : Type 0
   ReceiveSafe =
-      WriteSafe root_kind IsImageOfHistory view old new (IsMessageIn told file) (λ m. NextBy (Receive m time)) (λ m. StaysOr (ArchivesTo sha256 m time))
+      WriteSafe root_kind (IsImageOfHistory sha256) view old new (IsMessageIn told file) (λ m. NextBy (Receive m time)) (λ m. StaysOr (ArchivesTo sha256 m time))
 
   -- the answer is the machine's, and the receipt of that record, or of an earlier step that received the thread
   abbrev pub ReceiveLeaves : Result Receipt CommandFault → Type 0
   ReceiveLeaves result =
-      WriteLeaves root_kind IsImageOfHistory view old new (IsMessageIn told file) (λ m. NextBy (Receive m time)) (λ m. StaysOr (ArchivesTo sha256 m time))
+      WriteLeaves root_kind (IsImageOfHistory sha256) view old new (IsMessageIn told file) (λ m. NextBy (Receive m time)) (λ m. StaysOr (ArchivesTo sha256 m time))
       (λ m found came. IsReceived m time found came) (λ m receipt. StepsBy (Receive m time) (OfReceipt receipt)) (λ m receipt. IsReceiptOfRecord sha256 m time receipt) result

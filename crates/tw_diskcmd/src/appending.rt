@@ -12,7 +12,8 @@ ghost use Rattle.tw_service.specs.Machine.Call.{Append};
 ghost use Rattle.tw_service.specs.Machine.Reply.{OfThread};
 ghost use Rattle.tw_diskcmd.specs.Appending.{AppendComes, AppendLeaves, AreEventsOf, IsBadEventsByte, StepComes};
 ghost use Rattle.tw_diskcmd.specs.Answers.{IsOpened};
-ghost use Rattle.tw_diskcmd.specs.Disks.{IsImageOfHistory, IsLeft, IsService, NextBy, ReadsAsHistory, SparesOtherThanService, StepsBy, found_disk};
+ghost use Rattle.tw_service.specs.Stands.{IsImageOfHistory};
+ghost use Rattle.tw_diskcmd.specs.Disks.{IsLeft, IsService, NextBy, ReadsAsHistory, SparesOtherThanService, StepsBy, found_disk};
 ghost use Rattle.tw_pages.specs.Records.{written_record};
 ghost use Rattle.tw_diskcmd.specs.Files.{StopsAt};
 ghost use Rattle.tw_diskcmd.specs.Leaves.{StaysOr, WritesNothing};
@@ -92,7 +93,7 @@ fn append_events<D: Disk>(
     time: Option<ClaimedTime>,
 ) -> Worked<D, Thread>
     ensures comes { StepComes (found_disk (D.view disk).content (D.view disk).faults (D.view result.disk).faults) events.now time result.outcome }
-    ensures leaves { AddsTo IsImageOfHistory D.view disk result.disk (NextBy (Append events.now time))
+    ensures leaves { AddsTo (IsImageOfHistory sha256) D.view disk result.disk (NextBy (Append events.now time))
         (λ thread. StepsBy (Append events.now time) (OfThread thread)) result.outcome }
     ensures unwritten { WritesNothing result.outcome → IsLeft D.view disk result.disk }
     ensures spares { SparesOtherThanService D.view disk result.disk }
@@ -132,7 +133,7 @@ fn append_to<D: Disk>(
     ensures comes { (found : Option Image) (before : ℕ) → IsOpened found (record_of service) (pages_of D.view service)
         → ((h : History) → ReadsAsHistory found h → Serves sha256 D.view service h) → before ≤ (D.view (disk_of service)).faults
         → StepComes (found_disk found before (D.view result.disk).faults) events.now time result.outcome }
-    ensures leaves { (h : History) → Serves sha256 D.view service h → AddsFrom IsImageOfHistory D.view (disk_of service) result.disk
+    ensures leaves { (h : History) → Serves sha256 D.view service h → AddsFrom (IsImageOfHistory sha256) D.view (disk_of service) result.disk
         (NextBy (Append events.now time)) (λ thread. StepsBy (Append events.now time) (OfThread thread)) h result.outcome }
     ensures unwritten { WritesNothing result.outcome → IsLeft D.view (disk_of service) result.disk }
     ensures writes { (ps : Image) → IsOver D.view service ps → AddsFrom IsService D.view (disk_of service) result.disk

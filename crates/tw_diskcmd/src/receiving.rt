@@ -12,7 +12,8 @@ ghost use Rattle.tw_service.specs.Serves.{IsOver, Serves, disk_of, has_failed, p
 ghost use Rattle.tw_service.specs.Machine.Call.{Receive};
 ghost use Rattle.tw_service.specs.Machine.Reply.{OfReceipt};
 ghost use Rattle.tw_diskcmd.specs.Answers.{IsOpened};
-ghost use Rattle.tw_diskcmd.specs.Disks.{IsImageOfHistory, IsLeft, IsService, NextBy, ReadsAsHistory, SparesOtherThanService, StepsBy, found_disk};
+ghost use Rattle.tw_service.specs.Stands.{IsImageOfHistory};
+ghost use Rattle.tw_diskcmd.specs.Disks.{IsLeft, IsService, NextBy, ReadsAsHistory, SparesOtherThanService, StepsBy, found_disk};
 ghost use Rattle.tw_diskcmd.specs.Receiving.{ReceiveComes, ReceiveLeaves, ReceivedMessageComes};
 ghost use Rattle.tw_pages.specs.Records.{written_record};
 ghost use Rattle.tw_diskcmd.specs.Leaves.{StaysOr, WritesNothing};
@@ -74,7 +75,7 @@ fn receive_message<D: Disk>(
     requires linked { IsLinked message.now }
     requires thread { IsThread message.now.thread }
     ensures comes { ReceivedMessageComes message.now time (found_disk (D.view disk).content (D.view disk).faults (D.view result.disk).faults) result.outcome }
-    ensures leaves { AddsTo IsImageOfHistory D.view disk result.disk (NextBy (Receive message.now time))
+    ensures leaves { AddsTo (IsImageOfHistory sha256) D.view disk result.disk (NextBy (Receive message.now time))
         (λ receipt. StepsBy (Receive message.now time) (OfReceipt receipt)) result.outcome }
     ensures unwritten { WritesNothing result.outcome → IsLeft D.view disk result.disk }
     ensures spares { SparesOtherThanService D.view disk result.disk }
@@ -126,7 +127,7 @@ fn receive_by<D: Disk>(
     ensures comes { (found : Option Image) (before : ℕ) → IsOpened found (record_of service) (pages_of D.view service)
         → ((h : History) → ReadsAsHistory found h → Serves sha256 D.view service h) → before ≤ (D.view (disk_of service)).faults
         → ReceivedMessageComes message.now time (found_disk found before (D.view result.disk).faults) result.outcome }
-    ensures leaves { (h : History) → Serves sha256 D.view service h → AddsFrom IsImageOfHistory D.view (disk_of service) result.disk
+    ensures leaves { (h : History) → Serves sha256 D.view service h → AddsFrom (IsImageOfHistory sha256) D.view (disk_of service) result.disk
         (NextBy (Receive message.now time)) (λ receipt. StepsBy (Receive message.now time) (OfReceipt receipt)) h result.outcome }
     ensures unwritten { WritesNothing result.outcome → IsLeft D.view (disk_of service) result.disk }
     ensures writes { (ps : Image) → IsOver D.view service ps → AddsFrom IsService D.view (disk_of service) result.disk

@@ -4,13 +4,12 @@ use Rattle.std.specs.Str.{bytes_eq}
 use Rattle.tw_base.specs.declared.history.thread.Thread.{Thread}
 use Rattle.tw_base.specs.declared.kinds.limits.TheConstants.{LAST_STEP, PAGE_SIZE}
 use Rattle.tw_base.specs.format.Codecs.{Codec, behind, digest_codec, number_codec, pair, seen}
-use Rattle.tw_base.specs.format.PageBytes.{padded}
+use Rattle.tw_base.specs.format.PageBytes.{padded, page_number_codec}
 use Rattle.tw_disk.specs.Found.{Found, ◌>>=◌, bytes_in, spelled, when}
 use Rattle.tw_disk.specs.Found.Found.{Is}
 use Rattle.tw_disk.specs.Image.{Image}
 use Rattle.tw_follow.specs.declared.head_page.HeadPage.{HeadPage}
 use Rattle.tw_follow.specs.declared.root.RootRecord.{RootRecord}
-use Rattle.tw_follow.specs.Roots.{page_number_codec}
 
 -- a head page: 4, the head's step, its authenticator there, the page of the head before
 unfoldable pub head_codec : Codec HeadPage

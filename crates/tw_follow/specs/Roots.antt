@@ -1,14 +1,11 @@
 -- The root record of a follower.
-use Rattle.std.specs.Prelude.{◌≡◌, ◌↔◌, ℕ, ◌+◌, ◌-◌, ◌^◌, ◌≤◌, List}
+use Rattle.std.specs.Prelude.{◌≡◌, ◌↔◌, ℕ, ◌+◌, ◌≤◌, List}
 use Rattle.tw_base.specs.declared.kinds.limits.TheConstants.{LAST_STEP}
 use Rattle.tw_base.specs.format.Codecs.{Codec, digest_codec, name_codec, number_codec, pair, seen}
 use Rattle.tw_base.specs.kinds.Texts.{genesis_text}
+use Rattle.tw_base.specs.format.PageBytes.{page_number_codec}
 use Rattle.tw_disk.specs.declared.limits.TheConstants.{FIRST_PAGE}
 use Rattle.tw_follow.specs.declared.root.RootRecord.{RootRecord}
-
--- the number of a page
-abbrev pub page_number_codec : Codec ℕ
-page_number_codec = number_codec 8 0 (2 ^ 64 - 1)
 
 -- the name, the head's step, its authenticator there, the head's page: 64 bytes
 unfoldable pub root_codec : Codec RootRecord

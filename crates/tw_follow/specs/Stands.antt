@@ -3,19 +3,14 @@ use Rattle.std.specs.Prelude.{◌≡◌, ◌⊎◌, ℕ, List}
 use Rattle.tw_disk.specs.Found.Found.{Is}
 use Rattle.tw_disk.specs.Image.{Image}
 use Rattle.tw_pages.specs.declared.open.StoreFault.{StoreFault}
-use Rattle.tw_pages.specs.Records.{IsWritten, RecordKind, written_record}
-use Rattle.tw_pages.specs.Records.{IsNotOpenedFor as IsNotOpenedAs}
+use Rattle.tw_pages.specs.Records.{IsWritten, RecordKind, Served, written_record}
+use Rattle.tw_pages.specs.Records.{IsNotOpenedFor as IsNotOpenedAs, IsServed as IsServedAs}
 use Rattle.tw_pages.specs.States.{IsBlankOrFirst}
 use Rattle.tw_pages.specs.States.{StandsForState}
 use Rattle.tw_follow.specs.declared.root.RootRecord.{RootRecord}
 use Rattle.tw_follow.specs.HeadLists.{Kept, no_heads}
 use Rattle.tw_follow.specs.HeadPages.{found_heads}
 use Rattle.tw_follow.specs.Roots.{IsAllowed, root_bytes}
-
--- what an image is served as: the follower of this root record and these pages, or, for this reason, none
-pub data Served : Type 0 where
-  Opened : (root : RootRecord) → (pages : Image) → Served
-  Unopened : StoreFault → Served
 
 -- the pages keep this list under this root record
 pub record KeepsList (pages : Image) (r : RootRecord) (kept : Kept) : Type 0 where
@@ -35,9 +30,9 @@ module _ (dig : List ℕ → List ℕ) where
   abbrev pub IsNotOpenedFor : Image → StoreFault → Type 0
   IsNotOpenedFor image fault = IsNotOpenedAs (root_kind dig) image fault
 
-  abbrev pub IsServed : Image → Served → Type 0
-  IsServed image (Opened root pages) = IsWritten (root_kind dig) (written_record root pages) image
-  IsServed image (Unopened fault) = IsNotOpenedFor image fault
+  -- what an image is served as: the follower of a root record and pages, or, for a reason, none
+  abbrev pub IsServed : Image → Served RootRecord → Type 0
+  IsServed image served = IsServedAs (root_kind dig) image served
 
   -- the image opens as a store that keeps this list
   abbrev pub StandsFor : Image → Kept → Type 0

@@ -23,8 +23,9 @@ ghost use Rattle.tw_follow.specs.Offers.{JudgesOffer, answer_to};
 ghost use Rattle.tw_follow.specs.Roots.{root_codec};
 ghost use Rattle.tw_follow.specs.Runs.{Move, RunsByMoves, moved_texts};
 ghost use Rattle.tw_follow.specs.Runs.Move.{Answered};
-ghost use Rattle.tw_follow.specs.Stands.{IsNotOpenedFor, IsServed, Served, StandsFor};
-ghost use Rattle.tw_follow.specs.Stands.Served.{Opened};
+ghost use Rattle.tw_follow.specs.Stands.{IsNotOpenedFor, IsServed, StandsFor};
+ghost use Rattle.tw_pages.specs.Records.Served.{Opened};
+ghost use Rattle.tw_pages.specs.Records.{Served, written_record};
 
 use tw_base::Hasher;
 
@@ -47,9 +48,9 @@ pub fn image_laws<H: Hasher>()
     ensures never_refused { (image : Image) (k : Kept) (fault : StoreFault) → StandsFor H.dig image k → IsNotOpenedFor H.dig image fault → ⊥ }
     // An image is served as one thing at most: it opens as the follower of one root record and one list of pages, or, for
     // one reason, as none.
-    ensures served { (image : Image) (one other : Served) → IsServed H.dig image one → IsServed H.dig image other → one ≡ other }
+    ensures served { (image : Image) (one other : Served RootRecord) → IsServed H.dig image one → IsServed H.dig image other → one ≡ other }
     // The pages of a follower that an image opens as have numbers below 2^64.
-    ensures numbers { (image : Image) (root : RootRecord) (pages : Image) → IsServed H.dig image (Opened root pages) → 4 + length pages ≤ 2 ^ 64 }
+    ensures numbers { (image : Image) (root : RootRecord) (pages : Image) → IsServed H.dig image (Opened (written_record root pages)) → 4 + length pages ≤ 2 ^ 64 }
 {}
 
 /// Offered bytes are judged in one way over a head, want of memory excepted; and the message that a sound history has

@@ -17,7 +17,7 @@ use Rattle.tw_base.specs.kinds.Lists.{Each}
 use Rattle.tw_base.proofs.lemmas.kinds.ListLemmas.{Each-append}
 use Rattle.tw_msg.specs.declared.message.Message.{Message}
 use Rattle.tw_msg.specs.declared.receipt.Receipt.{Receipt}
-use Rattle.tw_service.specs.EventSteps.{event_step, with_events_at}
+use Rattle.tw_service.specs.EventStep.{event_step, with_events_at}
 use Rattle.tw_service.specs.Machine.{Archives, RepliesTo, received_as}
 use Rattle.tw_service.specs.Machine.Reply.{OfReceipt, Refused}
 use Rattle.tw_service.specs.Stands.{greatest_time}

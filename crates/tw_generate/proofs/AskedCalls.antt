@@ -13,7 +13,7 @@ use Rattle.tw_msg.specs.declared.message.Message.{Message}
 use Rattle.tw_msg.specs.declared.receipt.Receipt.{Receipt}
 use Rattle.tw_service.specs.Adding.{AppendsEvents, CallSteps, ReceivesBytes}
 use Rattle.tw_service.specs.Asking.{AsksFor}
-use Rattle.tw_service.specs.EventSteps.{with_events_at}
+use Rattle.tw_service.specs.EventStep.{with_events_at}
 use Rattle.tw_service.specs.Machine.{AnswersByMachine, Call, IsStepOf, NextOf, Reply}
 use Rattle.tw_service.specs.Machine.Call.{Append, Ask, Receive}
 use Rattle.tw_service.specs.Machine.Reply.{OfBytes, OfReceipt, OfThread}

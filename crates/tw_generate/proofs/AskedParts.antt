@@ -16,7 +16,7 @@ use Rattle.tw_base.proofs.lemmas.history.Plus.{step_at-new}
 use Rattle.tw_base.proofs.lemmas.history.Trees.{entry_at-parts, received-sound}
 use Rattle.tw_chain.proofs.ArchiveAnswers.{received-is_so}
 use Rattle.tw_chain.proofs.Completeness.{from_1_of_entry}
-use Rattle.tw_service.specs.EventSteps.{event_step, with_events_at}
+use Rattle.tw_service.specs.EventStep.{event_step, with_events_at}
 use Rattle.tw_service.specs.Machine.Call.{Ask}
 use Rattle.tw_service.specs.Questions.{pages_refusal}
 use Rattle.tw_generate.specs.Coming.{IsLedTo, IsNotRefused}

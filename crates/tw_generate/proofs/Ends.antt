@@ -3,7 +3,7 @@ use Rattle.std.proofs.Common.{◌≡◌, ℕ, ◌≤◌, ◌<◌, List, length, 
 use Rattle.std.specs.Prelude.{None}
 use Rattle.std.proofs.lemmas.List.{length_push}
 use Rattle.tw_base.specs.history.History.{History, root_of, step_at}
-use Rattle.tw_service.specs.EventSteps.{event_step, with_events_at}
+use Rattle.tw_service.specs.EventStep.{event_step, with_events_at}
 use Rattle.tw_generate.specs.Coming.{IsLedTo}
 use Rattle.tw_generate.specs.Schedules.{LeadTo, Trio, Who, all_append, end_event, no_steps, rounds_of, trio_history}
 use Rattle.tw_generate.specs.Schedules.Who.{Alpha, Beta, Gamma}

@@ -4,7 +4,7 @@ use Rattle.std.specs.Prelude.{None, Result, Ok, Err, OnOk}
 use Rattle.std.specs.Str.{bytes_eq}
 use Rattle.tw_base.specs.history.History.{History, received, root_of, step_at}
 use Rattle.tw_disk.specs.Disk.{DiskView}
-use Rattle.tw_service.specs.EventSteps.{event_step, with_events_at}
+use Rattle.tw_service.specs.EventStep.{event_step, with_events_at}
 use Rattle.tw_service.specs.Stands.{no_history}
 use Rattle.tw_generate.specs.Draws.{after_step}
 use Rattle.tw_generate.specs.Playing.{HasHeard, HasHeardOf, LeadsByActs}

@@ -26,7 +26,7 @@ use Rattle.tw_base.specs.kinds.Lists.{Each, In}
 use Rattle.tw_base.specs.kinds.Texts.{genesis_text}
 use Rattle.tw_msg.specs.HistoryMessages.{IsMessageOf, thread_at_step}
 use Rattle.tw_msg.specs.declared.message.Message.{Message}
-use Rattle.tw_service.specs.EventSteps.{with_events_at}
+use Rattle.tw_service.specs.EventStep.{with_events_at}
 use Rattle.tw_service.specs.Machine.{RepliesTo, append_table, received_as}
 use Rattle.tw_service.specs.Machine.Call.{Append, Ask, Receive}
 use Rattle.tw_service.specs.Machine.Reply.{Refused}

@@ -8,7 +8,7 @@ use Rattle.std.proofs.lemmas.List.Folds.{find-append}
 use Rattle.tw_base.specs.declared.history.thread.Entry.{Entry}
 use Rattle.tw_base.specs.declared.history.thread.Thread.{Thread}
 use Rattle.tw_base.specs.history.History.{History, entry_at, received}
-use Rattle.tw_history.specs.PassSteps.{passed_thread}
+use Rattle.tw_base.specs.history.HistoryCodec.{thread_in}
 use Rattle.tw_history.specs.Tables.{steps_of_table}
 use Rattle.tw_history.specs.declared.step.Node.{Node}
 use Rattle.tw_history.specs.declared.step.Step.{Step}
@@ -19,7 +19,7 @@ use Rattle.tw_generate.proofs.FirstEntries.{first-stays as stays}
 -- the entry of the thread that a step of a table received
 abbrev pub entry_in : Step → ℕ → Option Entry
 entry_in s archived = option_and_then (λ (t : Thread). Some (record { thread = t; archived = archived }))
-    (passed_thread s.content)
+    (thread_in s.content)
 
 pub received-none : (h : History) → received h 0 ≡ []
 unfolding received

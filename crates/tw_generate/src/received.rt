@@ -5,7 +5,7 @@ ghost use Rattle.std.specs.Option.{option_to_list};
 ghost use Rattle.tw_base.specs.declared.history.thread.Thread.{Thread};
 ghost use Rattle.tw_base.specs.declared.kinds.limits.TheConstants.{LAST_STEP};
 ghost use Rattle.tw_base.specs.history.History.{received};
-ghost use Rattle.tw_history.specs.PassSteps.{passed_thread};
+ghost use Rattle.tw_base.specs.history.HistoryCodec.{thread_in};
 ghost use Rattle.tw_tmap.specs.Bounds.{first_from};
 
 use tw_base::{Content, Entry, Name};
@@ -13,7 +13,7 @@ use tw_history::{History, table_of};
 
 /// The entry of the thread that a step received, if it received one.
 fn entry_of(content: &Content, archived: u64) -> Option<Entry>
-    ensures { result ≡ option_and_then (λ (t : Thread). Some (record { thread = t; archived = archived })) (passed_thread content.now) }
+    ensures { result ≡ option_and_then (λ (t : Thread). Some (record { thread = t; archived = archived })) (thread_in content.now) }
 {
     match content {
         Content::Events(_) => None,

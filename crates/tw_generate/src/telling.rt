@@ -9,7 +9,7 @@ ghost use Rattle.tw_disk.specs.Image.{Image};
 ghost use Rattle.tw_pages.specs.Slots.{IsTaken};
 ghost use Rattle.tw_pages.specs.declared.open.StoreFault.TheVariants.{DiskFault as FailedDisk};
 ghost use Rattle.tw_service.specs.Answered.{IsAcceptedFor};
-ghost use Rattle.tw_service.specs.EventSteps.{with_events_at};
+ghost use Rattle.tw_service.specs.EventStep.{with_events_at};
 ghost use Rattle.tw_service.specs.Machine.Call.{Append, Ask};
 ghost use Rattle.tw_service.specs.Stands.{no_history};
 ghost use Rattle.tw_generate.specs.Playing.{HasTold, PlaysHistory};

@@ -17,7 +17,8 @@ use Rattle.tw_base.specs.declared.history.content.Content.TheVariants.{Events, R
 use Rattle.tw_history.specs.declared.step.Step.{Step}
 use Rattle.tw_history.specs.declared.step.Node.{Node}
 use Rattle.tw_history.specs.Tables.{node_of, step_of, steps_of_table}
-use Rattle.tw_history.specs.PassSteps.{passed_events, passed_thread}
+use Rattle.tw_base.specs.history.HistoryCodec.{thread_in}
+use Rattle.tw_history.specs.PassSteps.{passed_events}
 
 pub Each-inside : {X : Type 0} (P : X → Type 0) (xs : List X) (i : ℕ) (d : X) → i < length xs → Each P xs
     → P (get_or xs i d)
@@ -56,7 +57,7 @@ events_of-content (Events events) s fresh e = rw e
 events_of-content (Received t) s fresh e = rw e
 
 pub thread_of-content : (c : Content) (s : Step) (fresh : List Node) → s.content ≡ c
-    → thread_of (Some (step_of s fresh)) ≡ passed_thread s.content
+    → thread_of (Some (step_of s fresh)) ≡ thread_in s.content
 thread_of-content (Events events) s fresh e = rw e
 thread_of-content (Received t) s fresh e = rw e
 
@@ -80,7 +81,7 @@ module _ (h : History) (steps : List Step) (nodes : List Node) (is : h.steps ≡
       (get_or steps i d).content (get_or steps i d)
       (take (get_or steps i d).fresh (drop (nodes_of_first steps i) nodes)) refl
 
-  pub thread_at-table : (i : ℕ) (d : Step) → i < length steps → thread_of (step_at h (i + 1)) ≡ passed_thread
+  pub thread_at-table : (i : ℕ) (d : Step) → i < length steps → thread_of (step_at h (i + 1)) ≡ thread_in
       (get_or steps i d).content
   thread_at-table i d inside = ap (λ n. thread_of (step_at h n)) (add-one i) ∙ ap thread_of (step_at-table i d inside)
       ∙ thread_of-content (get_or steps i d).content (get_or steps i d)

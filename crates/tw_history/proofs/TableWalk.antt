@@ -6,11 +6,10 @@ use Rattle.std.proofs.lemmas.List.Sums.{sum_by-drop_more}
 use Rattle.std.proofs.Math.Seq.{drop-cons, drop-nil}
 use Rattle.std.specs.Prelude.{slice_get, option_map, option_and_then}
 use Rattle.tw_base.specs.declared.history.thread.Thread.{Thread}
-use Rattle.tw_base.specs.history.Entries.{key_of}
+use Rattle.tw_base.specs.history.Entries.{key_of, thread_key}
 use Rattle.tw_base.specs.history.History.{History, entry_at, thread_of}
 use Rattle.tw_history.specs.declared.step.Step.{Step}
 use Rattle.tw_history.specs.declared.step.Node.{Node}
-use Rattle.tw_history.specs.JudgingSteps.{thread_key}
 use Rattle.tw_history.specs.Tables.{step_of, steps_of_table}
 
 -- what a step of a table received

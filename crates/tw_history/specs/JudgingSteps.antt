@@ -4,7 +4,6 @@ use Rattle.std.specs.Ordering.{nat_cmp}
 use Rattle.std.specs.Cmp.Lexicographic.{slice_cmp}
 use Rattle.std.specs.BTreeMap.{get}
 use Rattle.tw_base.specs.declared.history.thread.Entry.{Entry}
-use Rattle.tw_base.specs.declared.history.thread.Key.{Key}
 use Rattle.tw_base.specs.declared.history.thread.Thread.{Thread}
 use Rattle.tw_base.specs.kinds.Lists.{Each, In}
 use Rattle.tw_base.specs.history.History.{History, Step, entry_at, received, step_at, times}
@@ -22,9 +21,6 @@ use Rattle.tw_history.specs.declared.step.Step.{Step as StepOfTable}
 use Rattle.tw_history.specs.Tables.{step_of}
 
 -- what an archive is ordered by
-abbrev pub thread_key : Thread → Key
-thread_key t = record { from = t.from; step = t.step }
-
 -- the step that received the first of the entries, 0 where there is none
 abbrev pub first_archived : List Entry → ℕ
 first_archived [] = 0

@@ -1,6 +1,5 @@
 -- What a pass over the steps of a history keeps.
-use Rattle.std.specs.Prelude.{◌≡◌, ℕ, suc, ◌-◌, ◌<◌, ◌^◌, ◌%◌, List, [], ◌∷◌, ◌++◌, map, slice_index_or, Option, Some, None}
-use Rattle.tw_base.specs.declared.history.thread.Thread.{Thread}
+use Rattle.std.specs.Prelude.{◌≡◌, ℕ, suc, ◌-◌, ◌<◌, ◌^◌, ◌%◌, List, [], ◌∷◌, ◌++◌, map, slice_index_or}
 use Rattle.tw_base.specs.history.Auth.{auth, auth_text, auths, datum_text_at, link_texts_at, tree_label}
 use Rattle.tw_base.specs.events.EventTree.{event_root}
 use Rattle.tw_base.specs.history.History.{History, events_at}
@@ -17,11 +16,6 @@ use Rattle.tw_history.specs.declared.step_digests.StepDigests.{StepDigests}
 abbrev pub passed_events : Content → List (List ℕ)
 passed_events (Events events) = events
 passed_events (Received t) = []
-
--- the thread that a step received, if it received one
-abbrev pub passed_thread : Content → Option Thread
-passed_thread (Events events) = None
-passed_thread (Received t) = Some t
 
 -- the label is the tree's, and the text of its root was handed on
 pub record IsLabelTold (dig : List ℕ → List ℕ) {S : Type 0} (took : S → List (List ℕ) → Type 0) (old new : S) (label : List ℕ) (t : Tree) : Type 0 where

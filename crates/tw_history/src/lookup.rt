@@ -6,7 +6,8 @@ ghost use Rattle.tw_base.specs.history.Limits.{IsTimeWithinLimits};
 ghost use Rattle.tw_base.specs.kinds.Lists.{Each};
 ghost use Rattle.tw_base.specs.history.Tree.{forest};
 ghost use Rattle.tw_history.specs.Tables.{IsInRange, IsTable, step_of, steps_of_table};
-ghost use Rattle.tw_history.specs.PassSteps.{passed_events, passed_thread};
+ghost use Rattle.tw_base.specs.history.HistoryCodec.{thread_in};
+ghost use Rattle.tw_history.specs.PassSteps.{passed_events};
 ghost use Rattle.tw_base.specs.declared.kinds.limits.TheConstants.{LAST_STEP};
 
 use crate::history::History;
@@ -31,8 +32,7 @@ pub fn count_of_steps(history: &History) -> u64
     steps.len() as u64
 }
 
-/// The step at this index, with the nodes that it adds to those of the steps before it, which are
-/// `before` many.
+/// The step at this index, with the nodes that it adds to those of the steps before it, which are `before` many.
 fn step_with_nodes<'a>(
     steps: &'a [Step],
     nodes: &'a [Node],
@@ -68,7 +68,7 @@ pub(crate) fn step_behind(history: &History, index: u64, before: usize) -> (&Ste
 pub(crate) fn content_behind(history: &History, index: u64) -> &Content
     requires { index < length history.now.steps }
     ensures events { events_at history.now (index + 1) ≡ passed_events result.now }
-    ensures thread { thread_of (step_at history.now (index + 1)) ≡ passed_thread result.now }
+    ensures thread { thread_of (step_at history.now (index + 1)) ≡ thread_in result.now }
     ensures range { IsInRange result.now }
 {
     let (steps, _) = table_of(history);
@@ -90,7 +90,7 @@ pub(crate) fn content_at(history: &History, step: u64) -> Option<&Content>
     ensures none { IfNone result ((0 < step) × (step ≤ length history.now.steps) → ⊥) }
     ensures step { OnSome result ((0 < step) × (step ≤ length history.now.steps)) }
     ensures events { IfSome result (λ content. events_at history.now step ≡ passed_events content.now) }
-    ensures thread { IfSome result (λ content. thread_of (step_at history.now step) ≡ passed_thread content.now) }
+    ensures thread { IfSome result (λ content. thread_of (step_at history.now step) ≡ thread_in content.now) }
     ensures range { IfSome result (λ content. IsInRange content.now) }
 {
     if step == 0 || step > count_of_steps(history) {
@@ -102,7 +102,7 @@ pub(crate) fn content_at(history: &History, step: u64) -> Option<&Content>
 
 /// The thread that the content is, if it is one.
 fn thread_of_content(content: &Content) -> Option<Thread>
-    ensures { result ≡ passed_thread content.now }
+    ensures { result ≡ thread_in content.now }
 {
     match content {
         Content::Events(_) => None,

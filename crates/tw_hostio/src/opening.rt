@@ -1,5 +1,6 @@
 // Opening the file of a disk and taking its lock; what its pages hold is judged in tw_pages/src/open.rt.
 
+use crate::access::Access;
 use crate::again::again;
 use std::fs::{self, File, OpenOptions};
 use std::io::{self, ErrorKind};
@@ -7,9 +8,21 @@ use std::os::unix::fs::MetadataExt as _;
 use std::path::Path;
 use std::rt::Files;
 
+/// Opens the file and takes its lock. None where it isn't there and is only to be read.
+pub(crate) fn open_file<R: Files<File = File> + Alloc>(
+    rt: &R,
+    path: &str,
+    access: Access,
+) -> io::Result<Option<File>> {
+    match access {
+        Access::Read => open_to_read(rt, path),
+        Access::Write => Ok(Some(open_to_write(rt, path)?)),
+    }
+}
+
 /// Opens the file to read it, and waits while another program holds its lock to write. None where its folder has no such file.
 /// What isn't a regular file is an error, and so is a file that lost its name to another one meanwhile.
-pub(crate) fn open_to_read<R: Files<File = File>>(rt: &R, path: &str) -> io::Result<Option<File>> {
+fn open_to_read<R: Files<File = File>>(rt: &R, path: &str) -> io::Result<Option<File>> {
     refuse_others(rt, path)?;
     match fs::open(rt, path) {
         Ok(file) => {
@@ -29,7 +42,7 @@ pub(crate) fn open_to_read<R: Files<File = File>>(rt: &R, path: &str) -> io::Res
 /// is synced each time, so that nothing is written into a file whose name a crash might still take away, as that of a copy; of
 /// a symbolic link the folder of its target is synced too. What isn't a regular file is an error, and so is a file that lost
 /// its name to another one meanwhile.
-pub(crate) fn open_to_write<R: Files<File = File> + Alloc>(rt: &R, path: &str) -> io::Result<File> {
+fn open_to_write<R: Files<File = File> + Alloc>(rt: &R, path: &str) -> io::Result<File> {
     refuse_others(rt, path)?;
     let file = OpenOptions::new()
         .read(true)

@@ -1,2 +1,3 @@
 mod BadLines
 pub mod OneReceiver
+mod PlainVerdicts

@@ -2,7 +2,7 @@
 use Rattle.std.specs.Prelude.{◌⊎◌, ℕ, List, [], ◌++◌, Bool, true, false, map, codes}
 use Rattle.sha2.specs.Sha256.{sha256}
 use Rattle.tw_base.specs.declared.history.thread.Thread.{Thread}
-use Rattle.tw_msg.specs.AnchorsFile.{AllGood, anchor_on, lines}
+use Rattle.tw_msg.specs.AnchorsFile.{AllGood, IsNoAnchors, anchor_on, lines}
 use Rattle.tw_text.specs.Lines.{line}
 use Rattle.tw_text.specs.declared.fault.CommandFault.{CommandFault}
 use Rattle.tw_evidence.specs.declared.fork.ForkReason.TheVariants as fork
@@ -13,7 +13,6 @@ use Rattle.tw_contradict.specs.declared.verdict.ContradictVerdict.{ContradictVer
 use Rattle.tw_contradict.specs.declared.verdict.ContradictVerdict.TheVariants.{Yes, No}
 use Rattle.tw_contradict.specs.Verdicts.{IsContradictVerdict}
 use Rattle.tw_judge.specs.RuleLines.{conflict_lines}
-use Rattle.tw_judge.specs.Told.{IsUnjudged}
 use Rattle.tw_judge.specs.Telling.{TellsJudged, TellsWhy}
 
 -- two files with the anchors files under which each is judged, and a link: their bytes
@@ -63,8 +62,8 @@ pub record TellsFiles (bytes : FiveFiles) (status : ℕ) (text : List ℕ) : Typ
 -- why there is no verdict: the first bad line of the first anchors file; or, where it has none, of the second. Want of memory is free
 abbrev pub IsContradictionUnjudged : FiveFiles → TwoNames → CommandFault → Type 0
 IsContradictionUnjudged bytes names fault =
-    IsUnjudged names.first bytes.first_anchors fault
-    ⊎ (AllGood (lines bytes.first_anchors) × IsUnjudged names.second bytes.second_anchors fault)
+    IsNoAnchors names.first bytes.first_anchors fault
+    ⊎ (AllGood (lines bytes.first_anchors) × IsNoAnchors names.second bytes.second_anchors fault)
 
 -- what is told of both files
 abbrev pub AreFilesTold : FiveFiles → TwoNames → (status : ℕ) (text : List ℕ) → Type 0

@@ -2,13 +2,12 @@
 use Rattle.std.specs.Prelude.{◌⊎◌, ℕ, List, map}
 use Rattle.sha2.specs.Sha256.{sha256}
 use Rattle.tw_base.specs.declared.history.thread.Thread.{Thread}
-use Rattle.tw_msg.specs.AnchorsFile.{AllGood, anchor_on, lines}
+use Rattle.tw_msg.specs.AnchorsFile.{AllGood, IsNoAnchors, anchor_on, lines}
 use Rattle.tw_evidence.specs.declared.fork.ForkVerdict.{ForkVerdict}
 use Rattle.tw_evidence.specs.declared.fork.ForkVerdict.TheVariants.{Yes, No}
 use Rattle.tw_evidence.specs.Binding.{BindsFork}
 use Rattle.tw_evidence.specs.Forks.{IsForkVerdict}
 use Rattle.tw_evidence.specs.Texts.{fork_text}
-use Rattle.tw_judge.specs.Told.{IsUnjudged}
 use Rattle.tw_judge.specs.Telling.{TellsJudged, TellsWhy}
 
 abbrev pub fork_status : ForkVerdict → ℕ
@@ -25,4 +24,4 @@ pub record IsForkVerdictUnder (anchors : List Thread) (evidence : List ℕ) (ver
 abbrev pub IsForkTold : (file evidence anchors : List ℕ) → (status : ℕ) (text : List ℕ) → Type 0
 IsForkTold file evidence anchors status text =
     (AllGood (lines anchors) × TellsJudged (IsForkVerdictUnder (map anchor_on (lines anchors)) evidence) fork_status fork_text status text)
-    ⊎ TellsWhy (IsUnjudged file anchors) status text
+    ⊎ TellsWhy (IsNoAnchors file anchors) status text

@@ -2,29 +2,23 @@
 use Rattle.std.specs.Prelude.{◌≡◌, ◌⊎◌, ℕ, List, map, Err}
 use Rattle.sha2.specs.Sha256.{sha256}
 use Rattle.tw_base.specs.format.Formats.{Spells}
-use Rattle.tw_msg.specs.AnchorsFile.{AllGood, anchor_on, lines}
+use Rattle.tw_msg.specs.AnchorsFile.{AllGood, IsNoAnchors, anchor_on, lines}
 use Rattle.tw_text.specs.declared.fault.CommandFault.{CommandFault}
 use Rattle.tw_tmap.specs.declared.map_file.HighFile.{HighFile}
 use Rattle.tw_tmap.specs.declared.map_file.LowFile.{LowFile}
 use Rattle.tw_tmap.specs.declared.map_verdict.MapVerdict.{MapVerdict}
-use Rattle.tw_tmap.specs.declared.map_verdict.MapVerdict.TheVariants.{Yes, No, Gap}
 use Rattle.tw_tmap.specs.Binding.{BindsMap}
 use Rattle.tw_tmap.specs.Checking.{map_verdict}
 use Rattle.tw_tmap.specs.MapFiles.{high_layout, low_layout}
-use Rattle.tw_tmap.specs.Texts.{map_text}
-use Rattle.tw_judge.specs.Told.{IsUnjudged}
-use Rattle.tw_judge.specs.Telling.{IsReadAs, TellsJudged, TellsWhy}
+use Rattle.tw_tmap.specs.Texts.{map_status, map_text}
+use Rattle.tw_text.specs.Faults.{IsReadAs}
+use Rattle.tw_judge.specs.Telling.{TellsJudged, TellsWhy}
 
 -- a low map file, a high one, and an anchors file: their bytes, or the words by which texts name them
 pub record ThreeFiles : Type 0 where
   pub low : List ℕ
   pub high : List ℕ
   pub anchors : List ℕ
-
-abbrev pub map_status : MapVerdict → ℕ
-map_status (Yes low high upto) = 0
-map_status (No reason) = 1
-map_status Gap = 1
 
 -- the bytes spell a low and a high map file
 pub record AreMaps (bytes : ThreeFiles) (low : LowFile) (high : HighFile) : Type 0 where
@@ -46,7 +40,7 @@ abbrev pub AreMapsUnjudged : (bytes names : ThreeFiles) → CommandFault → Typ
 AreMapsUnjudged bytes names fault =
     IsReadAs low_layout names.low bytes.low (Err fault)
     ⊎ (((low : LowFile) × Spells low_layout bytes.low low) × IsReadAs high_layout names.high bytes.high (Err fault))
-    ⊎ (((low : LowFile) × (high : HighFile) × AreMaps bytes low high) × IsUnjudged names.anchors bytes.anchors fault)
+    ⊎ (((low : LowFile) × (high : HighFile) × AreMaps bytes low high) × IsNoAnchors names.anchors bytes.anchors fault)
 
 -- what is told of the map files under the anchors, by the names of the files
 abbrev pub AreMapsTold : (bytes names : ThreeFiles) → (status : ℕ) (text : List ℕ) → Type 0

@@ -4,13 +4,12 @@ use Rattle.std.specs.Prelude.{◌⊎◌, ℕ, List, Result, Ok, Err, map}
 use Rattle.sha2.specs.Sha256.{sha256}
 use Rattle.tw_base.specs.declared.history.thread.Thread.{Thread}
 use Rattle.tw_base.specs.declared.kinds.failure.ReadFault.TheVariants.{Malformed}
-use Rattle.tw_msg.specs.AnchorsFile.{AllGood, anchor_on, lines}
+use Rattle.tw_msg.specs.AnchorsFile.{AllGood, IsNoAnchors, anchor_on, lines}
 use Rattle.tw_evidence.specs.declared.fork.ForkReason.TheVariants as fork
 use Rattle.tw_contradict.specs.declared.verdict.ContradictVerdict.{ContradictVerdict}
 use Rattle.tw_judge.specs.Receiver.{IsReceiverJudged}
 use Rattle.tw_evidence.specs.Texts.{reason_text}
 use Rattle.tw_judge.specs.Contradictions.{contradict_status, contradict_text}
-use Rattle.tw_judge.specs.Told.{IsUnjudged}
 use Rattle.tw_judge.specs.Telling.{TellsJudged, TellsWhy}
 
 -- the verdict on both proofs of the evidence; or the place at which the bytes are none
@@ -32,4 +31,4 @@ sides_text (Err place) = reason_text (fork.Malformed place)
 abbrev pub IsReceiverTold : (file evidence anchors link : List ℕ) → (status : ℕ) (text : List ℕ) → Type 0
 IsReceiverTold file evidence anchors link status text =
     (AllGood (lines anchors) × TellsJudged (IsSidesVerdict (map anchor_on (lines anchors)) evidence link) sides_status sides_text status text)
-    ⊎ TellsWhy (IsUnjudged file anchors) status text
+    ⊎ TellsWhy (IsNoAnchors file anchors) status text

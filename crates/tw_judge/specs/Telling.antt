@@ -1,9 +1,6 @@
 -- What is told of files: the status and the text of a verdict on their bytes, or those of why there is none.
-use Rattle.std.specs.Prelude.{◌≡◌, ℕ, List, Result, Ok, Err}
-use Rattle.tw_base.specs.format.Formats.{Format, IsPlace, Spells, SpellsNothing}
+use Rattle.std.specs.Prelude.{◌≡◌, ℕ, List}
 use Rattle.tw_text.specs.declared.fault.CommandFault.{CommandFault}
-use Rattle.tw_text.specs.declared.fault.CommandFault.TheVariants.{NoMemory, Unreadable}
-use Rattle.tw_text.specs.declared.refusal.BadInput.TheVariants.{BadByte}
 use Rattle.tw_text.specs.Faults.{fault_status, fault_text}
 
 -- a verdict that is so, with its status and its text
@@ -19,10 +16,3 @@ pub record TellsWhy (IsSo : CommandFault → Type 0) (status : ℕ) (text : List
   pub unjudged : IsSo fault
   pub status_is : status ≡ fault_status fault
   pub text_is : text ≡ fault_text fault
-
--- the value that the bytes of the named file spell; or the place of the first byte at which none goes on. Want of memory is free
-abbrev pub IsReadAs : {X : Type 0} → Format X → (file bytes : List ℕ) → Result X CommandFault → Type 0
-IsReadAs layout file bytes (Ok x) = Spells layout bytes x
-IsReadAs layout file bytes (Err (Unreadable (BadByte named place))) = (named ≡ file) × (SpellsNothing layout bytes × IsPlace layout bytes place)
-IsReadAs layout file bytes (Err NoMemory) = Unit {0}
-IsReadAs layout file bytes _ = ⊥

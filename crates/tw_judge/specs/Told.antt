@@ -1,14 +1,11 @@
 -- With which status and text the bytes of a proof are judged under the bytes of an anchors file.
-use Rattle.std.specs.Prelude.{◌≡◌, ◌⊎◌, ℕ, List, map, Bool}
+use Rattle.std.specs.Prelude.{◌⊎◌, ℕ, List, map, Bool}
 use Rattle.sha2.specs.Sha256.{sha256}
 use Rattle.tw_chain.specs.declared.verdict.Verdict.{Verdict}
 use Rattle.tw_chain.specs.declared.verdict.Verdict.TheVariants.{Yes, No}
 use Rattle.tw_chain.specs.Binding.{BindsHistories}
 use Rattle.tw_chain.specs.Reasons.{IsVerdict}
-use Rattle.tw_msg.specs.AnchorsFile.{AllGood, IsFirstBadLine, anchor_on, lines}
-use Rattle.tw_text.specs.declared.fault.CommandFault.{CommandFault}
-use Rattle.tw_text.specs.declared.fault.CommandFault.TheVariants.{NoMemory, Unreadable}
-use Rattle.tw_text.specs.declared.refusal.BadInput.TheVariants.{BadLine}
+use Rattle.tw_msg.specs.AnchorsFile.{AllGood, IsNoAnchors, anchor_on, lines}
 use Rattle.tw_text.specs.Reports.{rejected_text, report_text}
 use Rattle.tw_judge.specs.Telling.{TellsJudged, TellsWhy}
 
@@ -26,14 +23,8 @@ pub record IsJudged (strict : Bool) (proof anchors : List ℕ) (verdict : Verdic
   pub is_verdict : IsVerdict sha256 (map anchor_on (lines anchors)) strict proof verdict
   pub binds : BindsHistories sha256 (map anchor_on (lines anchors)) proof verdict
 
--- why there is no verdict: the first bad line of the anchors, which the text names by their file; or want of memory, which is free
-abbrev pub IsUnjudged : (file anchors : List ℕ) → CommandFault → Type 0
-IsUnjudged file anchors (Unreadable (BadLine named number)) = (named ≡ file) × IsFirstBadLine (lines anchors) number
-IsUnjudged file anchors NoMemory = Unit {0}
-IsUnjudged file anchors _ = ⊥
-
 -- what is told of a proof under the anchors of a file of that name, in the form that allows carried threads, or in the strict one: the
 -- verdict, or why there is none
 abbrev pub IsTold : (file : List ℕ) (strict : Bool) (proof anchors : List ℕ) → (status : ℕ) (text : List ℕ) → Type 0
 IsTold file strict proof anchors status text =
-    TellsJudged (IsJudged strict proof anchors) verdict_status verdict_text status text ⊎ TellsWhy (IsUnjudged file anchors) status text
+    TellsJudged (IsJudged strict proof anchors) verdict_status verdict_text status text ⊎ TellsWhy (IsNoAnchors file anchors) status text

@@ -3,9 +3,9 @@
 
 ghost use Rattle.std.specs.Prelude.{◌≡◌, ℕ, List, IfOk};
 ghost use Rattle.tw_base.specs.format.Formats.{Spells};
-ghost use Rattle.tw_judge.specs.Maps.{AreMapsTold, map_status};
+ghost use Rattle.tw_judge.specs.Maps.{AreMapsTold};
 ghost use Rattle.tw_tmap.specs.MapFiles.{high_codec, high_layout, low_codec, low_layout};
-ghost use Rattle.tw_tmap.specs.Texts.{map_text};
+ghost use Rattle.tw_tmap.specs.Texts.{map_status, map_text};
 
 use crate::told::{Told, tell_byte, tell_line};
 use std::alloc::Global;

@@ -2,6 +2,8 @@
 // file.
 
 ghost use Rattle.std.specs.Prelude.{◌≡◌, IfOk};
+ghost use Rattle.sha2.specs.Sha256.{sha256};
+ghost use Rattle.tw_plain.specs.Plain.{IsPlain};
 ghost use Rattle.tw_judge.specs.Told.{IsTold, verdict_status, verdict_text};
 ghost use Rattle.tw_text.specs.Faults.{fault_status as fault_status_of, fault_text};
 ghost use Rattle.tw_text.specs.declared.fault.CommandFault.TheVariants.{Unreadable};
@@ -11,6 +13,7 @@ use std::alloc::Global;
 use tw_base::{Bytes, NoMemory, Sha};
 use tw_chain::Verdict;
 use tw_msg::{AnchorFault, read_anchors};
+use tw_plain::plain_laws;
 use tw_text::{
     CommandFault, bad_byte, bad_line, fault_status, print_fault, print_rejected, print_report,
 };
@@ -37,6 +40,26 @@ pub fn judge(
 ) -> Result<Told, NoMemory>
     // What is told of a proof is the status and the text of the verdict on its bytes in that form under the anchors of the
     // lines, with the verdict's theorem, where each line is good; else those of the first bad line.
+    ensures told { IfOk result (λ told. IsTold file.now strict proof.now anchors.now told.status told.text) }
+    // Status 0, in the words of docs/theorem.md: the text is a report's. And in every list of sound histories that has each of
+    // the lines of the anchors file which is of a service that the report names, and each thread that the report tells as carried,
+    // what the report says is so; or two different texts, both of bytes, of those that these histories and checking the
+    // proof hash, have one SHA-256 digest.
+    ensures plain { IfOk result (λ told. told.status ≡ 0 → IsPlain sha256 proof.now anchors.now told.text) }
+{
+    // By the laws of printed reports.
+    plain_laws::<Sha>();
+    told_of(alloc, strict, file, proof, anchors)
+}
+
+/// The same, by its first clause alone.
+fn told_of(
+    alloc: Global,
+    strict: bool,
+    file: &str,
+    proof: &[u8],
+    anchors: &[u8],
+) -> Result<Told, NoMemory>
     ensures { IfOk result (λ told. IsTold file.now strict proof.now anchors.now told.status told.text) }
 {
     match read_anchors(alloc, anchors) {

@@ -22,7 +22,7 @@ use Rattle.tw_msg.specs.declared.message.Message.{Message}
 use Rattle.tw_msg.specs.declared.receipt.Receipt.{Receipt}
 use Rattle.tw_script.specs.declared.line.Line.{Line}
 use Rattle.tw_script.specs.declared.line.Line.TheVariants.{Append, Send, Deliver}
-use Rattle.tw_service.specs.EventSteps.{with_events_at}
+use Rattle.tw_service.specs.EventStep.{with_events_at}
 use Rattle.tw_service.specs.Machine.{IsStepOf, Makes, RepliesTo, append_table, last_thread, received_as}
 use Rattle.tw_service.specs.Machine.Call.{Append as AppendEvents, Ask}
 use Rattle.tw_service.specs.Machine.Reply.{OfBytes, OfReceipt, OfThread, Refused}

@@ -1,7 +1,7 @@
 -- What each command leaves of a disk whose images go on from one history, and that it publishes a thread of the history
 -- that is then there.
-use Rattle.std.proofs.Common.{◌≡◌, ◌∙◌, ℕ, List, ap, sym, subst, ⊎_elim}
-use Rattle.std.specs.Prelude.{Some, Result, Ok, Err}
+use Rattle.std.proofs.Common.{◌≡◌, ◌∙◌, ◌<◌, ◌≤◌, ℕ, List, ap, arith, length, sym, subst, ⊎_elim}
+use Rattle.std.specs.Prelude.{Option, Some, Result, Ok, Err}
 use Rattle.sha2.specs.Sha256.{sha256}
 use Rattle.tw_base.specs.declared.history.question.Question.{Question}
 use Rattle.tw_base.specs.declared.history.question.Question.TheVariants as ask
@@ -13,7 +13,7 @@ use Rattle.tw_pages.specs.Slots.{IsTaken}
 use Rattle.tw_service.specs.Machine.{Call, NextOf, last_thread}
 use Rattle.tw_service.specs.Machine.Call.{Append as Appending, Ask, Receive as Receiving}
 use Rattle.tw_service.specs.Machine.Reply.{OfBytes, OfReceipt}
-use Rattle.tw_service.specs.Stands.{StandsFor}
+use Rattle.tw_service.specs.Stands.{IsImageOfHistory, StandsFor}
 use Rattle.tw_text.specs.declared.fault.CommandFault.{CommandFault}
 use Rattle.tw_diskcmd.specs.Appending.{AreEventsOf}
 use Rattle.tw_diskcmd.specs.Asking.{AskComes}
@@ -21,7 +21,7 @@ use Rattle.tw_pages.specs.Disks.{AddsSafe, OneOf}
 use Rattle.tw_pages.proofs.AtRest.{untouched_left}
 use Rattle.tw_diskcmd.specs.Comes.{FoundDisk}
 use Rattle.tw_diskcmd.specs.Files.{IsMessageIn}
-use Rattle.tw_diskcmd.specs.Disks.{IsImageOfHistory, IsLeft, NextBy, ReadsAsHistory, RestsAtHistory}
+use Rattle.tw_diskcmd.specs.Disks.{IsLeft, NextBy, ReadsAsHistory, RestsAtHistory}
 use Rattle.tw_diskcmd.specs.Disks.{StandsAtHistory}
 use Rattle.tw_diskcmd.proofs.AtRest.{own_name, stands_taken}
 use Rattle.tw_diskcmd.proofs.CommandLaws.{asking_is_safe}
@@ -33,7 +33,9 @@ use Rattle.tw_app.specs.Around.{Outside, found_around}
 use Rattle.tw_app.specs.Running.{IsOutcomeOf, asking, work}
 use Rattle.tw_app.proofs.Commands.{rows}
 use Rattle.tw_laws.specs.Published.{IsInAnswer, IsThreadOf}
-use Rattle.tw_laws.proofs.Threads.{last_own, next_has, next_name, told_own}
+use Rattle.tw_laws.specs.Acknowledged.{HasAnswered, IsAppended}
+use Rattle.tw_laws.proofs.GoingOn.{events_stand, longer_on, next_on, receipt_stands, then_on}
+use Rattle.tw_laws.proofs.Threads.{last_own, next_name, told_own}
 use Rattle.tw_laws.proofs.Wavering.{GoesOnFrom, Has, Wavers, same_has}
 use Rattle.tw_laws.specs.Publishing.{IsOutBy, IsOutByAnswer}
 use Rattle.tw_laws.proofs.OtherStores.{stands_closed}
@@ -102,14 +104,14 @@ module _ {D : Type 0} (view : D → DiskView) (name : List ℕ)
         stands = own_name name read waver.0.image waver.0.has.1;
       }
 
-      one_goes : (call : Call) (next : History) → NextOf sha256 call read next → (c : Image) → OneOf IsImageOfHistory read
+      one_goes : (call : Call) (next : History) → NextOf sha256 call read next → (c : Image) → OneOf (IsImageOfHistory sha256) read
           next c → GoesOnFrom sha256 view name h c
       one_goes call next is_next c one = ⊎_elim
           (λ stands. (read, subst (λ (n : List ℕ). StandsFor sha256 c n read) named stands, read_has))
           (λ stands. (
             next,
             subst (λ (n : List ℕ). StandsFor sha256 c n next) (next_name sha256 call read next is_next ∙ named) stands,
-            λ t own. next_has sha256 call read next is_next t (read_has t own),
+            then_on h read next read_has (next_on sha256 call read next is_next),
           ))
           one
 
@@ -143,7 +145,7 @@ module _ {D : Type 0} (view : D → DiskView) (name : List ℕ)
       -- ---- a step that may be added
 
       module _ {X : Type 0} (In : X → Type 0) (call : X → Call)
-          (safe : AddsSafe IsImageOfHistory view In (λ x. NextBy (call x)) o.disk.before o.disk.after) where
+          (safe : AddsSafe (IsImageOfHistory sha256) view In (λ x. NextBy (call x)) o.disk.before o.disk.after) where
         adds_moment : (c : Image) → (view o.disk.after).left_since (view o.disk.before).moment c
             → GoesOnFrom sha256 view name h c
         adds_moment c since = ⊎_elim
@@ -193,7 +195,7 @@ module _ {D : Type 0} (view : D → DiskView) (name : List ℕ)
             → RestsAtHistory view o.disk.after next → ((t : Thread) → Tells t → IsThreadOf sha256 next t) → Behind h Tells
         added_behind Tells by next is_next rests own = record {
           now = next;
-          keeps = λ t has. next_has sha256 by read next is_next t (read_has t has);
+          keeps = then_on h read next read_has (next_on sha256 by read next is_next);
           settled = stands_wavers o.disk.after next (next_name sha256 by read next is_next ∙ named) rests.stands;
           any_moment = adds_moment;
           tells = own;
@@ -228,19 +230,6 @@ module _ {D : Type 0} (view : D → DiskView) (name : List ℕ)
           (λ thread may. absurd (may.0.free waver.0.image waver.0.told taken))
           (λ f may. left_behind (IsOutBy (command.Init of) (Undone f)) left (λ t told. told))
 
-      -- one that may add a step
-      module _ {X Y : Type 0} (c : Command) (of : Y → Outcome) (In : X → Type 0) (call : X → Call)
-          (safe : AddsSafe IsImageOfHistory view In (λ x. NextBy (call x)) o.disk.before o.disk.after) where
-        adding : {May : Result Y CommandFault → Type 0} (outcome : Outcome) → IsOutcomeOf of May outcome
-            → ((y : Y) → May (Ok y) → (by : Call) × (next : History) × NextOf sha256 by read next
-            × RestsAtHistory view o.disk.after next
-            × ((t : Thread) → IsOutBy c (of y) t → IsThreadOf sha256 next t))
-            → ((f : CommandFault) (t : Thread) → IsOutBy c (Undone f) t → ⊥) → By c outcome
-        adding outcome came added none =
-            by_outcome of (By c) outcome came
-            (λ y may. let a = added y may in added_behind In call safe (IsOutBy c (of y)) a.0 a.1 a.2 a.3 a.4)
-            (λ f may. adds_behind In call safe (IsOutBy c (Undone f)) (none f))
-
       -- a follower's command over a service's disk
       offering : (file : List ℕ) (outcome : Outcome) → Does (command.Offer file) outcome → IsLeft view o.disk.before
           o.disk.after
@@ -249,37 +238,77 @@ module _ {D : Type 0} (view : D → DiskView) (name : List ℕ)
           ((rows view only_now as_it_reads o (command.Offer file)).safe outcome came).0 waver.0.image closed.0
           waver.0.told closed.1
 
+      -- what it leaves, and that what it acknowledges is there
+      pub record Kept (c : Command) (outcome : Outcome) : Type 0 where
+        pub left : By c outcome
+        pub has : HasAnswered o.inputs.told c outcome left.now
+        pub above : (t : Thread) → IsAppended c outcome t
+            → (length h.steps < t.step) × (t.step ≤ length left.now.steps)
+
+      appended : (file : List ℕ) (time : Option ℕ) (outcome : Outcome) → Does (command.Append file time) outcome
+          → Kept (command.Append file time) outcome
+      unfolding added_behind
+      appended file time outcome came =
+          let c = command.Append file time in
+          let safe : AddsSafe (IsImageOfHistory sha256) view (AreEventsOf o.inputs.told file) (λ events. NextBy (Appending events time))
+          o.disk.before o.disk.after = ((rows view only_now as_it_reads o c).safe outcome came).1 in
+          by_outcome Made (Kept c) outcome came
+          (λ thread may.
+          let events = may.1.0.0 in
+          let added = may.1.0.2.1 read reads in
+          let next = added.0 in
+          let last : thread ≡ last_thread sha256 next = (may.1.0.2.0.machine read reads).0
+          ∙ ap (λ (n : History). last_thread sha256 n) (sym added.1.0) in
+          let stand = events_stand sha256 read next events time thread added.1.0 last in
+          record {
+            left = added_behind (AreEventsOf o.inputs.told file) (λ es. Appending es time) safe (IsOutBy c (Made thread))
+                (Appending events time) next added.1.0 added.2.0
+                (λ t told. subst (λ (u : Thread). IsThreadOf sha256 next u) (sym (told ∙ last)) (last_own sha256 next));
+            has = (events, may.1.0.1, stand.0);
+            above = λ t line.
+                let at : t.step ≡ thread.step = ap (λ (u : Thread). u.step) line in
+                (omega (arith, at, stand.1.0, longer_on h read read_has), omega (arith, at, stand.1.1));
+          })
+          (λ f may. record {
+            left = adds_behind (AreEventsOf o.inputs.told file) (λ es. Appending es time) safe (IsOutBy c (Undone f))
+                (λ t told. told);
+            has = tt;
+            above = λ t line. absurd line;
+          })
+
+      archived : (file : List ℕ) (time : Option ℕ) (outcome : Outcome) → Does (command.Receive file time) outcome
+          → Kept (command.Receive file time) outcome
+      unfolding added_behind
+      archived file time outcome came =
+          let c = command.Receive file time in
+          let safe : AddsSafe (IsImageOfHistory sha256) view (IsMessageIn o.inputs.told file) (λ m. NextBy (Receiving m time)) o.disk.before
+          o.disk.after = ((rows view only_now as_it_reads o c).safe outcome came).1 in
+          by_outcome Received (Kept c) outcome came
+          (λ receipt may.
+          let m = may.1.0.0 in
+          let by = Receiving m time in
+          let added = may.1.0.2.1 read reads in
+          let next = added.0 in
+          record {
+            left = added_behind (IsMessageIn o.inputs.told file) (λ x. Receiving x time) safe
+                (IsOutBy c (Received receipt)) by next added.1.0 added.2.0
+                (λ t told. told_own sha256 read reads.stands.stands.keeps.sound by (OfReceipt receipt) next tt added.1.1
+                t told);
+            has = (m, may.1.0.1, receipt_stands sha256 read next m time receipt added.1.1);
+            above = λ t line. absurd line;
+          })
+          (λ f may. record {
+            left = adds_behind (IsMessageIn o.inputs.told file) (λ x. Receiving x time) safe (IsOutBy c (Undone f))
+                (λ t told. told);
+            has = tt;
+            above = λ t line. absurd line;
+          })
+
       -- what each command leaves
       pub leaves : (c : Command) (outcome : Outcome) → Does c outcome → By c outcome
       leaves (command.Init of) outcome came = making of outcome came
-      leaves (command.Append file time) outcome came =
-          adding (command.Append file time) Made (AreEventsOf o.inputs.told file) (λ events. Appending events time)
-          ((rows view only_now as_it_reads o (command.Append file time)).safe outcome came).1 outcome came
-          (λ thread may.
-          let added = may.1.0.2.1 read reads in
-          let last : thread ≡ last_thread sha256 added.0 = (may.1.0.2.0.machine read reads).0
-          ∙ ap (λ (n : History). last_thread sha256 n) (sym added.1.0) in (
-            Appending may.1.0.0 time,
-            added.0,
-            added.1.0,
-            added.2.0,
-            λ t told. subst (λ (u : Thread). IsThreadOf sha256 added.0 u) (sym (told ∙ last)) (last_own sha256 added.0),
-          ))
-          (λ f t told. told)
-      leaves (command.Receive file time) outcome came =
-          adding (command.Receive file time) Received (IsMessageIn o.inputs.told file) (λ m. Receiving m time)
-          ((rows view only_now as_it_reads o (command.Receive file time)).safe outcome came).1 outcome came
-          (λ receipt may.
-          let by = Receiving may.1.0.0 time in
-          let added = may.1.0.2.1 read reads in (
-            by,
-            added.0,
-            added.1.0,
-            added.2.0,
-            λ t told. told_own sha256 read reads.stands.stands.keeps.sound by (OfReceipt receipt) added.0 tt added.1.1 t
-                told,
-          ))
-          (λ f t told. told)
+      leaves (command.Append file time) outcome came = (appended file time outcome came).left
+      leaves (command.Receive file time) outcome came = (archived file time outcome came).left
       leaves (command.Thread since) outcome came = asked (ask.ThreadOut since) outcome came
       leaves (command.ProveEvent step index top) outcome came = asked (ask.Event step index top) outcome came
       leaves (command.ProveThread step peer k top) outcome came =
@@ -302,3 +331,10 @@ module _ {D : Type 0} (view : D → DiskView) (name : List ℕ)
       leaves c outcome came =
           left_behind (IsOutBy c outcome) (untouched_left view o.disk.before o.disk.after only_now
           ((rows view only_now as_it_reads o c).safe outcome came).0) (λ t told. told)
+
+      -- and that what it acknowledges is there
+      pub keeps_answers : (c : Command) (outcome : Outcome) → Does c outcome → Kept c outcome
+      keeps_answers (command.Append file time) outcome came = appended file time outcome came
+      keeps_answers (command.Receive file time) outcome came = archived file time outcome came
+      keeps_answers c outcome came =
+          record { left = leaves c outcome came; has = tt; above = λ t line. absurd line }

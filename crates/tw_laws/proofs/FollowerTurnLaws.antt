@@ -1,7 +1,8 @@
 -- No told head is lost over runs on one disk: behind each of them all images go on from one list, in which all is that
 -- was told.
 use Rattle.std.proofs.Common.{◌≡◌, ◌∙◌, ℕ, List, [], ◌∷◌, ◌++◌, refl, ap, sym, subst, inl, inr, ⊎_elim}
-use Rattle.std.specs.Prelude.{Option, Some, None, Result, Ok, Err, MatchOption}
+use Rattle.std.specs.Prelude.{Option, Some, None, Result, Ok, Err, MatchOption, map}
+use Rattle.std.proofs.lemmas.Grind.{flat_map-append}
 use Rattle.sha2.specs.Sha256.{sha256}
 use Rattle.tw_base.specs.declared.history.thread.Thread.{Thread}
 use Rattle.tw_base.specs.format.Formats.{Spells}
@@ -25,11 +26,13 @@ use Rattle.tw_follow.specs.Offers.{judged_offer}
 use Rattle.tw_follow.specs.Runs.{GoesByMove}
 use Rattle.tw_follow.specs.Runs.Move.{Answered, Stopped as StoppedOffer}
 use Rattle.tw_follow.specs.Stands.{StandsFor, StandsForOneOf}
+use Rattle.tw_text.specs.Lines.{anchor_text}
 use Rattle.tw_follow.proofs.DiskRunning.{both, has_on, none, one}
 use Rattle.tw_follow.proofs.Offering.{moved-is}
-use Rattle.tw_follow.proofs.Running.{runs-answered, runs-rise}
+use Rattle.tw_follow.proofs.Running.{runs-answered, runs-grow, runs-rise}
 use Rattle.tw_follow.proofs.Standing.{stands_rising}
 use Rattle.tw_diskcmd.specs.FollowerDisks.{IsLeft, ReadsAsHeads, RestsAtHeads}
+use Rattle.tw_diskcmd.specs.Heads.{HeadsComes, HeadsLeaves, head_lines}
 use Rattle.tw_diskcmd.specs.Offering.{OfferComes, OfferLeaves, OfferSafe, list_after, next_list, offer_as_told}
 use Rattle.tw_pages.proofs.AtRest.{untouched_left}
 use Rattle.tw_diskcmd.specs.Files.{IsMessageIn}
@@ -38,16 +41,23 @@ use Rattle.tw_words.specs.CommandLine.{command_of}
 use Rattle.tw_words.specs.declared.command.Command.{Command}
 use Rattle.tw_words.specs.declared.command.Command.TheVariants as command
 use Rattle.tw_app.specs.declared.outcome.Outcome.{Outcome}
-use Rattle.tw_app.specs.declared.outcome.Outcome.TheVariants.{Made}
-use Rattle.tw_app.specs.Around.{Around, Outside, found_around}
+use Rattle.tw_app.specs.declared.outcome.Outcome.TheVariants.{Made, Written as WrittenOut}
+use Rattle.tw_app.specs.Around.{Outside, found_around}
 use Rattle.tw_app.specs.Outcomes.{outcome_by}
 use Rattle.tw_app.specs.Running.{HaveNoForm, IsDiskUntouched, work}
 use Rattle.tw_app.proofs.Commands.{rows}
-use Rattle.tw_laws.specs.FollowerTurns.{AreRunsFrom, IsToldByCommand, IsToldIn, IsToldInRuns, LeadsByRun, Run}
-use Rattle.tw_laws.specs.FollowerTurns.{RunBehind, disk_behind_runs}
+use Rattle.tw_laws.specs.FollowerTurns.{AreRunsFrom, GoesOnFromLines, IsListedByCommand, IsListedIn, IsListedInRuns}
+use Rattle.tw_laws.specs.FollowerTurns.{IsToldByCommand, IsToldIn, IsToldInRuns, IsListText, KeepsLists, LeadsByRun}
+use Rattle.tw_laws.specs.FollowerTurns.{NeverFalls, Run, RunBehind, disk_behind_runs}
 use Rattle.tw_laws.specs.FollowerTurns.Run.{Ran, Stopped}
-use Rattle.tw_laws.specs.Turns.{IsRunOn}
+use Rattle.tw_laws.specs.Turns.{IsWorkOn}
 use Rattle.tw_laws.proofs.OtherStores.{list_closed}
+
+ok-is : (lines later : List ℕ) → ◌≡◌ {A = Result (List ℕ) CommandFault} (Ok lines) (Ok later) → lines ≡ later
+ok-is lines later is = cc
+
+written-is : (lines bytes : List ℕ) → IsListText (WrittenOut bytes) lines → lines ≡ bytes
+written-is lines bytes is = is
 
 -- ---- lists that go on by a message
 
@@ -296,48 +306,128 @@ module _ {D : Type 0} (view : D → DiskView)
       only_now came.1) (λ t told. told)
   of_words words o outcome k waver (Some c) came = leaves o k waver c outcome came
 
-  of_run : (disk : D) (a : Around D) (status : ℕ) (outcome : Outcome) (k : Kept) → Wavers disk k
-      → IsRunOn view disk a status outcome
-      → Left a.outside k (λ t. MatchOption (command_of a.words) ⊥ (λ c. IsToldByCommand c outcome t))
-  of_run disk a status outcome k waver run = of_words a.words a.outside outcome k
-      (subst (λ (d : D). Wavers d k) (sym run.on) waver) (command_of a.words) run.ends.has
+  of_run : (disk : D) (words : List (List ℕ)) (o : Outside D) (outcome : Outcome) (k : Kept) → Wavers disk k
+      → IsWorkOn view disk words o outcome
+      → Left o k (λ t. MatchOption (command_of words) ⊥ (λ c. IsToldByCommand c outcome t))
+  of_run disk words o outcome k waver run = of_words words o outcome k
+      (subst (λ (d : D). Wavers d k) (sym run.on) waver) (command_of words) run.comes
+
+  -- ---- what `heads` writes is the list that the disk then stands for
+
+  record Lists (o : Outside D) (k : Kept) (Tells : Thread → Type 0) (Written : List ℕ → Type 0) : Type 0 where
+    left : Left o k Tells
+    listed : (lines : List ℕ) → Written lines → lines ≡ head_lines left.now.heads
+
+  no_lists : (o : Outside D) (k : Kept) (Tells : Thread → Type 0) (Written : List ℕ → Type 0) → Left o k Tells
+      → ((lines : List ℕ) → Written lines → ⊥) → Lists o k Tells Written
+  no_lists o k Tells Written left none = record { left = left; listed = λ lines is. absurd (none lines is) }
+
+  module _ (o : Outside D) (k : Kept) (waver : Wavers o.disk.before k) (outcome : Outcome) where
+    of_heads : (r : Result (List ℕ) CommandFault)
+        → HeadsComes (found_around view o) r × HeadsLeaves view o.disk.before o.disk.after r
+        → outcome ≡ outcome_by WrittenOut r
+        → Lists o k (IsToldByCommand command.Heads outcome) (IsListedByCommand command.Heads outcome)
+    of_heads (Ok lines) may is =
+        let kept = read o k waver in
+        let left = may.1.0 in
+        let own : lines ≡ head_lines kept.heads = ok-is lines (head_lines kept.heads) (may.0.list kept (reads o k waver)) in
+        record {
+          left = record {
+            now = kept;
+            goes_on = waver.0.has.2;
+            settled = rests_waver o.disk.after kept (may.1.1.0 kept (reads o k waver));
+            any_moment = λ c since. waver.1 c (left.1.each c since);
+            tells = λ t told. absurd told;
+          };
+          listed = λ later written. written-is later lines (subst (λ (x : Outcome). IsListText x later) is written) ∙ own;
+        }
+    of_heads (Err f) may is =
+        no_lists o k (IsToldByCommand command.Heads outcome) (IsListedByCommand command.Heads outcome)
+        (leaves o k waver command.Heads outcome (Err f, may, is))
+        (λ lines written. subst (λ (x : Outcome). IsListText x lines) is written)
+
+    all_listed : (c : Command) → (work view o c).does outcome
+        → Lists o k (IsToldByCommand c outcome) (IsListedByCommand c outcome)
+    all_listed command.Heads came = of_heads came.0 came.1 came.2
+    all_listed c came = no_lists o k (IsToldByCommand c outcome) (IsListedByCommand c outcome)
+        (leaves o k waver c outcome came) (λ lines written. written)
+
+    words_listed : (words : List (List ℕ)) (asked : Option Command)
+        → MatchOption asked (HaveNoForm words outcome × IsDiskUntouched view o) (λ c. (work view o c).does outcome)
+        → Lists o k (λ t. MatchOption asked ⊥ (λ c. IsToldByCommand c outcome t))
+        (λ lines. MatchOption asked ⊥ (λ c. IsListedByCommand c outcome lines))
+    words_listed words None came = no_lists o k (λ t. ⊥) (λ lines. ⊥)
+        (of_words words o outcome k waver None came) (λ lines written. written)
+    words_listed words (Some c) came = all_listed c came
+
+  run_listed : (disk : D) (words : List (List ℕ)) (o : Outside D) (outcome : Outcome) (k : Kept) → Wavers disk k
+      → IsWorkOn view disk words o outcome
+      → Lists o k (λ t. MatchOption (command_of words) ⊥ (λ c. IsToldByCommand c outcome t))
+      (λ lines. MatchOption (command_of words) ⊥ (λ c. IsListedByCommand c outcome lines))
+  run_listed disk words o outcome k waver run = words_listed o k
+      (subst (λ (d : D). Wavers d k) (sym run.on) waver) outcome words (command_of words) run.comes
 
   record GoesTo (run : Run D) (left : D) (k : Kept) : Type 0 where
     now : Kept
     goes_on : GoesOnByMoves sha256 k now
     is : Wavers left now
     tells : (t : Thread) → IsToldIn run t → In t now.heads
+    listed : (lines : List ℕ) → IsListedIn run lines → lines ≡ head_lines now.heads
 
   goes : (run : Run D) (disk left : D) (k : Kept) → Wavers disk k → LeadsByRun view run disk left → GoesTo run left k
-  goes (Ran a status outcome) disk left k waver leads =
-      let b = of_run disk a status outcome k waver leads.0 in
+  goes (Ran words o outcome) disk left k waver leads =
+      let all = run_listed disk words o outcome k waver leads.0 in
+      let b = all.left in
       record {
         now = b.now;
         goes_on = b.goes_on;
         is = ⊎_elim (λ same. subst (λ (d : D). Wavers d b.now) (sym same) b.settled)
-            (λ only. holds left (view a.outside.disk.after).may_leave b.now b.settled.1 only) leads.1;
+            (λ only. holds left (view o.disk.after).may_leave b.now b.settled.1 only) leads.1;
         tells = b.tells;
+        listed = all.listed;
       }
-  goes (Stopped a status outcome) disk left k waver leads =
-      let b = of_run disk a status outcome k waver leads.0 in
+  goes (Stopped words o outcome) disk left k waver leads =
+      let b = of_run disk words o outcome k waver leads.0 in
       record {
         now = k;
         goes_on = stays_on k;
-        is = holds left ((view a.outside.disk.after).left_since (view disk).moment) k
-            (λ c since. b.any_moment c (subst (λ (d : D). (view a.outside.disk.after).left_since (view d).moment c)
+        is = holds left ((view o.disk.after).left_since (view disk).moment) k
+            (λ c since. b.any_moment c (subst (λ (d : D). (view o.disk.after).left_since (view d).moment c)
             (sym leads.0.on) since)) leads.1;
         tells = λ t told. absurd told;
+        listed = λ lines written. absurd written;
       }
+
+  -- the lines of a list that goes on from another one go on from the other's
+  lines_on : (k next : Kept) → GoesOnByMoves sha256 k next
+      → GoesOnFromLines (head_lines k.heads) (head_lines next.heads)
+  lines_on k next on =
+      let more = map (λ (m : Message). m.thread) on.1 in (
+        more,
+        ap (λ (hs : List Thread). head_lines hs) (runs-grow sha256 k on.0 on.1 next on.2).1
+            ∙ flat_map-append (λ (head : Thread). anchor_text head) k.heads more,
+      )
 
   record Ends (disk : D) (runs : List (RunBehind D)) (k : Kept) : Type 0 where
     now : Kept
     goes_on : GoesOnByMoves sha256 k now
     is : Wavers (disk_behind_runs disk runs) now
     tells : (t : Thread) → IsToldInRuns runs t → In t now.heads
+    -- each list that is written stands between the first one and the last
+    listed : (lines : List ℕ) → IsListedInRuns runs lines → (between : Kept) × GoesOnByMoves sha256 k between
+        × GoesOnByMoves sha256 between now × (lines ≡ head_lines between.heads)
+    rises : NeverFalls runs
 
   all_runs : (disk : D) (runs : List (RunBehind D)) (k : Kept) → Wavers disk k → AreRunsFrom view disk runs
       → Ends disk runs k
-  all_runs disk [] k waver leads = record { now = k; goes_on = stays_on k; is = waver; tells = λ t told. absurd told }
+  all_runs disk [] k waver leads = record {
+    now = k;
+    goes_on = stays_on k;
+    is = waver;
+    tells = λ t told. absurd told;
+    listed = λ lines written. absurd written;
+    rises = tt;
+  }
   all_runs disk (x ∷ runs) k waver leads =
       let first = goes x.run disk x.left k waver leads.0 in
       let rest = all_runs x.left runs first.now first.is leads.1 in
@@ -347,7 +437,43 @@ module _ {D : Type 0} (view : D → DiskView)
         is = rest.is;
         tells = λ t told. ⊎_elim (λ by. has_on sha256 first.now rest.now t rest.goes_on (first.tells t by))
             (λ later. rest.tells t later) told;
+        listed = λ lines written. ⊎_elim
+            (λ by. (first.now, first.goes_on, rest.goes_on, first.listed lines by))
+            (λ later.
+            let one = rest.listed lines later in
+            (one.0, goes_then k first.now one.0 first.goes_on one.1, one.2, one.3)) written;
+        rises = (
+          λ lines later by behind.
+              let one = rest.listed later behind in
+              let on = lines_on first.now one.0 one.1 in
+              (on.0, one.3 ∙ on.1 ∙ ap (λ (ls : List ℕ). ls ++ head_lines on.0) (sym (first.listed lines by))),
+          rest.rises,
+        );
       }
+
+  pub lists_rise : (disk : D) (first : Kept) (runs : List (RunBehind D))
+      → HoldsOnly view (λ i. StandsFor sha256 i first) disk → AreRunsFrom view disk runs → NeverFalls runs
+  lists_rise disk first runs is leads =
+      let start = holds disk (λ i. StandsFor sha256 i first) first (λ i stands. (first, stands, stays_on first)) is in
+      (all_runs disk runs first start leads).rises
+
+  pub no_list_lost : (disk : D) (first : Kept) (runs : List (RunBehind D))
+      → HoldsOnly view (λ i. StandsFor sha256 i first) disk → AreRunsFrom view disk runs
+      → HoldsOnly view (KeepsLists runs) (disk_behind_runs disk runs)
+  no_list_lost disk first runs is leads =
+      let start = holds disk (λ i. StandsFor sha256 i first) first (λ i stands. (first, stands, stays_on first)) is in
+      let end = all_runs disk runs first start leads in
+      let all : (i : Image) → GoesFrom end.now i → KeepsLists runs i = λ i on. (
+        on.0,
+        on.1,
+        λ lines written.
+            let one = end.listed lines written in
+            let after = lines_on one.0 on.0 (goes_then one.0 end.now on.0 one.2 on.2) in
+            (after.0, after.1 ∙ ap (λ (ls : List ℕ). ls ++ head_lines after.0) (sym one.3)),
+      ) in (
+        record { image = end.is.0.image; told = end.is.0.told; has = all end.is.0.image end.is.0.has },
+        λ c may. all c (end.is.1 c may),
+      )
 
   pub no_head_lost : (disk : D) (first : Kept) (runs : List (RunBehind D))
       → HoldsOnly view (λ i. StandsFor sha256 i first) disk → AreRunsFrom view disk runs

@@ -1,5 +1,6 @@
 mod AnsweredCalls
 pub mod Threads
+pub mod GoingOn
 pub mod Wavering
 pub mod TreeSizes
 mod OtherStores

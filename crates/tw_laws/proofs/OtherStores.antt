@@ -15,10 +15,10 @@ use Rattle.tw_follow.specs.Stands.{IsNotOpenedFor, root_kind}
 use Rattle.tw_follow.proofs.Spelling.{root-size}
 use Rattle.tw_follow.specs.HeadLists.{Kept}
 use Rattle.tw_follow.specs.Stands.{IsServed as IsServedList, StandsFor as StandsForList}
-use Rattle.tw_follow.specs.Stands.Served.{Opened as OpenedList}
 use Rattle.tw_answers.specs.Roots.{root_kind as service_kind}
 use Rattle.tw_service.specs.Stands.{IsServed, StandsFor}
-use Rattle.tw_service.specs.Stands.Served.{Opened}
+use Rattle.tw_pages.specs.Records.Served.{Opened}
+use Rattle.tw_pages.specs.Records.{written_record}
 use Rattle.tw_service.specs.Stands.{IsNotOpenedFor as IsNoService}
 
 other_size : (is_timed : Bool) (size : ℕ) → size ≡ (if is_timed then 120 else 112) → size ≡ 64 → ⊥
@@ -33,14 +33,14 @@ no_follower o r has f other =
     (ap (λ (bytes : List ℕ). length bytes) other.spelled ∙ root-size f other.may.spelled)
 
 -- what opens as a service's store is opened as no follower, whatever its pages keep
-pub service_closed : (image : Image) (r : RootRecord) (pages : Image) → IsServed image (Opened r pages)
+pub service_closed : (image : Image) (r : RootRecord) (pages : Image) → IsServed image (Opened (written_record r pages))
     → (why : StoreFault) × IsNotOpenedFor sha256 image why
 service_closed image r pages is =
     (NotAStore is.opening.slot, inr (is.opening, is.opens, (λ f has. no_follower is.opening r is.has f has), refl))
 
 -- and the other way round
 pub follower_closed : (image : Image) (f : FollowerRoot) (pages : Image) → IsServedList sha256 image
-    (OpenedList f pages) → (why : StoreFault) × IsNoService image why
+    (Opened (written_record f pages)) → (why : StoreFault) × IsNoService image why
 follower_closed image f pages is =
     (NotAStore is.opening.slot, inr (is.opening, is.opens, (λ r has. no_follower is.opening r has f is.has), refl))
 

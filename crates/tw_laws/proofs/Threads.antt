@@ -10,7 +10,7 @@ use Rattle.tw_base.specs.declared.history.thread.Thread.{Thread}
 use Rattle.tw_base.specs.format.Formats.{Spells}
 use Rattle.tw_base.specs.history.Auth.{auth}
 use Rattle.tw_base.specs.history.Tree.{tree}
-use Rattle.tw_treeproof.specs.Making.{proof_of}
+use Rattle.tw_base.specs.history.TreeProofs.{proof_of}
 use Rattle.tw_base.specs.history.History.{History, Step, plus, step_at, thread_of}
 use Rattle.tw_base.specs.history.HistoryCodec.{history_codec, history_layout}
 use Rattle.tw_base.specs.history.Sound.{IsSound}
@@ -285,20 +285,7 @@ module _ (dig : List ℕ → List ℕ) where
 
   -- ---- the next history
 
-  -- it has the threads of the one before
-  pub next_has : (call : Call) (h next : History) → NextOf dig call h next → (t : Thread) → IsThreadOf dig h t
-      → IsThreadOf dig next t
-  next_has (Append events time) h next is t own = subst (λ (n : History). IsThreadOf dig n t) (sym is)
-      (own_plus h _ t own)
-  next_has (Receive m time) h next (inl is) t own = subst (λ (n : History). IsThreadOf dig n t) (sym is) own
-  next_has (Receive m time) h next (inr is) t own = subst (λ (n : History). IsThreadOf dig n t) (sym is.1.1)
-      (own_plus h is.1.0 t own)
-  next_has (Ask q) h next is t own = subst (λ (n : History). IsThreadOf dig n t) (sym is) own
-  next_has CountSteps h next is t own = subst (λ (n : History). IsThreadOf dig n t) (sym is) own
-  next_has TellHead h next is t own = subst (λ (n : History). IsThreadOf dig n t) (sym is) own
-  next_has TellName h next is t own = subst (λ (n : History). IsThreadOf dig n t) (sym is) own
-
-  -- and its name
+  -- it has the name of the one before
   pub next_name : (call : Call) (h next : History) → NextOf dig call h next → next.name ≡ h.name
   next_name (Append events time) h next is = ap (λ (n : History). n.name) is
   next_name (Receive m time) h next (inl is) = ap (λ (n : History). n.name) is

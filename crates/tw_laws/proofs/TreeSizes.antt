@@ -4,12 +4,12 @@ use Rattle.tw_base.specs.declared.history.root.Root.{Root}
 use Rattle.tw_base.specs.declared.history.tree_proof.Ancestor.{Ancestor}
 use Rattle.tw_base.specs.declared.history.tree_proof.Ask.{Ask}
 use Rattle.tw_base.specs.history.Tree.{Tree}
+use Rattle.tw_base.specs.history.TreeProofs.{place_of_ask, way_up}
+use Rattle.tw_base.proofs.lemmas.history.Ways.{at-ancestors}
 use Rattle.tw_disk.specs.Image.{Image}
 use Rattle.tw_rbtree.specs.Standing.{StandsForTree}
 use Rattle.tw_rbtree.proofs.LevelLaws.{levels-few}
 use Rattle.tw_rbtree.proofs.RootWays.{root-way}
-use Rattle.tw_treeproof.specs.Making.{place_of_ask, way_up}
-use Rattle.tw_treeproof.proofs.OwnProofs.{at-ancestors}
 use Rattle.tw_laws.specs.TreeSizes.{HasFewAbove}
 
 module _ (dig : List ℕ → List ℕ) (ps : Image) where

@@ -22,7 +22,9 @@ use Rattle.tw_laws.specs.Published.{IsThreadOf}
 use Rattle.tw_laws.specs.Runs.{ServiceAct, BeginsHistory, DoesAct, HasAllKnown, HasOneAuthenticator, IsCallAnswered, IsKnown}
 use Rattle.tw_laws.specs.Runs.{IsServicePublished, ShowsHead, TellsThread, services}
 use Rattle.tw_laws.specs.Runs.ServiceAct.{Answered, Told}
-use Rattle.tw_laws.proofs.Threads.{last_own, next_has, next_name, own_once, told_own}
+use Rattle.tw_laws.specs.Acknowledged.{Extends}
+use Rattle.tw_laws.proofs.GoingOn.{next_on, same_on, then_on, thread_on}
+use Rattle.tw_laws.proofs.Threads.{last_own, next_name, own_once, told_own}
 
 same_disk : (disk : DiskView) → IsSameDisk disk disk
 same_disk disk = record {
@@ -36,9 +38,9 @@ module _ {D : Type 0} (dig : List ℕ → List ℕ) (view : D → DiskView) (nam
   abbrev pub IsOf : History → Image → Type 0
   IsOf h image = StandsFor dig image name h
 
-  -- the later history has all threads of the earlier one
+  -- the later history has the steps of the earlier one, and so its threads
   abbrev pub Has : (h next : History) → Type 0
-  Has h next = (t : Thread) → IsThreadOf dig h t → IsThreadOf dig next t
+  Has h next = Extends h next
 
   -- the image stands for a history that goes on from this one
   abbrev pub GoesOnFrom : History → Image → Type 0
@@ -49,7 +51,7 @@ module _ {D : Type 0} (dig : List ℕ → List ℕ) (view : D → DiskView) (nam
   Wavers disk h = runs.Wavers IsOf Has view disk h
 
   pub same_has : (h : History) → Has h h
-  same_has h t own = own
+  same_has h = same_on h
 
   -- the disk holds images alone that go on
   pub holds : (disk : D) (P : Image → Type 0) (h : History) → ((c : Image) → P c → GoesOnFrom h c)
@@ -63,9 +65,9 @@ module _ {D : Type 0} (dig : List ℕ → List ℕ) (view : D → DiskView) (nam
       → HasOneAuthenticator dig view name first Published last
   one_for first Published last h is keeps own =
       let tells : (t : Thread) → IsKnown dig view name first Published t → IsThreadOf dig h t =
-      λ t known. ⊎_elim (λ of_first. keeps t of_first) (λ published. own t published) known in
+      λ t known. ⊎_elim (λ of_first. thread_on dig first h keeps t of_first) (λ published. own t published) known in
       let all : (c : Image) → GoesOnFrom h c → HasAllKnown dig view name first Published c =
-      λ c goes. (goes.0, goes.1, (λ t known. goes.2 t (tells t known))) in
+      λ c goes. (goes.0, goes.1, (λ t known. thread_on dig h goes.0 goes.2 t (tells t known))) in
       record {
         one = λ t u told other same. own_once dig h t u (tells t told) (tells u other) same;
         at_end = (
@@ -145,7 +147,7 @@ module _ {D : Type 0} (dig : List ℕ → List ℕ) (view : D → DiskView) (nam
         let own = own_name old h served in
         record {
           next = s.next;
-          goes = next_has dig call h s.next s.is_next;
+          goes = next_on dig call h s.next s.is_next;
           any_moment = subst (λ (n : List ℕ). LeavesOnly (view (disk_of old)) (view (disk_of new))
               (StandsForOneOf dig n h s.next)) own s.any_moment;
           told = subst (λ (n : List ℕ). Reads (view (disk_of new)) (StandsForOneOf dig n h s.next)) own s.told;
@@ -205,8 +207,8 @@ module _ {D : Type 0} (dig : List ℕ → List ℕ) (view : D → DiskView) (nam
         (TellsThread dig)
     service_laws = record {
       same = same_has;
-      on = λ a b c first second t own. second t (first t own);
-      keeps = λ h next t on own. on t own;
+      on = λ a b c first second. then_on a b c first second;
+      keeps = λ h next t on own. thread_on dig h next on t own;
       rests = rests;
       shows = shows;
       opens = λ disk service image h opened told is. (opened.serves image name h told is, is.named);

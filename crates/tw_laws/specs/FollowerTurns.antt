@@ -1,22 +1,27 @@
 -- Runs of the program on one disk that stands for a list of heads, one after the other; and the heads that they tell.
-use Rattle.std.specs.Prelude.{◌≡◌, ◌⊎◌, ℕ, List, [], ◌∷◌}
+use Rattle.std.specs.Prelude.{◌≡◌, ◌⊎◌, ℕ, List, [], ◌∷◌, ◌++◌}
+use Rattle.sha2.specs.Sha256.{sha256}
 use Rattle.tw_base.specs.declared.history.thread.Thread.{Thread}
 use Rattle.tw_disk.specs.Disk.{DiskView}
+use Rattle.tw_disk.specs.Image.{Image}
 use Rattle.tw_pages.specs.Runs.{HoldsOnly}
 use Rattle.tw_words.specs.declared.command.Command.{Command}
-use Rattle.tw_words.specs.declared.command.Command.TheVariants.{Offer}
+use Rattle.tw_follow.specs.HeadLists.{Kept}
+use Rattle.tw_follow.specs.Stands.{StandsFor}
+use Rattle.tw_diskcmd.specs.Heads.{head_lines}
+use Rattle.tw_words.specs.declared.command.Command.TheVariants.{Heads, Offer}
 use Rattle.tw_app.specs.declared.outcome.Outcome.{Outcome}
-use Rattle.tw_app.specs.declared.outcome.Outcome.TheVariants.{Made}
-use Rattle.tw_app.specs.Around.{Around}
+use Rattle.tw_app.specs.declared.outcome.Outcome.TheVariants.{Made, Written}
+use Rattle.tw_app.specs.Around.{Outside}
 use Rattle.tw_app.specs.Statuses.{AreWordsOf}
-use Rattle.tw_laws.specs.Turns.{IsRunOn}
+use Rattle.tw_laws.specs.Turns.{IsWorkOn}
 
 -- What comes to a disk, as in `Turns`, but for services, which a list of heads doesn't serve.
 pub data Run (D : Type 0) : Type 0 where
-  -- the program is run, and some of its text is out, be it all of it: what is around the run, its status, and what it comes to
-  Ran : Around D → (status : ℕ) → Outcome → Run D
-  -- it is stopped in its work, or its machine is, and nothing is out
-  Stopped : Around D → (status : ℕ) → Outcome → Run D
+  -- the work is done, and some of the outcome's text may be out, be it all of it: the words, what is around the work, and what it came to
+  Ran : (words : List (List ℕ)) → Outside D → Outcome → Run D
+  -- the program is stopped in its work, or its machine is
+  Stopped : (words : List (List ℕ)) → Outside D → Outcome → Run D
 
 -- a run, and the disk that is there behind it
 pub record RunBehind (D : Type 0) : Type 0 where
@@ -25,12 +30,12 @@ pub record RunBehind (D : Type 0) : Type 0 where
 
 module _ {D : Type 0} (view : D → DiskView) where
   -- The run leads from one disk to the next: to the one that it hands back, or, where it or its machine stopped later, to one that holds images
-  -- of that moment alone; where it stopped before its text, images of some moments since its start.
+  -- of that moment alone; where it stopped in its work, images of some moments since its start.
   abbrev pub LeadsByRun : Run D → (disk left : D) → Type 0
-  LeadsByRun (Ran around status outcome) disk left =
-      IsRunOn view disk around status outcome × ((left ≡ around.outside.disk.after) ⊎ HoldsOnly view (view around.outside.disk.after).may_leave left)
-  LeadsByRun (Stopped around status outcome) disk left =
-      IsRunOn view disk around status outcome × HoldsOnly view ((view around.outside.disk.after).left_since (view disk).moment) left
+  LeadsByRun (Ran words o outcome) disk left =
+      IsWorkOn view disk words o outcome × ((left ≡ o.disk.after) ⊎ HoldsOnly view (view o.disk.after).may_leave left)
+  LeadsByRun (Stopped words o outcome) disk left =
+      IsWorkOn view disk words o outcome × HoldsOnly view ((view o.disk.after).left_since (view disk).moment) left
 
   abbrev pub AreRunsFrom : D → List (RunBehind D) → Type 0
   AreRunsFrom disk [] = Unit {0}
@@ -42,13 +47,44 @@ IsToldByCommand (Offer file) (Made thread) t = t ≡ thread
 IsToldByCommand command outcome t = ⊥
 
 abbrev pub IsToldIn : {D : Type 0} → Run D → Thread → Type 0
-IsToldIn (Ran around status outcome) t = AreWordsOf (λ command. IsToldByCommand command outcome t) around.words
-IsToldIn (Stopped around status outcome) t = ⊥
+IsToldIn (Ran words o outcome) t = AreWordsOf (λ command. IsToldByCommand command outcome t) words
+IsToldIn (Stopped words o outcome) t = ⊥
 
 -- in one of the runs
 abbrev pub IsToldInRuns : {D : Type 0} → List (RunBehind D) → Thread → Type 0
 IsToldInRuns [] t = ⊥
 IsToldInRuns (x ∷ runs) t = IsToldIn x.run t ⊎ IsToldInRuns runs t
+
+-- the run's text is this list of lines: `heads` writes it
+abbrev pub IsListText : Outcome → (lines : List ℕ) → Type 0
+IsListText (Written bytes) lines = lines ≡ bytes
+IsListText outcome lines = ⊥
+
+abbrev pub IsListedByCommand : Command → Outcome → (lines : List ℕ) → Type 0
+IsListedByCommand Heads outcome lines = IsListText outcome lines
+IsListedByCommand command outcome lines = ⊥
+
+abbrev pub IsListedIn : {D : Type 0} → Run D → (lines : List ℕ) → Type 0
+IsListedIn (Ran words o outcome) lines = AreWordsOf (λ command. IsListedByCommand command outcome lines) words
+IsListedIn (Stopped words o outcome) lines = ⊥
+
+-- in one of the runs
+abbrev pub IsListedInRuns : {D : Type 0} → List (RunBehind D) → (lines : List ℕ) → Type 0
+IsListedInRuns [] lines = ⊥
+IsListedInRuns (x ∷ runs) lines = IsListedIn x.run lines ⊎ IsListedInRuns runs lines
+
+-- the lines go on from these, by none more or by some behind them
+abbrev pub GoesOnFromLines : (lines later : List ℕ) → Type 0
+GoesOnFromLines lines later = (more : List Thread) × (later ≡ lines ++ head_lines more)
+
+-- each list that is written goes on from each one that was written before
+abbrev pub NeverFalls : {D : Type 0} → List (RunBehind D) → Type 0
+NeverFalls [] = Unit {0}
+NeverFalls (x ∷ runs) = ((lines later : List ℕ) → IsListedIn x.run lines → IsListedInRuns runs later → GoesOnFromLines lines later) × NeverFalls runs
+
+-- the image stands for a list whose lines go on from each list that is written
+abbrev pub KeepsLists : {D : Type 0} → List (RunBehind D) → Image → Type 0
+KeepsLists runs image = (last : Kept) × StandsFor sha256 image last × ((lines : List ℕ) → IsListedInRuns runs lines → GoesOnFromLines lines (head_lines last.heads))
 
 -- the disk behind all of them
 abbrev pub disk_behind_runs : {D : Type 0} → D → List (RunBehind D) → D

@@ -2,11 +2,10 @@
 use Rattle.std.specs.Prelude.{◌≡◌, ℕ, ◌+◌, ◌-◌, ◌*◌, ◌^◌, ◌<◌, ◌≤◌, List, length}
 use Rattle.tw_base.specs.declared.history.tree_proof.Ask.{Ask}
 use Rattle.tw_base.specs.history.Tree.{Tree, entries}
+use Rattle.tw_base.specs.history.TreeProofs.{ancestors_of, proof_of}
 use Rattle.tw_disk.specs.Found.Found.{Is}
 use Rattle.tw_disk.specs.Image.{Image}
 use Rattle.tw_rbtree.specs.Reading.{levels_in}
-use Rattle.tw_treeproof.specs.Answers.{ancestors_of}
-use Rattle.tw_treeproof.specs.Making.{proof_of}
 
 -- the tree's own proof of what is asked has at most 9 nodes above its place for each of the levels that its pages have under this root page,
 -- and at most 99; each level more takes 13 times the entries

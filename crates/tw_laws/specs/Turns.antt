@@ -12,21 +12,21 @@ use Rattle.tw_words.specs.CommandLine.{command_of}
 use Rattle.tw_words.specs.declared.command.Command.TheVariants.{Init}
 use Rattle.tw_app.specs.declared.outcome.Outcome.{Outcome}
 use Rattle.tw_app.specs.declared.outcome.Outcome.TheVariants.{Made}
-use Rattle.tw_app.specs.Around.{Around}
-use Rattle.tw_app.specs.Running.{EndsAsOutcome}
+use Rattle.tw_app.specs.Around.{Outside}
+use Rattle.tw_app.specs.Running.{HasOutcome}
 use Rattle.tw_app.specs.Statuses.{AreWordsOf}
 use Rattle.tw_pages.specs.Runs.{Happening, HoldsOnly, IsRunFrom, disk_at, end_of}
 use Rattle.tw_pages.specs.Runs.State.{Closed}
 use Rattle.tw_laws.specs.Runs.{ServiceAct, HasOneAuthenticator, IsServicePublished, services}
 use Rattle.tw_laws.specs.Publishing.{IsOutBy}
 
--- What comes to a disk. A run of the program writes when its work on the disk is done: that it is stopped before that means that nothing is
--- out. No clause says so; but on a disk that fails from there on, a run whose text went out earlier would have to end with another one.
+-- What comes to a disk. A run of the program is `work` and then `tell`: the first has the disk and no sink, and the second a sink and no
+-- disk. So nothing is out before the work on the disk is done.
 pub data Turn (D S : Type 0) : Type 0 where
-  -- the program is run, and some of its text is out, be it all of it: what is around the run, its status, and what it comes to
-  Runs : Around D → (status : ℕ) → Outcome → Turn D S
-  -- it is stopped in its work, or its machine is, and nothing is out: status and outcome are those that it would have come to
-  StopsBefore : Around D → (status : ℕ) → Outcome → Turn D S
+  -- the work is done, and some of the outcome's text may be out, be it all of it: the words, what is around the work, and what it came to
+  Runs : (words : List (List ℕ)) → Outside D → Outcome → Turn D S
+  -- the program is stopped in its work, or its machine is: the outcome is one that it would have come to
+  StopsBefore : (words : List (List ℕ)) → Outside D → Outcome → Turn D S
   -- services are opened over the disk
   Serves : List (Happening D S ServiceAct) → Turn D S
 
@@ -39,20 +39,20 @@ pub record TurnBehind (D S : Type 0) : Type 0 where
 abbrev pub AreTurnsOf : {D S : Type 0} → S → List (TurnBehind D S) → Type 0
 AreTurnsOf service moves = Unit {0}
 
--- a run of the program on this disk
-pub record IsRunOn {D : Type 0} (view : D → DiskView) (disk : D) (around : Around D) (status : ℕ) (outcome : Outcome) : Type 0 where
-  pub on : around.outside.disk.before ≡ disk
-  pub ends : EndsAsOutcome view around status outcome
+-- the work of a run of the program on this disk
+pub record IsWorkOn {D : Type 0} (view : D → DiskView) (disk : D) (words : List (List ℕ)) (o : Outside D) (outcome : Outcome) : Type 0 where
+  pub on : o.disk.before ≡ disk
+  pub comes : HasOutcome view o words outcome
 
 module _ {D H : Type 0} {g : _} {k : _} (view : D → DiskView) where
-  -- The turn leads from one disk to the next: to the one that the run hands back, or, where it or its machine stopped later, to one that
-  -- holds images of that moment alone; where it stopped before its text, images of some moments since its start. Lost power leaves
+  -- The turn leads from one disk to the next: to the one that the work hands back, or, where the run or its machine stopped later, to one that
+  -- holds images of that moment alone; where it stopped in its work, images of some moments since its start. Lost power leaves
   -- one image, all of it stable, and a program that was killed may leave writes pending.
   abbrev pub LeadsTo : Turn D (Service D H g k) → (disk left : D) → Type 0
-  LeadsTo (Runs around status outcome) disk left =
-      IsRunOn view disk around status outcome × ((left ≡ around.outside.disk.after) ⊎ HoldsOnly view (view around.outside.disk.after).may_leave left)
-  LeadsTo (StopsBefore around status outcome) disk left =
-      IsRunOn view disk around status outcome × HoldsOnly view ((view around.outside.disk.after).left_since (view disk).moment) left
+  LeadsTo (Runs words o outcome) disk left =
+      IsWorkOn view disk words o outcome × ((left ≡ o.disk.after) ⊎ HoldsOnly view (view o.disk.after).may_leave left)
+  LeadsTo (StopsBefore words o outcome) disk left =
+      IsWorkOn view disk words o outcome × HoldsOnly view ((view o.disk.after).left_since (view disk).moment) left
   LeadsTo (Serves run) disk left = IsRunFrom view (services sha256 view) (Closed disk) run × (left ≡ disk_at view (services sha256 view) (end_of (Closed disk) run))
 
   abbrev pub AreTurnsFrom : D → List (TurnBehind D (Service D H g k)) → Type 0
@@ -61,7 +61,7 @@ module _ {D H : Type 0} {g : _} {k : _} (view : D → DiskView) where
 
   -- the turn is a run of `init` of this name that has made the service, whatever became of its text
   abbrev pub IsMaking : (name : List ℕ) → Turn D (Service D H g k) → Type 0
-  IsMaking name (Runs around status (Made thread)) = command_of around.words ≡ Some (Init name)
+  IsMaking name (Runs words o (Made thread)) = command_of words ≡ Some (Init name)
   IsMaking name _ = ⊥
 
   -- so is the first one
@@ -77,8 +77,8 @@ module _ {D H : Type 0} {g : _} {k : _} (view : D → DiskView) where
 
 -- the thread is published in the turn: by the text of what a run came to, or by a service
 abbrev pub IsOutIn : {D H : Type 0} {g : _} {k : _} → Turn D (Service D H g k) → D → Thread → Type 0
-IsOutIn (Runs around status outcome) disk t = AreWordsOf (λ command. IsOutBy command outcome t) around.words
-IsOutIn (StopsBefore around status outcome) disk t = ⊥
+IsOutIn (Runs words o outcome) disk t = AreWordsOf (λ command. IsOutBy command outcome t) words
+IsOutIn (StopsBefore words o outcome) disk t = ⊥
 IsOutIn (Serves run) disk t = IsServicePublished sha256 (Closed disk) run t
 
 -- in one of the turns

@@ -5,12 +5,12 @@ ghost use Rattle.tw_follow.specs.DiskRuns.{KeepsAll};
 ghost use Rattle.tw_follow.specs.HeadLists.{Kept};
 ghost use Rattle.tw_follow.specs.Stands.{StandsFor};
 ghost use Rattle.tw_pages.specs.Runs.{HoldsOnly};
-ghost use Rattle.tw_laws.specs.FollowerTurns.{AreRunsFrom, IsToldInRuns, disk_behind_runs};
+ghost use Rattle.tw_laws.specs.FollowerTurns.{AreRunsFrom, IsToldInRuns, KeepsLists, NeverFalls, disk_behind_runs};
 
 use tw_disk::Disk;
 
-/// No head that `offer` told is lost: over every list of runs of the program on one disk that stands for a list of heads for good,
-/// with crashes at any moment. Each run of `run` is such a run, as `run_once` says.
+/// No head that `offer` told is lost, and no list that `heads` told falls: over every list of runs of the program on one disk that
+/// stands for a list of heads for good, with crashes at any moment. Each run of `run` is such a run, as `run_once` says.
 pub fn followed_laws<D: Disk>()
     // Over every list of runs of the program, of whatever commands, on one disk that stands for a list of heads for good, and of
     // crashes at any moment: at the end the disk tells what it reads as; that, and each image that a crash may then leave, stands for a
@@ -18,4 +18,11 @@ pub fn followed_laws<D: Disk>()
     // be it written whole or in part.
     ensures runs { (disk : D) (first : Kept) (runs : _) → HoldsOnly D.view (λ i. StandsFor sha256 i first) disk → AreRunsFrom D.view disk runs
         → HoldsOnly D.view (KeepsAll sha256 first (IsToldInRuns runs)) (disk_behind_runs disk runs) }
+    // Over every such list of runs: each list of lines that `heads` writes, be it written whole or in part, begins with each one that it wrote
+    // before.
+    ensures rises { (disk : D) (first : Kept) (runs : _) → HoldsOnly D.view (λ i. StandsFor sha256 i first) disk → AreRunsFrom D.view disk runs
+        → NeverFalls runs }
+    // And what the disk reads as at the end, and each image that a crash may then leave, stands for a list whose lines begin with each of these.
+    ensures lists { (disk : D) (first : Kept) (runs : _) → HoldsOnly D.view (λ i. StandsFor sha256 i first) disk → AreRunsFrom D.view disk runs
+        → HoldsOnly D.view (KeepsLists runs) (disk_behind_runs disk runs) }
 {}

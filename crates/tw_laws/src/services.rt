@@ -35,14 +35,15 @@ ghost use Rattle.tw_base.specs.declared.history.question.Question.{Question};
 ghost use Rattle.tw_base.specs.history.Questions.{HasNames, MayAsk};
 ghost use Rattle.tw_service.specs.Questions.{AreInOrder, found_bytes, pages_refusal};
 ghost use Rattle.tw_service.specs.declared.receiving.Reception.TheVariants.{Archive, Known as ReceptionKnown};
-ghost use Rattle.tw_service.specs.EventSteps.{with_events_at};
+ghost use Rattle.tw_service.specs.EventStep.{with_events_at};
 ghost use Rattle.tw_service.specs.Finds.{found_archived, found_receipt, found_reception, found_thread};
 ghost use Rattle.tw_service.specs.Machine.{IsStepOf, Makes, MakesLink, last_thread, receipt_by, received_as};
 ghost use Rattle.tw_service.specs.Machine.Call.{Receive};
 ghost use Rattle.tw_service.specs.Machine.Reply.{OfReceipt};
 ghost use Rattle.tw_service.specs.Receiving.{reception};
-ghost use Rattle.tw_service.specs.Stands.{IsNotOpenedFor, IsServed, KeepsWhole, Served, StandsFor, greatest_time};
-ghost use Rattle.tw_service.specs.Stands.Served.{Opened};
+ghost use Rattle.tw_service.specs.Stands.{IsNotOpenedFor, IsServed, KeepsWhole, StandsFor, greatest_time};
+ghost use Rattle.tw_pages.specs.Records.Served.{Opened};
+ghost use Rattle.tw_pages.specs.Records.{Served, written_record};
 ghost use Rattle.tw_laws.specs.TreeSizes.{HasFewAbove};
 
 use tw_archive::judgement_laws;
@@ -60,9 +61,9 @@ pub fn standing_laws<H: Hasher>()
     ensures never_refused { (image : Image) (name : List ℕ) (h : History) (fault : StoreFault) → StandsFor H.dig image name h → IsNotOpenedFor image fault → ⊥ }
     // An image is served as one thing at most: it opens as the service of one root record and one list of pages, or, for
     // one reason, as none.
-    ensures served { (image : Image) (one other : Served) → IsServed image one → IsServed image other → one ≡ other }
+    ensures served { (image : Image) (one other : Served RootRecord) → IsServed image one → IsServed image other → one ≡ other }
     // The pages of a service that an image opens as have numbers below 2^64.
-    ensures numbers { (image : Image) (root : RootRecord) (pages : Image) → IsServed image (Opened root pages) → 4 + length pages ≤ 2 ^ 64 }
+    ensures numbers { (image : Image) (root : RootRecord) (pages : Image) → IsServed image (Opened (written_record root pages)) → 4 + length pages ≤ 2 ^ 64 }
 {}
 
 /// What is found in pages that keep a sound history of the name under the head is the history's, and

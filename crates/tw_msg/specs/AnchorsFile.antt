@@ -5,6 +5,9 @@ use Rattle.std.specs.Str.{bytes_eq}
 use Rattle.tw_base.specs.declared.kinds.limits.TheConstants.{LAST_STEP, MOST_ANCHORS}
 use Rattle.tw_base.specs.kinds.Names.{is_name_text, padded_name}
 use Rattle.tw_base.specs.declared.history.thread.Thread.{Thread}
+use Rattle.tw_text.specs.declared.fault.CommandFault.{CommandFault}
+use Rattle.tw_text.specs.declared.fault.CommandFault.TheVariants.{NoMemory, Unreadable}
+use Rattle.tw_text.specs.declared.refusal.BadInput.TheVariants.{BadLine}
 use Rattle.tw_text.specs.Words.{is_number_within, word_number, is_digest, word_digest}
 
 -- ---- lines
@@ -79,3 +82,9 @@ pub record IsFirstBadLine (lines : List (List ℕ)) (number : ℕ) : Type 0 wher
   pub within : index < length lines
   pub bad : is_good lines index ≡ false
   pub before : (i : ℕ) → i < index → is_good lines i ≡ true
+
+-- why the bytes of a file of this name hold no anchors: the first bad line, which the fault names with the file. Want of memory is free
+abbrev pub IsNoAnchors : (file bytes : List ℕ) → CommandFault → Type 0
+IsNoAnchors file bytes (Unreadable (BadLine named number)) = (named ≡ file) × IsFirstBadLine (lines bytes) number
+IsNoAnchors file bytes NoMemory = Unit {0}
+IsNoAnchors file bytes _ = ⊥

@@ -14,3 +14,4 @@ pub use receipt::{
     Malformed, RECEIPT_SIZE, Receipt, history_receipt_laws, read_receipt, receipt_laws,
     take_receipt, write_receipt,
 };
+pub use split::first_place;

@@ -16,7 +16,7 @@ pub(crate) fn split_at_first(bytes: &[u8], separator: u8) -> (&[u8], &[u8])
 }
 
 /// The index of the first separator.
-fn first_place(bytes: &[u8], separator: u8) -> Option<usize>
+pub fn first_place(bytes: &[u8], separator: u8) -> Option<usize>
     ensures { result ≡ position (λ b. b == separator) bytes.now }
 {
     bytes.iter().position(|b| *b == separator)

@@ -154,6 +154,8 @@ impl<D: Disk, R: Record> Recorded<D, R> {
         // After a failure it has the record that it had.
         ensures kept { OnErr result ((self.new.root ≡ self.old.root) × (generation_of self.new.store ≡ generation_of self.old.store)
             × (store_used self.new.store ≡ store_used self.old.store)) }
+        // After any failure the store is broken.
+        ensures broken { OnErr result (is_broken self.new.store ≡ true) }
         // Whatever the answer, nothing is staged any more.
         ensures clean { staged_of self.new.store ≡ [] }
         // It fails only where the disk's count of faults rose, which hasn't fallen.

@@ -21,6 +21,7 @@ fn a_page_read_twice_is_read_once_below(rt: HostRuntime) -> Result<(), Fail> {
     let mut pages = cached_pages(rt.alloc())?;
     assert_eq!(rt; last_byte(&mut pages, 5)?, Some(5));
     assert_eq!(rt; last_byte(&mut pages, 5)?, Some(5));
+    assert_eq!(rt; pages.kept(), 1);
     assert_eq!(rt; pages.close().reads(), 1);
     Ok(())
 }

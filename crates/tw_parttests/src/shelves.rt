@@ -59,6 +59,7 @@ fn the_page_used_longest_ago_makes_room_for_the_65th(rt: HostRuntime) -> Result<
     assert!(rt; are_all_right(&mut near));
     assert!(rt; are_right(&mut near, &[4, 68, 4, 5]));
     assert_eq!(rt; pages.reads(), 66);
+    assert_eq!(rt; shelf.len(), 64);
     Ok(())
 }
 

@@ -15,11 +15,11 @@ use Rattle.tw_base.proofs.lemmas.history.Keys.{KeyBelow-trans}
 use Rattle.tw_base.proofs.lemmas.history.KeyTests.{NotBelow, below-lt, lt-above, lt-below, not_below}
 use Rattle.tw_base.proofs.lemmas.history.KeyTests.NotBelow.{One, Over}
 use Rattle.tw_base.proofs.lemmas.kinds.ListLemmas.{Each-map}
+use Rattle.tw_base.specs.history.Ways.{has_asked_key, is_left}
 use Rattle.tw_rbnode.specs.declared.node.Found.TheVariants.{Between}
 use Rattle.tw_rbnode.specs.Trees.{woven}
 use Rattle.tw_base.proofs.lemmas.history.Asked.{cut}
 use Rattle.tw_base.proofs.lemmas.history.Leaves.{with-left, with-right}
-use Rattle.tw_treeproof.specs.Ways.{has_asked_key, is_left}
 use Rattle.tw_rbtree.specs.declared.seeking.Sought.{Sought}
 use Rattle.tw_rbtree.specs.Reading.{is_above, is_below, lie_between}
 use Rattle.tw_rbtree.specs.Ways.{seek}

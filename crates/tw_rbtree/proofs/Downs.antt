@@ -10,6 +10,7 @@ use Rattle.tw_base.specs.declared.history.tree_proof.Ask.{Ask}
 use Rattle.tw_base.specs.declared.history.tree_proof.Ask.TheVariants.{Absent}
 use Rattle.tw_base.specs.declared.history.tree_proof.TreeProof.{TreeProof}
 use Rattle.tw_base.specs.declared.history.tree_proof.TreeProof.TheVariants.{Gap}
+use Rattle.tw_base.specs.history.Ways.{has_asked_key, is_left}
 use Rattle.tw_disk.specs.Found.{Found, ◌>>=◌, when}
 use Rattle.tw_disk.specs.Found.Found.{Is, Bad}
 use Rattle.tw_disk.specs.Image.{Image}
@@ -21,7 +22,6 @@ use Rattle.tw_rbnode.specs.Page.{IsNode, TreePage}
 use Rattle.tw_rbnode.specs.Trees.{nodes_above}
 use Rattle.tw_rbtree.specs.declared.fault.TreeFault.{TreeFault}
 use Rattle.tw_rbtree.specs.declared.fault.TreeFault.TheVariants.{Present}
-use Rattle.tw_treeproof.specs.Ways.{has_asked_key, is_left}
 use Rattle.tw_rbtree.specs.declared.descending.Down.{Down}
 use Rattle.tw_rbtree.specs.declared.descending.Down.TheVariants.{Met, Leaf, Child}
 use Rattle.tw_rbtree.specs.declared.proving.Shown.{Shown}

@@ -5,6 +5,7 @@ use Rattle.std.specs.Prelude.{◌&&◌, Option, Some, None, if◌then◌else◌}
 use Rattle.std.proofs.lemmas.Option.{none-some, same_Some}
 use Rattle.tw_base.specs.declared.history.thread.Entry.{Entry}
 use Rattle.tw_base.specs.declared.history.tree_proof.Ask.{Ask}
+use Rattle.tw_base.specs.history.Ways.{has_asked_key, is_left}
 use Rattle.tw_disk.specs.Found.{Found, bytes_in, spelled, when, ◌>>=◌}
 use Rattle.tw_disk.specs.Found.Found.{Is, Bad}
 use Rattle.tw_disk.specs.Image.{Image, page_at}
@@ -13,7 +14,6 @@ use Rattle.tw_rbnode.specs.Page.{TreePage}
 use Rattle.tw_rbnode.proofs.PageOnce.{once}
 use Rattle.tw_rbnode.specs.declared.node.Found.{Found as Spot}
 use Rattle.tw_rbnode.specs.declared.node.Found.TheVariants.{At, Between}
-use Rattle.tw_treeproof.specs.Ways.{has_asked_key, is_left}
 use Rattle.tw_rbtree.specs.declared.seeking.Sought.{Sought}
 use Rattle.tw_base.specs.declared.kinds.limits.TheConstants.{PAGE_SIZE}
 use Rattle.tw_base.specs.format.PageBytes.{IsPageOf}

@@ -20,6 +20,9 @@ use Rattle.tw_base.specs.history.Tree.Tree.{Empty as NoEntry, Branch}
 use Rattle.tw_base.proofs.lemmas.history.Keys.{KeyBelow-trans, key_cmp_total}
 use Rattle.tw_base.proofs.lemmas.history.KeyTests.{NotBelow, eq-below, lt-above, lt-below, not_below}
 use Rattle.tw_base.proofs.lemmas.history.KeyTests.NotBelow.{One, Over}
+use Rattle.tw_base.specs.history.TreeProofs.{ancestor, place_of_ask, proof_at, way_up}
+use Rattle.tw_base.specs.history.Ways.{has_asked_key, is_left}
+use Rattle.tw_base.proofs.lemmas.history.Ways.{way-here, way-left, way-right}
 use Rattle.tw_rbnode.specs.declared.node.Found.{Found as Spot}
 use Rattle.tw_rbnode.specs.declared.node.Found.TheVariants.{At, Between}
 use Rattle.tw_rbnode.specs.Shape.{Shape, Empty, Node, size}
@@ -27,9 +30,6 @@ use Rattle.tw_rbnode.specs.Trees.{above_at, label_at, mark_of, node_above, sides
 use Rattle.tw_rbnode.proofs.Descents.{before, not_before, other, same}
 use Rattle.tw_rbnode.proofs.TreeLabels.{label-tree}
 use Rattle.tw_rbnode.proofs.TreeLists.{get-some}
-use Rattle.tw_treeproof.specs.Making.{ancestor, place_of_ask, proof_at, way_up}
-use Rattle.tw_treeproof.specs.Ways.{has_asked_key, is_left}
-use Rattle.tw_treeproof.proofs.Ways.{way-here, way-left, way-right}
 use Rattle.tw_rbtree.specs.declared.seeking.Sought.{Sought}
 use Rattle.tw_rbtree.specs.Ways.{seek}
 use Rattle.tw_rbtree.proofs.PageLaws.{IsSpotOf, seek-there}

@@ -12,6 +12,7 @@ use Rattle.tw_base.specs.history.Asking.{entry_with, first_above, last_below}
 use Rattle.tw_base.specs.kinds.Lists.{Each}
 use Rattle.tw_base.specs.history.Tree.{Tree, IsRising, entries}
 use Rattle.tw_base.specs.history.Tree.Tree.{Empty as NoEntry}
+use Rattle.tw_base.specs.history.TreeProofs.{IsSo, place_of_ask, proof_at, proof_of, way_up}
 use Rattle.tw_disk.specs.Found.{Found, ◌>>=◌}
 use Rattle.tw_disk.specs.Found.Found.{Is}
 use Rattle.tw_disk.specs.Image.{Image}
@@ -19,7 +20,6 @@ use Rattle.tw_disk.proofs.FoundLaws.{is_on}
 use Rattle.tw_rbnode.specs.Page.{TreePage}
 use Rattle.tw_rbnode.specs.Trees.{page_tree}
 use Rattle.tw_base.proofs.lemmas.history.Asked.{or-none}
-use Rattle.tw_treeproof.specs.Making.{IsSo, place_of_ask, proof_at, proof_of, way_up}
 use Rattle.tw_rbtree.specs.declared.seeking.Sought.{Sought}
 use Rattle.tw_rbtree.specs.Answers.{IsSoAt}
 use Rattle.tw_rbtree.specs.Paths.{proof_of_way, way_nodes, way_proof}

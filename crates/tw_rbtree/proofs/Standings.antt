@@ -12,6 +12,8 @@ use Rattle.tw_base.specs.history.Auth.{tree_label}
 use Rattle.tw_base.specs.kinds.Lists.{Each}
 use Rattle.tw_base.specs.history.Tree.{Tree, IsRising, entries}
 use Rattle.tw_base.specs.history.Tree.Tree.{Empty as NoEntry}
+use Rattle.tw_base.specs.history.TreeProofs.{place_of_ask, proof_at, way_up}
+use Rattle.tw_base.specs.history.Ways.{has_asked_key, is_left}
 use Rattle.tw_disk.specs.Found.{◌>>=◌}
 use Rattle.tw_disk.specs.Found.Found.{Is}
 use Rattle.tw_disk.specs.Image.{Image}
@@ -23,8 +25,6 @@ use Rattle.tw_rbnode.specs.Children.{HasChildren, IsChildAt}
 use Rattle.tw_rbnode.specs.Page.{IsNode, TreePage}
 use Rattle.tw_rbnode.specs.Trees.{above_at, labels_of, mark_of, nodes_above, page_tree, sides_at, woven}
 use Rattle.tw_rbnode.proofs.TreeLists.{page-list}
-use Rattle.tw_treeproof.specs.Making.{place_of_ask, proof_at, way_up}
-use Rattle.tw_treeproof.specs.Ways.{has_asked_key, is_left}
 use Rattle.tw_rbtree.specs.declared.seeking.Sought.{Sought}
 use Rattle.tw_rbtree.specs.Paths.{proof_in, way_nodes, way_proof}
 use Rattle.tw_rbtree.specs.Reading.{IsPageAt, child_in, fits, lie_between}

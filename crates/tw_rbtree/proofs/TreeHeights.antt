@@ -5,14 +5,13 @@ use Rattle.std.specs.Prelude.{Option, Some, None, max, slice_index_or}
 use Rattle.std.proofs.Math.Nat.{le-max_left, le-max_right, max-le}
 use Rattle.tw_base.specs.declared.history.root.Root.{Root}
 use Rattle.tw_base.specs.declared.history.thread.Entry.{Entry}
-use Rattle.tw_base.specs.history.Tree.{Tree, branch}
+use Rattle.tw_base.specs.history.Tree.{Tree, branch, height}
 use Rattle.tw_base.specs.history.Tree.Tree.{Empty as NoEntry, Branch}
 use Rattle.tw_disk.specs.Image.{Image}
 use Rattle.tw_rbnode.specs.declared.child.Child.{Child}
 use Rattle.tw_rbnode.specs.Shape.{Shape, Empty, Node, depth, size}
 use Rattle.tw_rbnode.specs.Trees.{page_tree, tree_at}
 use Rattle.tw_rbnode.proofs.RedBlack.{depth_at_most}
-use Rattle.tw_treeproof.specs.Making.{height}
 use Rattle.tw_rbtree.specs.Standing.{AreTrees, IsRootTree, IsTreeBelow, IsTreePage, StandsForTree, any_page}
 
 height-empty : height NoEntry ≡ 0

@@ -16,12 +16,12 @@ use Rattle.tw_base.specs.kinds.Lists.{Each}
 use Rattle.tw_base.specs.history.Tree.{IsRising}
 use Rattle.tw_base.proofs.lemmas.history.KeyTests.{lt-below}
 use Rattle.tw_base.proofs.lemmas.kinds.ListLemmas.{Each-parts}
+use Rattle.tw_base.specs.history.Ways.{has_asked_key, is_left}
 use Rattle.tw_rbnode.specs.declared.node.Found.{Found as Spot}
 use Rattle.tw_rbnode.specs.declared.node.Found.TheVariants.{At, Between}
 use Rattle.tw_rbnode.specs.Trees.{woven}
 use Rattle.tw_base.proofs.lemmas.history.Asked.{above-left, above-right, below-left, below-right, cut, with-equal}
 use Rattle.tw_base.proofs.lemmas.history.Asked.{with-less, with-more}
-use Rattle.tw_treeproof.specs.Ways.{has_asked_key, is_left}
 use Rattle.tw_rbtree.specs.declared.seeking.Sought.{Sought}
 use Rattle.tw_rbtree.specs.Reading.{is_above, is_below, lie_between}
 use Rattle.tw_rbtree.specs.Ways.{seek}

@@ -10,7 +10,8 @@ ghost use Rattle.tw_base.specs.history.Entries.{key_of};
 ghost use Rattle.tw_base.specs.history.Limits.{IsEntryInRange};
 ghost use Rattle.tw_base.specs.kinds.Lists.{Each, In};
 ghost use Rattle.tw_base.specs.history.Asking.{entry_with, first_above, last_below};
-ghost use Rattle.tw_base.specs.history.Tree.{Tree, entries};
+ghost use Rattle.tw_base.specs.history.Tree.{Tree, entries, height};
+ghost use Rattle.tw_base.specs.history.TreeProofs.{IsSo, ancestors_of, proof_of};
 ghost use Rattle.tw_disk.specs.Found.Found.{Is};
 ghost use Rattle.tw_disk.specs.Image.{Image};
 ghost use Rattle.tw_disk.specs.declared.limits.TheConstants.{FIRST_PAGE};
@@ -25,8 +26,6 @@ ghost use Rattle.tw_rbtree.specs.Standing.{HasNamed, IsRootTree, Named, StandsFo
 ghost use Rattle.tw_rbtree.specs.Ways.{Stop, end_of_way, found_after, found_before, found_with, nowhere, way};
 ghost use Rattle.tw_rbtree.specs.Paths.{proof_of_way};
 ghost use Rattle.tw_rbtree.specs.Answers.{IsSoAt, found_insert, insert_at};
-ghost use Rattle.tw_treeproof.specs.Answers.{ancestors_of};
-ghost use Rattle.tw_treeproof.specs.Making.{IsSo, height, proof_of};
 
 use tw_base::Hasher;
 

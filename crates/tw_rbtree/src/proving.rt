@@ -2,12 +2,12 @@
 // proofs of trees in memory, for tests.
 
 ghost use Rattle.std.specs.Prelude.{◌≡◌, ◌+◌, ◌*◌, ◌≤◌, ◌++◌, ◌↔◌, IfOk, IsTrue, OnOk, [], length, take};
+ghost use Rattle.tw_base.specs.history.TreeProofs.{ancestors_of};
+ghost use Rattle.tw_base.specs.history.Limits.{IsAncestorInRange};
 ghost use Rattle.tw_disk.specs.Answers.{ReadsBy, ReadsPages};
 ghost use Rattle.tw_rbnode.specs.Answers.{IsThereAsFound};
 ghost use Rattle.tw_rbnode.specs.Trees.{nodes_above};
 ghost use Rattle.tw_base.specs.kinds.Lists.{Each};
-ghost use Rattle.tw_treeproof.specs.Answers.{ancestors_of};
-ghost use Rattle.tw_treeproof.specs.Limits.{IsAncestorInRange};
 ghost use Rattle.tw_rbtree.specs.Answers.{AnswersPath, IsSoAt, NeverPresent};
 ghost use Rattle.tw_rbtree.specs.FaultWords.{tree_faults};
 ghost use Rattle.tw_rbtree.specs.Paths.{found_tree_path, proof_in, shown_above, shown_at, shown_from, with_above};

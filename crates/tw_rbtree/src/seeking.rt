@@ -3,9 +3,8 @@
 ghost use Rattle.std.specs.Prelude.{◌≡◌, drop};
 ghost use Rattle.tw_rbtree.specs.Ways.{seek as seek_in, stop_in};
 
-use tw_base::{Ask, Entry};
+use tw_base::{Ask, Entry, goes_left, meets};
 use tw_rbnode::{Found, RbNode, entry_at, keys};
-use tw_treeproof::{goes_left, meets};
 
 /// Where a question leads in a page.
 #[derive(Clone, Copy, Drop)]

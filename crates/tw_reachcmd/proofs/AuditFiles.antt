@@ -34,7 +34,7 @@ use Rattle.tw_filecmd.proofs.FormatFronts.{nothing_here}
 use Rattle.tw_filecmd.proofs.Judging.{behind}
 use Rattle.tw_filecmd.proofs.ProofFronts.{verdict_behind}
 use Rattle.tw_reachcmd.specs.declared.auditing.Audited.{Audited}
-use Rattle.tw_reachcmd.specs.Anchors.{IsNoAnchors}
+use Rattle.tw_msg.specs.AnchorsFile.{IsNoAnchors}
 use Rattle.tw_reachcmd.specs.declared.histories.Family.{Family}
 use Rattle.tw_reachcmd.specs.Auditing.{AuditComes, IsAudited, UnderComes, finding_answer}
 use Rattle.tw_reachcmd.specs.Histories.{HoldHistories, HoldNoHistories, IsOfFiles}

@@ -5,7 +5,7 @@ use Rattle.sha2.specs.Sha256.{sha256}
 use Rattle.tw_base.specs.declared.history.thread.Thread.{Thread}
 use Rattle.tw_outside.specs.Asked.{Asked}
 use Rattle.tw_outside.specs.Files.{Files, IsReadTo, IsThere}
-use Rattle.tw_msg.specs.AnchorsFile.{IsFirstBadLine, lines}
+use Rattle.tw_msg.specs.AnchorsFile.{IsFirstBadLine, IsNoAnchors, lines}
 use Rattle.tw_text.specs.declared.fault.CommandFault.{CommandFault}
 use Rattle.tw_text.specs.declared.fault.CommandFault.TheVariants.{NoMemory, Unreadable}
 use Rattle.tw_text.specs.declared.refusal.BadInput.TheVariants.{BadLine}
@@ -19,7 +19,7 @@ use Rattle.tw_filecmd.specs.Verifying.{HasAnchors, HasBadLine}
 use Rattle.tw_filecmd.proofs.AnchorFronts.{file_limit, first_bad_of_front}
 use Rattle.tw_filecmd.proofs.FormatFronts.{none_is_none, word_is_whole}
 use Rattle.tw_filecmd.proofs.Judging.{has_anchors}
-use Rattle.tw_reachcmd.specs.Anchors.{AreAnchorsOf, IsNoAnchors}
+use Rattle.tw_reachcmd.specs.Anchors.{AreAnchorsOf}
 use Rattle.tw_reachcmd.specs.CheckFork.{CheckForkComes, IsForkJudged}
 use Rattle.tw_reachcmd.proofs.FileFronts.{evidence-short}
 

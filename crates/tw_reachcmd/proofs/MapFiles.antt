@@ -17,7 +17,7 @@ use Rattle.tw_filecmd.proofs.AnchorFronts.{file_limit}
 use Rattle.tw_reachcmd.specs.declared.check_map.MapFiles.{MapFiles}
 use Rattle.tw_reachcmd.specs.Held.{FileHolds}
 use Rattle.tw_reachcmd.specs.CheckMap.{CheckMapComes, HoldMaps}
-use Rattle.tw_reachcmd.specs.Parts.{IsPartRead}
+use Rattle.tw_text.specs.Faults.{IsReadAs}
 use Rattle.tw_reachcmd.specs.ReadMaps.{AreMapsOf, MapsCome}
 use Rattle.tw_reachcmd.proofs.EvidenceFiles.{anchors_held, bad_line_of}
 use Rattle.tw_reachcmd.proofs.FileFronts.{holds, holds_none}
@@ -42,7 +42,7 @@ module _ (a : Asked) (low one : List ℕ) (low_there : IsThere a.told low) (low_
 
   -- ---- the first of both that holds none of its kind
 
-  low_refused : (fault : CommandFault) → IsPartRead low_layout low one (Err fault) → CheckMapComes a low high anchors
+  low_refused : (fault : CommandFault) → IsReadAs low_layout low one (Err fault) → CheckMapComes a low high anchors
       (Err fault)
   low_refused (Unreadable (BadByte named place)) is =
       inl (
@@ -54,7 +54,7 @@ module _ (a : Asked) (low one : List ℕ) (low_there : IsThere a.told low) (low_
   low_refused NoMemory is = tt
   low_refused _ is = absurd is
 
-  high_refused : (l : LowFile) (fault : CommandFault) → Spells low_layout one l → IsPartRead high_layout high other
+  high_refused : (l : LowFile) (fault : CommandFault) → Spells low_layout one l → IsReadAs high_layout high other
       (Err fault)
       → CheckMapComes a low high anchors (Err fault)
   high_refused l (Unreadable (BadByte named place)) spelled is =

@@ -20,7 +20,8 @@ use Rattle.tw_filecmd.proofs.AnchorFronts.{file_limit}
 use Rattle.tw_reachcmd.specs.declared.accusing.Accused.{Accused}
 use Rattle.tw_reachcmd.specs.declared.accusing.Accused.TheVariants.{Whole}
 use Rattle.tw_reachcmd.specs.Accusing.{AccuseComes, HoldParts, PartsMake}
-use Rattle.tw_reachcmd.specs.Parts.{ArePairOf, IsPartRead, LinkedCome}
+use Rattle.tw_text.specs.Faults.{IsReadAs}
+use Rattle.tw_reachcmd.specs.Parts.{ArePairOf, LinkedCome}
 use Rattle.tw_reachcmd.proofs.FileFronts.{holds, holds_none, link-short, thread-short}
 
 -- ---- what was read has a spelling
@@ -75,7 +76,7 @@ module _ (a : Asked) (first one : List ℕ) (first_there : IsThere a.told first)
 
   -- the first of both files that holds no proof
   first_refused : (link : Option (List ℕ)) (fault : CommandFault) → IfSome link (IsThere a.told)
-      → IsPartRead thread_proof_layout first one (Err fault)
+      → IsReadAs thread_proof_layout first one (Err fault)
       → AccuseComes a first second link (Err fault)
   first_refused link (Unreadable (BadByte named place)) link_there is =
       inl (
@@ -89,7 +90,7 @@ module _ (a : Asked) (first one : List ℕ) (first_there : IsThere a.told first)
 
   second_refused : (link : Option (List ℕ)) (p : ThreadProof) (fault : CommandFault) → IfSome link (IsThere a.told)
       → Spells thread_proof_layout one p
-      → IsPartRead thread_proof_layout second other (Err fault) → AccuseComes a first second link (Err fault)
+      → IsReadAs thread_proof_layout second other (Err fault) → AccuseComes a first second link (Err fault)
   second_refused link p (Unreadable (BadByte named place)) link_there spelled is =
       inr (inl (
         (p, holds thread_proof_layout thread-short a.told first one first_there first_read p spelled),
@@ -130,7 +131,7 @@ module _ (a : Asked) (first one : List ℕ) (first_there : IsThere a.told first)
     -- both proofs are read, and the link is none
     refuses_link : (p q : ThreadProof) (fault : CommandFault) → Spells thread_proof_layout one p
         → Spells thread_proof_layout other q
-        → IsPartRead link_proof_layout file between (Err fault) → AccuseComes a first second (Some file) (Err fault)
+        → IsReadAs link_proof_layout file between (Err fault) → AccuseComes a first second (Some file) (Err fault)
     refuses_link p q (Unreadable (BadByte named place)) p_spelled q_spelled is =
         inr (inr (
           (p, holds thread_proof_layout thread-short a.told first one first_there first_read p p_spelled),

@@ -11,7 +11,8 @@ use Rattle.tw_text.specs.declared.refusal.BadInput.TheVariants.{BadByte, Unsound
 use Rattle.tw_filecmd.specs.Showing.{BreaksRule, IsBadByte, IsHistoryFileOf}
 use Rattle.tw_adopt.specs.declared.adopted.Adopted.{Adopted}
 use Rattle.tw_adopt.specs.Adopting.{IsAdoption, IsFirstFault}
-use Rattle.tw_reachcmd.specs.Anchors.{AreAnchorsOf, IsNoAnchors}
+use Rattle.tw_msg.specs.AnchorsFile.{IsNoAnchors}
+use Rattle.tw_reachcmd.specs.Anchors.{AreAnchorsOf}
 use Rattle.tw_reachcmd.specs.declared.adopting.Taken.{Taken}
 use Rattle.tw_reachcmd.specs.declared.adopting.Taken.TheVariants.{File, Fault}
 

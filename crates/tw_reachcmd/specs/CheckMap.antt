@@ -14,7 +14,6 @@ use Rattle.tw_filecmd.specs.Verifying.{HasAnchors}
 use Rattle.tw_tmap.specs.declared.map_file.HighFile.{HighFile}
 use Rattle.tw_tmap.specs.declared.map_file.LowFile.{LowFile}
 use Rattle.tw_tmap.specs.declared.map_verdict.MapVerdict.{MapVerdict}
-use Rattle.tw_tmap.specs.declared.map_verdict.MapVerdict.TheVariants.{Yes, No, Gap}
 use Rattle.tw_tmap.specs.Binding.{BindsMap}
 use Rattle.tw_tmap.specs.Checking.{map_verdict}
 use Rattle.tw_tmap.specs.MapFiles.{high_layout, low_layout}
@@ -61,9 +60,3 @@ CheckMapComes a low high anchors (Err (Unreadable bad)) = HasBadFile a.told low 
 CheckMapComes a low high anchors (Err InputFault) = Rose a.before a.after
 CheckMapComes a low high anchors (Err NoMemory) = Unit {0}
 CheckMapComes a low high anchors _ = ⊥
-
--- the status of each: 0 where the map files are accepted
-abbrev pub map_command_status : MapVerdict → ℕ
-map_command_status (Yes low high upto) = 0
-map_command_status (No reason) = 1
-map_command_status Gap = 1

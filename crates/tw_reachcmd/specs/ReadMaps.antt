@@ -7,16 +7,17 @@ use Rattle.tw_tmap.specs.declared.map_file.LowFile.{LowFile}
 use Rattle.tw_tmap.specs.declared.map_verdict.MapVerdict.{MapVerdict}
 use Rattle.tw_tmap.specs.MapFiles.{high_layout, low_layout}
 use Rattle.tw_reachcmd.specs.declared.check_map.MapFiles.{MapFiles}
-use Rattle.tw_reachcmd.specs.Anchors.{AreAnchorsOf, IsNoAnchors}
+use Rattle.tw_msg.specs.AnchorsFile.{IsNoAnchors}
+use Rattle.tw_reachcmd.specs.Anchors.{AreAnchorsOf}
 use Rattle.tw_reachcmd.specs.CheckMap.{AreMapsJudged}
-use Rattle.tw_reachcmd.specs.Parts.{IsPartRead}
+use Rattle.tw_text.specs.Faults.{IsReadAs}
 
 -- a low and a high map file; or the first of both files that holds none of its kind
 abbrev pub AreMapsOf : (low low_bytes high high_bytes : List ℕ) → Result MapFiles CommandFault → Type 0
 AreMapsOf low low_bytes high high_bytes (Ok maps) = Spells low_layout low_bytes maps.low × Spells high_layout high_bytes maps.high
 AreMapsOf low low_bytes high high_bytes (Err fault) =
-    IsPartRead low_layout low low_bytes (Err fault)
-    ⊎ (((l : LowFile) × Spells low_layout low_bytes l) × IsPartRead high_layout high high_bytes (Err fault))
+    IsReadAs low_layout low low_bytes (Err fault)
+    ⊎ (((l : LowFile) × Spells low_layout low_bytes l) × IsReadAs high_layout high high_bytes (Err fault))
 
 -- what is told of both under the anchors of these lines; or the first bad one
 abbrev pub MapsCome : MapFiles → (anchors all : List ℕ) → Result MapVerdict CommandFault → Type 0

@@ -5,7 +5,8 @@ ghost use Rattle.tw_evidence.specs.Accusing.{AreSpelled};
 ghost use Rattle.tw_evidence.specs.Evidence.{evidence_bytes, link_proof_layout, thread_proof_layout};
 ghost use Rattle.tw_outside.specs.Asked.{asked};
 ghost use Rattle.tw_reachcmd.specs.Accusing.{AccuseComes, PartsMake};
-ghost use Rattle.tw_reachcmd.specs.Parts.{ArePairOf, IsPartRead, LinkedCome};
+ghost use Rattle.tw_text.specs.Faults.{IsReadAs};
+ghost use Rattle.tw_reachcmd.specs.Parts.{ArePairOf, LinkedCome};
 ghost use Rattle.tw_reachcmd.specs.declared.accusing.Accused.TheVariants as Accused;
 
 use crate::reading::read_both;
@@ -114,7 +115,7 @@ fn pair_of(
 
 /// The proof of a received thread that the bytes of the file spell.
 fn thread_of(alloc: Global, file: &str, bytes: &[u8]) -> Result<ThreadProof, CommandFault>
-    ensures { IsPartRead thread_proof_layout file.now bytes.now result }
+    ensures { IsReadAs thread_proof_layout file.now bytes.now result }
 {
     match read_thread_proof(alloc, bytes) {
         Ok(proof) => Ok(proof),
@@ -127,7 +128,7 @@ fn thread_of(alloc: Global, file: &str, bytes: &[u8]) -> Result<ThreadProof, Com
 
 /// The proof of a step's authenticator that the bytes of the file spell.
 fn link_of(alloc: Global, file: &str, bytes: &[u8]) -> Result<LinkProof, CommandFault>
-    ensures { IsPartRead link_proof_layout file.now bytes.now result }
+    ensures { IsReadAs link_proof_layout file.now bytes.now result }
 {
     match read_link_proof(alloc, bytes) {
         Ok(proof) => Ok(proof),

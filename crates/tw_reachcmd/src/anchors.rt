@@ -3,7 +3,8 @@
 
 ghost use Rattle.std.specs.Prelude.{◌≤◌, ℕ, List, length, IfErr, IfOk};
 ghost use Rattle.tw_base.specs.declared.kinds.limits.TheConstants.{MOST_ANCHORS};
-ghost use Rattle.tw_reachcmd.specs.Anchors.{AreAnchorsOf, IsNoAnchors};
+ghost use Rattle.tw_msg.specs.AnchorsFile.{IsNoAnchors};
+ghost use Rattle.tw_reachcmd.specs.Anchors.{AreAnchorsOf};
 
 use std::alloc::Global;
 use tw_base::Threads;

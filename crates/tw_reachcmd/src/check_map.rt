@@ -3,7 +3,7 @@
 ghost use Rattle.std.specs.Prelude.{IfOk};
 ghost use Rattle.tw_outside.specs.Asked.{asked};
 ghost use Rattle.tw_reachcmd.specs.CheckMap.{CheckMapComes};
-ghost use Rattle.tw_reachcmd.specs.Parts.{IsPartRead};
+ghost use Rattle.tw_text.specs.Faults.{IsReadAs};
 ghost use Rattle.tw_reachcmd.specs.ReadMaps.{AreMapsOf, MapsCome};
 ghost use Rattle.tw_tmap.specs.MapFiles.{high_codec, high_layout, low_codec, low_layout};
 
@@ -89,7 +89,7 @@ fn maps_of(
 
 /// The low map file that the bytes of the file spell.
 fn low_of(alloc: Global, file: &str, bytes: &[u8]) -> Result<LowFile, CommandFault>
-    ensures part { IsPartRead low_layout file.now bytes.now result }
+    ensures part { IsReadAs low_layout file.now bytes.now result }
     ensures fits { IfOk result low_codec.Fits }
 {
     match read_low(alloc, bytes) {
@@ -103,7 +103,7 @@ fn low_of(alloc: Global, file: &str, bytes: &[u8]) -> Result<LowFile, CommandFau
 
 /// The high map file that the bytes of the file spell.
 fn high_of(alloc: Global, file: &str, bytes: &[u8]) -> Result<HighFile, CommandFault>
-    ensures part { IsPartRead high_layout file.now bytes.now result }
+    ensures part { IsReadAs high_layout file.now bytes.now result }
     ensures fits { IfOk result high_codec.Fits }
 {
     match read_high(alloc, bytes) {

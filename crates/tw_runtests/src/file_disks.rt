@@ -3,10 +3,10 @@
 
 use crate::folders::{make_folder, remove_folder, size_of, write_file};
 use tw_disk::Disk;
-use tw_hostio::{Access, FileDisk};
+use tw_hostio::{Access, FileDisk, HostFile};
 
 // Writes a page full of this byte, and tells whether that went well.
-fn put(disk: &mut FileDisk<HostRuntime>, page: u64, byte: u8) -> bool {
+fn put(disk: &mut FileDisk<HostFile<HostRuntime>>, page: u64, byte: u8) -> bool {
     match disk.pages() {
         Ok(count) if page <= count => disk.write(page, &[byte; 4096]).is_ok(),
         _ => false,
@@ -14,7 +14,7 @@ fn put(disk: &mut FileDisk<HostRuntime>, page: u64, byte: u8) -> bool {
 }
 
 // Whether the page is there, and begins and ends with this byte.
-fn is_page(disk: &mut FileDisk<HostRuntime>, page: u64, byte: u8) -> bool {
+fn is_page(disk: &mut FileDisk<HostFile<HostRuntime>>, page: u64, byte: u8) -> bool {
     let mut into = [0; 4096];
     match disk.pages() {
         Ok(count) if page < count => {
@@ -25,7 +25,7 @@ fn is_page(disk: &mut FileDisk<HostRuntime>, page: u64, byte: u8) -> bool {
 }
 
 // Whether the disk has so many pages.
-fn has_pages(disk: &mut FileDisk<HostRuntime>, pages: u64) -> bool {
+fn has_pages(disk: &mut FileDisk<HostFile<HostRuntime>>, pages: u64) -> bool {
     disk.pages() == Ok(pages)
 }
 

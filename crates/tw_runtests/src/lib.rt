@@ -13,6 +13,8 @@ mod generated;
 #[cfg(test)]
 mod hostile_runs;
 #[cfg(test)]
+mod memory_files;
+#[cfg(test)]
 mod playing;
 #[cfg(test)]
 mod runs;

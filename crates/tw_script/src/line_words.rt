@@ -10,9 +10,10 @@ ghost use Rattle.tw_words.specs.Forms.{name_value, number_value};
 use crate::line::CrashChoice;
 use crate::parts::Parts;
 use crate::stop::Stop;
-use crate::word_values::{bytes_of, choice_of, number_of};
+use crate::word_values::{bytes_of, choice_of};
 use std::alloc::Global;
 use tw_base::{Bytes, EventList, Name, Sequence};
+use tw_words::number_within;
 
 /// The words that are left of a line, which are its parts between blanks.
 pub type Words<'a> = Parts<'a>;
@@ -52,7 +53,7 @@ impl<'a> Parts<'a> {
         let Some(word) = self.word() else {
             return Err(Stop::NotAllowed);
         };
-        match number_of(word, least, most) {
+        match number_within(word, least, most) {
             Some(number) => Ok(number),
             None => Err(Stop::NotAllowed),
         }
@@ -104,7 +105,7 @@ impl<'a> Parts<'a> {
         let Some(word) = self.word() else {
             return Ok(None);
         };
-        let Some(number) = number_of(word, 0, u64::MAX) else {
+        let Some(number) = number_within(word, 0, u64::MAX) else {
             return Err(Stop::NotAllowed);
         };
         self.end()?;
@@ -128,7 +129,7 @@ impl<'a> Parts<'a> {
     {
         let mut numbers = Sequence::new(alloc);
         while let Some(word) = self.word() {
-            let Some(number) = number_of(word, 0, u64::MAX) else {
+            let Some(number) = number_within(word, 0, u64::MAX) else {
                 return Err(Stop::NotAllowed);
             };
             numbers.push(number)?;

@@ -1,8 +1,10 @@
 // Going over the parts of a text, between separators: the lines of a script, and the words of a line. tw_msg/src/split.rt only
 // splits at the first separator.
 
-ghost use Rattle.std.specs.Prelude.{◌≡◌, ◌==◌, ◌∷◌, [], true, position, MatchOption};
+ghost use Rattle.std.specs.Prelude.{◌≡◌, ◌==◌, ◌∷◌, [], true, MatchOption};
 ghost use Rattle.tw_script.specs.Takings.{parts_left};
+
+use tw_msg::first_place;
 
 /// What is left of a text, of which parts were taken from the front.
 #[derive(Clone, Copy, Drop)]
@@ -44,11 +46,4 @@ impl<'a> Parts<'a> {
             }
         }
     }
-}
-
-/// The index of the first separator.
-fn first_place(text: &[u8], separator: u8) -> Option<usize>
-    ensures { result ≡ position (λ b. b == separator) text.now }
-{
-    text.iter().position(|b| *b == separator)
 }

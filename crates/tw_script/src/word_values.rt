@@ -1,25 +1,15 @@
 // What one word of a script's line can say beyond a name: a number, bytes, and what a crash leaves.
 
-ghost use Rattle.std.specs.Prelude.{◌≡◌, ◌≤◌, IfSome};
+ghost use Rattle.std.specs.Prelude.{◌≡◌};
 ghost use Rattle.std.specs.Str.{bytes_eq};
 ghost use Rattle.tw_script.specs.LineWords.{bytes_value, choice_value};
 ghost use Rattle.tw_script.specs.Takings.{ReadsWords};
-ghost use Rattle.tw_words.specs.Forms.{number_value};
 
 use crate::line::CrashChoice;
 use crate::stop::Stop;
 use hex::FromHexError;
 use std::alloc::Global;
 use tw_base::Bytes;
-use tw_text::read_number;
-
-/// The number that the word is, if it is one within the range; tw_words/src/cursor.rt reads those of a command line so.
-pub(crate) fn number_of(word: &[u8], least: u64, most: u64) -> Option<u64>
-    ensures value { result ≡ number_value least most word.now }
-    ensures range { IfSome result (λ n. (least ≤ n) × (n ≤ most)) }
-{
-    read_number(word).filter(|n| least <= *n && *n <= most)
-}
 
 /// The bytes that the word is: two hexadecimal digits of either case for each, and `-` for none.
 pub(crate) fn bytes_of(alloc: Global, word: &[u8]) -> Result<Bytes, Stop>

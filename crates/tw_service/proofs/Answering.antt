@@ -5,7 +5,7 @@ use Rattle.tw_base.specs.history.History.{History}
 use Rattle.tw_base.specs.declared.history.thread.Thread.{Thread}
 use Rattle.tw_answers.specs.Refusals.{IsBadPageRefusal, IsFault}
 use Rattle.tw_answers.proofs.TableAnswers.{IsTold}
-use Rattle.tw_service.specs.EventSteps.{with_events_at}
+use Rattle.tw_service.specs.EventStep.{with_events_at}
 use Rattle.tw_service.specs.Machine.{AnswersByMachine, Call, IsStepOf, Reply, append_table, last_thread}
 use Rattle.tw_service.specs.Machine.Call.{Append}
 use Rattle.tw_service.specs.Machine.Reply.{OfThread, Refused}

@@ -39,7 +39,7 @@ use Rattle.tw_chain.specs.Proofs.{proof_bytes as bytes_of_proof}
 use Rattle.tw_chain.proofs.OwnSpelling.{own-spelled}
 use Rattle.tw_skipproof.specs.declared.path.Path.{Path}
 use Rattle.tw_answers.specs.declared.root.RootRecord.{RootRecord}
-use Rattle.tw_service.specs.EventSteps.{with_events_at}
+use Rattle.tw_service.specs.EventStep.{with_events_at}
 use Rattle.tw_service.specs.Stands.{KeepsWhole}
 use Rattle.tw_service.proofs.WholePages.{added_whole}
 use Rattle.tw_answers.proofs.TableAnswers.{has_event}

@@ -19,6 +19,7 @@ use Rattle.tw_base.proofs.lemmas.history.EntryCodecLaws.{entry-fits}
 use Rattle.tw_base.proofs.lemmas.history.Trees.{IsArchived, entry_at-parts, received-sound, tree-archived, tree-rises}
 use Rattle.tw_base.proofs.lemmas.kinds.DigestBytes.{IsDigest}
 use Rattle.tw_base.proofs.lemmas.kinds.ListLemmas.{Each-map}
+use Rattle.tw_base.specs.history.TreeProofs.{IsSo, proof_of}
 use Rattle.tw_disk.specs.Found.Found.{Is}
 use Rattle.tw_disk.specs.Image.{Image}
 use Rattle.tw_disk.proofs.FoundLaws.{is_on}
@@ -27,7 +28,6 @@ use Rattle.tw_rbtree.proofs.Keeping.{stands-any}
 use Rattle.tw_rbtree.proofs.TreeHeights.{stands-height}
 use Rattle.tw_treeproof.specs.Answers.{asks_entry}
 use Rattle.tw_treeproof.specs.Codecs.{tree_proof_codec}
-use Rattle.tw_treeproof.specs.Making.{IsSo, proof_of}
 use Rattle.tw_treeproof.proofs.OwnProofs.{own-fits}
 use Rattle.tw_skipproof.specs.declared.existence.Part.{Part}
 use Rattle.tw_skipproof.specs.Codecs.{opening_codec, part_codec, path_codec}

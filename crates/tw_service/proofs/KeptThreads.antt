@@ -21,6 +21,8 @@ use Rattle.tw_base.proofs.lemmas.history.Trees.{IsArchived, tree-archived}
 use Rattle.tw_base.proofs.lemmas.format.FormatLaws.{one_value}
 use Rattle.tw_base.proofs.lemmas.kinds.DigestBytes.{IsDigest}
 use Rattle.tw_base.proofs.lemmas.kinds.ListLemmas.{Each-in}
+use Rattle.tw_base.specs.history.TreeProofs.{ancestors_of, place_of_ask, proof_of, way_up}
+use Rattle.tw_base.proofs.lemmas.history.Ways.{at-ancestors}
 use Rattle.tw_disk.specs.Found.{Found, ◌>>=◌}
 use Rattle.tw_disk.specs.Found.Found.{Is, Bad}
 use Rattle.tw_disk.specs.Image.{Image}
@@ -30,9 +32,6 @@ use Rattle.tw_rbtree.specs.Ways.{found_with}
 use Rattle.tw_rbtree.proofs.LevelLaws.{levels-few}
 use Rattle.tw_rbtree.proofs.RootWays.{root-way, with-found}
 use Rattle.tw_rbtree.proofs.TreeHeights.{stands-height}
-use Rattle.tw_treeproof.specs.Answers.{ancestors_of}
-use Rattle.tw_treeproof.specs.Making.{place_of_ask, proof_of, way_up}
-use Rattle.tw_treeproof.proofs.OwnProofs.{at-ancestors}
 use Rattle.tw_archive.proofs.Archiving.{entry_at-archived}
 use Rattle.tw_archive.proofs.Peers.{with-key}
 use Rattle.tw_chain.specs.declared.proof.AbsenceProof.{AbsenceProof}

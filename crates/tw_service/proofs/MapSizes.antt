@@ -7,11 +7,10 @@ use Rattle.tw_base.specs.format.Formats.{Spells}
 use Rattle.tw_base.specs.history.History.{History}
 use Rattle.tw_base.specs.history.Tree.{entries, tree}
 use Rattle.tw_base.proofs.lemmas.format.FormatLaws.{one_value}
+use Rattle.tw_base.specs.history.TreeProofs.{ancestors_of, proof_of}
 use Rattle.tw_disk.specs.Image.{Image}
 use Rattle.tw_skipproof.specs.HistoryProofs.{IsPartOfHistory}
 use Rattle.tw_skiplist.specs.Keeping.{archive_at}
-use Rattle.tw_treeproof.specs.Answers.{ancestors_of}
-use Rattle.tw_treeproof.specs.Making.{proof_of}
 use Rattle.tw_tmap.specs.declared.map_file.HighFile.{HighFile}
 use Rattle.tw_tmap.specs.declared.map_file.LowFile.{LowFile}
 use Rattle.tw_tmap.specs.declared.map_file.LowPart.{LowPart}

@@ -27,7 +27,7 @@ use Rattle.tw_archive.proofs.SameNodes.{same-fresh, same-root}
 use Rattle.tw_archive.proofs.SoundNext.{same-length, sound-plus}
 use Rattle.tw_skiplist.specs.Appended.{appended_events, appended_thread}
 use Rattle.tw_skiplist.specs.Keeping.{AreAlike, Place, archive_at}
-use Rattle.tw_service.specs.EventSteps.{event_step, with_events_at}
+use Rattle.tw_service.specs.EventStep.{event_step, with_events_at}
 use Rattle.tw_answers.specs.Limits.{clock_refusal}
 use Rattle.tw_service.specs.Stands.{greater, greatest, greatest_time, step_pages}
 use Rattle.tw_service.proofs.GreatestTimes.{allowed, greatest-more}

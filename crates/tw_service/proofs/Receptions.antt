@@ -8,7 +8,7 @@ use Rattle.tw_base.specs.declared.history.thread.Thread.{Thread}
 use Rattle.tw_base.specs.declared.kinds.limits.TheConstants.{LAST_STEP}
 use Rattle.tw_base.specs.history.Asking.{entry_with}
 use Rattle.tw_base.specs.history.Auth.{auth}
-use Rattle.tw_base.specs.history.Entries.{key_of}
+use Rattle.tw_base.specs.history.Entries.{key_of, thread_key}
 use Rattle.tw_base.specs.history.History.{History, entry_at, step_at, thread_of, times}
 use Rattle.tw_base.specs.history.Limits.{IsThread, IsTimeWithinLimits}
 use Rattle.tw_base.specs.history.Sound.{IsSound}
@@ -34,7 +34,7 @@ use Rattle.tw_rbtree.proofs.StandingLaws.{stands-ranges}
 use Rattle.tw_archive.specs.declared.judgement.Judgement.{Judgement}
 use Rattle.tw_archive.specs.declared.judgement.Judgement.TheVariants.{Known, Forked, Stale, BadLink, Accept}
 use Rattle.tw_archive.specs.Archives.{MayArchive}
-use Rattle.tw_archive.specs.Judging.{IsJudgementFor, archive_key, found_judgement, judged_message}
+use Rattle.tw_archive.specs.Judging.{IsJudgementFor, found_judgement, judged_message}
 use Rattle.tw_archive.proofs.Archiving.{entry_at-archived}
 use Rattle.tw_archive.proofs.Causes.{judged-accepted, judged-known}
 use Rattle.tw_archive.proofs.Judged.{judgement-found, last-found}
@@ -214,10 +214,10 @@ module _ (dig : List ℕ → List ℕ) (ps : Image) (h : History) (r : RootRecor
   abbrev all : List Entry
   all = entries (tree h (length h.steps))
 
-  no_entry : entry_with all (archive_key t) ≡ None
-  no_entry = without-each all (archive_key t) (each-of (λ (f : Entry). key_of f ≢ archive_key t) all never)
+  no_entry : entry_with all (thread_key t) ≡ None
+  no_entry = without-each all (thread_key t) (each-of (λ (f : Entry). key_of f ≢ thread_key t) all never)
     where
-      never : (f : Entry) → In f all → key_of f ≢ archive_key t
+      never : (f : Entry) → In f all → key_of f ≢ thread_key t
       never f there is =
           let less = may.above f there (ap (λ (k : Key). k.from) is) in
           let same : f.thread.step ≡ t.step = ap (λ (k : Key). k.step) is in
@@ -234,5 +234,5 @@ module _ (dig : List ℕ → List ℕ) (ps : Image) (h : History) (r : RootRecor
   room_kept =
       let stands = tree_stands dig ps h r whole in
       ap (λ (f : Found (Result (Unit {0}) TreeFault)). f >>= room_in r.archive)
-      (insert-finds dig ps r.archive (tree h (length h.steps)) (archive_key t) stands few_entries
+      (insert-finds dig ps r.archive (tree h (length h.steps)) (thread_key t) stands few_entries
       ∙ ap (λ (o : Option Entry). insert_at r.archive o false) no_entry)

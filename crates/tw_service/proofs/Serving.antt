@@ -37,7 +37,7 @@ use Rattle.tw_answers.specs.declared.root.RootRecord.{RootRecord}
 use Rattle.tw_answers.specs.Limits.{clock_refusal}
 use Rattle.tw_answers.specs.Roots.{root_kind}
 use Rattle.tw_service.specs.Archiving.{archived_entry}
-use Rattle.tw_service.specs.EventSteps.{with_events_at}
+use Rattle.tw_service.specs.EventStep.{with_events_at}
 use Rattle.tw_service.specs.Keeps.{StoreServes}
 use Rattle.tw_service.specs.NextRecords.{event_record, next_record}
 use Rattle.tw_service.specs.Stands.{KeepsHistory, KeepsWhole, StandsFor, StandsForOneOf}

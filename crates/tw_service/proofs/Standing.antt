@@ -1,12 +1,10 @@
 -- What an image stands for.
-use Rattle.std.proofs.Common.{◌≡◌, ℕ, ◌+◌, ◌^◌, ◌≤◌, List, length, ap, refl, sym, ◌∙◌, subst}
+use Rattle.std.proofs.Common.{◌≡◌, ℕ, ◌+◌, ◌^◌, ◌≤◌, List, length, sym, ◌∙◌, subst}
 use Rattle.tw_base.specs.history.History.{History}
 use Rattle.tw_base.proofs.lemmas.kinds.DigestBytes.{IsDigest}
 use Rattle.tw_disk.specs.Image.{Image}
-use Rattle.tw_pages.specs.Records.{IsOnce, Written, written_record}
-use Rattle.tw_pages.specs.Records.{Served as ServedAs}
-use Rattle.tw_pages.specs.Records.Served.{Opened as OpenedAs, Unopened as UnopenedAs}
-use Rattle.tw_pages.specs.Records.{IsServed as IsServedAs}
+use Rattle.tw_pages.specs.Records.{IsOnce, Served, Written, written_record}
+use Rattle.tw_pages.specs.Records.Served.{Opened}
 use Rattle.tw_pages.proofs.Standing.{has_numbers as numbers_written, never_refused, served_once as once_served}
 use Rattle.tw_pages.proofs.Standing.{written_once}
 use Rattle.tw_pages.specs.declared.open.StoreFault.{StoreFault}
@@ -14,39 +12,20 @@ use Rattle.tw_skiplist.proofs.Once.{keeps_alike}
 use Rattle.tw_answers.specs.declared.root.RootRecord.{RootRecord}
 use Rattle.tw_answers.specs.Roots.{root_kind}
 use Rattle.tw_answers.proofs.RootLaws.{root_once}
-use Rattle.tw_service.specs.Stands.{IsNotOpenedFor, IsServed, KeepsHistory, Served, StandsFor}
-use Rattle.tw_service.specs.Stands.Served.{Opened, Unopened}
+use Rattle.tw_service.specs.Stands.{IsNotOpenedFor, IsServed, KeepsHistory, StandsFor}
 use Rattle.tw_service.proofs.NextHistories.{one_history}
 
 pub once : IsOnce root_kind
 once root used generation r s is may also would = root_once used generation root r s is may also would
 
 -- the pages of a service have numbers that fit
-pub has_numbers : (image : Image) (root : RootRecord) (pages : Image) → IsServed image (Opened root pages)
+pub has_numbers : (image : Image) (root : RootRecord) (pages : Image) → IsServed image (Opened (written_record root pages))
     → 4 + length pages ≤ 2 ^ 64
 has_numbers image root pages is = numbers_written root_kind image (written_record root pages) is
 
 -- an image is served as one thing at most
-abbrev as_kept : Served → ServedAs RootRecord
-as_kept (Opened root pages) = OpenedAs (written_record root pages)
-as_kept (Unopened fault) = UnopenedAs fault
-
-abbrev of_kept : ServedAs RootRecord → Served
-of_kept (OpenedAs w) = Opened w.root w.pages
-of_kept (UnopenedAs fault) = Unopened fault
-
-of_same : (one : Served) → of_kept (as_kept one) ≡ one
-of_same (Opened root pages) = refl
-of_same (Unopened fault) = refl
-
-is_kept : (image : Image) (one : Served) → IsServed image one → IsServedAs root_kind image (as_kept one)
-is_kept image (Opened root pages) is = is
-is_kept image (Unopened fault) is = is
-
-pub served_once : (image : Image) (one other : Served) → IsServed image one → IsServed image other → one ≡ other
-served_once image one other a b =
-    sym (of_same one) ∙ ap of_kept (once_served root_kind once image (as_kept one) (as_kept other) (is_kept image one a)
-    (is_kept image other b)) ∙ of_same other
+pub served_once : (image : Image) (one other : Served RootRecord) → IsServed image one → IsServed image other → one ≡ other
+served_once image one other a b = once_served root_kind once image one other a b
 
 module _ (dig : List ℕ → List ℕ) where
   -- pages keep one history at most under a record

@@ -32,7 +32,7 @@ use Rattle.tw_skiplist.specs.Keeping.{GoOn, Keeps, Place, archive_at, place_of_s
 use Rattle.tw_skiplist.proofs.Growing.{Keeps-grows}
 use Rattle.tw_skiplist.proofs.KeptAppended.{Grown, grown}
 use Rattle.tw_answers.specs.declared.root.RootRecord.{RootRecord}
-use Rattle.tw_service.specs.EventSteps.{event_step, with_events_at}
+use Rattle.tw_service.specs.EventStep.{event_step, with_events_at}
 use Rattle.tw_service.specs.NextRecords.{event_record, next_record}
 use Rattle.tw_service.specs.Stands.{KeepsWhole, greater, step_pages}
 use Rattle.tw_service.proofs.NextHistories.{longer-length, longer-time, none-received, one-received, same_tree}

@@ -6,6 +6,7 @@ use Rattle.tw_base.specs.history.Anchors.{anchor_of}
 use Rattle.tw_base.specs.history.Auth.{auth}
 use Rattle.tw_base.specs.history.History.{History}
 use Rattle.tw_base.specs.history.Tree.{entries, tree}
+use Rattle.tw_base.specs.history.TreeProofs.{ancestors_of}
 use Rattle.tw_chain.specs.declared.proof.AbsenceProof.{AbsenceProof}
 use Rattle.tw_chain.specs.declared.proof.Proof.TheVariants.{Absent, Archived}
 use Rattle.tw_chain.specs.declared.proof.ThreadProof.{ThreadProof}
@@ -15,7 +16,6 @@ use Rattle.tw_history.specs.Refusals.{ReadsHistory}
 use Rattle.tw_tmap.specs.declared.map_file.HighFile.{HighFile}
 use Rattle.tw_tmap.specs.declared.map_file.LowFile.{LowFile}
 use Rattle.tw_tmap.specs.MapFiles.{high_layout, low_layout}
-use Rattle.tw_treeproof.specs.Answers.{ancestors_of}
 use Rattle.tw_base.specs.declared.history.question.Question.{Question}
 use Rattle.tw_base.specs.declared.history.question.Question.TheVariants as ask
 use Rattle.tw_service.specs.Machine.{IsFewNodes}

@@ -3,7 +3,8 @@ use Rattle.std.specs.Prelude.{ℕ, ◌++◌, List, Bool, Option, Result, Ok, Err
 use Rattle.tw_base.specs.declared.history.content.Content.TheVariants.{Events, Received}
 use Rattle.tw_base.specs.declared.history.root.Root.{Root}
 use Rattle.tw_base.specs.declared.history.thread.Thread.{Thread}
-use Rattle.tw_archive.specs.Judging.{archive_key, found_judgement}
+use Rattle.tw_base.specs.history.Entries.{thread_key}
+use Rattle.tw_archive.specs.Judging.{found_judgement}
 use Rattle.tw_disk.specs.Found.{Found, ◌>>=◌}
 use Rattle.tw_disk.specs.Found.Found.{Is, Bad}
 use Rattle.tw_disk.specs.Image.{Image}
@@ -39,7 +40,7 @@ room_in root (Ok done) = Is done
 room_in root (Err fault) = Bad root.page
 
 unfoldable pub found_room : (dig : List ℕ → List ℕ) → Image → (archive : Root) → Thread → Found (Unit {0})
-found_room dig pages archive t = found_insert dig pages archive (archive_key t) >>= room_in archive
+found_room dig pages archive t = found_insert dig pages archive (thread_key t) >>= room_in archive
 
 module _ (dig : List ℕ → List ℕ) (pages : Image) (name : List ℕ) (head : Head) where
   -- what becomes of a message by the archive

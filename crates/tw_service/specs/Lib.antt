@@ -1,6 +1,6 @@
 pub mod Tops
 pub mod Questions
-pub mod EventSteps
+pub mod EventStep
 pub mod Stands
 pub mod Receiving
 pub mod Finds

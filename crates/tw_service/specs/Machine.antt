@@ -21,7 +21,7 @@ use Rattle.tw_msg.specs.declared.message.Message.{Message}
 use Rattle.tw_msg.specs.declared.receipt.Receipt.{Receipt}
 use Rattle.tw_msg.specs.HistoryMessages.{MakesMessage, thread_at_step}
 use Rattle.tw_skipproof.specs.HistoryProofs.{MakesExistence}
-use Rattle.tw_service.specs.EventSteps.{with_events_at}
+use Rattle.tw_service.specs.EventStep.{with_events_at}
 use Rattle.tw_service.specs.declared.receiving.Reception.{Reception}
 use Rattle.tw_service.specs.declared.receiving.Reception.TheVariants.{Refuse, Known, Archive}
 use Rattle.tw_base.specs.declared.history.refusal.Refusal.{Refusal}

@@ -5,8 +5,8 @@ use Rattle.tw_base.specs.history.Sound.{IsSound}
 use Rattle.tw_disk.specs.Image.{Image}
 use Rattle.tw_pages.specs.Slots.{IsBlank}
 use Rattle.tw_pages.specs.declared.open.StoreFault.{StoreFault}
-use Rattle.tw_pages.specs.Records.{IsWritten, written_record}
-use Rattle.tw_pages.specs.Records.{IsNotOpenedFor as IsNotOpenedAs}
+use Rattle.tw_pages.specs.Records.{IsWritten, Served, written_record}
+use Rattle.tw_pages.specs.Records.{IsNotOpenedFor as IsNotOpenedAs, IsServed as IsServedAs}
 use Rattle.tw_pages.specs.States.{StandsForState}
 use Rattle.tw_archive.specs.Archives.{KeepsTrees}
 use Rattle.tw_skiplist.specs.Keeping.{Keeps, Place, archive_at, place_of_step}
@@ -27,14 +27,9 @@ OpensWith image root P = (pages : Image) × IsWritten root_kind (written_record 
 abbrev pub IsNotOpenedFor : Image → StoreFault → Type 0
 IsNotOpenedFor image fault = IsNotOpenedAs root_kind image fault
 
--- what an image is served as: the service of this root record and these pages, or, for this reason, none
-pub data Served : Type 0 where
-  Opened : (root : RootRecord) → (pages : Image) → Served
-  Unopened : StoreFault → Served
-
-abbrev pub IsServed : Image → Served → Type 0
-IsServed image (Opened root pages) = IsWritten root_kind (written_record root pages) image
-IsServed image (Unopened fault) = IsNotOpenedFor image fault
+-- what an image is served as: the service of a root record and pages, or, for a reason, none
+abbrev pub IsServed : Image → Served RootRecord → Type 0
+IsServed image served = IsServedAs root_kind image served
 
 -- ---- images that stand for a history
 
@@ -77,6 +72,10 @@ module _ (dig : List ℕ → List ℕ) where
   pub record StandsFor (image : Image) (name : List ℕ) (h : History) : Type 0 where
     pub named : h.name ≡ name
     pub stands : StandsForState root_kind KeepsHistory h image
+
+  -- the same, of the history's own name
+  abbrev pub IsImageOfHistory : History → Image → Type 0
+  IsImageOfHistory h image = StandsFor image h.name h
 
   -- for the history, or for the next one
   abbrev pub StandsForOneOf : (name : List ℕ) → (h next : History) → Image → Type 0

@@ -24,7 +24,7 @@ use Rattle.tw_steppage.specs.StepBytes.{paged_codec, ref_codec, stream}
 use Rattle.tw_disk.specs.Found.{Found, when, ◌>>=◌, spelled}
 use Rattle.tw_disk.specs.Found.Found.{Is}
 use Rattle.tw_steppage.specs.StepPages.{lies_below, link_at_level, no_ref}
-use Rattle.tw_skiplist.specs.PagesOfSteps.{step_in, page_of_step}
+use Rattle.tw_skiplist.specs.StepPagesRead.{step_in, page_of_step}
 use Rattle.tw_skiplist.specs.Walks.{link_in}
 use Rattle.tw_disk.proofs.FoundLaws.{is_on, bytes_in-within}
 use Rattle.tw_disk.proofs.SpelledLaws.{page-is}

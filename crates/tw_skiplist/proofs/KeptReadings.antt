@@ -28,7 +28,7 @@ use Rattle.tw_skiplist.specs.Keeping.{Keeps, KeepsSteps, Place, fields_at, link_
 use Rattle.tw_skiplist.specs.Readings.{found_events, found_link, found_proof, found_skip_path, found_step, found_way}
 use Rattle.tw_skiplist.specs.Records.{info_record, link_record}
 use Rattle.tw_steppage.specs.StepPages.{link_at_level, no_ref}
-use Rattle.tw_skiplist.specs.PagesOfSteps.{page_of_step}
+use Rattle.tw_skiplist.specs.StepPagesRead.{page_of_step}
 use Rattle.tw_skiplist.specs.Walks.{collect_along, collected, head_ref, hop_in, info_in, link_in, walk}
 use Rattle.tw_disk.proofs.FoundLaws.{is_on}
 use Rattle.tw_skiplist.proofs.Kept.{get_or-links_to, kept_link_in, kept_page}

@@ -15,7 +15,7 @@ use Rattle.tw_skiplist.specs.Keeping.{AreAlike, Keeps, KeepsSteps, KeepsStream, 
 use Rattle.tw_skiplist.specs.Keeping.{place_of_step}
 use Rattle.tw_steppage.specs.StepBytes.{piece, stream}
 use Rattle.tw_steppage.specs.StepPages.{link_at_level, no_ref}
-use Rattle.tw_skiplist.specs.PagesOfSteps.{page_of_step}
+use Rattle.tw_skiplist.specs.StepPagesRead.{page_of_step}
 use Rattle.tw_skiplist.proofs.Contents.{may_record}
 use Rattle.tw_skiplist.proofs.Kept.{get_or-links_to, kept_page}
 use Rattle.tw_skiplist.proofs.EventWords.{found-events}

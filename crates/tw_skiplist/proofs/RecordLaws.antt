@@ -18,7 +18,7 @@ use Rattle.tw_skiplist.specs.declared.head.Head.{Head}
 use Rattle.tw_skiplist.specs.declared.step_records.StepRecord.{StepRecord}
 use Rattle.tw_skiplist.specs.Events.{events_from}
 use Rattle.tw_skiplist.specs.Keeping.{Keeps, KeepsSteps, Place, fields_at, links_at, place_of_step}
-use Rattle.tw_skiplist.specs.PagesOfSteps.{page_of_step}
+use Rattle.tw_skiplist.specs.StepPagesRead.{page_of_step}
 use Rattle.tw_skiplist.specs.StepRecords.{content_by, content_of, events_of_record, found_records, record_at}
 use Rattle.tw_skiplist.specs.StepRecords.{records_down, records_on, step_record}
 use Rattle.tw_skiplist.proofs.Contents.{may_record}

@@ -1,4 +1,4 @@
-pub mod PagesOfSteps
+pub mod StepPagesRead
 pub mod Keeping
 pub mod Walks
 pub mod Records

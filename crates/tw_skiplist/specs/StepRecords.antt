@@ -15,7 +15,7 @@ use Rattle.tw_skiplist.specs.declared.info.EventsAt.{EventsAt}
 use Rattle.tw_skiplist.specs.declared.step_records.StepRecord.{StepRecord}
 use Rattle.tw_skiplist.specs.Events.{events_from}
 use Rattle.tw_skiplist.specs.Keeping.{Place, fields_at, place_of_step}
-use Rattle.tw_skiplist.specs.PagesOfSteps.{page_of_step}
+use Rattle.tw_skiplist.specs.StepPagesRead.{page_of_step}
 
 abbrev pub step_record : (page step : ℕ) → StepFields → StepRecord
 step_record page step f = record { step = step; page = page; fields = f }

@@ -13,7 +13,7 @@ use Rattle.tw_disk.specs.Found.{Found, ◌>>=◌}
 use Rattle.tw_disk.specs.Found.Found.{Is}
 use Rattle.tw_skiplist.specs.Records.{info_record, link_record}
 use Rattle.tw_steppage.specs.StepPages.{link_at_level}
-use Rattle.tw_skiplist.specs.PagesOfSteps.{page_of_step}
+use Rattle.tw_skiplist.specs.StepPagesRead.{page_of_step}
 
 -- the link that a head is
 abbrev pub head_ref : Head → StepRef

@@ -4,7 +4,7 @@ ghost use Rattle.std.specs.Prelude.{◌≡◌, ◌<◌, ◌^◌, suc, length, If
 ghost use Rattle.tw_base.specs.kinds.Levels.{top_level};
 ghost use Rattle.tw_disk.specs.Found.Found.{Is, Bad};
 ghost use Rattle.tw_steppage.specs.StepPages.{HasRanges};
-ghost use Rattle.tw_skiplist.specs.PagesOfSteps.{step_in};
+ghost use Rattle.tw_skiplist.specs.StepPagesRead.{step_in};
 
 use tw_base::{Page, page_to};
 use tw_steppage::{StepPage, keeps_rules, take_step};

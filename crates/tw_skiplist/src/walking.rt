@@ -5,7 +5,7 @@ ghost use Rattle.tw_base.specs.kinds.Levels.{top_level};
 ghost use Rattle.tw_disk.specs.Answers.{ReadsPages};
 ghost use Rattle.tw_disk.specs.WalkFaults.{walk_faults};
 ghost use Rattle.tw_steppage.specs.StepPages.{HasRanges};
-ghost use Rattle.tw_skiplist.specs.PagesOfSteps.{page_of_step};
+ghost use Rattle.tw_skiplist.specs.StepPagesRead.{page_of_step};
 ghost use Rattle.tw_skiplist.specs.Walks.{link_in, walk};
 
 use crate::records::link_at;
@@ -17,7 +17,7 @@ use tw_skipproof::next_hop;
 use tw_steppage::{StepPage, StepRef};
 
 /// Reads the page of a step (below 2^40).
-#[tactic(auto, unfolding(crate::specs::PagesOfSteps::page_of_step))]
+#[tactic(auto, unfolding(crate::specs::StepPagesRead::page_of_step))]
 pub(crate) fn read_step<P: Pages>(
     pages: &mut P,
     page: u64,

@@ -18,7 +18,8 @@ use Rattle.tw_steppage.specs.declared.fields.StepFields.{StepFields}
 use Rattle.tw_steppage.specs.declared.fields.StreamRef.{StreamRef}
 use Rattle.tw_steppage.specs.declared.limits.TheConstants.{MOST_STREAM_BYTES}
 use Rattle.tw_steppage.specs.StepBytes.{counts_codec, field_codec, fields_kind, kind_by, links_codec, no_stream}
-use Rattle.tw_steppage.specs.StepBytes.{page_codec, page_thread_codec, paged_codec, received_codec, ref_codec}
+use Rattle.tw_base.specs.format.PageBytes.{page_number_codec}
+use Rattle.tw_steppage.specs.StepBytes.{page_thread_codec, paged_codec, received_codec, ref_codec}
 use Rattle.tw_steppage.specs.StepBytes.{step_body_codec}
 use Rattle.tw_steppage.specs.StepPages.{HasRanges}
 
@@ -53,7 +54,7 @@ body-lawful step kind =
     let links = links-lawful step in
     lawful-seen _ _ _ (λ t. refl) (λ p. refl) (lawful-pair (counts_codec (is_of_events kind)) _ counts
     (λ c _. lawful-pair digest_codec _ (search lawful) (λ e _.
-    lawful-pair digest_codec _ (search lawful) (λ l _. lawful-pair page_codec _ (search lawful)
+    lawful-pair digest_codec _ (search lawful) (λ l _. lawful-pair page_number_codec _ (search lawful)
     (λ a _. lawful-pair (received_codec (is_of_events kind)) _ received (λ r _.
     lawful-pair digest_codec _ (search lawful) (λ u _. lawful-pair (links_codec step) _ links (λ ls _. time))))))))
 

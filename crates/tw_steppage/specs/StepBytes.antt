@@ -1,10 +1,10 @@
 -- The bytes of step pages and event pages. Numbers are big-endian, and unused bytes are zero.
-use Rattle.std.specs.Prelude.{ℕ, suc, zero, ◌-◌, ◌*◌, ◌^◌, List, [], ◌∷◌, ◌++◌, length, take, drop, replicate, Bool, Option, Some, None}
+use Rattle.std.specs.Prelude.{ℕ, suc, zero, ◌*◌, List, [], ◌∷◌, ◌++◌, length, take, drop, replicate, Bool, Option, Some, None}
 use Rattle.std.specs.Int.{to_be_bytes, w16, w32, w64}
 use Rattle.tw_base.specs.declared.history.thread.Thread.{Thread}
 use Rattle.tw_base.specs.declared.kinds.limits.TheConstants.{LAST_STEP, MOST_EVENTS}
 use Rattle.tw_base.specs.format.Codecs.{Codec, behind, by_kind, bytes_codec, choose, digest_codec, many, name_codec, nothing, number_codec, optional, pair, present, seen}
-use Rattle.tw_base.specs.format.PageBytes.{padded}
+use Rattle.tw_base.specs.format.PageBytes.{padded, page_number_codec}
 use Rattle.tw_base.specs.history.HistoryCodec.{is_of_events, is_timed, time_codec}
 use Rattle.tw_base.specs.kinds.Levels.{top_level}
 use Rattle.tw_steppage.specs.declared.link.StepRef.{StepRef}
@@ -12,13 +12,9 @@ use Rattle.tw_steppage.specs.declared.fields.StepFields.{StepFields}
 use Rattle.tw_steppage.specs.declared.fields.StreamRef.{StreamRef}
 use Rattle.tw_steppage.specs.declared.limits.TheConstants.{MOST_PIECE_BYTES, MOST_STREAM_BYTES}
 
--- the number of a page
-abbrev pub page_codec : Codec ℕ
-page_codec = number_codec 8 0 (2 ^ 64 - 1)
-
 -- a link: the page and the authenticator of the step that it leads to
 unfoldable pub ref_codec : Codec StepRef
-ref_codec = seen (λ t. record { page = t.0; auth = t.1 }) (λ l. (l.page, l.auth)) (pair page_codec (λ page. digest_codec))
+ref_codec = seen (λ t. record { page = t.0; auth = t.1 }) (λ l. (l.page, l.auth)) (pair page_number_codec (λ page. digest_codec))
 
 -- the number of a step's links, and the links from level 0 on
 unfoldable pub links_codec : (step : ℕ) → Codec (List StepRef)
@@ -45,7 +41,7 @@ unfoldable pub counts_codec : (is_events : Bool) → Codec (ℕ × StreamRef)
 counts_codec is_events =
     choose is_events
     (seen (λ t. (t.0, record { page = t.1.1; size = t.1.0 })) (λ c. (c.0, (c.1.size, c.1.page)))
-    (pair (number_codec 4 0 MOST_EVENTS) (λ count. pair (number_codec 4 0 MOST_STREAM_BYTES) (λ size. page_codec))))
+    (pair (number_codec 4 0 MOST_EVENTS) (λ count. pair (number_codec 4 0 MOST_STREAM_BYTES) (λ size. page_number_codec))))
     (behind (replicate 16 0) (nothing (0, no_stream)))
 
 -- a received thread, of any step that a field has room for
@@ -75,7 +71,7 @@ step_body_codec step kind =
       t.1.1.1.1.1.1.0,
     ))
     (λ p. ((p.0.count, p.0.stream), (p.0.event_root, (p.0.archive.label, (p.0.archive.page, (p.0.received, (p.0.auth, (p.1, p.0.time))))))))
-    (pair (counts_codec (is_of_events kind)) (λ counts. pair digest_codec (λ event_root. pair digest_codec (λ label. pair page_codec (λ archive.
+    (pair (counts_codec (is_of_events kind)) (λ counts. pair digest_codec (λ event_root. pair digest_codec (λ label. pair page_number_codec (λ archive.
     pair (received_codec (is_of_events kind)) (λ received. pair digest_codec (λ auth. pair (links_codec step) (λ links. optional (is_timed kind) time_codec))))))))
 
 -- the kind, and what it has

@@ -1,11 +1,13 @@
 -- Why a command isn't done: the status of each fault, and its line.
-use Rattle.std.specs.Prelude.{ℕ, List}
+use Rattle.std.specs.Prelude.{◌≡◌, ℕ, List, Result, Ok, Err}
 use Rattle.tw_base.specs.declared.kinds.failure.InputFault.{InputFault as ReadingFault}
 use Rattle.tw_base.specs.declared.kinds.failure.InputFault.TheVariants as reading
+use Rattle.tw_base.specs.format.Formats.{Format, IsPlace, Spells, SpellsNothing}
 use Rattle.tw_text.specs.Lines.{fault_disk_text, fault_input_text, no_memory_text}
 use Rattle.tw_text.specs.Refusals.{bad_input_text, not_followed_text, refused_text, store_text, store_taken_text}
 use Rattle.tw_text.specs.declared.fault.CommandFault.{CommandFault}
 use Rattle.tw_text.specs.declared.fault.CommandFault.TheVariants.{InputFault, DiskFault, NoMemory, Taken, Refused, NotFollowed, Unserved, Unreadable}
+use Rattle.tw_text.specs.declared.refusal.BadInput.TheVariants.{BadByte}
 
 abbrev pub fault_status : CommandFault → ℕ
 fault_status InputFault = 3
@@ -38,3 +40,10 @@ IsRefused _ = ⊥
 abbrev pub fault_of_input : ReadingFault → CommandFault
 fault_of_input reading.Failed = InputFault
 fault_of_input reading.NoMemory = NoMemory
+
+-- the value that the bytes of the named file spell; or the place of the first byte at which none goes on. Want of memory is free
+abbrev pub IsReadAs : {X : Type 0} → Format X → (file bytes : List ℕ) → Result X CommandFault → Type 0
+IsReadAs layout file bytes (Ok x) = Spells layout bytes x
+IsReadAs layout file bytes (Err (Unreadable (BadByte named place))) = (named ≡ file) × (SpellsNothing layout bytes × IsPlace layout bytes place)
+IsReadAs layout file bytes (Err NoMemory) = Unit {0}
+IsReadAs layout file bytes _ = ⊥

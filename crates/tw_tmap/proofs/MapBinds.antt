@@ -23,11 +23,11 @@ use Rattle.tw_base.proofs.lemmas.history.Families.{sound_of}
 use Rattle.tw_base.proofs.lemmas.history.Trees.{IsArchived, entry_at-parts, received-sound, tree-archived}
 use Rattle.tw_base.proofs.lemmas.kinds.Clashes.{Among-right, and_then}
 use Rattle.tw_base.proofs.lemmas.kinds.ListLemmas.{Each-in}
+use Rattle.tw_base.specs.history.TreeProofs.{ancestors_of}
+use Rattle.tw_base.specs.history.Ways.{is_left, nearest_left, nearest_right}
 use Rattle.tw_skipproof.specs.declared.existence.Part.{Part}
-use Rattle.tw_treeproof.specs.Answers.{ancestors_of}
 use Rattle.tw_treeproof.specs.Codecs.{gap_codec}
 use Rattle.tw_treeproof.specs.Sizes.{HasProofSizes}
-use Rattle.tw_treeproof.specs.Ways.{is_left, nearest_left, nearest_right}
 use Rattle.tw_chain.specs.Checks.{top_of, under_anchor}
 use Rattle.tw_chain.specs.Checks.Check.{AnswerOf, InOrder, NeedsAnchor}
 use Rattle.tw_chain.proofs.CheckBinds.{Anchored, AreChecked, Opened, OrTheyClash, Setting, anchored, anchored-part}

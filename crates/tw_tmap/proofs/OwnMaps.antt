@@ -15,13 +15,13 @@ use Rattle.tw_base.specs.history.Tree.{entries, tree}
 use Rattle.tw_base.specs.kinds.Lists.{Each}
 use Rattle.tw_base.proofs.lemmas.history.Trees.{tree-rises}
 use Rattle.tw_base.proofs.lemmas.kinds.ListLemmas.{Each-append}
+use Rattle.tw_base.specs.history.TreeProofs.{IsSo, ancestors_of, proof_of}
+use Rattle.tw_base.specs.history.Ways.{is_left, nearest_left, nearest_right}
 use Rattle.tw_skipproof.specs.declared.existence.Part.{Part}
 use Rattle.tw_skipproof.specs.Acceptance.{Reaches}
 use Rattle.tw_skipproof.specs.HistoryProofs.{IsPartOfHistory}
 use Rattle.tw_skipproof.proofs.PartOf.{reaches-made}
-use Rattle.tw_treeproof.specs.Answers.{Checks, IsAnswer, ancestors_of, shown_answer}
-use Rattle.tw_treeproof.specs.Making.{IsSo, proof_of}
-use Rattle.tw_treeproof.specs.Ways.{is_left, nearest_left, nearest_right}
+use Rattle.tw_treeproof.specs.Answers.{Checks, IsAnswer, shown_answer}
 use Rattle.tw_treeproof.proofs.OwnProofs.{own-answers, own-checks}
 use Rattle.tw_chain.specs.Checks.{under_anchor}
 use Rattle.tw_chain.specs.Checks.Check.{AnswerOf, NeedsAnchor}

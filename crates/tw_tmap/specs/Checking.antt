@@ -12,10 +12,11 @@ use Rattle.tw_base.specs.declared.history.tree_proof.Ask.{Ask}
 use Rattle.tw_base.specs.declared.history.tree_proof.Ask.TheVariants.{Below, Above}
 use Rattle.tw_base.specs.history.Reasons.{IsNoHigher}
 use Rattle.tw_base.specs.kinds.Lists.{Each}
+use Rattle.tw_base.specs.history.TreeProofs.{ancestors_of}
 use Rattle.tw_skipproof.specs.declared.existence.Part.{Part}
 use Rattle.tw_treeproof.specs.declared.shown.Shown.{Shown}
 use Rattle.tw_treeproof.specs.declared.shown.Shown.TheVariants.{Nearest}
-use Rattle.tw_treeproof.specs.Answers.{ancestors_of, shown_answer}
+use Rattle.tw_treeproof.specs.Answers.{shown_answer}
 use Rattle.tw_chain.specs.Checks.{Check, under_anchor}
 use Rattle.tw_chain.specs.Checks.Check.{AnswerOf, InOrder, NeedsAnchor}
 use Rattle.tw_chain.specs.Finding.{found_in}

@@ -6,8 +6,8 @@ use Rattle.tw_base.specs.history.Auth.{auth}
 use Rattle.tw_base.specs.history.History.{History}
 use Rattle.tw_base.specs.history.Sound.{IsSound}
 use Rattle.tw_base.specs.history.Tree.{tree}
+use Rattle.tw_base.specs.history.TreeProofs.{proof_of}
 use Rattle.tw_skipproof.specs.HistoryProofs.{IsOpeningOf, IsPartOfHistory}
-use Rattle.tw_treeproof.specs.Making.{proof_of}
 use Rattle.tw_tmap.specs.declared.map_file.HighFile.{HighFile}
 use Rattle.tw_tmap.specs.declared.map_file.LowFile.{LowFile}
 use Rattle.tw_tmap.specs.declared.map_verdict.MapVerdict.TheVariants.{Yes}

@@ -1,4 +1,4 @@
--- What the program writes of two map files.
+-- What the program writes of two map files, and its status.
 use Rattle.std.specs.Prelude.{ℕ, List, [], ◌∷◌, ◌++◌, Option, Some, None, codes}
 use Rattle.tw_text.specs.Lines.{line}
 use Rattle.tw_text.specs.Reports.{gap_text, rejected_text}
@@ -20,3 +20,9 @@ map_text (Yes low high upto) =
     ++ (line (codes "high") (bound_field high ∷ []) ++ line (codes "upto") (Number upto ∷ [])))
 map_text (No reason) = rejected_text reason
 map_text Gap = gap_text 2
+
+-- the status of each: 0 where the map files are accepted
+abbrev pub map_status : MapVerdict → ℕ
+map_status (Yes low high upto) = 0
+map_status (No reason) = 1
+map_status Gap = 1

@@ -2,7 +2,8 @@
 
 ghost use Rattle.std.specs.Prelude.{◌≡◌, ◌<◌, ◌≤◌, None, MatchOption};
 ghost use Rattle.tw_base.specs.declared.kinds.limits.TheConstants.{LAST_STEP};
-ghost use Rattle.tw_treeproof.specs.Answers.{Checks, ancestors_of, shown_answer};
+ghost use Rattle.tw_base.specs.history.TreeProofs.{ancestors_of};
+ghost use Rattle.tw_treeproof.specs.Answers.{Checks, shown_answer};
 ghost use Rattle.tw_chain.specs.Finding.{found_in};
 ghost use Rattle.tw_tmap.specs.Checking.{archived_if_of as archived_step_of, before_checks, before_told, first_after, high_ask as high_ask_of, high_checks, high_told, last_before, low_ask as low_ask_of, low_checks, low_told, nearest_in, step_if_of as step_of};
 

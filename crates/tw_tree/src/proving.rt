@@ -2,16 +2,17 @@
 
 ghost use Rattle.std.specs.Prelude.{◌≡◌, ◌↔◌, IfOk, IsTrue};
 ghost use Rattle.tw_base.specs.history.Tree.{IsRising, entries};
+ghost use Rattle.tw_base.specs.history.TreeProofs.{IsSo, place_of_ask, proof_at as proof_of_place, way_up};
 ghost use Rattle.tw_tree.specs.TreeMeaning.{meant_tree};
 ghost use Rattle.tw_tree.specs.Proving.{Proves};
-ghost use Rattle.tw_treeproof.specs.Making.{IsSo, place_of_ask, proof_at as proof_of_place, way_up};
 ghost use Rattle.tw_tree.specs.declared.proving.ProveFault.TheVariants.{NoMemory as WantedMemory};
 
 use crate::searching::get;
 use crate::tree::{Tree, label};
 use std::alloc::Global;
-use tw_base::{Ancestor, AncestorList, Ask, Hasher, NoMemory, TreeProof, entry_key};
-use tw_treeproof::{goes_left, meets};
+use tw_base::{
+    Ancestor, AncestorList, Ask, Hasher, NoMemory, TreeProof, entry_key, goes_left, meets,
+};
 
 /// Why no proof is made.
 #[derive(Clone, Copy, PartialEq, Eq, Debug, Drop)]
@@ -31,7 +32,7 @@ impl From<NoMemory> for ProveFault {
 }
 
 /// The part of the tree at the asked place.
-#[tactic(auto, unfolding(tw_treeproof::specs::Making::place_of_ask))]
+#[tactic(auto, unfolding(tw_base::specs::history::TreeProofs::place_of_ask))]
 fn place<'a>(tree: &'a Tree, ask: &Ask) -> &'a Tree
     ensures { meant_tree result.now ≡ place_of_ask ask.now (meant_tree tree.now) }
 {
@@ -46,7 +47,7 @@ fn place<'a>(tree: &'a Tree, ask: &Ask) -> &'a Tree
 }
 
 /// The nodes above the asked place, nearest first. Calls itself once for each of them.
-#[tactic(auto, unfolding(tw_treeproof::specs::Making::way_up))]
+#[tactic(auto, unfolding(tw_base::specs::history::TreeProofs::way_up))]
 fn nodes_above<H: Hasher>(alloc: Global, tree: &Tree, ask: &Ask) -> Result<AncestorList, NoMemory>
     ensures { IfOk result (λ up. up ≡ way_up H.dig ask.now (meant_tree tree.now)) }
 {

@@ -26,17 +26,17 @@ use Rattle.tw_base.proofs.lemmas.kinds.ListLemmas.{Each-append, Each-parts}
 use Rattle.tw_base.proofs.lemmas.kinds.TextFields.{halves}
 use Rattle.tw_base.proofs.lemmas.history.KeyTests.{same_key}
 use Rattle.tw_base.proofs.lemmas.history.TextBytes.{empty_tree_text-bytes, entry_text-bytes, tree_texts-bytes}
+use Rattle.tw_base.specs.history.TreeProofs.{ancestor, ancestors_of, place_of_ask, way_up}
+use Rattle.tw_base.specs.history.Ways.{IsNotAsked, climbed_tree, climb_texts, is_left, over_text}
+use Rattle.tw_base.proofs.lemmas.history.Ways.{way-here, way-left, way-right}
 use Rattle.tw_treeproof.specs.declared.shown.Shown.{Shown}
 use Rattle.tw_treeproof.specs.declared.shown.Shown.TheVariants.{Present as IsThere, Absent as IsNotThere, Nearest}
 use Rattle.tw_treeproof.specs.declared.shown.Shown.TheVariants.{Wrong}
-use Rattle.tw_treeproof.specs.Answers.{Checks, IsAnswer, Shows, ancestors_of, place_text, shown_answer}
+use Rattle.tw_treeproof.specs.Answers.{Checks, IsAnswer, Shows, place_text, shown_answer}
 use Rattle.tw_treeproof.specs.Answers.{tree_proof_texts}
-use Rattle.tw_treeproof.specs.Making.{ancestor, place_of_ask, way_up}
 use Rattle.tw_treeproof.specs.Sizes.{HasPlaceSizes, HasProofSizes, HaveSizes}
-use Rattle.tw_treeproof.specs.Ways.{IsNotAsked, climbed_tree, climb_texts, is_left, over_text}
 use Rattle.tw_treeproof.proofs.OwnProofs.{way-answers}
 use Rattle.tw_treeproof.proofs.Places.{IsAt, so-at}
-use Rattle.tw_treeproof.proofs.Ways.{way-here, way-left, way-right}
 
 -- ---- the fields of equal texts of nodes
 

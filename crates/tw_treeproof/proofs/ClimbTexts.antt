@@ -4,7 +4,7 @@ use Rattle.std.proofs.Common.{add-one, drop-cons}
 use Rattle.std.proofs.lemmas.List.{drop_all}
 use Rattle.tw_base.specs.declared.history.thread.Entry.{Entry}
 use Rattle.tw_base.specs.declared.history.tree_proof.Ancestor.{Ancestor}
-use Rattle.tw_treeproof.specs.Ways.{climb_texts, over_text}
+use Rattle.tw_base.specs.history.Ways.{climb_texts, over_text}
 
 module _ (dig : List ℕ → List ℕ) (left : Entry → Bool) where
   -- one ancestor

@@ -6,8 +6,8 @@ use Rattle.tw_base.specs.declared.history.tree_proof.Ask.{Ask}
 use Rattle.tw_base.specs.history.Entries.{IsFit}
 use Rattle.tw_base.specs.kinds.Bytes.{HasBytes}
 use Rattle.tw_base.specs.kinds.Lists.{Each}
+use Rattle.tw_base.specs.history.Ways.{IsNotAsked, climbed_tree, is_left, over_text}
 use Rattle.tw_treeproof.specs.Sizes.{HaveSizes}
-use Rattle.tw_treeproof.specs.Ways.{IsNotAsked, climbed_tree, is_left, over_text}
 
 rest-from : (up : List Ancestor) (i : ℕ) (a : Ancestor) → i < length up → a ≡ get_or up i a → drop i up ≡ a ∷ drop
     (i + 1) up

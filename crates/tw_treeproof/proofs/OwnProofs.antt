@@ -12,24 +12,21 @@ use Rattle.tw_base.specs.kinds.Bytes.{AreBytes}
 use Rattle.tw_base.specs.format.Codecs.{by_kind, bytes_codec, counted, many, number_codec, pair, seen, variant}
 use Rattle.tw_base.specs.history.Entries.{entry_text}
 use Rattle.tw_base.specs.kinds.Lists.{Each}
-use Rattle.tw_base.specs.history.Tree.{Tree, IsRising, entries}
+use Rattle.tw_base.specs.history.Tree.{IsRising, Tree, entries, height}
 use Rattle.tw_base.specs.history.Tree.Tree.{Empty, Branch}
 use Rattle.tw_base.proofs.lemmas.kinds.ListLemmas.{Each-append, Each-parts}
 use Rattle.tw_base.specs.history.EntryCodec.{entry_codec}
+use Rattle.tw_base.specs.history.TreeProofs.{IsSo, ancestor, ancestors_of, place_of_ask, proof_at, proof_of, way_up}
+use Rattle.tw_base.specs.history.Ways.{IsNotAsked, climbed_tree, has_asked_key, is_left}
+use Rattle.tw_base.proofs.lemmas.history.Ways.{at-ancestors, way-here, way-left, way-right}
 use Rattle.tw_treeproof.specs.declared.limits.TheConstants.{MOST_ABOVE_PLACE}
-use Rattle.tw_treeproof.specs.Answers.{Checks, IsAnswer, ancestors_of, asks_entry, is_of_entry, place_text}
+use Rattle.tw_treeproof.specs.Answers.{Checks, IsAnswer, asks_entry, is_of_entry, place_text}
 use Rattle.tw_treeproof.specs.Answers.{shown_answer}
 use Rattle.tw_treeproof.specs.Codecs.{ancestor_codec, gap_codec, present_codec, tree_proof_codec}
-use Rattle.tw_treeproof.specs.Making.{IsSo, ancestor, height, place_of_ask, proof_at, proof_of, way_up}
-use Rattle.tw_treeproof.specs.Ways.{IsNotAsked, climbed_tree, has_asked_key, is_left}
 use Rattle.tw_treeproof.proofs.Places.{IsAt, at-place}
-use Rattle.tw_treeproof.proofs.Ways.{first-found, last-found, way-climbs, way-free, way-here, way-left, way-right}
+use Rattle.tw_treeproof.proofs.Ways.{first-found, last-found, way-climbs, way-free}
 
 module _ (dig : List ℕ → List ℕ) where
-  pub at-ancestors : (place : Tree) (up : List Ancestor) → ancestors_of (proof_at dig place up) ≡ up
-  at-ancestors Empty up = refl
-  at-ancestors (Branch l e r) up = refl
-
   at-kind : (ask : Ask) (place : Tree) (up : List Ancestor) → IsAt ask place → is_of_entry (proof_at dig place up)
       ≡ asks_entry ask
   at-kind (Present e) Empty up at = absurd at
@@ -50,7 +47,7 @@ module _ (dig : List ℕ → List ℕ) where
       ask (proof_of dig t ask)
   own-checks t ask rising so =
       let at = at-place t ask rising so in
-      let same = at-ancestors (place_of_ask ask t) (way_up dig ask t) in
+      let same = at-ancestors dig (place_of_ask ask t) (way_up dig ask t) in
       record {
         kind = at-kind ask (place_of_ask ask t) (way_up dig ask t) at;
         free = subst (Each (IsNotAsked ask)) (sym same) (way-free dig ask t);
@@ -73,7 +70,7 @@ module _ (dig : List ℕ → List ℕ) where
       (shown_answer ask (ancestors_of (proof_of dig t ask)))
   own-answers t ask rising so =
       subst (λ up. IsAnswer (entries t) ask (shown_answer ask up))
-      (sym (at-ancestors (place_of_ask ask t) (way_up dig ask t))) (way-answers t ask rising so)
+      (sym (at-ancestors dig (place_of_ask ask t) (way_up dig ask t))) (way-answers t ask rising so)
 
   -- the way down to the place, and what is below it, is no longer than the tree is high
   way-short : (ask : Ask) (t : Tree) → length (way_up dig ask t) + height (place_of_ask ask t) ≤ height t

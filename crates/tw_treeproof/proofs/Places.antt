@@ -1,6 +1,6 @@
 -- The place to which a question leads in a tree whose keys rise, and what the list of its entries answers.
 use Rattle.std.proofs.Common.{◌≡◌, ◌∷◌, ◌++◌, Bool, true, false, refl, ap, sym, ◌∙◌, subst}
-use Rattle.std.specs.Prelude.{Option, Some, None, if◌then◌else◌}
+use Rattle.std.specs.Prelude.{Option, Some, None}
 use Rattle.std.specs.declared.cmp.Ordering.{Ordering}
 use Rattle.std.specs.declared.cmp.Ordering.TheVariants.{Less, Equal, Greater}
 use Rattle.std.specs.Ordering.{is_eq, is_lt}
@@ -13,31 +13,14 @@ use Rattle.tw_base.specs.history.Entries.{key_cmp, key_of}
 use Rattle.tw_base.specs.history.Tree.{Tree, IsRising, entries}
 use Rattle.tw_base.specs.history.Tree.Tree.{Empty, Branch}
 use Rattle.tw_base.proofs.lemmas.history.Asked.{cut, with-equal, with-less, with-more}
-use Rattle.tw_treeproof.specs.Making.{IsSo, place_of_ask}
-use Rattle.tw_treeproof.specs.Ways.{has_asked_key, is_left}
+use Rattle.tw_base.proofs.lemmas.history.Ways.{down-here, down-left, down-right, step_down}
+use Rattle.tw_base.specs.history.TreeProofs.{IsSo, place_of_ask}
+use Rattle.tw_base.specs.history.Ways.{has_asked_key, is_left}
 
 -- the entry at a place
 abbrev pub found : Tree → Option Entry
 found Empty = None
 found (Branch l e r) = Some e
-
--- one step down
-abbrev pub step_down : {X : Type 0} → (meets left : Bool) (here one other : X) → X
-step_down meets left here one other = if meets then here else (if left then one else other)
-
-pub down-here : {X : Type 0} (meets left : Bool) (here one other : X) → meets ≡ true → step_down meets left here one
-    other ≡ here
-down-here meets left here one other is = ap (λ b. step_down b left here one other) is
-
-pub down-left : {X : Type 0} (meets left : Bool) (here one other : X) → meets ≡ false → left ≡ true
-    → step_down meets left here one other ≡ one
-down-left meets left here one other is way = ap (λ b. step_down b left here one other) is
-    ∙ ap (λ b. if b then one else other) way
-
-pub down-right : {X : Type 0} (meets left : Bool) (here one other : X) → meets ≡ false → left ≡ false
-    → step_down meets left here one other ≡ other
-down-right meets left here one other is way = ap (λ b. step_down b left here one other) is
-    ∙ ap (λ b. if b then one else other) way
 
 -- a question for one key leads to the key's entry, or to an empty place where there is none
 module _ (ask : Ask) (key : Key) (meets : (e : Entry) → has_asked_key ask e ≡ is_eq (key_cmp key (key_of e)))

@@ -16,10 +16,10 @@ use Rattle.tw_base.specs.history.Tree.{Tree, IsRising, entries}
 use Rattle.tw_base.specs.history.Tree.Tree.{Empty, Branch}
 use Rattle.tw_base.proofs.lemmas.kinds.ListLemmas.{Each-append}
 use Rattle.tw_base.proofs.lemmas.history.Asked.{above-left, above-right, below-left, below-right, cut, or-none}
-use Rattle.tw_treeproof.specs.Making.{ancestor, place_of_ask, way_up}
-use Rattle.tw_treeproof.specs.Ways.{IsNotAsked, climbed_tree, has_asked_key, is_left, nearest_left, nearest_right}
-use Rattle.tw_treeproof.specs.Ways.{over_text}
-use Rattle.tw_treeproof.proofs.Places.{down-here, down-left, down-right}
+use Rattle.tw_base.specs.history.TreeProofs.{ancestor, place_of_ask, way_up}
+use Rattle.tw_base.specs.history.Ways.{IsNotAsked, climbed_tree, has_asked_key, is_left, nearest_left, nearest_right}
+use Rattle.tw_base.specs.history.Ways.{over_text}
+use Rattle.tw_base.proofs.lemmas.history.Ways.{way-here, way-left, way-right}
 
 module _ (dig : List ℕ → List ℕ) where
   climb-one : (left : Entry → Bool) (up : List Ancestor) (a : Ancestor) (below : List ℕ) → climbed_tree dig left
@@ -36,25 +36,6 @@ module _ (dig : List ℕ → List ℕ) where
       ≡ tree_label dig (Branch l e r)
   unfolding tree_label
   label-branch l e r = refl
-
-  -- the ways down from a node
-  module _ (ask : Ask) (l : Tree) (e : Entry) (r : Tree) where
-    pub way-here : has_asked_key ask e ≡ true → (way_up dig ask (Branch l e r) ≡ [])
-        × (place_of_ask ask (Branch l e r) ≡ Branch l e r)
-    unfolding way_up place_of_ask
-    way-here is = (down-here _ (is_left ask e) _ _ _ is, down-here _ (is_left ask e) _ _ _ is)
-
-    pub way-left : has_asked_key ask e ≡ false → is_left ask e ≡ true
-        → (way_up dig ask (Branch l e r) ≡ way_up dig ask l ++ ancestor dig e r ∷ [])
-        × (place_of_ask ask (Branch l e r) ≡ place_of_ask ask l)
-    unfolding way_up place_of_ask
-    way-left is way = (down-left _ _ _ _ _ is way, down-left _ _ _ _ _ is way)
-
-    pub way-right : has_asked_key ask e ≡ false → is_left ask e ≡ false
-        → (way_up dig ask (Branch l e r) ≡ way_up dig ask r ++ ancestor dig e l ∷ [])
-        × (place_of_ask ask (Branch l e r) ≡ place_of_ask ask r)
-    unfolding way_up place_of_ask
-    way-right is way = (down-right _ _ _ _ _ is way, down-right _ _ _ _ _ is way)
 
   -- the labels lead from the place up to the tree
   pub way-climbs : (ask : Ask) (t : Tree) → climbed_tree dig (is_left ask) (way_up dig ask t)
@@ -89,12 +70,12 @@ module _ (dig : List ℕ → List ℕ) where
 
       by : (meets left : Bool) → has_asked_key ask e ≡ meets → is_left ask e ≡ left → Leads l → Leads r
           → Leads (Branch l e r)
-      by true left is way one other = let here = way-here ask l e r is in along [] (Branch l e r) here.0 here.1
+      by true left is way one other = let here = way-here dig ask l e r is in along [] (Branch l e r) here.0 here.1
           (climb-none (is_left ask) (tree_label dig (Branch l e r)))
-      by false true is way one other = past l r (way-left ask l e r is way)
+      by false true is way one other = past l r (way-left dig ask l e r is way)
           (ap (λ b. dig (if b then entry_text (tree_label dig l) e (tree_label dig r) else entry_text (tree_label dig r)
           e (tree_label dig l))) way ∙ label-branch l e r) one
-      by false false is way one other = past r l (way-right ask l e r is way)
+      by false false is way one other = past r l (way-right dig ask l e r is way)
           (ap (λ b. dig (if b then entry_text (tree_label dig r) e (tree_label dig l) else entry_text (tree_label dig l)
           e (tree_label dig r))) way ∙ label-branch l e r) other
 
@@ -107,10 +88,10 @@ module _ (dig : List ℕ → List ℕ) where
       by : (meets left : Bool) → has_asked_key ask e ≡ meets → is_left ask e ≡ left → Each (IsNotAsked ask)
           (way_up dig ask l) → Each (IsNotAsked ask) (way_up dig ask r) → Each (IsNotAsked ask)
           (way_up dig ask (Branch l e r))
-      by true left is way one other = subst (Each (IsNotAsked ask)) (sym (way-here ask l e r is).0) tt
-      by false true is way one other = subst (Each (IsNotAsked ask)) (sym (way-left ask l e r is way).0)
+      by true left is way one other = subst (Each (IsNotAsked ask)) (sym (way-here dig ask l e r is).0) tt
+      by false true is way one other = subst (Each (IsNotAsked ask)) (sym (way-left dig ask l e r is way).0)
           (Each-append (IsNotAsked ask) (way_up dig ask l) (ancestor dig e r ∷ []) one (is, tt))
-      by false false is way one other = subst (Each (IsNotAsked ask)) (sym (way-right ask l e r is way).0)
+      by false false is way one other = subst (Each (IsNotAsked ask)) (sym (way-right dig ask l e r is way).0)
           (Each-append (IsNotAsked ask) (way_up dig ask r) (ancestor dig e l ∷ []) other (is, tt))
 
   right-one : (left : Entry → Bool) (up : List Ancestor) (a : Ancestor) → nearest_right left (up ++ a ∷ []) ≡ option_or
@@ -172,14 +153,14 @@ module _ (dig : List ℕ → List ℕ) where
           ∙ sym (ap (λ b. option_or (nearest_right left (way_up dig (Below key) r)) (if not b then None else Some e))
           is)
           ∙ sym (right-one left (way_up dig (Below key) r) (ancestor dig e l))
-          ∙ sym (ap (nearest_right left) (way-right (Below key) l e r refl (ap not is)).0)
+          ∙ sym (ap (nearest_right left) (way-right dig (Below key) l e r refl (ap not is)).0)
       by false is one other =
           below-left key (entries l) e (entries r) is ∙ one
           ∙ sym (or-none (nearest_right left (way_up dig (Below key) l)))
           ∙ sym (ap (λ b. option_or (nearest_right left (way_up dig (Below key) l)) (if not b then None else Some e))
           is)
           ∙ sym (right-one left (way_up dig (Below key) l) (ancestor dig e r))
-          ∙ sym (ap (nearest_right left) (way-left (Below key) l e r refl (ap not is)).0)
+          ∙ sym (ap (nearest_right left) (way-left dig (Below key) l e r refl (ap not is)).0)
 
   pub first-found : (key : Key) (t : Tree) → IsRising (entries t) → FindsFirst key t
   unfolding way_up
@@ -198,10 +179,10 @@ module _ (dig : List ℕ → List ℕ) where
           above-left key (entries l) e (entries r) is ∙ ap (λ o. option_or o (Some e)) one
           ∙ sym (ap (λ b. option_or (nearest_left left (way_up dig (Above key) l)) (if b then Some e else None)) is)
           ∙ sym (left-one left (way_up dig (Above key) l) (ancestor dig e r))
-          ∙ sym (ap (nearest_left left) (way-left (Above key) l e r refl is).0)
+          ∙ sym (ap (nearest_left left) (way-left dig (Above key) l e r refl is).0)
       by false is one other =
           above-right key (entries l) e (entries r) rising is ∙ other
           ∙ sym (or-none (nearest_left left (way_up dig (Above key) r)))
           ∙ sym (ap (λ b. option_or (nearest_left left (way_up dig (Above key) r)) (if b then Some e else None)) is)
           ∙ sym (left-one left (way_up dig (Above key) r) (ancestor dig e l))
-          ∙ sym (ap (nearest_left left) (way-right (Above key) l e r refl is).0)
+          ∙ sym (ap (nearest_left left) (way-right dig (Above key) l e r refl is).0)

@@ -10,9 +10,10 @@ use Rattle.tw_base.specs.history.Asking.{entry_with, first_above, last_below}
 use Rattle.tw_base.specs.history.Entries.{entry_text, key_of}
 use Rattle.tw_base.specs.kinds.Lists.{Each}
 use Rattle.tw_base.specs.kinds.Texts.{empty_tree_text}
+use Rattle.tw_base.specs.history.TreeProofs.{ancestors_of}
+use Rattle.tw_base.specs.history.Ways.{IsNotAsked, climbed_tree, climb_texts, is_left, nearest_left, nearest_right}
 use Rattle.tw_treeproof.specs.declared.shown.Shown.{Shown}
 use Rattle.tw_treeproof.specs.declared.shown.Shown.TheVariants.{Present as IsThere, Absent as IsNotThere, Nearest, Wrong}
-use Rattle.tw_treeproof.specs.Ways.{IsNotAsked, climbed_tree, climb_texts, is_left, nearest_left, nearest_right}
 
 -- the question is about an entry, and the proof is of one
 abbrev pub asks_entry : Ask → Bool
@@ -24,10 +25,6 @@ asks_entry (Above key) = false
 abbrev pub is_of_entry : TreeProof → Bool
 is_of_entry (OfEntry left right up) = true
 is_of_entry (Gap up) = false
-
-abbrev pub ancestors_of : TreeProof → List Ancestor
-ancestors_of (OfEntry left right up) = up
-ancestors_of (Gap up) = up
 
 -- the text at the asked place: of the asked entry's node, or of the empty tree
 abbrev pub place_text : Ask → TreeProof → List ℕ

@@ -1,15 +1,11 @@
 -- Which tree proofs are within the limits of their format.
 use Rattle.std.specs.Prelude.{ℕ, ◌≤◌, length}
-use Rattle.tw_base.specs.declared.history.tree_proof.Ancestor.{Ancestor}
 use Rattle.tw_base.specs.declared.history.tree_proof.TreeProof.{TreeProof}
 use Rattle.tw_base.specs.declared.history.tree_proof.TreeProof.TheVariants.{Present, Gap}
-use Rattle.tw_base.specs.history.Limits.{IsEntryInRange}
+use Rattle.tw_base.specs.history.Limits.{IsAncestorInRange}
 use Rattle.tw_base.specs.kinds.Lists.{Each}
+use Rattle.tw_base.specs.history.TreeProofs.{ancestors_of}
 use Rattle.tw_treeproof.specs.declared.limits.TheConstants.{MOST_ABOVE_ENTRY, MOST_ABOVE_PLACE}
-use Rattle.tw_treeproof.specs.Answers.{ancestors_of}
-
-abbrev pub IsAncestorInRange : Ancestor → Type 0
-IsAncestorInRange a = IsEntryInRange a.entry
 
 -- the most nodes that a proof of this kind may have above its place
 abbrev pub most_above : TreeProof → ℕ

@@ -8,7 +8,7 @@ use Rattle.tw_base.specs.declared.history.tree_proof.TreeProof.TheVariants.{Pres
 use Rattle.tw_base.specs.history.Entries.{IsFit}
 use Rattle.tw_base.specs.kinds.Bytes.{HasBytes}
 use Rattle.tw_base.specs.kinds.Lists.{Each}
-use Rattle.tw_treeproof.specs.Answers.{ancestors_of}
+use Rattle.tw_base.specs.history.TreeProofs.{ancestors_of}
 
 abbrev pub HaveSizes : List Ancestor → Type 0
 HaveSizes = Each (λ a. HasBytes 32 a.other × IsFit a.entry)

@@ -9,16 +9,16 @@ ghost use Rattle.tw_base.specs.history.Entries.{IsFit};
 ghost use Rattle.tw_base.specs.history.HistoryTexts.{tree_texts};
 ghost use Rattle.tw_base.specs.kinds.Lists.{Each};
 ghost use Rattle.tw_base.specs.history.Tree.{IsRisingTree, Tree, entries};
-ghost use Rattle.tw_treeproof.specs.Answers.{Checks, IsAnswer, Shows, ancestors_of, asks_entry, is_of_entry, place_text, shown_answer, tree_proof_texts};
-ghost use Rattle.tw_treeproof.specs.Ways.{IsNotAsked, climb_texts, climbed_tree, is_left, nearest_left as left_of_way, nearest_right as right_of_way, over_text};
+ghost use Rattle.tw_base.specs.history.TreeProofs.{ancestors_of};
+ghost use Rattle.tw_base.specs.history.Ways.{IsNotAsked, climb_texts, climbed_tree, is_left, nearest_left as left_of_way, nearest_right as right_of_way, over_text};
+ghost use Rattle.tw_treeproof.specs.Answers.{Checks, IsAnswer, Shows, asks_entry, is_of_entry, place_text, shown_answer, tree_proof_texts};
 ghost use Rattle.tw_treeproof.specs.Sizes.{HasPlaceSizes, HasProofSizes, HaveSizes};
 ghost use Rattle.tw_treeproof.specs.declared.shown.Shown.TheVariants.{Wrong};
 
 use crate::shown::Shown;
-use crate::way::{goes_left, meets};
 use tw_base::{
     Ancestor, Ask, Digest, Entry, Hasher, Transcript, TreeProof, Unwritten, empty_tree_told,
-    tree_node_told,
+    goes_left, meets, tree_node_told,
 };
 
 /// The label of the asked place, whose text is handed on.

@@ -7,12 +7,12 @@ ghost use Rattle.tw_base.specs.history.Auth.{tree_label};
 ghost use Rattle.tw_base.specs.format.Codecs.{IsUnambiguous};
 ghost use Rattle.tw_base.specs.format.Formats.{Spells};
 ghost use Rattle.tw_base.specs.kinds.Lists.{Each};
-ghost use Rattle.tw_base.specs.history.Tree.{IsRising, Tree, entries};
+ghost use Rattle.tw_base.specs.history.Tree.{IsRising, Tree, entries, height};
 ghost use Rattle.tw_base.specs.history.EntryCodec.{entry_codec};
+ghost use Rattle.tw_base.specs.history.TreeProofs.{IsSo, ancestors_of, proof_of};
 ghost use Rattle.tw_treeproof.specs.declared.limits.TheConstants.{MOST_ABOVE_PLACE};
-ghost use Rattle.tw_treeproof.specs.Answers.{Checks, IsAnswer, ancestors_of, asks_entry, shown_answer};
+ghost use Rattle.tw_treeproof.specs.Answers.{Checks, IsAnswer, asks_entry, shown_answer};
 ghost use Rattle.tw_treeproof.specs.Codecs.{gap_codec, present_codec, tree_proof_codec};
-ghost use Rattle.tw_treeproof.specs.Making.{IsSo, height, proof_of};
 
 use tw_base::Hasher;
 

@@ -7,7 +7,6 @@ mod laws;
 mod limits;
 mod reading;
 mod shown;
-mod way;
 mod writing;
 
 pub use checking::{check, tree_label_told};
@@ -16,5 +15,4 @@ pub use limits::{MOST_ABOVE_ENTRY, MOST_ABOVE_PLACE};
 pub use reading::{take_ancestor, take_gap, take_present};
 pub use shown::Shown;
 pub use tw_base::{Ancestor, AncestorList, Ask, TreeProof};
-pub use way::{goes_left, meets};
 pub use writing::{put_gap, put_present, put_tree_proof};

@@ -4,9 +4,10 @@
 ghost use Rattle.std.specs.Prelude.{◌≡◌, ◌++◌, flat_map, length, OnOk};
 ghost use Rattle.tw_base.specs.format.Fields.{number_bytes};
 ghost use Rattle.tw_base.specs.kinds.Lists.{Each};
+ghost use Rattle.tw_base.specs.history.Limits.{IsAncestorInRange};
 ghost use Rattle.tw_treeproof.specs.Codecs.{ancestor_codec, gap_codec, present_codec, tree_proof_bytes, tree_proof_codec};
 ghost use Rattle.tw_treeproof.specs.Answers.{is_of_entry};
-ghost use Rattle.tw_treeproof.specs.Limits.{IsAncestorInRange, IsProofInRange};
+ghost use Rattle.tw_treeproof.specs.Limits.{IsProofInRange};
 
 use tw_base::{
     Ancestor, AncestorList, Bytes, NoMemory, TreeProof, put_digest, put_entry, put_last_bytes,

@@ -5,8 +5,9 @@ use Rattle.std.specs.Prelude.{Bool}
 use Rattle.tw_base.specs.declared.history.tree_proof.Ancestor.{Ancestor}
 use Rattle.tw_base.specs.declared.history.tree_proof.Ask.{Ask}
 use Rattle.tw_base.specs.declared.history.tree_proof.TreeProof.{TreeProof}
-use Rattle.tw_treeproof.specs.Answers.{Checks, ancestors_of, place_text}
-use Rattle.tw_treeproof.specs.Ways.{climbed_tree, is_left, over_text}
+use Rattle.tw_base.specs.history.TreeProofs.{ancestors_of}
+use Rattle.tw_base.specs.history.Ways.{climbed_tree, is_left, over_text}
+use Rattle.tw_treeproof.specs.Answers.{Checks, place_text}
 
 module _ (dig : List ℕ → List ℕ) (size : (text : List ℕ) → length (dig text) ≡ 32) where
   length-climbed : (left : Entry → Bool) (up : List Ancestor) (below : List ℕ) → length below ≡ 32

@@ -186,7 +186,7 @@ fn count_paths(words: &[String]) -> usize
 }
 
 /// The number that the text is, if it is one within the range.
-fn number_within(text: &[u8], least: u64, most: u64) -> Option<u64>
+pub fn number_within(text: &[u8], least: u64, most: u64) -> Option<u64>
     ensures value { result ≡ number_value least most text.now }
     ensures range { IfSome result (λ n. (least ≤ n) × (n ≤ most)) }
 {

@@ -11,5 +11,6 @@ mod store_forms;
 mod words;
 
 pub use command::Command;
+pub use cursor::number_within;
 pub use limits::limit_laws;
 pub use words::{WordFault, read_words};

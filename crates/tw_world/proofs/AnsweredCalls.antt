@@ -20,27 +20,27 @@ use Rattle.tw_msg.specs.declared.message.Message.{Message}
 use Rattle.tw_msg.specs.declared.receipt.Receipt.{Receipt}
 use Rattle.tw_msg.proofs.MessageCodec.{message-lawful}
 use Rattle.tw_service.specs.Adding.{AppendsEvents, Receives, ReceivesBytes}
-use Rattle.tw_service.specs.EventSteps.{with_events_at}
+use Rattle.tw_service.specs.EventStep.{with_events_at}
 use Rattle.tw_service.specs.Machine.{AnswersByMachine, Call, IsStepOf, NextOf, RepliesTo, Reply, append_table}
 use Rattle.tw_service.specs.Machine.{last_thread, receipt_by}
 use Rattle.tw_service.specs.Machine.Call.{Append, Receive}
 use Rattle.tw_service.specs.Machine.Reply.{OfReceipt, OfThread, Refused}
 use Rattle.tw_service.specs.Receiving.{RefusesNoMessage}
 use Rattle.tw_service.specs.Serves.{Serves, clock_of, has_failed, name_of, steps_of}
-use Rattle.tw_service.specs.Stands.{StandsFor, StandsForOneOf}
+use Rattle.tw_service.specs.Stands.{IsImageOfHistory, StandsFor, StandsForOneOf}
 use Rattle.tw_service.specs.declared.service.Service.{Service}
 use Rattle.tw_service.proofs.Answering.{append_done, fails, is_disk_fault}
-use Rattle.tw_world.specs.Hosts.{Answered, AnswersRefusal, Given, IsNextOf, StandsAs, TakesGiven}
+use Rattle.tw_world.specs.Hosts.{Answered, AnswersRefusal, Given, IsNextOf, TakesGiven}
 use Rattle.tw_world.specs.Hosts.Given.{OfBytes, OfEvents}
 use Rattle.tw_world.specs.declared.told.Answer.{Answer}
 use Rattle.tw_world.specs.declared.told.Answer.TheVariants as answer
 
 -- an image stands for a history by the history's own name
-pub stands-own : (image : Image) (name : List ℕ) (h : History) → StandsFor sha256 image name h → StandsAs h image
+pub stands-own : (image : Image) (name : List ℕ) (h : History) → StandsFor sha256 image name h → IsImageOfHistory sha256 h image
 stands-own image name h s = subst (λ n. StandsFor sha256 image n h) (sym s.named) s
 
 pub stands-one : (image : Image) (name : List ℕ) (h next : History) → StandsForOneOf sha256 name h next image
-    → StandsAs h image ⊎ StandsAs next image
+    → IsImageOfHistory sha256 h image ⊎ IsImageOfHistory sha256 next image
 stands-one image name h next (inl s) = inl (stands-own image name h s)
 stands-one image name h next (inr s) = inr (stands-own image name next s)
 

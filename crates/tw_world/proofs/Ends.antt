@@ -8,9 +8,9 @@ use Rattle.tw_disk.specs.Image.{Image}
 use Rattle.tw_disk.specs.MemDisk.{mem_disk_view}
 use Rattle.tw_disk.specs.declared.memory_disk.MemDisk.{MemDisk}
 use Rattle.tw_service.specs.Serves.{Serves, disk_of, name_of}
-use Rattle.tw_service.specs.Stands.{StandsFor}
+use Rattle.tw_service.specs.Stands.{IsImageOfHistory, StandsFor}
 use Rattle.tw_service.specs.declared.service.Service.{Service}
-use Rattle.tw_world.specs.Hosts.{Answered, Given, LineEnds, RestsAs, StandsAs, StandsForGood, crash_told, own_answer}
+use Rattle.tw_world.specs.Hosts.{Answered, Given, LineEnds, RestsAs, StandsForGood, crash_told, own_answer}
 use Rattle.tw_world.specs.Runs.{answer_to_reply}
 use Rattle.tw_world.specs.declared.told.Answer.{Answer}
 use Rattle.tw_world.specs.declared.told.Told.{Told}
@@ -33,8 +33,8 @@ module _ {H : Type 0} {g : _} {k : _} (given : Given) (h : History) (service : S
   module _ (disk : MemDisk) (closed : disk ≡ disk_of service)
       (stands : (x : History) → Serves sha256 mem_disk_view service x → IsAtRest (mem_disk_view disk)
       (λ i. StandsFor sha256 i (name_of service) x))
-      (reopens : (one other : History) → ((c : Image) → (mem_disk_view disk).may_leave c → StandsAs one c
-      ⊎ StandsAs other c) → RestsAs after steps one ⊎ RestsAs after steps other) where
+      (reopens : (one other : History) → ((c : Image) → (mem_disk_view disk).may_leave c → IsImageOfHistory sha256 one c
+      ⊎ IsImageOfHistory sha256 other c) → RestsAs after steps one ⊎ RestsAs after steps other) where
     -- it was opened again as this history
     as-one : (x : History) → RestsAs after steps x ⊎ RestsAs after steps x → RestsAs after steps x
     as-one x (inl r) = r
@@ -74,7 +74,7 @@ module _ {H : Type 0} {g : _} {k : _} (given : Given) (h : History) (service : S
     stopped-crash : told ≡ Stopped steps → Answered given h service None → LineEnds given true h told after steps
     stopped-crash is answered =
         let next : History = answered.next in
-        let leaves : (c : Image) → (mem_disk_view disk).may_leave c → StandsAs h c ⊎ StandsAs next c =
+        let leaves : (c : Image) → (mem_disk_view disk).may_leave c → IsImageOfHistory sha256 h c ⊎ IsImageOfHistory sha256 next c =
         λ c may. answered.leaves c (subst (λ (d : MemDisk). (mem_disk_view d).may_leave c) closed may) in
         elim (reopens h next leaves) [
           | inl rests ↦ undone is h refl rests
@@ -101,8 +101,8 @@ module _ {H : Type 0} {g : _} {k : _} (given : Given) (h : History) (service : S
     (λ i. StandsFor sha256 i (name_of service) x)) where
   -- what a crash may leave stands for a history that it has, or for the next one
   pub may-leave : (answer : Option Answer) → Answered given h service answer
-      → (one : History) × (other : History) × ((c : Image) → (mem_disk_view disk).may_leave c → StandsAs one c
-      ⊎ StandsAs other c)
+      → (one : History) × (other : History) × ((c : Image) → (mem_disk_view disk).may_leave c → IsImageOfHistory sha256 one c
+      ⊎ IsImageOfHistory sha256 other c)
   may-leave (Some a) answered =
       let next : History = answered.next in
       let good : StandsForGood disk next = stands-closed disk (name_of service) next (stands next answered.serves) in

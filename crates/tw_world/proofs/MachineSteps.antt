@@ -21,7 +21,7 @@ use Rattle.tw_archive.specs.declared.judgement.Judgement.{Judgement}
 use Rattle.tw_archive.specs.declared.judgement.Judgement.TheVariants.{Accept}
 use Rattle.tw_base.specs.history.Tree.{entries, tree}
 use Rattle.tw_service.specs.Receiving.{reception, refuse_or}
-use Rattle.tw_service.specs.EventSteps.{event_step, with_events_at}
+use Rattle.tw_service.specs.EventStep.{event_step, with_events_at}
 use Rattle.tw_answers.specs.Limits.{append_refusal, archive_refusal, clock_refusal, events_size, first_long}
 use Rattle.tw_answers.specs.Limits.{full_refusal, length_refusal, limits_refusal, or_else, own_refusal}
 use Rattle.tw_service.specs.Machine.{Archives, IsStepOf, Reply, RepliesTo, append_table, last_thread}

@@ -8,8 +8,8 @@ use Rattle.tw_disk.specs.KeptCalls.{written_of}
 use Rattle.tw_disk.specs.MemDisk.{IsSameMemDisk, mem_disk_view}
 use Rattle.tw_disk.specs.Model.{IsImage}
 use Rattle.tw_disk.specs.declared.memory_disk.MemDisk.{MemDisk}
-use Rattle.tw_service.specs.Stands.{StandsFor}
-use Rattle.tw_world.specs.Hosts.{StandsAs, StandsForGood}
+use Rattle.tw_service.specs.Stands.{IsImageOfHistory, StandsFor}
+use Rattle.tw_world.specs.Hosts.{StandsForGood}
 
 -- a disk that holds and may leave the same
 pub stands-same : (old new : MemDisk) (h : History) → IsSameMemDisk old new → StandsForGood old h → StandsForGood new h
@@ -24,7 +24,7 @@ stands-same old new h same stands = record {
 -- what is left by a crash is one of what it might leave
 pub stands-left : (disk : MemDisk) (may_leave : Image → Type 0) (one other : History) → IsAtRest (mem_disk_view disk)
     may_leave
-    → ((c : Image) → may_leave c → StandsAs one c ⊎ StandsAs other c) → StandsForGood disk one ⊎ StandsForGood disk
+    → ((c : Image) → may_leave c → IsImageOfHistory sha256 one c ⊎ IsImageOfHistory sha256 other c) → StandsForGood disk one ⊎ StandsForGood disk
     other
 stands-left disk may_leave one other rest all =
     elim (all rest.image rest.has) [
@@ -34,8 +34,8 @@ stands-left disk may_leave one other rest all =
 
 -- whatever a crash may leave of a disk that stands for a history for good stands for it
 pub stands-each : (disk : MemDisk) (h : History) → StandsForGood disk h → (c : Image) → (mem_disk_view disk).may_leave c
-    → StandsAs h c
-stands-each disk h stands c may = subst (StandsAs h) (sym (stands.only c may)) stands.has
+    → IsImageOfHistory sha256 h c
+stands-each disk h stands c may = subst (IsImageOfHistory sha256 h) (sym (stands.only c may)) stands.has
 
 -- a disk that was closed
 pub stands-closed : (disk : MemDisk) (name : List ℕ) (h : History) → IsAtRest (mem_disk_view disk)

@@ -14,7 +14,7 @@ use Rattle.tw_service.specs.Machine.{IsStepOf, Reply}
 use Rattle.tw_service.specs.Machine.Call.{Ask}
 use Rattle.tw_service.specs.Machine.Reply.{OfBytes as ReplyBytes, Refused}
 use Rattle.tw_service.specs.Serves.{Serves, disk_of}
-use Rattle.tw_service.specs.Stands.{StandsFor}
+use Rattle.tw_service.specs.Stands.{IsImageOfHistory}
 use Rattle.tw_service.specs.declared.service.Service.{Service}
 use Rattle.tw_text.specs.Summaries.{replayed_line}
 use Rattle.tw_world.specs.Runs.{Appending, Receiving, TellsLine, answer_to_reply, receipt_step}
@@ -27,13 +27,9 @@ use Rattle.tw_world.specs.declared.told.Told.TheVariants.{Crashed, Stopped}
 
 -- ---- which history a service has
 
--- the image stands for the history, of its name
-abbrev pub StandsAs : History → Image → Type 0
-StandsAs h image = StandsFor sha256 image h.name h
-
 -- the disk is at rest and stands for the history for good: every image that a crash may leave does
 abbrev pub StandsForGood : MemDisk → History → Type 0
-StandsForGood disk h = IsAtRest (mem_disk_view disk) (StandsAs h)
+StandsForGood disk h = IsAtRest (mem_disk_view disk) (IsImageOfHistory sha256 h)
 
 -- the service has this history, on its disk for good
 pub record HoldsHistory (host : Host) (h : History) : Type 0 where
@@ -86,7 +82,7 @@ pub record HasFailed {H : Type 0} {g : _} {k : _} (given : Given) (h : History) 
   pub next : History
   pub named : next.name ≡ h.name
   pub is_next : IsNextOf given h next
-  pub leaves : (c : Image) → (mem_disk_view (disk_of service)).may_leave c → StandsAs h c ⊎ StandsAs next c
+  pub leaves : (c : Image) → (mem_disk_view (disk_of service)).may_leave c → IsImageOfHistory sha256 h c ⊎ IsImageOfHistory sha256 next c
 
 -- what became of it, by the answer, which a disk fault hasn't
 abbrev pub Answered : {H : Type 0} {g : _} {k : _} → Given → History → Service MemDisk H g k → Option Answer → Type 0

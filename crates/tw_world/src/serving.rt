@@ -8,8 +8,8 @@ ghost use Rattle.tw_disk.specs.Image.{Image};
 ghost use Rattle.tw_disk.specs.MemDisk.{is_stopped, mem_disk_view};
 ghost use Rattle.tw_pages.specs.declared.open.StoreFault.TheVariants.{DiskFault as FailedDisk};
 ghost use Rattle.tw_service.specs.Serves.{Serves, disk_of, has_failed};
-ghost use Rattle.tw_service.specs.Stands.{no_history};
-ghost use Rattle.tw_world.specs.Hosts.{Given, Answered, AnswersRefusal, LineEnds, GivesReply, GoesOnByReply, HoldsHistory, IsGiven, RestsAs, StandsAs, StandsForGood, crash_told as crash_told_of};
+ghost use Rattle.tw_service.specs.Stands.{IsImageOfHistory, no_history};
+ghost use Rattle.tw_world.specs.Hosts.{Given, Answered, AnswersRefusal, LineEnds, GivesReply, GoesOnByReply, HoldsHistory, IsGiven, RestsAs, StandsForGood, crash_told as crash_told_of};
 ghost use Rattle.tw_world.specs.Hosts.Given.{OfBytes, OfEvents};
 
 use crate::host::{Host, Planned};
@@ -113,8 +113,8 @@ fn closed(service: MemService) -> Rested
 
 /// Crashes, and opens the service again.
 fn reopened(alloc: Global, disk: MemDisk, planned: Planned) -> Result<Rested, NoMemory>
-    requires { (one : History) × (other : History) × ((c : Image) → (mem_disk_view disk).may_leave c → StandsAs one c ⊎ StandsAs other c) }
-    ensures { IfOk result (λ rested. (one other : History) → ((c : Image) → (mem_disk_view disk).may_leave c → StandsAs one c ⊎ StandsAs other c)
+    requires { (one : History) × (other : History) × ((c : Image) → (mem_disk_view disk).may_leave c → IsImageOfHistory sha256 one c ⊎ IsImageOfHistory sha256 other c) }
+    ensures { IfOk result (λ rested. (one other : History) → ((c : Image) → (mem_disk_view disk).may_leave c → IsImageOfHistory sha256 one c ⊎ IsImageOfHistory sha256 other c)
         → RestsAs rested.disk rested.steps one ⊎ RestsAs rested.disk rested.steps other) }
 {
     let mut disk = disk;

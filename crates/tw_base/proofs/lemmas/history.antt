@@ -6,6 +6,7 @@ pub mod Members
 pub mod Leaves
 pub mod AskedLists
 pub mod Trees
+pub mod Ways
 pub mod Archives
 pub mod SoundEvents
 pub mod Times

@@ -1,8 +1,12 @@
 -- The bytes of pages: those of a codec from the front on, and zeros to the end.
-use Rattle.std.specs.Prelude.{◌≡◌, ℕ, ◌-◌, List, ◌++◌, length, drop, replicate, Result, Ok, Err, Option, Some, None}
+use Rattle.std.specs.Prelude.{◌≡◌, ℕ, ◌-◌, ◌^◌, List, ◌++◌, length, drop, replicate, Result, Ok, Err, Option, Some, None}
 use Rattle.tw_base.specs.declared.kinds.failure.ReadFault.{ReadFault}
-use Rattle.tw_base.specs.format.Codecs.{Codec}
+use Rattle.tw_base.specs.format.Codecs.{Codec, number_codec}
 use Rattle.tw_base.specs.declared.kinds.limits.TheConstants.{PAGE_SIZE}
+
+-- the number of a page
+abbrev pub page_number_codec : Codec ℕ
+page_number_codec = number_codec 8 0 (2 ^ 64 - 1)
 
 -- these bytes, and then zeros to the end of a page
 abbrev pub padded : List ℕ → List ℕ

@@ -1,5 +1,5 @@
 -- Labels of trees, and the authenticators of a history.
-use Rattle.std.specs.Prelude.{ℕ, suc, zero, ◌-◌, ◌^◌, List, [], ◌∷◌, ◌++◌, length, map, slice_index_or}
+use Rattle.std.specs.Prelude.{ℕ, suc, zero, ◌-◌, ◌^◌, List, [], ◌∷◌, ◌++◌, length, map, slice_index_or, Option, Some, None, nat_le, if◌then◌else◌}
 use Rattle.tw_base.specs.kinds.Texts.{genesis_text, step_datum_text, link_text, authenticator_text, empty_tree_text}
 use Rattle.tw_base.specs.history.Entries.{entry_text}
 use Rattle.tw_base.specs.events.EventTree.{event_root}
@@ -37,3 +37,7 @@ module _ (dig : List ℕ → List ℕ) where
 
   unfoldable pub auth : History → ℕ → List ℕ
   auth h i = slice_index_or (auths h i) i []
+
+  -- the same, of a step that the history has
+  abbrev pub auth_within : History → (step : ℕ) → Option (List ℕ)
+  auth_within h step = if nat_le step (length h.steps) then Some (auth h step) else None

@@ -26,6 +26,7 @@ abbrev pub events_in : Content → Option (List (List ℕ))
 events_in (Events events) = Some events
 events_in (Received t) = None
 
+-- the thread that a step received, if it received one
 abbrev pub thread_in : Content → Option Thread
 thread_in (Events events) = None
 thread_in (Received t) = Some t

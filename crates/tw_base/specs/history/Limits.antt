@@ -5,6 +5,7 @@ use Rattle.tw_base.specs.declared.history.content.Content.TheVariants.{Events, R
 use Rattle.tw_base.specs.declared.kinds.limits.TheConstants.{LAST_STEP, LAST_TIME, MOST_EVENTS, MOST_EVENT_BYTES, MOST_STEP_BYTES}
 use Rattle.tw_base.specs.declared.history.thread.Entry.{Entry}
 use Rattle.tw_base.specs.declared.history.thread.Thread.{Thread}
+use Rattle.tw_base.specs.declared.history.tree_proof.Ancestor.{Ancestor}
 use Rattle.tw_base.specs.kinds.Bytes.{AreBytes}
 use Rattle.tw_base.specs.kinds.Lists.{Each}
 use Rattle.tw_base.specs.kinds.Names.{IsName}
@@ -44,3 +45,7 @@ IsStep step = (0 < step) × (step ≤ LAST_STEP)
 -- the step of the entry's thread, and the one that archived it, are such steps
 abbrev pub IsEntryInRange : Entry → Type 0
 IsEntryInRange e = IsStep e.thread.step × IsStep e.archived
+
+-- so are those of the entry of a node above an asked place
+abbrev pub IsAncestorInRange : Ancestor → Type 0
+IsAncestorInRange a = IsEntryInRange a.entry

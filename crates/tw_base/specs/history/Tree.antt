@@ -1,5 +1,5 @@
 -- The archive's trees: the binary trees that the node numbers of a history stand for.
-use Rattle.std.specs.Prelude.{ℕ, suc, zero, List, [], ◌∷◌, ◌++◌, slice_index_or, Option, Some, None}
+use Rattle.std.specs.Prelude.{ℕ, suc, zero, max, List, [], ◌∷◌, ◌++◌, slice_index_or, Option, Some, None}
 use Rattle.tw_base.specs.declared.history.thread.Entry.{Entry}
 use Rattle.tw_base.specs.kinds.Lists.{Each}
 use Rattle.tw_base.specs.history.Entries.{IsFit, KeyBelow, key_of}
@@ -13,6 +13,11 @@ pub data Tree : Type 0 where
 abbrev pub entries : Tree → List Entry
 entries Empty = []
 entries (Branch left e right) = entries left ++ e ∷ entries right
+
+-- the most nodes on a way down
+unfoldable pub height : Tree → ℕ
+height Empty = 0
+height (Branch left e right) = suc (max (height left) (height right))
 
 -- each entry's key is below those of all later ones
 abbrev pub IsRising : List Entry → Type 0

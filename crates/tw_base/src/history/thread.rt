@@ -2,7 +2,7 @@
 
 ghost use Rattle.std.specs.Prelude.{◌≡◌};
 ghost use Rattle.std.specs.Ordering.{is_lt};
-ghost use Rattle.tw_base.specs.history.Entries.{key_cmp, key_of};
+ghost use Rattle.tw_base.specs.history.Entries.{key_cmp, key_of, of_peer};
 
 use crate::kinds::digest::Digest;
 use crate::kinds::name::Name;
@@ -71,5 +71,15 @@ pub fn entry_key(entry: &Entry) -> Key
     Key {
         from: entry.thread.from,
         step: entry.thread.step,
+    }
+}
+
+/// The entry, if it is of the peer.
+pub fn entry_of_peer(entry: Option<Entry>, peer: &Name) -> Option<Entry>
+    ensures { result ≡ of_peer peer.now entry }
+{
+    match entry {
+        Some(entry) if entry.thread.from == *peer => Some(entry),
+        _ => None,
     }
 }

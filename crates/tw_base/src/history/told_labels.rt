@@ -10,24 +10,13 @@ ghost use Rattle.tw_base.specs.kinds.Digests.{AllDigests};
 ghost use Rattle.tw_base.specs.kinds.Texts.{authenticator_text, datum_text, empty_tree_text, event_leaf_text, event_node_text, genesis_text, link_text, no_events_text, step_datum_text, timed_datum_text};
 ghost use Rattle.tw_base.specs.kinds.Handing.{Hands};
 
+use crate::format::fixed::put_digest;
 use crate::history::thread::Entry;
 use crate::kinds::digest::{Digest, see_digest};
 use crate::kinds::fixed_list::put;
 use crate::kinds::name::Name;
 use crate::kinds::transcript::Transcript;
 use arrayvec::ArrayVec;
-
-/// Puts a digest at the text's end, as that of `format/fixed.rt` does, and tells a proof its length, too.
-fn put_digest<const N: usize>(text: &mut ArrayVec<u8, N>, digest: &Digest)
-    requires { array_vec_len text.old + 32 ≤ N }
-    ensures size { length digest.now ≡ 32 }
-    ensures bytes { HasBytes 32 digest.now }
-    ensures items { text.new.items ≡ text.old.items ++ digest.now }
-    ensures len { array_vec_len text.new ≡ array_vec_len text.old + 32 }
-{
-    see_digest(digest);
-    put(text, &digest.0);
-}
 
 /// The authenticator of step 0 of the service.
 #[tactic(auto, unfolding(crate::specs::kinds::Texts::genesis_text))]

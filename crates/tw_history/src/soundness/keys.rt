@@ -3,11 +3,11 @@
 ghost use Rattle.std.specs.Prelude.{◌≡◌, ◌↔◌, [], Some, IsTrue, option_map};
 ghost use Rattle.tw_base.specs.declared.history.thread.Entry.{Entry};
 ghost use Rattle.tw_base.specs.kinds.Lists.{Each};
-ghost use Rattle.tw_base.specs.history.Entries.{KeyBelow, key_of};
+ghost use Rattle.tw_base.specs.history.Entries.{KeyBelow, key_of, thread_key};
 ghost use Rattle.tw_base.specs.history.History.{entry_at, thread_of};
 ghost use Rattle.tw_base.specs.history.Tree.{Tree, IsRising, entries};
 ghost use Rattle.tw_base.specs.history.Tree.Tree.{Branch};
-ghost use Rattle.tw_history.specs.JudgingSteps.{AreReceived, summary_of, thread_key};
+ghost use Rattle.tw_history.specs.JudgingSteps.{AreReceived, summary_of};
 ghost use Rattle.tw_history.specs.Tables.{step_of};
 
 use super::summary::Summary;

@@ -3,7 +3,7 @@ use Rattle.std.specs.Prelude.{IfOk}
 use Rattle.std.proofs.lemmas.List.{length-take-le}
 use Rattle.tw_base.specs.history.History.{History}
 use Rattle.tw_history.specs.declared.step.Step.{Step}
-use Rattle.tw_adopt.specs.FirstSteps.{first_steps}
+use Rattle.tw_adopt.specs.HistoryFronts.{first_steps}
 use Rattle.tw_history.specs.Tables.{steps_of_table}
 use Rattle.tw_adopt.proofs.TableFronts.{few-nodes, first-steps, first-table}
 use Rattle.tw_adopt.proofs.front.first_steps.Goals as goal

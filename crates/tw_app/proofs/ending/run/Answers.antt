@@ -3,6 +3,7 @@ use Rattle.tw_app.proofs.Audits.{clashes, stands}
 use Rattle.tw_app.proofs.AuditsFound.{finds}
 use Rattle.tw_app.proofs.Adoptions.{adopted, adopts}
 use Rattle.tw_app.proofs.MapRuns.{between}
+use Rattle.tw_app.proofs.PlainRuns.{plain_run}
 use Rattle.tw_app.proofs.ending.run.Goals as goal
 
 pub returns-clause-accepted : goal.returns-clause-accepted
@@ -42,3 +43,10 @@ returns-clause-adopted g c = adopted g.D.Disk.view _ _ c.run_to_the_end.ensures
 
 pub returns-clause-adopts : goal.returns-clause-adopts
 returns-clause-adopts g c = λ h anchors proofs is. adopts g.D.Disk.view _ _ h anchors proofs is c.run_to_the_end.ensures
+
+pub returns-clause-plain : goal.returns-clause-plain
+returns-clause-plain g c = λ proof_file lines_file proof lines before zeroth asked proof_told lines_told taken.
+    let run = c.run_to_the_end.ensures in
+    let laws = c.plain_laws.ensures in
+    plain_run laws.so laws.readable g.D.Disk.view g.met.D.Disk.only_now g.met.D.Disk.as_it_reads _ _ run zeroth proof_file lines_file
+    proof lines before asked proof_told lines_told taken

@@ -12,7 +12,8 @@ use Rattle.tw_service.specs.Writing.{AppendsTo, IsThreadOfNext}
 use Rattle.tw_diskcmd.specs.Leaves.{StaysOr}
 use Rattle.tw_diskcmd.proofs.Landings.{Addition, comes_of_file, leaves_of_file, stop_leaves, stopped_comes}
 use Rattle.tw_diskcmd.specs.Appending.{AreEventsOf, IsBadEventsByte, IsStepResult}
-use Rattle.tw_diskcmd.specs.Disks.{IsImageOfHistory, NextBy, StepsBy}
+use Rattle.tw_service.specs.Stands.{IsImageOfHistory}
+use Rattle.tw_diskcmd.specs.Disks.{NextBy, StepsBy}
 use Rattle.tw_diskcmd.proofs.appending.append.Goals as goal
 
 -- a step of the events that the file holds
@@ -36,7 +37,7 @@ returns-in-Ok-clause-comes g c =
 
 pub returns-in-Ok-clause-leaves : goal.returns-in-Ok-clause-leaves
 returns-in-Ok-clause-leaves g c =
-    leaves_of_file root_kind IsImageOfHistory g.D.Disk.view
+    leaves_of_file root_kind (IsImageOfHistory sha256) g.D.Disk.view
     (step_of (g.I.Inputs.told c.args.inputs.now) c.args.file.now c.args.time) c.args.disk c.append_events.result.disk
     c.in-Ok.events c.append_events.result.outcome
     c.in-Ok.ensures.read c.append_events.ensures.comes c.append_events.ensures.leaves c.append_events.ensures.writes
@@ -52,6 +53,6 @@ returns-in-Err-clause-comes g c =
 pub returns-in-Err-clause-leaves : goal.returns-in-Err-clause-leaves
 returns-in-Err-clause-leaves g c =
     let told = g.I.Inputs.told c.args.inputs.now in
-    stop_leaves root_kind IsImageOfHistory g.D.Disk.view (step_of told c.args.file.now c.args.time)
+    stop_leaves root_kind (IsImageOfHistory sha256) g.D.Disk.view (step_of told c.args.file.now c.args.time)
     g.met.D.Disk.only_now (asked told (g.I.Inputs.faults c.args.inputs.now)
     (g.I.Inputs.faults c.read_step.new.inputs)) c.args.file.now c.args.disk c.in-Err.fault c.in-Err.ensures.stopped

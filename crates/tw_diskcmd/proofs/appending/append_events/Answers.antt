@@ -6,7 +6,7 @@ use Rattle.tw_pages.proofs.AtRest.{left_on}
 use Rattle.tw_pages.proofs.Standing.{written_once}
 use Rattle.tw_answers.specs.declared.root.RootRecord.{RootRecord}
 use Rattle.tw_answers.specs.Roots.{root_kind}
-use Rattle.tw_service.specs.EventSteps.{with_events_at}
+use Rattle.tw_service.specs.EventStep.{with_events_at}
 use Rattle.tw_service.specs.Machine.Call.{Append}
 use Rattle.tw_service.specs.Machine.Reply.{OfThread}
 use Rattle.tw_service.specs.Serves.{disk_of, record_of}
@@ -17,7 +17,8 @@ use Rattle.tw_diskcmd.specs.Leaves.{StaysOr}
 use Rattle.tw_diskcmd.specs.Steps.{AddsFrom}
 use Rattle.tw_diskcmd.proofs.StoreSteps.{adds_on, unopened_adds}
 use Rattle.tw_diskcmd.specs.Appending.{MachineAdds, TableAdds, append_found}
-use Rattle.tw_diskcmd.specs.Disks.{IsImageOfHistory, IsService, NextBy, StepsBy}
+use Rattle.tw_service.specs.Stands.{IsImageOfHistory}
+use Rattle.tw_diskcmd.specs.Disks.{IsService, NextBy, StepsBy}
 use Rattle.tw_diskcmd.proofs.Results.{unserved}
 use Rattle.tw_diskcmd.proofs.appending.append_events.Goals as goal
 
@@ -28,7 +29,7 @@ returns-in-Ok-clause-comes g c =
 pub returns-in-Ok-clause-leaves : goal.returns-in-Ok-clause-leaves
 returns-in-Ok-clause-leaves g c =
     let call = Append c.args.events.now c.args.time in
-    adds_on IsImageOfHistory g.D.Disk.view (NextBy call) (λ (thread : Thread). StepsBy call (OfThread thread)) c.args.disk
+    adds_on (IsImageOfHistory sha256) g.D.Disk.view (NextBy call) (λ (thread : Thread). StepsBy call (OfThread thread)) c.args.disk
     (disk_of c.in-Ok.service) c.append_to.result.disk c.append_to.result.outcome
     c.in-Ok.ensures.any_moment (λ h reads. c.append_to.ensures.leaves h (served_as _ c.in-Ok.ensures.served h reads))
 
@@ -44,7 +45,7 @@ returns-in-Err-clause-comes g c =
 pub returns-in-Err-clause-leaves : goal.returns-in-Err-clause-leaves
 returns-in-Err-clause-leaves g c =
     let call = Append c.args.events.now c.args.time in
-    unopened_adds IsImageOfHistory g.D.Disk.view (NextBy call) (λ (thread : Thread). StepsBy call (OfThread thread))
+    unopened_adds (IsImageOfHistory sha256) g.D.Disk.view (NextBy call) (λ (thread : Thread). StepsBy call (OfThread thread))
     (λ h. (with_events_at h c.args.events.now c.args.time, refl)) c.args.disk c.in-Err.disk
     c.in-Err.fault c.fault_of_store.result c.fault_of_store.ensures c.in-Err.ensures.answers c.in-Err.ensures.unchanged
     c.in-Err.ensures.any_moment_err

@@ -1,4 +1,5 @@
 use Rattle.std.proofs.Common.{ℕ, List, subst}
+use Rattle.sha2.specs.Sha256.{sha256}
 use Rattle.tw_pages.specs.Disks.{RestsAtState}
 use Rattle.tw_pages.specs.Records.{Written, written_record}
 use Rattle.tw_pages.proofs.Standing.{written_once}
@@ -12,7 +13,8 @@ use Rattle.tw_diskcmd.specs.Answers.{MachineAnswers, TableAnswersOr}
 use Rattle.tw_diskcmd.specs.Asking.{AnswersBy, AskComes, asked_bytes, asked_call, asked_table}
 use Rattle.tw_pages.proofs.AtRest.{left_on}
 use Rattle.tw_diskcmd.proofs.Landings.{leaves_of_reading, unopened_reading_leaves}
-use Rattle.tw_diskcmd.specs.Disks.{IsImageOfHistory, IsService}
+use Rattle.tw_service.specs.Stands.{IsImageOfHistory}
+use Rattle.tw_diskcmd.specs.Disks.{IsService}
 use Rattle.tw_diskcmd.proofs.Results.{unserved}
 use Rattle.tw_diskcmd.proofs.asking.ask.Goals as goal
 
@@ -24,7 +26,7 @@ pub returns-in-Ok-clause-leaves : goal.returns-in-Ok-clause-leaves
 returns-in-Ok-clause-leaves g c =
     let d = g.D.Disk in
     let mid = disk_of c.in-Ok.service in
-    leaves_of_reading root_kind IsImageOfHistory d.view c.args.disk c.ask_by.result.disk c.ask_by.result.outcome
+    leaves_of_reading root_kind (IsImageOfHistory sha256) d.view c.args.disk c.ask_by.result.disk c.ask_by.result.outcome
     (left_on d.view c.args.disk mid c.ask_by.result.disk (c.in-Ok.ensures.unchanged, c.in-Ok.ensures.any_moment)
     c.ask_by.ensures.leaves) (
       λ h reads. c.ask_by.ensures.rests h (served_as _ c.in-Ok.ensures.served h reads),
@@ -49,6 +51,6 @@ returns-in-Err-clause-comes g c =
 
 pub returns-in-Err-clause-leaves : goal.returns-in-Err-clause-leaves
 returns-in-Err-clause-leaves g c =
-    unopened_reading_leaves root_kind IsImageOfHistory g.D.Disk.view c.args.disk c.in-Err.disk (List ℕ) c.in-Err.fault
+    unopened_reading_leaves root_kind (IsImageOfHistory sha256) g.D.Disk.view c.args.disk c.in-Err.disk (List ℕ) c.in-Err.fault
     c.fault_of_store.result c.fault_of_store.ensures
     c.in-Err.ensures.answers.0 (c.in-Err.ensures.unchanged, c.in-Err.ensures.any_moment_err)

@@ -13,7 +13,8 @@ use Rattle.tw_service.specs.Writing.{ArchivesTo, IsReceiptOfRecord}
 use Rattle.tw_diskcmd.specs.Files.{IsBadMessageByte, IsMessageIn}
 use Rattle.tw_diskcmd.specs.Leaves.{StaysOr}
 use Rattle.tw_diskcmd.proofs.Landings.{Addition, comes_of_file, leaves_of_file, stop_leaves, stopped_comes}
-use Rattle.tw_diskcmd.specs.Disks.{IsImageOfHistory, NextBy, StepsBy}
+use Rattle.tw_service.specs.Stands.{IsImageOfHistory}
+use Rattle.tw_diskcmd.specs.Disks.{NextBy, StepsBy}
 use Rattle.tw_diskcmd.specs.Receiving.{IsReceived}
 use Rattle.tw_diskcmd.proofs.receiving.receive.Goals as goal
 
@@ -39,7 +40,7 @@ returns-in-Ok-clause-comes g c =
 
 pub returns-in-Ok-clause-leaves : goal.returns-in-Ok-clause-leaves
 returns-in-Ok-clause-leaves g c =
-    leaves_of_file root_kind IsImageOfHistory g.D.Disk.view
+    leaves_of_file root_kind (IsImageOfHistory sha256) g.D.Disk.view
     (receiving_of (g.I.Inputs.told c.args.inputs.now) c.args.file.now c.args.time) c.args.disk
     c.receive_message.result.disk c.in-Ok.message c.receive_message.result.outcome
     c.in-Ok.ensures.read c.receive_message.ensures.comes c.receive_message.ensures.leaves
@@ -55,7 +56,7 @@ returns-in-Err-clause-comes g c =
 pub returns-in-Err-clause-leaves : goal.returns-in-Err-clause-leaves
 returns-in-Err-clause-leaves g c =
     let told = g.I.Inputs.told c.args.inputs.now in
-    stop_leaves root_kind IsImageOfHistory g.D.Disk.view (receiving_of told c.args.file.now c.args.time)
+    stop_leaves root_kind (IsImageOfHistory sha256) g.D.Disk.view (receiving_of told c.args.file.now c.args.time)
     g.met.D.Disk.only_now (asked told (g.I.Inputs.faults c.args.inputs.now)
     (g.I.Inputs.faults c.read_message_file.new.inputs)) c.args.file.now c.args.disk c.in-Err.fault
     c.in-Err.ensures.stopped

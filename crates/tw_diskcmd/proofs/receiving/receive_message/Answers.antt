@@ -16,7 +16,8 @@ use Rattle.tw_diskcmd.specs.Leaves.{StaysOr}
 use Rattle.tw_diskcmd.specs.Steps.{AddsFrom}
 use Rattle.tw_diskcmd.proofs.StoreSteps.{adds_on, unopened_adds}
 use Rattle.tw_diskcmd.specs.Receiving.{IsReceivedOver, MachineReceives, TableReceives}
-use Rattle.tw_diskcmd.specs.Disks.{IsImageOfHistory, IsService, NextBy, StepsBy}
+use Rattle.tw_service.specs.Stands.{IsImageOfHistory}
+use Rattle.tw_diskcmd.specs.Disks.{IsService, NextBy, StepsBy}
 use Rattle.tw_diskcmd.proofs.Results.{unopened_comes}
 use Rattle.tw_diskcmd.proofs.receiving.receive_message.Goals as goal
 
@@ -27,7 +28,7 @@ returns-in-Ok-clause-comes g c =
 pub returns-in-Ok-clause-leaves : goal.returns-in-Ok-clause-leaves
 returns-in-Ok-clause-leaves g c =
     let call = Receive c.args.message.now c.args.time in
-    adds_on IsImageOfHistory g.D.Disk.view (NextBy call) (λ (receipt : Receipt). StepsBy call (OfReceipt receipt)) c.args.disk
+    adds_on (IsImageOfHistory sha256) g.D.Disk.view (NextBy call) (λ (receipt : Receipt). StepsBy call (OfReceipt receipt)) c.args.disk
     (disk_of c.in-Ok.service) c.receive_by.result.disk c.receive_by.result.outcome
     c.in-Ok.ensures.any_moment (λ h reads. c.receive_by.ensures.leaves h (served_as _ c.in-Ok.ensures.served h reads))
 
@@ -43,7 +44,7 @@ returns-in-Err-clause-comes g c =
 pub returns-in-Err-clause-leaves : goal.returns-in-Err-clause-leaves
 returns-in-Err-clause-leaves g c =
     let call = Receive c.args.message.now c.args.time in
-    unopened_adds IsImageOfHistory g.D.Disk.view (NextBy call) (λ (receipt : Receipt). StepsBy call (OfReceipt receipt))
+    unopened_adds (IsImageOfHistory sha256) g.D.Disk.view (NextBy call) (λ (receipt : Receipt). StepsBy call (OfReceipt receipt))
     (λ h. (h, inl refl)) c.args.disk c.in-Err.disk
     c.in-Err.fault c.fault_of_store.result c.fault_of_store.ensures c.in-Err.ensures.answers c.in-Err.ensures.unchanged
     c.in-Err.ensures.any_moment_err

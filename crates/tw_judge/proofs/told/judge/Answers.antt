@@ -1,9 +1,7 @@
-use Rattle.std.proofs.Common.{inr}
-use Rattle.tw_judge.proofs.BadLines.{bad_line_told}
+use Rattle.tw_judge.proofs.PlainVerdicts.{result-plain}
 use Rattle.tw_judge.proofs.told.judge.Goals as goal
 
-pub returns-in_ok-tell_line-in-Err-BadLine : goal.returns-in_ok-tell_line-in-Err-BadLine
-returns-in_ok-tell_line-in-Err-BadLine c =
-    let told = c.in_ok-tell_line-in-Err-BadLine.ensures in
-    inr (bad_line_told c.args.anchors.now (rw c.in-Err-BadLine.field-0-is at c.in-Err-BadLine.ensures.bad) told.status
-    told.text)
+pub returns-clause-plain : goal.returns-clause-plain
+returns-clause-plain c =
+    let laws = c.plain_laws.ensures in
+    result-plain laws.so laws.readable c.args.file.now c.args.strict c.args.proof.now c.args.anchors.now c.told_of.result c.told_of.ensures

@@ -1,7 +1,7 @@
 use Rattle.std.proofs.Common.{◌*◌, ◌≤◌, List, length, sym, ◌∙◌, subst}
 use Rattle.tw_base.specs.declared.history.tree_proof.Ancestor.{Ancestor}
-use Rattle.tw_treeproof.specs.Making.{place_of_ask, way_up}
-use Rattle.tw_treeproof.proofs.OwnProofs.{at-ancestors}
+use Rattle.tw_base.specs.history.TreeProofs.{place_of_ask, way_up}
+use Rattle.tw_base.proofs.lemmas.history.Ways.{at-ancestors}
 use Rattle.tw_rbtree.proofs.RootWays.{root-way}
 use Rattle.tw_rbtree.proofs.TreeHeights.{stands-height}
 use Rattle.tw_rbtree.proofs.laws.size_laws.Goals as goal

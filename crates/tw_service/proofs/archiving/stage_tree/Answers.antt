@@ -4,8 +4,7 @@ use Rattle.tw_base.specs.declared.history.thread.Entry.{Entry}
 use Rattle.tw_base.specs.history.Asking.{with_entry}
 use Rattle.tw_base.specs.history.Tree.{entries}
 use Rattle.tw_base.specs.declared.history.thread.Key.{Key}
-use Rattle.tw_base.specs.history.Entries.{key_of}
-use Rattle.tw_archive.specs.Judging.{archive_key}
+use Rattle.tw_base.specs.history.Entries.{key_of, thread_key}
 use Rattle.tw_disk.specs.Answers.{SaysOf, is_of_disk}
 use Rattle.tw_disk.specs.Found.{Found, ◌>>=◌}
 use Rattle.tw_disk.specs.Pages.{OnlyAdds}
@@ -41,7 +40,7 @@ returns-in-Err-clause-adds g c =
     let failed = ap (λ (why : Refusal). is_of_disk (service_refusals why)) is ∙ tree-failed archive c.in-Err.fault in
     record {
       answer = λ ps list. subst (λ (why : Refusal). SaysOf service_refusals (service_refusals why)
-          (found_insert g.H.Hasher.dig ps archive (archive_key c.args.thread.now) >>= room_in archive)) (sym is)
+          (found_insert g.H.Hasher.dig ps archive (thread_key c.args.thread.now) >>= room_in archive)) (sym is)
           (subst (λ (key : Key). SaysOf service_refusals (service_refusals (refusal_of_tree archive c.in-Err.fault))
           (found_insert g.H.Hasher.dig ps archive key >>= room_in archive)) (ap key_of c.next_entry-entry.ensures)
           (room-says archive c.in-Err.fault (found_insert g.H.Hasher.dig ps archive (key_of c.next_entry-entry.result))

@@ -8,7 +8,7 @@ use Rattle.tw_steppage.specs.declared.page.StepPage.{StepPage}
 use Rattle.tw_disk.specs.Found.{Found, when, ◌>>=◌, spelled}
 use Rattle.tw_steppage.specs.StepBytes.{paged_codec}
 use Rattle.tw_steppage.specs.StepPages.{keeps_field_rules, keeps_link_rules}
-use Rattle.tw_skiplist.specs.PagesOfSteps.{step_in}
+use Rattle.tw_skiplist.specs.StepPagesRead.{step_in}
 use Rattle.tw_disk.proofs.FoundLaws.{is_on}
 use Rattle.tw_disk.proofs.SpelledLaws.{page-is, page-none}
 use Rattle.tw_steppage.proofs.StepCodecs.{in-ranges, links-count, step-lawful}

@@ -6,7 +6,7 @@ use Rattle.tw_disk.proofs.FoundLaws.{is_on}
 use Rattle.tw_disk.proofs.ReadingLaws.{only_reads_on}
 use Rattle.tw_steppage.specs.StepPages.{HasRanges, link_at_level}
 use Rattle.tw_skiplist.specs.declared.step_records.StepRecord.{StepRecord}
-use Rattle.tw_skiplist.specs.PagesOfSteps.{page_of_step}
+use Rattle.tw_skiplist.specs.StepPagesRead.{page_of_step}
 use Rattle.tw_skiplist.specs.StepRecords.{records_on, step_record}
 use Rattle.tw_skiplist.proofs.RecordLaws.{records-more}
 use Rattle.tw_skiplist.proofs.step_records.read_records.Goals as goal

@@ -1,6 +1,6 @@
 use Rattle.std.proofs.Common.{◌≡◌}
+use Rattle.tw_base.specs.history.TreeProofs.{place_of_ask}
 use Rattle.tw_tree.specs.TreeMeaning.{meant_tree}
-use Rattle.tw_treeproof.specs.Making.{place_of_ask}
 use Rattle.tw_tree.proofs.proving.place.Given as goal
 
 abbrev pub invariant-loop-here : goal.invariant-loop-here

@@ -1,7 +1,7 @@
 use Rattle.std.proofs.Common.{◌+◌, [], ◌∷◌, ◌++◌, arith, ap, refl, sym, ◌∙◌, append_assoc, drop}
 use Rattle.std.proofs.lemmas.List.{append-nil}
 use Rattle.tw_base.proofs.lemmas.kinds.HandedTexts.{hands-none, hands-same, hands-then}
-use Rattle.tw_treeproof.specs.Ways.{climb_texts, is_left, over_text}
+use Rattle.tw_base.specs.history.Ways.{climb_texts, is_left, over_text}
 use Rattle.tw_treeproof.proofs.ClimbTexts.{ancestors-end, ancestors-step}
 use Rattle.tw_treeproof.proofs.Climbs.{begins, climbed_all, climbs}
 use Rattle.tw_treeproof.proofs.checking.climb_tree.Goals as goal

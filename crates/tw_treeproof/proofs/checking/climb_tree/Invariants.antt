@@ -1,6 +1,6 @@
 use Rattle.std.proofs.Common.{◌≡◌, ℕ, List, ◌++◌, drop}
 use Rattle.tw_base.specs.kinds.Handing.{Hands}
-use Rattle.tw_treeproof.specs.Ways.{climb_texts, is_left}
+use Rattle.tw_base.specs.history.Ways.{climb_texts, is_left}
 use Rattle.tw_treeproof.proofs.Climbs.{Climbing}
 use Rattle.tw_treeproof.proofs.checking.climb_tree.Given as goal
 

@@ -1,5 +1,5 @@
 use Rattle.std.proofs.Common.{◌≡◌, drop}
-use Rattle.tw_treeproof.specs.Ways.{is_left, nearest_left}
+use Rattle.tw_base.specs.history.Ways.{is_left, nearest_left}
 use Rattle.tw_treeproof.proofs.checking.nearest_left.Given as goal
 
 abbrev pub invariant-loop-ancestor : goal.invariant-loop-ancestor

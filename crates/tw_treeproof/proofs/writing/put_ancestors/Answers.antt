@@ -1,7 +1,7 @@
 use Rattle.tw_base.specs.declared.history.tree_proof.Ancestor.{Ancestor}
 use Rattle.tw_base.proofs.lemmas.format.PutLaws.{put-all, put-more, put-none}
+use Rattle.tw_base.specs.history.Limits.{IsAncestorInRange}
 use Rattle.tw_treeproof.specs.Codecs.{ancestor_codec}
-use Rattle.tw_treeproof.specs.Limits.{IsAncestorInRange}
 use Rattle.tw_treeproof.proofs.writing.put_ancestors.Goals as goal
 
 abbrev Good : Ancestor → Type 0

@@ -1,6 +1,6 @@
 use Rattle.tw_base.proofs.lemmas.format.PutLaws.{ManyPut}
+use Rattle.tw_base.specs.history.Limits.{IsAncestorInRange}
 use Rattle.tw_treeproof.specs.Codecs.{ancestor_codec}
-use Rattle.tw_treeproof.specs.Limits.{IsAncestorInRange}
 use Rattle.tw_treeproof.proofs.writing.put_ancestors.Given as goal
 
 abbrev pub invariant-loop-ancestor : goal.invariant-loop-ancestor

@@ -16,7 +16,7 @@ use Rattle.tw_skiplist.specs.Appended.{appended}
 use Rattle.tw_skiplist.specs.declared.head.Head.{Head}
 use Rattle.tw_base.specs.declared.history.refusal.Refusal.{Refusal}
 use Rattle.tw_answers.specs.declared.root.RootRecord.{RootRecord}
-use Rattle.tw_service.specs.EventSteps.{with_events_at}
+use Rattle.tw_service.specs.EventStep.{with_events_at}
 use Rattle.tw_answers.specs.Finds.{IsRefusalFound, unless}
 use Rattle.tw_service.specs.Finds.{found_thread, thread_at}
 use Rattle.tw_service.specs.Keeps.{StoreServes}

@@ -1,22 +1,21 @@
--- The proof that a tree itself has of the answer to a question.
-use Rattle.std.specs.Prelude.{ℕ, suc, max, List, [], ◌∷◌, ◌++◌, if◌then◌else◌}
+-- The nodes of a tree proof above its place, and the proof that a tree itself has of the answer to a question.
+use Rattle.std.specs.Prelude.{◌≡◌, ℕ, List, [], ◌∷◌, ◌++◌, Some, None, if◌then◌else◌}
 use Rattle.tw_base.specs.declared.history.thread.Entry.{Entry}
 use Rattle.tw_base.specs.declared.history.tree_proof.Ancestor.{Ancestor}
 use Rattle.tw_base.specs.declared.history.tree_proof.Ask.{Ask}
 use Rattle.tw_base.specs.declared.history.tree_proof.Ask.TheVariants.{Present, Absent, Below, Above}
 use Rattle.tw_base.specs.declared.history.tree_proof.TreeProof.{TreeProof}
 use Rattle.tw_base.specs.declared.history.tree_proof.TreeProof.TheVariants.{Present as OfEntry, Gap}
+use Rattle.tw_base.specs.history.Asking.{entry_with}
 use Rattle.tw_base.specs.history.Auth.{tree_label}
+use Rattle.tw_base.specs.history.Entries.{key_of}
 use Rattle.tw_base.specs.history.Tree.{Tree}
 use Rattle.tw_base.specs.history.Tree.Tree.{Empty, Branch}
-use Rattle.tw_treeproof.specs.declared.shown.Shown.TheVariants.{Present as IsThere, Absent as IsNotThere}
-use Rattle.tw_treeproof.specs.Answers.{IsAnswer}
-use Rattle.tw_treeproof.specs.Ways.{has_asked_key, is_left}
+use Rattle.tw_base.specs.history.Ways.{has_asked_key, is_left}
 
--- the most nodes on a way down
-unfoldable pub height : Tree → ℕ
-height Empty = 0
-height (Branch left e right) = suc (max (height left) (height right))
+abbrev pub ancestors_of : TreeProof → List Ancestor
+ancestors_of (OfEntry left right up) = up
+ancestors_of (Gap up) = up
 
 -- the part of the tree at the asked place: the way down ends at the asked key, in a question for one key, and else at an
 -- empty place
@@ -47,7 +46,7 @@ module _ (dig : List ℕ → List ℕ) where
 
 -- what is asked is so of the entries; that there is an entry next to a key, or none, always is
 abbrev pub IsSo : List Entry → Ask → Type 0
-IsSo es (Present e) = IsAnswer es (Present e) IsThere
-IsSo es (Absent key) = IsAnswer es (Absent key) IsNotThere
+IsSo es (Present e) = entry_with es (key_of e) ≡ Some e
+IsSo es (Absent key) = entry_with es key ≡ None
 IsSo es (Below key) = Unit {0}
 IsSo es (Above key) = Unit {0}

@@ -3,10 +3,11 @@
 ghost use Rattle.std.specs.Prelude.{◌≡◌};
 ghost use Rattle.std.specs.Ordering.{is_eq};
 ghost use Rattle.tw_base.specs.history.Entries.{key_cmp};
-ghost use Rattle.tw_treeproof.specs.Ways.{has_asked_key, is_left};
+ghost use Rattle.tw_base.specs.history.Ways.{has_asked_key, is_left};
 
+use crate::history::thread::{Entry, Key, compare_keys, entry_key, is_below};
+use crate::history::tree_proof::Ask;
 use std::cmp::Ordering;
-use tw_base::{Ask, Entry, Key, compare_keys, entry_key, is_below};
 
 /// Whether the keys are one.
 fn is_same_key(a: &Key, b: &Key) -> bool

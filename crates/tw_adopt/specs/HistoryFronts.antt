@@ -1,18 +1,13 @@
 -- The first steps of a history, the authenticator that it has at a step, and histories that are the same up to a step.
-use Rattle.std.specs.Prelude.{◌≡◌, ℕ, ◌≤◌, List, length, take, nat_le, Option, Some, None, if◌then◌else◌}
+use Rattle.std.specs.Prelude.{◌≡◌, ℕ, ◌≤◌, length, take, Option}
 use Rattle.std.specs.Option.{option_map}
 use Rattle.tw_base.specs.declared.history.content.Content.{Content}
-use Rattle.tw_base.specs.history.Auth.{auth}
 use Rattle.tw_base.specs.history.History.{History, Step, step_at, time_at}
 use Rattle.tw_base.specs.history.Tree.{tree}
 
 -- the history of the first so many steps, of all where it has no more
 abbrev pub first_steps : History → (count : ℕ) → History
 first_steps h count = record { name = h.name; steps = take count h.steps }
-
--- the history's authenticator of this step, 0 its beginning; none above its last step
-abbrev pub auth_up_to : (dig : List ℕ → List ℕ) → History → (step : ℕ) → Option (List ℕ)
-auth_up_to dig h step = if nat_le step (length h.steps) then Some (auth dig h step) else None
 
 -- what step j records, its events or the thread that it received, where the history has it
 abbrev pub content_at : History → (j : ℕ) → Option Content

@@ -1,0 +1,5 @@
+pub mod Descending
+pub mod Steps
+pub mod Circles
+pub mod Opposing
+pub mod Short

@@ -1,0 +1,12 @@
+pub mod FileBytes
+pub mod PageFile
+pub mod FileDisk
+pub mod FileDiskSteps
+pub mod FileSteps
+pub mod FileStepsSteps
+pub mod MemoryFile
+pub mod HostFile
+pub mod InputFile
+pub mod MemoryInput
+pub mod MemoryOutput
+pub mod Under

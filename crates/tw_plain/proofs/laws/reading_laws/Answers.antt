@@ -1,0 +1,5 @@
+use Rattle.tw_plain.proofs.OneReading.{report-once}
+use Rattle.tw_plain.proofs.laws.reading_laws.Goals as goal
+
+pub returns : goal.returns
+returns c = record { once = report-once }
