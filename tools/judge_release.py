@@ -6,9 +6,10 @@
 It needs Python 3.9 or later and nothing else. Take it from a copy of the sources that you got another way than the release, at the commit
 that BUILD names: another judge may look for what that release doesn't have. With --signers a signature has to be of a key of that file (of
 ssh-keygen, as docs/releases.md has it); with --line the log's proof has to stand under a line of that file, which its owner gave you
-another way. It runs code of the release's source archive: the second implementation and the verifier in Perl over the vectors, and what
-tells of which crates the wrong bodies were tried. Each sentence begins with `good`, `BAD` or `not checked`; of a trial, which is no release,
-that is said first, with what it `lacks`. Status 0: nothing was bad; 1: something was; 3: nothing was, but it is a trial.
+another way; where what they ask for can't be checked, that is bad. It runs code of the release's source archive: the second
+implementation and the verifier in Perl over the vectors, and what tells of which crates the wrong bodies were tried. Each sentence begins
+with `good`, `BAD` or `not checked`; of a trial, which is no release, that is said first, with what it `lacks`. Status 0: nothing was bad;
+1: something was; 3: nothing was, but it is a trial.
 """
 
 from __future__ import annotations
@@ -28,7 +29,7 @@ import tempfile
 import zlib
 from fnmatch import fnmatch
 from pathlib import Path
-from typing import Callable, Dict, Iterator, List, NamedTuple, Optional, Set, Tuple
+from typing import Callable, Dict, Iterator, List, NamedTuple, Optional, Set, Tuple, Union
 
 Files = Dict[str, bytes]
 """Files by their paths."""
@@ -39,7 +40,9 @@ MOST_BYTES = 1 << 30
 TRIAL = "~trial"
 """How the version of a trial ends, which is made as a release is and lacks something that one has to have."""
 
-READING = (OSError, ValueError, LookupError, EOFError, StopIteration, TypeError, zlib.error, tarfile.TarError, lzma.LZMAError)
+READING = (
+    OSError, ValueError, LookupError, EOFError, StopIteration, TypeError, MemoryError, RecursionError, zlib.error, tarfile.TarError, lzma.LZMAError,
+)  # fmt: skip
 """What the reading of a file raises that isn't what it should be."""
 
 
@@ -78,7 +81,8 @@ def unpacked(data: bytes, front: str = "") -> Packed:
                 raise Bad(f"{path} isn't root's, or may be written by all")
             if member.isdir() or path in ("", ".", front.rstrip("/")):
                 continue
-            if not path.startswith(front) or not (member.isreg() or member.issym()) or path[len(front) :] in files:
+            # (a file with holes says a size of which the archive has nothing)
+            if not path.startswith(front) or not (member.isreg() or member.issym()) or member.issparse() or path[len(front) :] in files:
                 raise Bad(f"{path} doesn't belong into the archive")
             if member.issym():
                 links[path[len(front) :]] = member.linkname
@@ -89,9 +93,20 @@ def unpacked(data: bytes, front: str = "") -> Packed:
 
 
 def gunzipped(data: bytes) -> bytes:
-    """What a compressed file has, MOST_BYTES at most."""
+    """What a file of gzip has."""
     with gzip.open(io.BytesIO(data)) as file:
-        found = file.read(MOST_BYTES + 1)
+        return limited(file)
+
+
+def unpacked_xz(data: bytes) -> bytes:
+    """What a file of xz has."""
+    with lzma.open(io.BytesIO(data)) as file:
+        return limited(file)
+
+
+def limited(file: Union[gzip.GzipFile, lzma.LZMAFile]) -> bytes:
+    """What a compressed file has, MOST_BYTES at most."""
+    found = file.read(MOST_BYTES + 1)
     if len(found) > MOST_BYTES:
         raise Bad("an archive is too large")
     return found
@@ -103,13 +118,36 @@ def parts_of_deb(data: bytes) -> Tuple[Packed, Packed]:
         raise Bad("a package is no archive of ar")
     place, found = 8, []
     while place + 60 <= len(data):
-        name, size = data[place : place + 16].decode().rstrip(" /"), int(data[place + 48 : place + 58])
+        name, digits = data[place : place + 16].decode().rstrip(" /"), data[place + 48 : place + 58].rstrip(b" ")
+        if not digits.isdigit():
+            raise Bad(f"a package has a part whose size is no number: {digits!r}")
+        size = int(digits)
         found.append((name, data[place + 60 : place + 60 + size]))
         place += 60 + size + size % 2
     names = [name for name, _ in found]
     if names != ["debian-binary", "control.tar.xz", "data.tar.xz"] or place != len(data):
         raise Bad(f"a package has other parts than it may have, or not each once: {', '.join(names)}")
-    return unpacked(lzma.decompress(found[1][1])), unpacked(lzma.decompress(found[2][1]))
+    return unpacked(unpacked_xz(found[1][1])), unpacked(unpacked_xz(found[2][1]))
+
+
+# ---- what a log recorded
+
+
+class Recorded(NamedTuple):
+    """An event that a log recorded: whose log, in which step, and its bytes."""
+
+    service: str
+    step: int
+    event: bytes
+
+
+def one_event(told: str, lines: str) -> Optional[Recorded]:
+    """The event of a proof that shows one event and nothing else, where lines are of its service; None where another service recorded it, whatever that one's
+    events have to do with these lines."""
+    found = re.fullmatch(r"accepted exists\nevent (\S+) (\d+) \d+ ([0-9a-f]*)\n(?:time \S+ \d+ \d+\n)?", told)
+    if found is None or found[1] not in {line.split(" ")[0] for line in lines.splitlines()}:
+        return None
+    return Recorded(found[1], int(found[2]), bytes.fromhex(found[3]))
 
 
 # ---- what the gate said
@@ -489,18 +527,21 @@ class Release:
     def signature(self) -> None:
         """SHA256SUMS.sig is of the digests, and of a signer where some are named."""
         if "SHA256SUMS.sig" not in self.read:
-            if self.options.signers:
+            if self.options.signers is not None:
                 raise Bad("the release isn't signed")
             return self.left("the release isn't signed. Whose it is shows nothing here.")
         if shutil.which("ssh-keygen") is None:
+            if self.options.signers is not None:
+                raise Bad("there is no ssh-keygen here (Debian: openssh-client), so the signature, which --signers asks for, can't be checked")
             return self.left("the signature, since there is no ssh-keygen.")
-        how = ["verify", "-f", self.options.signers, "-I", "timeweave"] if self.options.signers else ["check-novalidate"]
+        is_named = self.options.signers is not None
+        how = ["verify", "-f", self.options.signers, "-I", "timeweave"] if is_named else ["check-novalidate"]
         words = ["ssh-keygen", "-Y", *how, "-n", "timeweave", "-s", str(self.folder / "SHA256SUMS.sig")]
         done = subprocess.run(words, input=self.file("SHA256SUMS"), capture_output=True, check=False)
         if done.returncode:
             why = " ".join((done.stdout + done.stderr).decode("utf-8", "replace").split())
-            raise Bad("SHA256SUMS.sig isn't a signature of SHA256SUMS" + " by one of the signers" * bool(self.options.signers) + f": {why[:200]}")
-        if self.options.signers:
+            raise Bad("SHA256SUMS.sig isn't a signature of SHA256SUMS" + " by one of the signers" * is_named + f": {why[:200]}")
+        if is_named:
             return self.good("SHA256SUMS is signed by one of the signers that you named.")
         return self.left("SHA256SUMS is signed by some key; whose it is was not checked: name the signers by --signers.")
 
@@ -653,20 +694,24 @@ class Release:
         return done.stdout
 
     def record(self) -> None:
-        """The log's proof says that SHA256SUMS was recorded."""
+        """The log's proof says that SHA256SUMS was recorded, by a log of which the reader holds a line."""
         if "SHA256SUMS.proof" not in self.read:
+            if self.options.line is not None:
+                raise Bad("no proof of a log is there that the release was recorded, which --line asks for")
             return self.left("no proof of a log is there that the release was recorded.")
         line = self.options.line or self.folder / "SHA256SUMS.line"
-        line.read_bytes()
+        lines = line.read_text("ascii")
         judge = [sys.executable, "-I", str(self.room / "reference/timeweave_reference"), "judge"]
-        done = subprocess.run([*judge, str(self.folder / "SHA256SUMS.proof"), str(line)], capture_output=True, text=True, check=False)
-        found = re.search(r"^event (\S+) (\d+) \d+ ([0-9a-f]+)$", done.stdout, re.M)
-        if done.returncode or not found:
+        done = subprocess.run([*judge, str(self.folder / "SHA256SUMS.proof"), str(line), "strict"], capture_output=True, text=True, check=False)
+        if done.returncode:
             raise Bad(f"the log's proof isn't accepted under {line}: {done.stdout.strip()}")
-        if not bytes.fromhex(found[3]).startswith(digest(self.file("SHA256SUMS")).encode() + b" "):
+        found = one_event(done.stdout, lines)
+        if found is None:
+            raise Bad(f"the log's proof isn't that of one event of the log of {line}: {' '.join(done.stdout.split())}")
+        if not found.event.startswith(digest(self.file("SHA256SUMS")).encode() + b" "):
             raise Bad("the log's proof is of another SHA256SUMS")
         whose = "the line that you named" if self.options.line else "the line that lies beside it"
-        self.good(f"the log {found[1]} recorded this SHA256SUMS in its step {found[2]}, under {whose}.")
+        self.good(f"the log {found.service} recorded this SHA256SUMS in its step {found.step}, under {whose}.")
         if not self.options.line:
             self.left("whose that line is: get it another way from the owner, and name it by --line.")
         return None

@@ -6,7 +6,7 @@ from __future__ import annotations
 from pathlib import Path
 from typing import NamedTuple, Sequence
 
-from weft import files, formats, judges
+from weft import formats, judges
 from weft.deciding.auditing import find_unheld, may_program_audit
 from weft.judges import Bench
 from weft.lines import Line, anchors
@@ -25,32 +25,39 @@ class Audit(NamedTuple):
     by: str
 
 
-def audited(judge: Bench, proof: bytes, lines: Sequence[Line], paths: Sequence[Path]) -> Audit:
-    """Holds an accepted proof against histories."""
-    sizes = [len(files.read(path, formats.MOST_HISTORY)) for path in paths]
+class Sent(NamedTuple):
+    """A history that was named, with its bytes: all that is said of it is said of these."""
+
+    path: Path
+    data: bytes
+
+
+def audited(judge: Bench, proof: bytes, lines: Sequence[Line], sent: Sequence[Sent]) -> Audit:
+    """Holds an accepted proof against histories; raises Trouble where one of them is none."""
+    sizes = [len(it.data) for it in sent]
     if may_program_audit(sizes, formats.MOST_HISTORY) and not judge.is_by_reference:
-        return by_program(judge, proof, lines, paths)
-    return by_reference(proof, lines, paths, sum(sizes), judge.is_by_reference)
+        return by_program(judge, proof, lines, sent)
+    return by_reference(proof, lines, sent, sum(sizes), judge.is_by_reference)
 
 
-def by_program(judge: Bench, proof: bytes, lines: Sequence[Line], paths: Sequence[Path]) -> Audit:
+def by_program(judge: Bench, proof: bytes, lines: Sequence[Line], sent: Sequence[Sent]) -> Audit:
     """The program's audit."""
-    verdict = judge.audit(proof, anchors(lines), *[files.read(path, formats.MOST_HISTORY) for path in paths])
+    verdict = judge.audit(proof, anchors(lines), *[it.data for it in sent])
     words, by = verdict.text.split(), judge.seated("audit")[0].name
     if words[:1] == ["stands"]:
         return Audit(Status.DONE, STANDS, by)
     if words[:1] == ["unheld"]:
         return Audit(Status.NOT_SHOWN, unheld_told(Line(words[1], int(words[2]), words[3]), words[4]), by)
-    named = listed([name_of(path) for path in paths])
-    return Audit(Status.UNREADABLE, f"Of {named} one is no sound history beside the others: {printable(verdict.text.strip())}.", by)
+    named = listed([name_of(it.path) for it in sent])
+    raise Trouble(Status.UNREADABLE, f"of {named} one is no sound history beside the others: {printable(verdict.text.strip())}", "Ask its service for it again.")
 
 
-def by_reference(proof: bytes, lines: Sequence[Line], paths: Sequence[Path], size: int, is_asked: bool) -> Audit:
+def by_reference(proof: bytes, lines: Sequence[Line], sent: Sequence[Sent], size: int, is_asked: bool) -> Audit:
     """The reference's audit, one history after another."""
     held = formats.held_by(proof, lines)
     found: dict[str, dict[int, str]] = {}
-    for path in paths:
-        history = formats.timeline_of(files.read(path, formats.MOST_HISTORY))
+    for path, data in sent:
+        history = formats.timeline_of(data)
         if history is None or history.service in found:
             raise Trouble(Status.UNREADABLE, f"{name_of(path)} is no sound history, or a second one of its service", "Ask its service for it again.")
         steps = [line.step for line in held if line.service == history.service and line.step <= history.last]

@@ -1,29 +1,37 @@
 """A box: for each peer a folder of its name, in which whatever carries files finds and leaves them.
 
     BOX/box.conf            settings, `name = value`: key, unsigned, files, bytes, silent
+    BOX/.own                the name of the service whose box it is, which its first turn notes
     BOX/allowed_signers     whose keys are whose, as ssh-keygen(1) has it
     BOX/PEER/in             what the peer put out for this service; nobody but the carrier writes it
     BOX/PEER/out            what is to be carried to the peer
     BOX/PEER/kept           what is kept of the peer
-    BOX/PEER/events         made by hand: `STEP INDEX` or `STEP *`, the events whose proofs the peer may ask for"""
+    BOX/PEER/events         made by hand: `STEP INDEX` or `STEP *`, the events whose proofs the peer may ask for, of a further part with its name in front
+
+A service goes on in parts. What a further part puts out stands in out/PART, what came of one in in/PART, and what is kept of one in kept/PART; how a peer's
+part is taken for that stands in weft.joints."""
 
 from __future__ import annotations
 
 import os
 import re
+from dataclasses import dataclass
 from pathlib import Path
-from typing import NamedTuple, Optional
+from typing import Collection, NamedTuple, Optional
 
 from weft import files
+from weft.deciding.boxes import is_of_another
+from weft.deciding.going_on import is_name_of_part
 from weft.deciding.signatures import Signed, cut_torn, read_signed_lines
 from weft.deciding.silence import Came, Heard, weigh_failure
 from weft.deciding.worst import worst_of
 from weft.lines import NAME, Kept, Line, read_kept, read_line
 from weft.statuses import Status
-from weft.texts import name_of
+from weft.texts import name_of, printable
 from weft.trouble import Trouble
 
 MOST_SETTINGS = 65_536
+MOST_OWN = 64
 MOST_KEPT = 1 << 32
 
 
@@ -62,6 +70,28 @@ def read_settings(box: Path) -> Settings:
     return found
 
 
+class End(NamedTuple):
+    """Where a part of a peer ended: the name of the next one, and its last line."""
+
+    name: str
+    line: Line
+
+
+def claim(box: Path, name: str) -> None:
+    """Notes whose box it is, where nobody made a turn with it; raises Trouble where it is another service's."""
+    path = box / ".own"
+    data = files.read_if_there(path, MOST_OWN)
+    noted = None if data is None else data.decode("utf-8", "replace").removesuffix("\n")
+    if is_of_another(noted, name):
+        raise Trouble(
+            Status.USAGE,
+            f"{name_of(box)} is the box of {printable(noted or '')}, and not of {name}: nothing was made or put out",
+            f"Name the box of {name}. If this one is to be its own from now on, take {name_of(path)} out of it.",
+        )
+    if noted is None:
+        files.renew(path, f"{name}\n".encode())
+
+
 def opened_folder(folder: Path, below: list[str]) -> int:
     """The number of a folder that is opened, or of one below it, through no link; raises OSError where it can't be."""
     flags = os.O_RDONLY | os.O_DIRECTORY | os.O_NOFOLLOW | os.O_CLOEXEC
@@ -82,13 +112,25 @@ def why_unopened(path: Path, failure: OSError) -> str:
     return f"it can't be opened: {os.strerror(failure.errno or 0)}"
 
 
-class Peer:
-    """A peer's folder in a box."""
+@dataclass
+class Share:
+    """How many files and bytes of a peer were read tonight, of all its parts."""
 
-    def __init__(self, box: Path, name: str, settings: Settings):
-        self.name, self.folder, self.settings = name, box / name, settings
-        self.incoming, self.out, self.kept = (self.folder / part for part in ("in", "out", "kept"))
-        self.files, self.bytes = 0, 0
+    files: int = 0
+    bytes: int = 0
+
+
+class Peer:
+    """A peer in a box, or a further part of one, behind the one before it."""
+
+    def __init__(self, box: Path, name: str, settings: Settings, earlier: Optional[Peer] = None):
+        self.name, self.settings, self.earlier = name, settings, earlier
+        self.later: Optional[Peer] = None
+        self.folder: Path = box / name if earlier is None else earlier.folder
+        self.inside = [] if earlier is None else [name]
+        self.incoming, self.out = self.folder / "in", self.folder / "out"
+        self.kept = self.folder.joinpath("kept", *self.inside)
+        self.share: Share = Share() if earlier is None else earlier.share
         self.told: list[str] = []
         self.status = Status.DONE
         self.unopened: set[str] = set()
@@ -108,13 +150,54 @@ class Peer:
         for part in (self.out, self.out / "answers", self.kept, self.kept / "answers", self.kept / "forks"):
             files.make_folder(part)
 
+    # ---- its parts, and those of one's own
+
+    def of_own(self, part: str) -> Path:
+        """The folder in which a part of one's own puts out, named for the first one by nothing."""
+        return self.folder / "out" / part
+
+    def enter(self, part: str) -> None:
+        """What is put out from now on is of this part of one's own."""
+        self.out = self.of_own(part)
+
+    def part(self, name: str) -> Peer:
+        """The part behind this one, under its name, whether it is that or not."""
+        return Peer(self.folder.parent, name, self.settings, self)
+
+    def goes_on_in(self, part: Peer) -> Peer:
+        """Takes that for the part in which it goes on."""
+        part.out, self.later = self.out, part
+        return part
+
+    def end(self) -> Optional[End]:
+        """Where it ended, and as what it goes on; None of a part that goes on itself."""
+        name, _, line = self.read("next").decode("ascii", "replace").removesuffix("\n").partition(" ")
+        found = read_line(line)
+        return End(name, found) if found is not None and is_name_of_part(self.first.name, name) else None
+
+    @property
+    def first(self) -> Peer:
+        """Its first part, by whose name a person accepted it."""
+        return self if self.earlier is None else self.earlier.first
+
+    @property
+    def last(self) -> Peer:
+        """Its last part, which answers for all."""
+        return self if self.later is None else self.later.last
+
+    @property
+    def names(self) -> set[str]:
+        """The names of its parts up to this one."""
+        return {self.name} if self.earlier is None else {self.name, *self.earlier.names}
+
     def say(self, text: str) -> None:
         """Notes what is to be said of it."""
         self.told.append(text)
 
     def need(self, text: str, status: Status = Status.LOOK) -> None:
         """Notes what is to be said of it, and that it counts; what is worst counts."""
-        self.say(text)
+        if text not in self.told:
+            self.say(text)
         self.status = worst_of((self.status, status))
 
     def accuse(self, text: str) -> None:
@@ -127,7 +210,7 @@ class Peer:
     def take(self, name: str, most: int) -> Optional[bytes]:
         """A file of `in`, or None where there is no such file. No link is followed. One that is there and can't be read, isn't regular, is too long, or is beyond
         tonight's share, is told and counts."""
-        if self.files >= self.settings.files or self.bytes >= self.settings.bytes:
+        if self.share.files >= self.settings.files or self.share.bytes >= self.settings.bytes:
             self.need(f"its share of tonight is used up, and {name} wasn't read")
             return None
         within = self.open_within(name)
@@ -136,18 +219,18 @@ class Peer:
         last = name.split("/")[-1]
         try:
             os.stat(last, dir_fd=within, follow_symlinks=False)
-            data = files.read(last, min(most, self.settings.bytes - self.bytes), follow=False, within=within)
+            data = files.read(last, min(most, self.settings.bytes - self.share.bytes), follow=False, within=within)
         except OSError as failure:
             if weigh_failure(failure.errno) is Came.UNREAD:
-                self.need(f"in/{name} wasn't taken: {os.strerror(failure.errno or 0)}")
+                self.need(f"{self.place_of(name)} wasn't taken: {os.strerror(failure.errno or 0)}")
             return None
         except Trouble as trouble:
-            self.need(f"in/{name} wasn't taken: {trouble.sentence}")
+            self.need(f"{self.place_of(name)} wasn't taken: {trouble.sentence}")
             return None
         finally:
             os.close(within)
-        self.files += 1
-        self.bytes += len(data)
+        self.share.files += 1
+        self.share.bytes += len(data)
         return data
 
     def take_once(self, name: str, most: int) -> Optional[bytes]:
@@ -156,9 +239,13 @@ class Peer:
             self.once[name] = self.take(name, most)
         return self.once[name]
 
+    def place_of(self, name: str) -> str:
+        """Where a file that came is, as it is told."""
+        return "/".join(["in", *self.inside, name])
+
     def open_within(self, name: str) -> Optional[int]:
         """The number of the folder of a file of `in`, or None where there is no such folder; one that is there and can't be opened is told once, and counts."""
-        above = name.split("/")[:-1]
+        above = [*self.inside, *name.split("/")[:-1]]
         try:
             return opened_folder(self.incoming, above)
         except OSError as failure:
@@ -178,7 +265,7 @@ class Peer:
             return int(os.stat(name.split("/")[-1], dir_fd=within, follow_symlinks=False).st_ctime)
         except OSError as failure:
             if weigh_failure(failure.errno) is Came.UNREAD:
-                self.need(f"when in/{name} came can't be told: {os.strerror(failure.errno or 0)}")
+                self.need(f"when {self.place_of(name)} came can't be told: {os.strerror(failure.errno or 0)}")
             return None
         finally:
             os.close(within)
@@ -250,21 +337,32 @@ class Peer:
         """The line of its last message that was taken."""
         return read_line(self.read("taken").decode("utf-8", "replace").split("\n")[0])
 
+    def taken_by(self) -> str:
+        """The part of one's own that took it; empty where the first one did, or none."""
+        return self.read("taken").decode("ascii", "replace").partition("\n")[2].removesuffix("\n")
+
     def has(self) -> Optional[Line]:
         """The last line of this service that the peer is known to have recorded."""
         return read_line(self.read("has").decode("utf-8", "replace").split("\n")[0])
 
-    def may_ask(self, step: str, index: str) -> bool:
-        """Whether the list made by hand has this event."""
+    def may_ask(self, part: str, step: str, index: str) -> bool:
+        """Whether the list made by hand has this event of a part, of the first one without a name."""
         text = (files.read_if_there(self.folder / "events", MOST_SETTINGS) or b"").decode("utf-8", "replace")
         allowed = [line.split() for line in text.splitlines() if not line.startswith("#")]
-        return any(words in ([step, index], [step, "*"], ["*", "*"]) for words in allowed)
+        of_part = [part] if part else []
+        return any(words in ([*of_part, step, index], [*of_part, step, "*"], [*of_part, "*", "*"]) for words in allowed)
 
     # ---- what is put out
 
     def put(self, name: str, data: bytes) -> None:
         """Puts a file out, whole."""
         files.renew_if_other(os.path.join(self.out, name), data)
+
+    def put_as(self, part: str, name: str, data: bytes) -> None:
+        """Puts a file out of this part of one's own."""
+        folder = self.of_own(part)
+        files.make_folder(folder)
+        files.renew_if_other(os.path.join(folder, name), data)
 
 
 def is_folder(entry: os.DirEntry[str]) -> bool:
@@ -275,10 +373,34 @@ def is_folder(entry: os.DirEntry[str]) -> bool:
         return True
 
 
-def peers_of(box: Path, own: str, settings: Settings) -> tuple[list[Peer], list[str]]:
-    """The peers of a box, and the names of folders and of links to folders that are none."""
+def has_incoming(folder: Path) -> bool:
+    """Whether a folder has one that is called `in`, or may have: what can't be looked at isn't called not there."""
+    try:
+        os.lstat(folder / "in")
+    except OSError as failure:
+        return weigh_failure(failure.errno) is Came.UNREAD
+    return True
+
+
+def parts_of(peer: Peer) -> list[Peer]:
+    """A peer, and behind it the further parts in which it went on."""
+    found = [peer]
+    while (end := found[-1].end()) is not None and end.name not in found[-1].names:
+        found.append(found[-1].goes_on_in(found[-1].part(end.name)))
+    return found
+
+
+def find_peer(box: Path, name: str, settings: Settings) -> Peer:
+    """The peer of this name, or the part of a peer; where there is none, a new one."""
+    found = next((peer for peer in peers_of(box, (), settings)[0] if peer.name == name), None)
+    return found if found is not None else Peer(box, name, settings)
+
+
+def peers_of(box: Path, own: Collection[str], settings: Settings) -> tuple[list[Peer], list[str]]:
+    """The peers of a box, each with all its parts, and the names of folders and of links to folders that are none."""
     if not box.is_dir():
         raise Trouble(Status.DISK, f"{name_of(box)} is no folder", "Make it, and in it a folder for each peer: weft accept BOX PEER does.")
     found = [it for it in os.scandir(box) if is_folder(it) and not it.name.startswith(".")]
-    good = sorted(it.name for it in found if not it.is_symlink() and NAME.fullmatch(it.name) and it.name != own)
-    return [Peer(box, name, settings) for name in good], sorted(it.name for it in found if it.name not in good)
+    good = {it.name for it in found if not it.is_symlink() and NAME.fullmatch(it.name) and it.name not in own}
+    peers = [part for name in sorted(good) for part in parts_of(Peer(box, name, settings))]
+    return peers, sorted(it.name for it in found if it.name not in good)

@@ -238,6 +238,8 @@ def judged(options: argparse.Namespace, kept: KeptLines, judge: Bench, executor:
         raise Trouble(Status.USAGE, "--workers is 1 at least", "Leave it out for one a processor.")
     text = kept.text.encode()
     title, names = rows.title_of(told_by(judge, options.carried), packages.digest(), text, options.carried), found_files(folder)
+    if not names:
+        raise Trouble(Status.FEWER, f"{name_of(options.many)} has no files, so nothing was judged", "Is it mounted?")
     files.make_folder(state_of(table).parent)
     with locks.held(beside(state_of(table), ".lock"), 0, table):
         made = judge_folder(options, judge, executor, Folder(folder, names, text, title, state_of(table), workers))

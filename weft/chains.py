@@ -216,7 +216,7 @@ class Sources:
         self.peers: dict[str, list[Peer]] = {}
         for place in boxes:
             settings = box.read_settings(place)
-            for peer in box.peers_of(place, "", settings)[0]:
+            for peer in box.peers_of(place, (), settings)[0]:
                 self.peers.setdefault(peer.name, []).append(peer)
         for peer in self.all_peers():
             for it in lines_of_peer(peer):

@@ -5,14 +5,14 @@
 # and its options, behind = what they take.
 _weft_forms=(
     "line DIR --help --sign=FILE --out=FILE --wait=TEXT --json"
-    "keep FILE --help --by=TEXT --signer=TEXT,FILE --choose --kept=FILE --signers=FILE --json"
+    "keep FILE --help --by=TEXT --signer=TEXT,FILE --beside --choose --kept=FILE --signers=FILE --json"
     "tell FILE .. --help --json"
     "judge FILE .. --help --kept=FILE --file=FILE --audit=FILE --carried --top=TEXT --svg=FILE --many=DIR --table=FILE --workers=TEXT --dask=TEXT --tls=FILE,FILE,FILE --reference --json"
     "log DIR DIR TEXT --help --all --no-time --gone --all-read=TEXT --workers=TEXT --adopt-store=FILE --wait=TEXT --unproved --json"
-    "prove DIR FILE --help --step=TEXT --top=TEXT --out=FILE"
+    "prove DIR FILE --help --step=TEXT --top=TEXT --out=FILE --json"
     "exchange DIR DIR --help --despite=TEXT --look --adopt-store=FILE --wait=TEXT --unproved --json"
-    "accept DIR TEXT FILE --help --key=FILE --yes=TEXT"
-    "chain FILE FILE --help --store=DIR --box=DIR --hand=FILE --kept=FILE --out=FILE --svg=FILE --reference"
+    "accept DIR TEXT FILE --help --key=FILE --beside --yes=TEXT --json"
+    "chain FILE FILE --help --store=DIR --box=DIR --hand=FILE --kept=FILE --out=FILE --svg=FILE --reference --json"
     "check DIR --help --all --entries --kept=FILE --workers=TEXT --wait=TEXT --json"
 )
 

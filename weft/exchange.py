@@ -1,4 +1,6 @@
-"""One service's turn with its peers: what came is taken, and what is to go is put out. A turn that was stopped anywhere is made good by the next."""
+"""One service's turn with its peers: what came is taken, and what is to go is put out. A turn that was stopped anywhere is made good by the next.
+
+Once the service's history has its share of what a file may have, the turn goes on in a new part, behind what it took and before what it puts out."""
 
 from __future__ import annotations
 
@@ -6,27 +8,31 @@ import functools
 import os
 import re
 from pathlib import Path
-from typing import Collection, NamedTuple, Optional
+from typing import Collection, NamedTuple, Optional, Sequence
 
-from weft import asking, files, formats, hearing, looking, own, shares, signatures
-from weft.box import Peer, Settings, peers_of
+from weft import asking, files, formats, hearing, joints, looking, own, parts, signatures
+from weft.box import Peer, Settings, has_incoming, peers_of
+from weft.deciding.boxes import may_be_meant
 from weft.deciding.forks import FILE_NAME, MOST_AT_STEP, Finding, Fork, find_contradicting, may_write_fork, name_fork_file, read_forks, weigh_contradiction
+from weft.deciding.going_on import is_name_of_part, must_go_on
 from weft.deciding.keeping import Outcome, list_counting, standing_of
+from weft.deciding.lines import can_be
 from weft.deciding.linking import Meaning, is_evidence, read_link_files
 from weft.deciding.recording import choose_other_start, may_note_recorded
-from weft.deciding.restoring import DAY, Go, Told, Word, judge_turn, must_look
-from weft.deciding.sharing import choose_names, choose_receipts, is_first_hand, move_cursor, order_lines
+from weft.deciding.restoring import DAY, Begun, Go, Look, Told, Word, judge_turn, must_begin_anew, must_look, when_begun
+from weft.deciding.sharing import choose_handed_back, choose_names, choose_receipts, is_first_hand, move_cursor, order_lines, place_end
 from weft.deciding.signatures import PublicKey, Signed, read_signed_line, read_signed_lines
 from weft.deciding.silence import Heard, choose_last_heard, weigh_heard
 from weft.deciding.worst import worst_of
 from weft.formats import Message
+from weft.joints import Follower
 from weft.judges import Bench
 from weft.lines import Kept, KeptLines, Line, keep, kept_now, read_line
 from weft.links import Links
 from weft.looking import Note, Notes
 from weft.own import OwnLines
+from weft.parts import Next, Part
 from weft.statuses import Status
-from weft.stores import Store
 from weft.texts import beside, name_of, now, printable
 from weft.trouble import Trouble
 
@@ -39,7 +45,8 @@ MOST_LOOKED_AT = 64
 # So many bytes of a peer's lines and signed lines are kept in one file.
 MOST_LINES, MOST_SIGNED = 32 << 20, 128 << 20
 SIGNED_BYTES = 8_192
-REFUSAL = re.compile(r"refused BadLink ([0-9]{1,13}) ([0-9a-f]{64})\nmessage ([0-9]{1,13}) since ([0-9]{1,13})\n")
+REFUSAL = re.compile(r"refused BadLink ([0-9]{1,13}) ([0-9a-f]{64})\nmessage ([0-9]{1,13}) since ([0-9]{1,13})(?: of ([a-z0-9-]{1,16}))?\n")
+SEEN_NAME = re.compile(rb"^([a-z0-9-]{1,16}) [0-9]{1,13} [0-9a-f]{64}$", re.M)
 # So many seconds after a look began a peer's word counts.
 SETTLED = DAY
 
@@ -51,26 +58,86 @@ class Refusal(NamedTuple):
     since: int
 
 
-class Turn:
-    """A turn of the service of a store with the peers of a box, which goes on despite lines that some of them hand back."""
+class OwnReceipt(NamedTuple):
+    """A peer's receipt: the line of this service that it tells, its bytes, and which part of the peer gave it."""
 
-    def __init__(self, store: Store, box: Path, settings: Settings, judge: Bench, despite: list[str], named: Optional[Line] = None):
-        self.store, self.box, self.settings, self.judge, self.despite, self.named = store, box, settings, judge, despite, named
-        self.lines = OwnLines(store.folder)
+    line: Line
+    data: bytes
+    by: str
+
+
+class HeardReceipts(NamedTuple):
+    """Of the receipts that peers told those that were heard of whom they are of, and the names of all services that they are of."""
+
+    first_hand: list[bytes]
+    names: set[str]
+
+
+class Turn:
+    """A turn of a service, in its last part, with the peers of a box, which goes on despite lines that some of them hand back; where the part behind that is
+    being made already, that is made first."""
+
+    def __init__(
+        self, found: Sequence[Part], box: Path, settings: Settings, judge: Bench, despite: list[str], named: Optional[Line] = None, new: Optional[Next] = None
+    ):
+        self.box, self.settings, self.judge, self.despite, self.named, self.new = box, settings, judge, despite, named, new
         self.signers = box / "allowed_signers"
-        self.last = store.last().line
-        self.peers, self.strange = peers_of(box, self.last.service, settings)
+        self.all_peers, self.strange = peers_of(box, [part.last.service for part in found], settings)
         self.notes = Notes(box)
         self.note = self.notes.read()
         self.returned: dict[str, Line] = {}
         self.claims: dict[str, tuple[Line, ...]] = {}
-        self.known: dict[int, Line] = {}
-        self.messages: dict[int, bytes] = {}
+        self.heard_names: set[str] = set()
+        self.known: dict[tuple[str, int], Line] = {}
+        self.messages: dict[tuple[str, int], bytes] = {}
+        self.own_lines: dict[str, OwnLines] = {}
         self.keys: dict[Signed, Optional[str]] = {}
         self.own: dict[Signed, bool] = {}
         self.status = Status.DONE
         self.is_made = True
         self.told: list[str] = []
+        self.service, self.former = found[0].folder, list(found[:-1])
+        self.enter(found[-1])
+
+    def enter(self, part: Part) -> None:
+        """Goes on in a part of the service."""
+        self.store, self.last = part.store, part.last
+        for peer in self.peers:
+            peer.enter(self.place_of(part))
+
+    @property
+    def peers(self) -> list[Peer]:
+        """The peers, each in its last part; those before it have ended."""
+        return [peer for peer in self.all_peers if peer.later is None]
+
+    @property
+    def part(self) -> Part:
+        """The part of the service in which it goes on."""
+        return Part(len(self.former) + 1, self.store.folder, self.last)
+
+    @property
+    def parts(self) -> list[Part]:
+        """All parts of the service."""
+        return [*self.former, self.part]
+
+    @property
+    def first_name(self) -> str:
+        """The name of the service's first part."""
+        return self.parts[0].last.service
+
+    @property
+    def lines(self) -> OwnLines:
+        """The lines of the last part."""
+        return self.lines_of(self.part)
+
+    def lines_of(self, part: Part) -> OwnLines:
+        """The lines beside a part, which are read once."""
+        return self.own_lines.setdefault(part.last.service, OwnLines(part.folder))
+
+    @staticmethod
+    def place_of(part: Part) -> str:
+        """The folder within `out` in which a part puts out: the first one in `out` itself."""
+        return "" if part.number == 1 else part.last.service
 
     def look(self, status: Status = Status.LOOK) -> None:
         """Something needs a look; what is worst counts."""
@@ -84,18 +151,22 @@ class Turn:
         if self.named is not None:
             self.lines.adopt(self.store, self.judge, self.last, self.named)
         self.lines.check(self.store, self.judge, self.last)
+        for part in self.former:
+            self.lines_of(part).compare(part.store, self.judge, part.last)
         _ = self.own_key  # (a key without a public half ends the turn before anything is made)
         returned = []
         for peer in self.peers:
             peer.make()
-            returned += [] if peer.name in self.despite else [(peer, told) for told in self.told_by(peer)]
+        self.follow_peers()
+        for peer in self.peers:
+            returned += [] if peer.names & {*self.despite} else [(peer, told) for told in self.told_by(peer)]
         since = self.begin_look(is_look)
-        accepted = [peer for peer in self.peers if peer.accepted() and peer.name not in self.despite]
-        words: list[Word] = [] if since is None else [looking.word_of(it, self.returned.get(it.name), self.claims[it.name]) for it in accepted]
+        accepted = [peer for peer in self.peers if peer.accepted() and not peer.names & {*self.despite}]
+        words: list[Word] = [] if since is None else [looking.word_of(it, self.has(it), self.returned.get(it.name), self.claims[it.name]) for it in accepted]
         told = [it for _, it in returned]
         to_prove = [*told, *(Told(line, "") for word in words for line in word.claims)]
         proved = own.proved_lines(self.store, self.judge, self.last, to_prove)
-        answer = judge_turn(self.last, proved, told, words, since, SETTLED)
+        answer = judge_turn(self.last, proved, told, words, None if since is None else Look(since, looking.now(), SETTLED))
         if answer.lacking is not None:
             raise self.old_store(answer.lacking, next(peer for peer, it in returned if it is answer.lacking))
         if is_look or answer.go is Go.WAIT:
@@ -108,17 +179,35 @@ class Turn:
 
     def begin_look(self, is_look: bool) -> Optional[int]:
         """Since when peers' words are waited for; None where they aren't."""
-        moment, since = looking.now(), self.lines.look_since()
-        is_old = since is None and self.named is None and (self.notes.is_copy() or self.lines.is_copy(self.last) or must_look(False, self.note.moment, moment))
-        if not is_look and not is_old:
-            return since
-        self.lines.begin_look(moment)
-        return moment
+        moment, begun = looking.now(), self.lines.begun_look()
+        why = None if begun is None else self.why_anew(begun, moment)
+        if not is_look and why is None and (begun is not None or not self.may_be_old(moment)):
+            return begun.since if begun is not None else None
+        if why is not None:
+            self.told.append(why)
+        since = when_begun(moment, (peer.came(name) for peer in self.peers for name in ("yours", "line")))
+        self.lines.begin_look(since, self.notes.renew(moment))
+        return since
+
+    def why_anew(self, begun: Begun, moment: int) -> Optional[str]:
+        """Why the look that goes on begins anew; None where it doesn't."""
+        if self.lines.is_look_copied(begun, self.notes.identity()):
+            return looking.RESTORED
+        return looking.CLOCK if must_begin_anew(begun.since, self.note.moment, moment) else None
+
+    def may_be_old(self, moment: int) -> bool:
+        """Whether the store or the box may come from a backup, and nobody has said that the store is the right one."""
+        if self.named is not None:
+            return False
+        is_copy = self.notes.is_copy()
+        if is_copy and self.notes.is_changed():
+            self.told.append(f"{name_of(self.notes.path)} {looking.CHANGED}")
+        return is_copy or self.lines.is_copy(self.last) or must_look(False, self.note.moment, moment)
 
     def tell_look(self, accepted: list[Peer], waiting: tuple[str, ...], since: Optional[int]) -> None:
         """Tells of each peer what it says of this service, and for whose word is waited."""
         for peer in accepted:
-            peer.say(looking.describe_word(peer, self.returned.get(peer.name)))
+            peer.say(looking.describe_word(self.has(peer), self.returned.get(peer.name)))
             if peer.name in waiting and since is not None:
                 claimed = next(iter(self.claims[peer.name]), None)
                 peer.need(looking.describe_claim(peer, claimed, self.last) if claimed else looking.describe_waiting(peer, since))
@@ -127,10 +216,10 @@ class Turn:
     def told_by(self, peer: Peer) -> list[Told]:
         """The lines of this service that a peer's folder tells and the store lacks: those signed by its own key, handed back or put out before; in a box that
         takes unsigned messages also what an accepted peer claims. In another one such claims are noted."""
-        services = {self.last.service, *(it.name for it in self.peers)}
-        returned = peer.take("yours", SIGNED_BYTES) or b""
-        peer.seen = read_signed_lines(peer.take("seen", SIGNED_BYTES * MOST_SEEN) or b"", services)[:MOST_SEEN]
+        returned, seen = peer.take("yours", SIGNED_BYTES) or b"", peer.take("seen", SIGNED_BYTES * MOST_SEEN) or b""
+        peer.seen = read_signed_lines(seen, self.known_names)[:MOST_SEEN]
         peer.is_seen_read = True
+        self.heard_names.update(it.decode() for it in SEEN_NAME.findall(seen))
         put_out = files.read_if_there(peer.out / "line", SIGNED_BYTES) or b""
         signed = [(read_signed_line(returned), f"handed back by {peer.name}"), (read_signed_line(put_out), f"put out for {peer.name} before")]
         signed += [(it, f"handed back by {peer.name}") for it in peer.seen]
@@ -148,33 +237,56 @@ class Turn:
         if not peer.accepted():
             return []
         receipt, refusal = self.receipt_of(peer), self.refused(peer)
-        later = [it for it in (receipt[0] if receipt else None, refusal.line if refusal else None) if it is not None and it.step > self.last.step]
+        told = [it.line for it in (receipt, refusal) if it is not None]
+        later = [it for it in told if it.service == self.last.service and it.step > self.last.step]
         return [it for it in dict.fromkeys([*([line] if line is not None else []), *later]) if self.is_lacking(it)]
 
     def is_lacking(self, line: Line) -> bool:
-        """Whether a line is of this service, and not of the store."""
-        return line.service == self.last.service and not self.is_of_store(line)
+        """Whether a line is of this service, and not of the store: of a part that isn't here, whose name nobody else has, too."""
+        is_missing = is_name_of_part(self.first_name, line.service) and line.service not in self.known_names
+        return is_missing or (self.part_named(line.service) is not None and not self.is_of_store(line))
+
+    @functools.cached_property
+    def known_names(self) -> set[str]:
+        """The names of the service's parts and of its peers with all theirs, as the turn began."""
+        return {*(part.last.service for part in self.parts), *(peer.name for peer in self.all_peers)}
+
+    def part_named(self, name: str) -> Optional[Part]:
+        """The part of the service that has this name."""
+        return next((part for part in self.parts if part.last.service == name), None)
 
     def old_store(self, lacking: Told, peer: Peer) -> Trouble:
         """The store lacks a line that was told of it."""
-        trouble = own.lacking(self.store.path, self.last, lacking)
+        part = self.part_named(lacking.line.service)
+        if part is not None:
+            trouble = own.lacking(part.store.path, part.last, lacking)
+        else:
+            trouble = own.old_store(str(self.service), lacking.line, f"no part of it is called {lacking.line.service}", lacking.whence)
         if not lacking.whence.endswith("unsigned"):
             return trouble
         advice = f"{trouble.advice} Ask {peer.name} by another way; if it is wrong: weft exchange --despite {peer.name} .."
         return Trouble(trouble.status, trouble.sentence, advice)
 
     def is_of_store(self, line: Line) -> bool:
-        """Whether the store has this line, as its own. One that was noted beside it is: each was noted behind the one before, and the last of them is held
-        against the store first."""
-        if line in self.lines.known:
-            return True
-        if line.service != self.last.service or line.step > self.last.step:
+        """Whether the store, or that of an earlier part, has this line, as its own. One that was noted beside it is: each was noted behind the one before, and
+        the last of them is held against the store first."""
+        part = self.part_named(line.service)
+        if part is None or line.step > part.last.step:
             return False
-        if line.step == self.last.step or self.last.step == 0:
-            return line == self.last
-        if line.step not in self.known:
-            self.known[line.step] = own.line_at(self.store, self.judge, line.step, self.last)
-        return self.known[line.step] == line
+        if line.step == 0:
+            return can_be(line, formats.genesis(line.service).hex())
+        if line in self.lines_of(part).known:
+            return True
+        if line.step == part.last.step or part.last.step == 0:
+            return line == part.last
+        if line[:2] not in self.known:
+            self.known[line[:2]] = own.line_at(part.store, self.judge, line.step, part.last)
+        return self.known[line[:2]] == line
+
+    def has(self, peer: Peer) -> Optional[Line]:
+        """The last line of the part in which the service goes on that a peer is known to have recorded."""
+        has = peer.has()
+        return has if has is not None and has.service == self.last.service else None
 
     def is_own(self, signed: Signed) -> bool:
         """Whether the line is signed by the key of this box; checked once a turn."""
@@ -186,6 +298,67 @@ class Turn:
     def own_key(self) -> Optional[PublicKey]:
         """The public key of this box, None where the box has no key; raises Trouble where the key has no public half."""
         return signatures.public_half(self.settings.key) if self.settings.key is not None else None
+
+    # ---- parts
+
+    def follow_peers(self) -> None:
+        """Takes the further parts in which peers go on, as far as that is shown."""
+        unfit = functools.partial(self.unfit, count="unjoined")
+        follower = Follower(self.judge, self.signers, self.settings.is_unsigned, self.key_of, self.note_signed, unfit)
+        names = {*(part.last.service for part in self.parts), *(peer.name for peer in self.all_peers)}
+        found: list[Peer] = []
+        for peer in self.all_peers:
+            found.append(peer)
+            if peer.later is None:
+                new = follower.follow(peer, names)
+                found += new
+                names.update(it.name for it in new)
+        self.all_peers = found
+        for peer in found:
+            if peer.later is not None and peer.later.later is None:
+                follower.watch(peer)
+
+    def go_on(self) -> None:
+        """Goes on in a new part, where one is being made, or this one has its share of what the file of a history may have."""
+        is_full = self.new is not None or (self.last.step > 1 and must_go_on(parts.size_of(self.store), 0, parts.MOST_PART))
+        if not is_full:
+            return
+        if files.is_there(beside(self.store.folder, ".pending")):
+            self.told.append(f"{self.last.service} is to go on in a new part, and a run of weft log was stopped amid a step: run weft log, and then this again.")
+            self.look()
+            return
+        new = self.new or parts.name_next(self.service, self.parts)
+        parts.begin_next(self.service, new)
+        made = parts.make_next(self.service, self.judge, self.part, new)
+        ended = self.part._replace(last=self.store.last().line)
+        self.former.append(ended)
+        self.enter(made)
+        for peer in self.peers:
+            peer.make()
+        self.new = None
+        self.told.append(f"{ended.last.service} goes on as {new.name}, in {name_of(made.folder)}: its history would have outgrown its file.")
+
+    def hand_on(self, peer: Peer) -> None:
+        """Puts out what shows how the service went on, for a peer that hasn't recorded a step of the last part yet."""
+        recorded = self.has(peer)
+        if not self.former or (recorded is not None and recorded.step > 0):
+            return
+        for part in self.former:
+            has = peer.has()
+            since = has.step if has is not None and has.service == part.last.service and self.is_of_store(has) else 0
+            peer.put_as(self.place_of(part), "message", self.message(part, since))
+        for place, name, data in self.joints:
+            peer.put_as(place, name, data)
+
+    @functools.cached_property
+    def joints(self) -> list[tuple[str, str, bytes]]:
+        """What shows how the service went on, as files of its parts."""
+        found: list[tuple[str, str, bytes]] = []
+        for part in self.former:
+            signed = self.signed(part)
+            line = signed.data if signed else f"{part.last.text}\n".encode()
+            found += [(self.place_of(part), "line", line), (self.place_of(part), "goes-on", joints.goes_on(part))]
+        return found + [(self.place_of(part), "came-from", joints.came_from(part, before.last)) for before, part in zip(self.former, self.parts[1:])]
 
     # ---- what came
 
@@ -214,34 +387,40 @@ class Turn:
         step on, and mostly the first one is good.)"""
         noted, accepted = hearing.read_kept_silence(peer)[hearing.LINES].step, peer.accepted()
         is_good = (accepted is not None and accepted.line.step == noted) or any(self.key_of(it) is not None for it in peer.signed_at(noted))
-        falling = [] if is_good else sorted(peer.signed_lines(), key=lambda it: -it.line.step)[:MOST_LOOKED_AT]
-        return choose_last_heard(noted, is_good, next((it.line.step for it in falling if self.key_of(it) is not None), 0))
+        last = None if is_good else self.last_signed(peer)
+        return choose_last_heard(noted, is_good, last.line.step if last else 0)
+
+    def last_signed(self, peer: Peer) -> Optional[Signed]:
+        """The latest line of a peer that is kept and whose signature is good now."""
+        falling = sorted(peer.signed_lines(), key=lambda it: -it.line.step)[:MOST_LOOKED_AT]
+        return next((it for it in falling if self.key_of(it) is not None), None)
 
     def has_key(self, peer: Peer) -> bool:
         """Whether a key of the peer is known, without which nothing that it signs is taken."""
         return bool(signatures.key_lines(self.signers, peer.name))
 
-    def receipt_of(self, peer: Peer) -> Optional[tuple[Line, bytes]]:
-        """The line of this service that the peer's receipt tells, and the receipt."""
+    def receipt_of(self, peer: Peer) -> Optional[OwnReceipt]:
+        """The peer's receipt of a line of this service."""
         data = peer.take_once("receipt", formats.RECEIPT_SIZE)
         receipt = formats.read_receipt(data) if data is not None else None
-        if receipt is None or (receipt.recorder, receipt.service) != (peer.name, self.last.service):
+        if receipt is None or receipt.recorder not in peer.names or self.part_named(receipt.service) is None:
             return None
-        return Line(receipt.service, receipt.step, receipt.authenticator.hex()), receipt.to_bytes()
+        return OwnReceipt(Line(receipt.service, receipt.step, receipt.authenticator.hex()), receipt.to_bytes(), receipt.recorder)
 
     def take_receipt(self, peer: Peer) -> None:
         """Takes its receipt of a step of this service: it says since which step the next message is to be."""
-        receipt, has = self.receipt_of(peer), peer.has()
+        receipt, has = self.receipt_of(peer), self.has(peer)
         if receipt is None:
             return
-        line = receipt[0]
+        line = receipt.line
         if not self.is_of_store(line):
             if line not in self.claims.get(peer.name, ()):
                 peer.say(f"its receipt is of step {line.step}, which this store doesn't have so; nothing is concluded from that")
             return
-        if may_note_recorded(has.step if has else None, line.step, None):
+        is_of_last = line.service == self.last.service and receipt.by == peer.name
+        if is_of_last and may_note_recorded(has.step if has else None, line.step, None):
             peer.renew("has", f"{line.text}\n".encode())
-        self.add_receipt(peer, "got", receipt[1])
+        self.add_receipt(peer, "got", receipt.data)
 
     def add_receipt(self, peer: Peer, name: str, receipt: bytes) -> None:
         """Keeps a receipt behind all others, each once."""
@@ -261,12 +440,12 @@ class Turn:
         """The peer's refusal of a message."""
         text = (peer.take_once("refusal", 2_048) or b"").decode("ascii", "replace")
         found = REFUSAL.match(text)
-        line = read_line(f"{self.last.service} {found[1]} {found[2]}") if found else None
-        return Refusal(line, int(found[4])) if found and line else None
+        line = read_line(f"{found[5] or self.first_name} {found[1]} {found[2]}") if found else None
+        return Refusal(line, int(found[4])) if found and line and line.service == self.last.service else None
 
     def take_refusal(self, peer: Peer) -> None:
         """Takes its refusal of a message: it says what it has recorded."""
-        refusal, has = self.refused(peer), peer.has()
+        refusal, has = self.refused(peer), self.has(peer)
         if refusal is None or not may_note_recorded(has.step if has else None, refusal.line.step, refusal.since):
             return
         line = refusal.line
@@ -282,7 +461,7 @@ class Turn:
 
     def take_signed(self, peer: Peer) -> Optional[Signed]:
         """Takes its signed line, and holds it against those that it signed before; None where it is none or not signed by the key that is kept."""
-        data = peer.take("line", SIGNED_BYTES)
+        data = peer.take_once("line", SIGNED_BYTES)
         signed = read_signed_line(data or b"")
         if signed is None:
             if data and read_line(data.decode("ascii", "replace").removesuffix("\n")) is None:
@@ -306,10 +485,10 @@ class Turn:
             self.keys[signed] = signatures.checked(signed, self.signers)
         return self.keys[signed]
 
-    def unfit(self, peer: Peer, text: str) -> None:
-        """Something of the peer didn't fit; after some turns in a row it needs a look."""
-        turns = len(peer.read("unfit")) + 1
-        peer.renew("unfit", b"x" * min(turns, 99))
+    def unfit(self, peer: Peer, text: str, count: str = "unfit") -> None:
+        """Something of the peer didn't fit; after some turns in a row, which are counted under this name, it needs a look."""
+        turns = len(peer.read(count)) + 1
+        peer.renew(count, b"x" * min(turns, 99))
         peer.say(f"{text}; ask {peer.name}" if turns >= UNFIT_TURNS else f"{text}; a file may have been damaged on its way")
         if turns >= UNFIT_TURNS:
             self.look()
@@ -406,9 +585,8 @@ class Turn:
 
     def compare_seen(self, peer: Peer) -> None:
         """Holds signed lines of other peers, which a peer hands on, against those that were kept, and against those that others hand on tonight."""
-        by_name = {it.name: it for it in self.peers}
         for signed in peer.seen:
-            other = by_name.get(signed.line.service)
+            other = self.by_name.get(signed.line.service)
             if other is None:
                 continue
             handed_on = find_contradicting(signed.line, self.handed_on.get(signed.line[:2], ()))
@@ -419,12 +597,17 @@ class Turn:
                 self.note_signed(other, signed, f"signed by {self.key_of(signed)}, handed on by {peer.name}")
 
     @functools.cached_property
-    def handed_on(self) -> dict[tuple[str, int], list[Signed]]:
-        """The lines that peers hand on tonight, by service and step."""
-        found: dict[tuple[str, int], list[Signed]] = {}
+    def by_name(self) -> dict[str, Peer]:
+        """The peers, with all their parts, by name."""
+        return {it.name: it for it in self.all_peers}
+
+    @functools.cached_property
+    def handed_on(self) -> dict[tuple[str, int], dict[Signed, None]]:
+        """The lines that peers hand on tonight, by service and step, each once, however many hand it on."""
+        found: dict[tuple[str, int], dict[Signed, None]] = {}
         for peer in self.peers:
             for signed in peer.seen:
-                found.setdefault(signed.line[:2], []).append(signed)
+                found.setdefault(signed.line[:2], {})[signed] = None
         return found
 
     # ---- messages
@@ -502,7 +685,7 @@ class Turn:
                 # an old message came again: what is handed back stays the last line, by which an old store that was put back there is found
                 peer.remove("first")
                 return
-            peer.renew("taken", f"{line.text}\n".encode())
+            peer.renew("taken", "".join(f"{text}\n" for text in (line.text, self.place_of(self.part)) if text).encode())
             self.add_receipt(peer, "given", answer.output)
             peer.put("receipt", answer.output)
             files.remove(peer.out / "refusal")
@@ -528,7 +711,8 @@ class Turn:
         """Tells a refusal, here and there, in words that accuse nobody."""
         text, is_grave = refusal_text(peer.name, message, name, fields)
         if name == "BadLink":
-            said = f"refused BadLink {fields[0]} {fields[1]}\nmessage {message.step} since {message.since}\nYour message of step {message.step} was "
+            of_part = "" if peer.earlier is None else f" of {peer.name}"
+            said = f"refused BadLink {fields[0]} {fields[1]}\nmessage {message.step} since {message.since}{of_part}\nYour message of step {message.step} was "
             said += f"made since step {message.since}; we recorded your step {fields[0]} last. Please send one since that step.\n"
             peer.put("refusal", said.encode())
         peer.say(text)
@@ -539,31 +723,36 @@ class Turn:
 
     def put(self, peer: Peer, signed: Optional[Signed]) -> None:
         """Puts out what a peer is to get."""
-        has = peer.has()
+        has = self.has(peer)
         since = has.step if has is not None and self.is_of_store(has) else 0
-        peer.put("message", self.message(since))
+        self.hand_on(peer)
+        peer.put("message", self.message(self.part, since))
         self.put_next(peer, since)
         peer.put("line", signed.data if signed else f"{self.last.text}\n".encode())
-        taken = peer.taken_line()
-        if taken is not None:
-            returned = next((it.data for it in peer.signed_at(taken.step) if it.line == taken), f"{taken.text}\n".encode())
+        latest = self.last_signed(peer)
+        back = choose_handed_back(peer.taken_line(), latest.line if latest else None)
+        if back is not None:
+            returned = next((it.data for it in peer.signed_at(back.step) if it.line == back), f"{back.text}\n".encode())
             peer.put("yours", returned)
         peer.put("seen", self.seen_by(peer))
         peer.put("receipts", self.receipts_for(peer))
         peer.put("requests", peer.read("asked"))
 
-    def message(self, since: int) -> bytes:
-        """The message of the last step since another one."""
-        if since not in self.messages:
-            self.messages[since] = self.store.done("thread", str(since))
-        return self.messages[since]
+    def message(self, part: Part, since: int) -> bytes:
+        """The message of the last step of a part since another one."""
+        place = (part.last.service, since)
+        if place not in self.messages:
+            self.messages[place] = part.store.done("thread", str(since))
+        return self.messages[place]
 
     @functools.cached_property
     def shared(self) -> dict[str, list[Signed]]:
-        """The signed lines that are handed on in this turn: of each peer whose turn it is, the newest first."""
+        """The signed lines that are handed on in this turn: of each peer whose turn it is, the newest first, and with them that by which its part before
+        ended."""
         holders = [peer for peer in self.peers if peer.signed_lines()]
         chosen = set(choose_names([peer.name for peer in holders], MOST_SEEN, self.note.cursor))
-        return {peer.name: sorted(peer.signed_lines(), key=lambda it: -it.line.step)[:MOST_SEEN] for peer in holders if peer.name in chosen}
+        newest = {peer: sorted(peer.signed_lines(), key=lambda it: -it.line.step)[:MOST_SEEN] for peer in holders if peer.name in chosen}
+        return {peer.name: place_end(lines, joints.end_of(peer.earlier), self.note.turn) for peer, lines in newest.items()}
 
     def seen_by(self, peer: Peer) -> bytes:
         """The signed lines of other peers that are handed on to a peer."""
@@ -571,14 +760,15 @@ class Turn:
 
     def put_next(self, peer: Peer, since: int) -> None:
         """Puts out another message of the last step, since another one than the first, which the peer may have recorded in truth."""
-        sent = [int(word) for word in peer.read("sent").split() if word.isdigit()]
+        part, *words = peer.read("sent").decode("ascii", "replace").split() or [""]
+        sent = [int(word) for word in words if word.isdigit()] if part == self.last.service else []
         if self.last.step not in sent:
             sent = [*sent, self.last.step][-2:]
-            peer.renew("sent", f"{' '.join(map(str, sent))}\n".encode())
+            peer.renew("sent", f"{self.last.service} {' '.join(map(str, sent))}\n".encode())
         returned = self.returned.get(peer.name)
         step = choose_other_start(since, returned.step if returned is not None and self.is_of_store(returned) else None, sent[0], self.last.step)
         if step is not None:
-            peer.put("next", self.message(step))
+            peer.put("next", self.message(self.part, step))
         else:
             files.remove(peer.out / "next")
 
@@ -586,9 +776,23 @@ class Turn:
     def known_receipts(self) -> list[bytes]:
         """The last receipts that are handed on, each once: those that were heard of whom they are of, and those that were made here or came here."""
         most = OWN_RECEIPTS * formats.RECEIPT_SIZE
-        heard = [piece for peer in self.peers for piece in formats.receipt_pieces(peer.read("heard")) if is_first_hand(peer.name, formats.parties_of(piece))]
-        parts = [peer.read(name)[-most:] for name in ("given", "got") for peer in self.peers]
-        return list(dict.fromkeys([*heard, *(piece for part in parts for piece in formats.receipt_pieces(part))]))
+        heard = self.heard_receipts.first_hand
+        pieces = [peer.read(name)[-most:] for name in ("given", "got") for peer in self.all_peers]
+        joined = [joints.receipt_of(self.judge, part, before.last) for before, part in zip(self.former, self.parts[1:])]
+        return list(dict.fromkeys([*heard, *(it for piece in pieces for it in formats.receipt_pieces(piece)), *joined]))
+
+    @functools.cached_property
+    def heard_receipts(self) -> HeardReceipts:
+        """What the receipts tell that peers told; they are read once."""
+        found = HeardReceipts([], set())
+        for peer in self.all_peers:
+            tellers = peer.names
+            for piece in formats.receipt_pieces(peer.read("heard")):
+                parties = formats.parties_of(piece)
+                found.names.update(parties)
+                if is_first_hand(tellers, parties):
+                    found.first_hand.append(piece)
+        return found
 
     def receipts_for(self, peer: Peer) -> bytes:
         """The receipts that a peer gets."""
@@ -607,27 +811,42 @@ class Turn:
 
     def ended(self, trouble: Optional[Trouble]) -> Status:
         """How the turn ends: by the worst of what was found, and of what ended it early."""
-        return worst_of([self.status, *(peer.status for peer in self.peers), *([trouble.status] if trouble else [])])
+        return worst_of([self.status, *(peer.status for peer in self.all_peers), *([trouble.status] if trouble else [])])
 
     def make_turn(self) -> None:
         """Takes what came, and puts out what is to go."""
+        if self.new is not None:
+            self.go_on()
         if self.last.step == 0:
             self.last = self.store.append(formats.events_file([]), None)
         self.lines.note(self.last)
         for peer in self.peers:
             self.take(peer)
-        for peer in self.peers:
+        for peer in self.all_peers:
             self.tell_forks(peer)
         self.lines.note(self.last)
         self.settle_links()
         self.listen()
-        signed = self.signed_last()
+        parts.note_others(self.service, self.names_like_parts())
+        self.go_on()
+        self.put_all()
+        self.told += self.unsigned()
+
+    def put_all(self) -> None:
+        """Puts out what is to go, and answers what is asked."""
+        parts.hand_out(self.service, self.parts)
+        signed, asked = self.signed(self.part), asking.Asked({part.last.service: part.store for part in self.parts}, self.all_peers)
         for peer in self.peers:
-            asking.answer_peer(self.store, self.peers, peer, peer.take("requests", asking.MOST_BYTES) if peer.accepted() else None)
+            asking.answer_peer(asked, peer, peer.take("requests", asking.MOST_BYTES) if peer.accepted() else None)
             self.put(peer, signed)
+        for peer in self.all_peers:
             self.recall_links(peer)
             self.tell_end(peer)
-        self.told += [*self.unsigned(), *self.share()]
+
+    def names_like_parts(self) -> set[str]:
+        """The names of others, as far as peers tell them, that a part of this service could get."""
+        names = {*self.known_names, *self.heard_names, *self.heard_receipts.names}
+        return {name for name in names - {part.last.service for part in self.parts} if is_name_of_part(self.first_name, name)}
 
     def listen(self) -> None:
         """Notes what was heard of each peer, by its own lines and messages, and by what it hands on of others that were heard too."""
@@ -636,7 +855,8 @@ class Turn:
         heard = {peer.name for peer in self.peers if peer.line_heard is Heard.NEW}
         for peer in self.peers:
             others = hearing.hear_others(peer, keys, names - {peer.name}, heard - {peer.name})
-            hearing.listen(peer, not self.settings.is_unsigned and peer.name in names, peer.accepted() is not None, others, self.last.step, now()[:10])
+            own_steps = sum(part.last.step for part in self.parts)
+            hearing.listen(peer, not self.settings.is_unsigned and peer.name in names, peer.accepted() is not None, others, own_steps, now()[:10])
 
     def next_note(self) -> Note:
         """What this turn leaves to the next one."""
@@ -646,10 +866,21 @@ class Turn:
     def settle_links(self) -> None:
         """Asks peers for the links between their lines that were kept here or handed on by others, and takes their answers."""
         links = Links(self.judge, self.key_of, self.note_joined, self.settings.silent, self.note.turn)
-        for peer in self.peers:
+        for peer in self.all_peers:
+            others = self.handed_on_of.get(peer.name, {})
+            if peer.later is not None and not others and not peer.read("links"):
+                continue
             if peer.accepted() and not peer.fork_names():
-                others = ([it for it in other.seen if it.line.service == peer.name] for other in self.peers if other is not peer)
-                links.settle(peer, [signed for signed in others if signed])
+                links.settle(peer, [signed for name, signed in others.items() if name != peer.name])
+
+    @functools.cached_property
+    def handed_on_of(self) -> dict[str, dict[str, list[Signed]]]:
+        """The lines of each service that peers hand on tonight, by the peer that does."""
+        found: dict[str, dict[str, list[Signed]]] = {}
+        for peer in self.peers:
+            for signed in peer.seen:
+                found.setdefault(signed.line.service, {}).setdefault(peer.name, []).append(signed)
+        return found
 
     def note_joined(self, peer: Peer, signed: Signed) -> None:
         """Keeps a line of a peer that others handed on, and that a link joined to its history."""
@@ -675,12 +906,13 @@ class Turn:
             peer.say(f"each turn ends with 11 until you move {name_of(peer.kept / 'forks')} out of the box")
 
     def tell_strange(self) -> None:
-        """Tells what stands in the box and is no peer's folder; a link counts, since a peer may be meant by it."""
+        """Tells what stands in the box and is no peer's folder; what may be meant for a peer counts."""
         for name in self.strange:
             is_link = (self.box / name).is_symlink()
-            why = "is a link, and no link is followed there" if is_link else "is no peer's folder"
+            is_meant = may_be_meant(is_link, has_incoming(self.box / name))
+            why = "is a link, and no link is followed there" if is_link else f"is no peer's folder{', and nothing of it was read' if is_meant else ''}"
             self.told.append(f"{printable(name)} in {name_of(self.box)} {why}.")
-            if is_link:
+            if is_meant:
                 self.look()
 
     def unsigned(self) -> list[str]:
@@ -690,27 +922,19 @@ class Turn:
         self.look()
         return [f"Nothing signs your lines: set key = FILE in {name_of(self.box / 'box.conf')}."]
 
-    def signed_last(self) -> Optional[Signed]:
-        """The last line, signed, where the box has a key."""
+    def signed(self, part: Part) -> Optional[Signed]:
+        """The last line of a part, signed, where the box has a key."""
         if self.settings.key is None:
             return None
         for peer in self.peers:
-            signed = read_signed_line(files.read_if_there(peer.out / "line", SIGNED_BYTES) or b"")
-            if signed is not None and signed.line == self.last and self.is_own(signed):
+            signed = read_signed_line(files.read_if_there(peer.of_own(self.place_of(part)) / "line", SIGNED_BYTES) or b"")
+            if signed is not None and signed.line == part.last and self.is_own(signed):
                 return signed
-        made = signatures.sign(self.last, self.settings.key)
+        made = signatures.sign(part.last, self.settings.key)
         if not self.is_own(made):
             told = f"the public key beside {name_of(self.settings.key)} isn't that of the key"
             raise Trouble(Status.UNREADABLE, told, "Put the right one there: by it lines of your own that peers hand back are known again. Nothing was signed.")
         return made
-
-    def share(self) -> list[str]:
-        """How much of what a history's file may have is used, from half on."""
-        told = shares.told(self.store, self.last.service)
-        if told is None:
-            return []
-        self.look()
-        return [told]
 
 
 def refusal_text(name: str, message: Message, refusal: str, fields: list[str]) -> tuple[str, bool]:

@@ -290,6 +290,23 @@ def hand_out(path: AnyPath, data: bytes) -> None:
         complain(f"{name_of(path)} was a link to {name_of(target)}, which wasn't written over: the file stands in the link's place.")
 
 
+def unchosen(path: str, data: bytes) -> str:
+    """The path of a file that is handed out under a name which nobody chose. Raises Trouble where another file has it: somebody may hold that one."""
+    if not is_there(path):
+        return path
+    number = opened(path)
+    try:
+        is_same = read_up_to(number, len(data) + 1) == data
+    except OSError as failure:
+        raise unread(path, failure) from None
+    finally:
+        os.close(number)
+    if is_same:
+        return path
+    told = f"{name_of(path)} is there already, and is another one; it is left as it is"
+    raise Trouble(Status.REFUSED, told, f"Name a file by --out; --out {name_of(path)} writes over it.")
+
+
 def renew_if_other(path: AnyPath, data: bytes, mode: Optional[int] = None) -> None:
     """Makes a file that is to be carried anew, but where it has these bytes already, it is left as it is. No link is followed. One that
     wasn't there gets the mode, or where none is wanted may be read by those who may read its folder."""

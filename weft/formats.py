@@ -30,7 +30,7 @@ from timeweave_reference.anchors import Anchor  # noqa: E402
 from timeweave_reference.archives import Entry, TreeProof  # noqa: E402
 from timeweave_reference.fields import Malformed as Malformed  # noqa: E402
 from timeweave_reference.hashed_texts import EMPTY_ARCHIVE as EMPTY_ARCHIVE  # noqa: E402
-from timeweave_reference.hashed_texts import genesis  # noqa: E402
+from timeweave_reference.hashed_texts import genesis as genesis  # noqa: E402
 from timeweave_reference.messages import Message as Message  # noqa: E402
 from timeweave_reference.receipts import Receipt as Receipt  # noqa: E402
 from timeweave_reference.timelines import Timeline  # noqa: E402

@@ -126,6 +126,12 @@ def begin_anew(peer: Peer, step: int) -> None:
     note_silence(peer, {LINES: Silence(0, step), MESSAGES: read_kept_silence(peer)[MESSAGES], HANDED_ON: others})
 
 
+def go_on(ended: Peer, part: Peer) -> None:
+    """A peer goes on in a new part: of its lines and messages nothing was heard yet; what it hands on of others is what it was."""
+    note_silence(part, {LINES: Silence(), MESSAGES: Silence(), HANDED_ON: read_kept_silence(ended)[HANDED_ON]})
+    part.renew("handed", ended.read("handed"))
+
+
 def sentence(peer: Peer, told: str) -> str:
     """What is known of a silent peer, and what to do."""
     has = peer.has()

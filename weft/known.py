@@ -2,5 +2,5 @@
 
 DIGESTS = {
     "timeweave_reference": "20203e49a2207f37da78cceaf9bcc07ca2968b4d638c55cbbe8c3223bb4e41f0",
-    "timeweave": "5bea9e979faf61ae3a1f8320b6ab7ede75359df18f475d267a6c0a0759fbfc71",
+    "timeweave": "abb5427ddbae48b5ed6944350b1f42e207262b0e68ba0bfe48e5792b06703223",
 }

@@ -26,6 +26,7 @@ from weft.deciding.lines import Kept as Kept
 from weft.deciding.lines import Line as Line
 from weft.deciding.lines import read_line as read_line
 from weft.files import AnyPath
+from weft.output import complain
 from weft.statuses import Status
 from weft.texts import beside, name_of, now, printable
 from weft.trouble import Trouble
@@ -86,13 +87,15 @@ def own_files() -> Path:
 class KeptLines:
     """The kept lines of files, by service and step, and what is told of steps of which lines contradict."""
 
-    def __init__(self, paths: Iterable[AnyPath] = (), more: Iterable[Kept] = ()):
+    def __init__(self, paths: Iterable[AnyPath] = (), more: Iterable[Kept] = (), named: Iterable[AnyPath] = ()):
         self.found: dict[str, dict[int, list[Kept]]] = {}
         self.marks: dict[tuple[str, int], list[Mark]] = {}
         self.rising: dict[str, list[int]] = {}
         for path in paths:
             data = files.read_if_there(path, MOST_BYTES)
             self.add_text(path, (data or b"").decode("utf-8", "replace"))
+        for path in named:
+            self.add_text(path, files.read(path, MOST_BYTES).decode("utf-8", "replace"))
         for kept in more:
             self.add(kept)
 
@@ -181,6 +184,17 @@ class KeptLines:
         """What counts of all kept lines, as the text of a file, in an order of its own: the lines without how they came, and the marks."""
         marks = sorted(mark.text for marks in self.marks.values() for mark in marks)
         return "".join(f"{it}\n" for it in [*(kept.line.text for kept in sorted(self.all())), *marks])
+
+
+def kept_of(named: Optional[Sequence[Path]], more: Iterable[Kept] = ()) -> KeptLines:
+    """The kept lines of the files that were named, each of which has to be there; where none was named those of the user's own file, which the first line that
+    is kept makes. That the variable WEFT_KEPT names none that is there is told: it may be mistyped."""
+    if named:
+        return KeptLines([], more, named)
+    own = default_kept()
+    if os.environ.get("WEFT_KEPT") and not files.is_there(own):
+        complain(f"there is no file {name_of(own)}, which WEFT_KEPT names: no line was kept there yet.")
+    return KeptLines([own], more)
 
 
 # ---- the file

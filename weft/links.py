@@ -1,6 +1,7 @@
 """Links between signed lines of a peer whose steps differ: asked for, judged, and told. The rules stand in `weft.deciding.linking`.
 
     kept/joined     the peer's lines that are known to be of one history: those that were recorded here, and those that a link joins to them
+    kept/bound      the part of one's own that recorded one of these: what it records further is of that history too
     kept/links      which links are open, of which lines
     kept/loose      those lines of them that aren't known to be of that history, with their signatures
     kept/forks      two signed lines, and the link by which the later one's history isn't the earlier one's"""
@@ -50,6 +51,8 @@ class Links:
         for it in left:
             asking.ask(peer, it.pair.request)
         self.tell(peer, left)
+        if peer.taken_line() in held.joined:
+            peer.renew("bound", f"{peer.taken_by()}\n".encode())
         peer.renew("joined", "".join(f"{line.text}\n" for line in held.joined[-MOST_JOINED:]).encode())
         peer.renew("loose", b"".join(held.signed[it.loose].data for it in left if it.loose in held.signed))
         peer.renew("links", "".join(f"{it.text}\n" for it in left).encode())
@@ -60,7 +63,7 @@ class Links:
             return None
         answer = asking.known(peer, one.pair.request)
         if answer is None:
-            return count_night(one, peer.line_heard is Heard.NEW, self.limit)
+            return count_night(one, peer.last.line_heard is Heard.NEW, self.limit)
         meaning = weigh_answer(one.pair, self.given(one.pair, answer))
         asking.forget_answer(peer, one.pair.request)
         if meaning is Meaning.JOINS:
@@ -131,8 +134,10 @@ class Links:
 
 
 def held_of(peer: Peer) -> Held:
-    """What is held of a peer. The line that was recorded last is of the history of those before it: the service refuses it else."""
+    """What is held of a peer. The line that was recorded last is of the history of those before it that the same part of one's own recorded: that refuses it
+    else. What a new part records first is of that history once a link joins it."""
     lines = [line for line in map(read_line, peer.read("joined").decode("utf-8", "replace").splitlines()) if line]
-    taken = peer.taken_line()
-    joined = [*lines, *([taken] if taken and taken not in lines else [])]
+    taken, bound = peer.taken_line(), peer.read("bound").decode("ascii", "replace").removesuffix("\n")
+    is_bound = not lines or bound == peer.taken_by()
+    joined = [*lines, *([taken] if taken and taken not in lines and is_bound else [])]
     return Held(joined, {it.line: it for it in [*read_signed_lines(peer.read("loose"), [peer.name]), *peer.signed_lines()[-MOST_HELD:]]})

@@ -15,23 +15,22 @@ from pathlib import Path
 from typing import Iterable, Iterator, Optional, Sequence
 
 from weft import files, own, parts
-from weft.deciding.going_on import must_go_on, next_name
+from weft.deciding.going_on import is_name_of_other, must_go_on, next_name
 from weft.deciding.restoring import Beside, Missing, find_missing
 from weft.entries import Entries
 from weft.formats import MOST_EVENTS, MOST_STEP, events_file
 from weft.judges import Bench
-from weft.lines import Line, anchors
+from weft.lines import Line
 from weft.output import complain
 from weft.own import OwnLines
 from weft.parts import Next, Part
-from weft.recorded import expect_true, exported_events, false_entry, find_unkept, make_entries, missing_entries
+from weft.recorded import expect_end, expect_true, exported_events, make_entries
 from weft.statuses import Status
 from weft.stores import ClockBack, Store
 from weft.texts import beside, count_of, name_of, steps_of
 from weft.trouble import Trouble
 
 MOST_PENDING = 64
-MOST_OTHERS = 1 << 20
 # What a step takes beside its events in the file of a history.
 MOST_HEAD = 32
 PENDING = re.compile(rb"([0-9]{1,13}) ([0-9]{1,15})\n")
@@ -70,7 +69,7 @@ class Log:
 
     def __init__(self, service: Path, judge: Bench):
         self.service, self.judge = service, judge
-        self.known, self.anchor, self.others = (beside(service, end) for end in (".known", ".anchor", ".others"))
+        self.known, self.anchor = (beside(service, end) for end in (".known", ".anchor"))
         self.former: list[Part] = []
         self.room: Optional[int] = None
         self.needs_look = False
@@ -119,6 +118,8 @@ class Log:
         self.go_on()
         if new is not None:
             self.go_on_in(new)
+        elif self.former:
+            parts.note_made(self.service, self.judge, self.part)
         self.note_others()
 
     def go_on_in(self, new: Next) -> None:
@@ -131,31 +132,16 @@ class Log:
         complain(f"{old.last.service} goes on as {made.last.service}, in {name_of(made.folder)}: its history would have outgrown its file.")
 
     def make_room(self, events: Sequence[bytes]) -> None:
-        """Goes on in a new part where a step of these events has no room in this one. A service that exchanges with others goes on by hand: they know its
-        name."""
+        """Goes on in a new part where a step of these events has no room in this one."""
         added = MOST_HEAD + sum(4 + len(event) for event in events)
         if self.room is None:
             self.room = max(0, parts.MOST_PART - parts.size_of(self.store))
-        if must_go_on(parts.MOST_PART - self.room, added, parts.MOST_PART) and self.last.step > 1 and not self.exchanges:
-            name = next_name(self.part_name(), len(self.former) + 2, self.taken())
-            new = Next(len(self.former) + 2, name)
+        if must_go_on(parts.MOST_PART - self.room, added, parts.MOST_PART) and self.last.step > 1:
+            new = parts.name_next(self.service, [*self.former, self.part])
             parts.begin_next(self.service, new)
             self.go_on_in(new)
             self.room = max(0, parts.MOST_PART - parts.size_of(self.store))
         self.room -= added
-
-    @property
-    def exchanges(self) -> bool:
-        """Whether it exchanges with others, and so doesn't go on by itself."""
-        return bool(files.read_if_there(self.others, MOST_OTHERS))
-
-    def part_name(self) -> str:
-        """The name of the first part."""
-        return self.former[0].last.service if self.former else self.last.service
-
-    def taken(self) -> set[str]:
-        """The names that other services have: those whose lines are kept, and the parts before."""
-        return {*parts.own_kept().services(), *(part.last.service for part in self.former), self.last.service}
 
     def make(self, name: Optional[str]) -> None:
         """Makes the folder of a new service."""
@@ -165,6 +151,9 @@ class Log:
             raise Trouble(Status.DISK, told, "Was it moved? Put it back; an empty one would begin a second history.")
         if name is None:
             raise Trouble(Status.USAGE, f"there is no service in {name_of(service)} yet", "Name it: weft log FOLDER SERVICE NAME.")
+        if is_name_of_other(parts.own_kept().steps(name)):
+            told = f"you keep a line of another service that is called {name}, and none was made under that name"
+            raise Trouble(Status.USAGE, told, "Choose another name. Was this one your own, whose store is lost, go on under a new name too.")
         files.make_folder(service)
 
     def expect_entries(self, may_make: bool) -> None:
@@ -184,15 +173,10 @@ class Log:
         """Raises Trouble where entries of a part were lost, at their end or all: what they tell would be logged again; or where they are out of order, and in a
         run that reads all files where one of them isn't the store's, or one of the store's isn't among them."""
         for part in [*self.former, self.part]:
-            end = part.entries.last_step()
-            if end.strange is not None:
-                raise false_entry(part.entries, end.strange)
             if is_full:
                 expect_true(self.service, part.entries, exported_events(part.store, self.judge, part.last))
-                continue
-            step = find_unkept(part.store, self.judge, part.last, end.step, end.count)
-            if step is not None:
-                raise missing_entries(self.service, part.entries, step)
+            else:
+                expect_end(self.service, self.judge, part)
 
     def go_on(self) -> None:
         """Keeps the entries of a step that a stopped run had made, or cuts off those of one that it hadn't."""
@@ -246,8 +230,7 @@ class Log:
     def close(self) -> None:
         """Ends a run that made steps: the last line is handed out, and of each part its last one; nothing is pending."""
         self.lines.close(self.last)
-        if self.former:
-            self.lines.put_lines(self.anchor, anchors([*(part.last for part in self.former), self.last]))
+        parts.hand_out(self.service, [*self.former, self.part])
         files.remove(self.pending)
 
     def appended(self, events: bytes, time: Optional[int]) -> Line:

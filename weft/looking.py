@@ -1,12 +1,12 @@
 """Whether a turn may be made at all: the store may be an old one that was put back, or the box with it. The rules stand in `weft.deciding.restoring`.
 
-    BOX/.turn    the number of the last turn, from where on signed lines are handed on next, and its moment, in seconds since 1970
-    BOX/.seal    which file `.turn` was on this device when it was written: a copy of the box has another one. `open`,
+    BOX/.turn    the number of the last turn, from where on signed lines are handed on next, and its moment, in seconds since 1970; a look that begins
+                 makes it anew as it is, and notes which file it is then
+    BOX/.seal    which file `.turn` was on this device when it was written, as weft.files tells it: a copy of the box has another one. `open`,
                  and which file `.turn` was before, while a turn is made"""
 
 from __future__ import annotations
 
-import os
 import re
 import time
 from pathlib import Path
@@ -14,11 +14,14 @@ from typing import NamedTuple, Optional
 
 from weft import files
 from weft.box import Peer
-from weft.deciding.restoring import NO_NOTE, Word, is_box_copied, write_open
+from weft.deciding.restoring import NO_NOTE, Likeness, Word, compare_note, is_box_copied, write_open
 from weft.lines import Line
 from weft.texts import date_of, name_of
 
 MOST_NOTE = 200
+CLOCK = "The clock was set since peers' words were first waited for: they are waited for anew."
+RESTORED = "A backup may have been put back since peers' words were first waited for: they are waited for anew."
+CHANGED = "was changed since its turn, as a copy that is put back is, and as `chmod -R`, `chown -R` and `cp -al` change it too: its file system tells no more."
 NOTE = re.compile(r"([0-9]{1,15}) ([0-9]{1,15}) ([0-9]{1,15})\n")
 
 
@@ -28,6 +31,11 @@ class Note(NamedTuple):
     turn: int = 0
     cursor: int = 0
     moment: Optional[int] = None
+
+    @property
+    def data(self) -> bytes:
+        """The bytes of its file."""
+        return f"{self.turn} {self.cursor} {self.moment or 0}\n".encode()
 
 
 class Notes:
@@ -42,18 +50,35 @@ class Notes:
         return Note(int(found[1]), int(found[2]), int(found[3])) if found else Note()
 
     def identity(self) -> str:
-        """Which file the note is: its number on the device, and when it was last changed there, which no backup brings back."""
-        try:
-            found = os.lstat(self.path)
-        except FileNotFoundError:
-            return NO_NOTE
-        return f"{found.st_ino} {found.st_ctime_ns}"
+        """Which file the note is, as a copy of it isn't."""
+        return files.identity_of(self.path) or NO_NOTE
+
+    def sealed(self) -> Optional[str]:
+        """What the seal says; None where there is none."""
+        data = files.read_if_there(self.seal, MOST_NOTE)
+        return None if data is None else data.decode("ascii", "replace").removesuffix("\n")
 
     def is_copy(self) -> bool:
         """Whether the box isn't where its last turn was made, but a copy of it, as a backup that was put back is."""
-        sealed = files.read_if_there(self.seal, MOST_NOTE)
-        text = None if sealed is None else sealed.decode("ascii", "replace").removesuffix("\n")
-        return is_box_copied(text, self.read().turn, self.identity())
+        return is_box_copied(self.sealed(), self.read().turn, self.identity())
+
+    def is_changed(self) -> bool:
+        """Whether nothing but a change of the note that leaves its content as it is makes the box count as a copy."""
+        sealed = self.sealed()
+        return sealed is not None and compare_note(sealed, self.identity()) is Likeness.CHANGED
+
+    def renew(self, moment: int) -> str:
+        """Makes the note anew as it is, where a look begins: so one of any backup is another file, in its times too. A box that was a copy stays one. Answers
+        which file the note is."""
+        is_copy = self.is_copy()
+        files.renew(self.path, files.read_if_there(self.path, MOST_NOTE) or Note(moment=moment).data)
+        if not is_copy:
+            self.put_seal()
+        return self.identity()
+
+    def put_seal(self) -> None:
+        """Says that the note is where it was written."""
+        files.renew(self.seal, f"{self.identity()}\n".encode())
 
     def begin(self) -> None:
         """Notes that a turn is made."""
@@ -61,8 +86,8 @@ class Notes:
 
     def end(self, note: Note) -> None:
         """Notes what the turn leaves to the next one."""
-        files.renew(self.path, f"{note.turn} {note.cursor} {note.moment or 0}\n".encode())
-        files.renew(self.seal, f"{self.identity()}\n".encode())
+        files.renew(self.path, note.data)
+        self.put_seal()
 
 
 def now() -> int:
@@ -70,17 +95,15 @@ def now() -> int:
     return int(time.time())
 
 
-def word_of(peer: Peer, handed_back: Optional[Line], claims: tuple[Line, ...]) -> Word:
+def word_of(peer: Peer, has: Optional[Line], handed_back: Optional[Line], claims: tuple[Line, ...]) -> Word:
     """When the last word of a peer about this service came: its `yours`; only of one that isn't known to have recorded anything of it, its `line`."""
-    has = peer.has()
     is_known = handed_back is not None or has is not None
     came = peer.came("yours" if is_known else "line")
     return Word(peer.name, came, claims, handed_back.step if handed_back else 0, has.step if has else 0)
 
 
-def describe_word(peer: Peer, own: Optional[Line]) -> str:
-    """What a peer hands back of this service, for somebody who looks."""
-    has = peer.has()
+def describe_word(has: Optional[Line], own: Optional[Line]) -> str:
+    """What a peer hands back of this service, for somebody who looks, beside what it is known to have."""
     back = f"it hands back your step {own.step}" if own is not None else "it hands back no line of yours"
     return f"{back}; {f'it has your step {has.step}, as its receipts told' if has is not None else 'no receipt of it is known'}"
 
@@ -97,8 +120,10 @@ def describe_waiting(peer: Peer, since: int) -> str:
 def describe_claim(peer: Peer, claimed: Line, last: Line) -> str:
     """What a peer's file tells of this service that the store lacks and this service hasn't signed."""
     has = f"the store's last one is {last.step}" if claimed.step > last.step else "the store has another step of that number"
+    if claimed.service != last.service:
+        has = "no part that is here has it"
     return (
-        f"a file of it tells your step {claimed.step}, not signed by your key, and {has}: somebody may have made it up on its way, or an old store was put "
+        f"a file of it tells your step {claimed.step} of {claimed.service}, not signed by your key, and {has}: somebody may have made it up on its way, or an old store was put "
         f"back here. It stops no turn, and keeps a look after a restore open. Ask {peer.name} by another way; if it is wrong then: weft exchange --despite "
         f"{peer.name} .."
     )

@@ -4,6 +4,7 @@ from __future__ import annotations
 
 import argparse
 import functools
+import itertools
 import os
 import re
 import sys
@@ -111,12 +112,17 @@ def ended(words: Sequence[str]) -> Status:
 
 
 def run(words: Sequence[str]) -> Status:
-    """Runs the command, and tells the trouble that ended it, where one did."""
+    """Runs the command, and tells the trouble that ended it, where one did; in JSON too, where that is asked for."""
+    told = None
     try:
-        return ended(words)
+        status = ended(words)
     except Trouble as trouble:
-        output.complain(trouble.told())
-        return trouble.status
+        status, told = trouble.status, trouble.told()
+    if "--json" in itertools.takewhile(lambda word: word != "--", words):
+        output.end_json(status, told)
+    if told is not None:
+        output.complain(told)
+    return status
 
 
 def main(words: Optional[Sequence[str]] = None) -> int:

@@ -6,20 +6,24 @@ from __future__ import annotations
 import hashlib
 import os
 from pathlib import Path
-from typing import NamedTuple, Optional, Sequence
+from typing import Callable, NamedTuple, Optional, Sequence
 
 from weft import auditing, choosing, files, formats, kinds, reports
+from weft.auditing import Sent
 from weft.choosing import BoundHistory, Judgement
-from weft.deciding.choosing import Beside, Extent, Headline, choose_headline, choose_history_headline, hold_history, hold_line
+from weft.deciding.choosing import Beside, Extent, Headline, choose_headline, choose_headline_unheld, choose_history_headline, hold_history, hold_line
+from weft.deciding.matching import Match, match_file, read_logged
 from weft.deciding.worst import worst_of
 from weft.judges import Bench
 from weft.lines import KeptLines, Line, anchors
 from weft.reports import Report
 from weft.statuses import Status
-from weft.texts import count_of, name_of, printable, shown_event, steps_of
+from weft.texts import count_of, listed, name_of, printable, shown_event, steps_of
 from weft.trouble import Trouble
 
 MOST_TOLD = 8
+# The events of a proof of order, as they are called.
+WHICH = ("the earlier event", "the later event")
 
 
 class Named(NamedTuple):
@@ -96,6 +100,11 @@ def outcome_of(judge: Bench, kept: KeptLines, group: list[Named], judgement: Jud
     carried = len(report.carried) if report else 0
     status = Status.CONTRADICTION if others else judge.status(judgement.is_shown)
     return Outcome(choose_headline(judgement.is_shown, carried, False, bool(others), False), status, [*told, *compared, *resting], others)
+
+
+def sentences(judge: Bench, judgement: Judgement, outcome: Outcome) -> list[str]:
+    """What is told below the headline: what came of it, and by whom it was judged."""
+    return [*outcome.told, *([judge.told(judgement.call)] if judgement.verdict is not None else [])]
 
 
 def report_of(judge: Bench, group: list[Named], judgement: Judgement) -> Optional[Report]:
@@ -232,39 +241,37 @@ def computed_by(judge: Bench, judgement: Judgement) -> list[str]:
     return [f"authenticators computed from the file by: Python reference, tested, not proved{also}"]
 
 
-# ---- a file beside the event that was recorded of it
+# ---- a file beside the events that were recorded
 
 
 def with_file(judge: Bench, outcome: Outcome, judgement: Judgement, path: str) -> Outcome:
-    """The outcome of an accepted proof of an event, held against a file: of another file nothing is shown."""
+    """The outcome of an accepted proof of events, held against a file: of a file of none of them nothing is shown."""
     assert judgement.verdict is not None
     report = reports.read_report(judgement.verdict)
     if report.kind not in ("exists", "precedes") or judgement.history is not None:
         raise Trouble(Status.USAGE, "--file is for the proof of one event, or of one before another", "Name a proof of an event.")
-    event = report.events[0].data
-    digest, _, name = event.lstrip(b"\\").partition(b"  ")
-    if len(digest) != 64:
-        return other_file(judge, outcome, f"The event is no entry of a log of files: {shown_event(event)}.", ": recorded, but as no file")
-    found = digest_of(path)
-    logged = os.path.basename(unescaped(name) if event.startswith(b"\\") else name)
-    if found.encode() != digest:
-        text = f"NOT SO: {name_of(path)} isn't the file that was logged; its SHA-256 digest is {found}."
+    events, found = [event.data for event in report.events], digest_of(path)
+    logged = [read_logged(event) for event in events]
+    match, places = match_file(logged, found, os.path.basename(os.fsencode(path)))
+    if match is Match.NO_ENTRY:
+        is_none = "Neither event is an" if len(events) > 1 else "The event is no"
+        return other_file(judge, outcome, f"{is_none} entry of a log of files: {'; '.join(map(shown_event, events))}.", ": recorded, but as no file")
+    if match is Match.OTHER:
+        neither = ", neither as the earlier event nor as the later one" if len(events) > 1 else ""
+        text = f"NOT SO: {name_of(path)} isn't the file that was logged{neither}; its SHA-256 digest is {found}."
         return other_file(judge, outcome, text, ": recorded, but not this file")
-    if os.path.basename(os.fsencode(path)) != logged:
-        text = f"{name_of(path)} has the digest that was logged, under the name {printable(os.fsdecode(logged))}."
+    which = f" as {listed([WHICH[place] for place in places])}" if len(events) > 1 else ""
+    if match is Match.RENAMED:
+        names = listed([printable(os.fsdecode(it.name)) for it in dict.fromkeys(logged[place] for place in places) if it is not None])
+        text = f"{name_of(path)} has the digest that was logged{which}, under the name {names}."
         return outcome._replace(status=worst_of([outcome.status, Status.LOOK]), told=[*outcome.told, text])
-    return outcome._replace(told=[*outcome.told, f"{name_of(path)} is that file, by its digest and name."])
+    return outcome._replace(told=[*outcome.told, f"{name_of(path)} is {'the file that was logged' + which if which else 'that file'}, by its digest and name."])
 
 
 def other_file(judge: Bench, outcome: Outcome, text: str, aside: str) -> Outcome:
     """The outcome where what was recorded is another file."""
     headline = choose_headline(True, 0, False, bool(outcome.contradicted), True)
     return Outcome(headline, worst_of([outcome.status, judge.status(False)]), [*outcome.told, text], outcome.contradicted, aside)
-
-
-def unescaped(name: bytes) -> bytes:
-    """A file's name as sha256sum writes it, turned back."""
-    return name.replace(b"\\\\", b"\0").replace(b"\\n", b"\n").replace(b"\\r", b"\r").replace(b"\0", b"\\")
 
 
 def digest_of(path: str) -> str:
@@ -279,27 +286,63 @@ def digest_of(path: str) -> str:
 # ---- a proof beside the histories that it hangs on
 
 
+def unheld(outcome: Outcome, trouble: Trouble) -> Outcome:
+    """The outcome where something that it was to be held against can't be read, or isn't of the right kind: that is told first, and what was found without it."""
+    told = [trouble.told(), "What was found without that:", *outcome.told]
+    return outcome._replace(headline=choose_headline_unheld(outcome.headline), status=worst_of([outcome.status, trouble.status]), told=told)
+
+
+def unless_troubled(outcome: Outcome, work: Callable[[Outcome], Outcome]) -> Outcome:
+    """What comes of holding an outcome against more, or that this can't be done."""
+    try:
+        return work(outcome)
+    except Trouble as trouble:
+        return unheld(outcome, trouble)
+
+
 def with_histories(judge: Bench, kept: KeptLines, outcome: Outcome, judgement: Judgement, proof: bytes, paths: Sequence[Path]) -> Outcome:
-    """The outcome of an accepted proof, held against histories: what they don't have isn't shown. One of these that kept lines contradict shows nothing, whatever
-    the audit says."""
+    """The outcome of an accepted proof, held against histories, each of which is read once: what they don't have isn't shown. One of these that kept lines
+    contradict shows nothing, whatever the audit says."""
     if formats.read_proof(proof) is None:
         raise Trouble(Status.USAGE, "--audit is for proofs", "A history is judged by itself, maps and evidence by the lines that they need.")
-    found = auditing.audited(judge, proof, judgement.lines, paths)
-    told, contradicted = [*outcome.told, found.told, f"audited by: {found.by}"], list(outcome.contradicted)
+    sent: list[Sent] = []
+    unsound: list[str] = []
     for path in paths:
-        history = held_history(kept, path)
-        if history is not None and history.held.differing:
-            told += contradiction_told(kept, history)
-            contradicted += history.held.differing
-    if contradicted:
-        return outcome._replace(headline=Headline.NOT_SHOWN, status=worst_of([outcome.status, Status.CONTRADICTION]), told=told, contradicted=contradicted)
-    headline = outcome.headline if found.status in (Status.DONE, Status.SHOWN_BY_REFERENCE) else Headline.NOT_SHOWN
-    return outcome._replace(headline=headline, status=worst_of([outcome.status, found.status]), told=told)
+        try:
+            sent.append(Sent(path, files.read(path, formats.MOST_HISTORY)))
+        except Trouble as trouble:
+            outcome = unheld(outcome, trouble)
+            continue
+        history = held_history(kept, sent[-1].data)
+        if history is None:
+            unsound.append(name_of(path))
+        elif history.held.differing:
+            outcome = contradicted_by(kept, outcome, history)
+    if len(sent) < len(paths):
+        return outcome
+    return unless_troubled(outcome, lambda it: with_audit(judge, it, auditing.audited(judge, proof, judgement.lines, sent), unsound))
 
 
-def held_history(kept: KeptLines, path: Path) -> Optional[BoundHistory]:
-    """A history's file beside the kept lines of its service; None of a file that is none."""
-    history = formats.timeline_of(files.read(path, formats.MOST_HISTORY))
+def contradicted_by(kept: KeptLines, outcome: Outcome, history: BoundHistory) -> Outcome:
+    """The outcome where a history beside it contradicts kept lines."""
+    told, contradicted = [*outcome.told, *contradiction_told(kept, history)], [*outcome.contradicted, *history.held.differing]
+    return outcome._replace(headline=Headline.NOT_SHOWN, status=worst_of([outcome.status, Status.CONTRADICTION]), told=told, contradicted=contradicted)
+
+
+def with_audit(judge: Bench, outcome: Outcome, found: auditing.Audit, unsound: Sequence[str]) -> Outcome:
+    """The outcome of an accepted proof by what its audit came to. None stands over a history that the reference calls unsound."""
+    is_held = found.status in (Status.DONE, Status.SHOWN_BY_REFERENCE)
+    if is_held and unsound:
+        told = f"two judges differ: an audit stands, and for the reference {listed(unsound)} is no sound history"
+        raise Trouble(Status.DIFFER, told, "This is a bug: keep the files, and report it.")
+    headline = outcome.headline if is_held else Headline.NOT_SHOWN
+    told_more = [*outcome.told, found.told, f"audited by: {found.by}"]
+    return outcome._replace(headline=headline, status=worst_of([outcome.status, found.status]), told=told_more)
+
+
+def held_history(kept: KeptLines, data: bytes) -> Optional[BoundHistory]:
+    """A history beside the kept lines of its service; None of a file that is none."""
+    history = formats.timeline_of(data)
     if history is None:
         return None
     held = hold_history(history.authenticators, choosing.lines_of(kept, history.service))

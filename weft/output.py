@@ -19,6 +19,12 @@ class Written:
     trouble: Optional[Trouble] = None
 
 
+class Collected:
+    """What is said where a word was asked for JSON and has none of its own: its sentences, which are written as one value at its end."""
+
+    says: Optional[list[str]] = None
+
+
 def fill_closed() -> None:
     """Opens nothing in the place of standard input, output and error where they are closed, so that no file of weft's own gets their numbers, which the programs
     that it runs take for theirs."""
@@ -31,7 +37,7 @@ def fill_closed() -> None:
 
 def prepare() -> None:
     """Lets nothing that can't be encoded stop a sentence."""
-    Written.trouble = None
+    Written.trouble, Collected.says = None, None
     fill_closed()
     for stream in (sys.stdout, sys.stderr):
         if stream is not None and hasattr(stream, "reconfigure"):
@@ -53,6 +59,9 @@ def note_trouble(sentence: str) -> None:
 
 def say(text: str) -> None:
     """Writes a line to standard output, in which nothing stands raw. Where that fails, the trouble is told at the end."""
+    if Collected.says is not None:
+        Collected.says.append(text)
+        return
     if sys.stdout is None:
         note_trouble("standard output is closed")
         return
@@ -65,6 +74,18 @@ def say(text: str) -> None:
 def say_json(value: Any) -> None:
     """Writes a value as a line of JSON, in ASCII."""
     say(json.dumps(value, ensure_ascii=True, sort_keys=False))
+
+
+def collect() -> None:
+    """Keeps the sentences that are said from now on, for JSON."""
+    Collected.says = []
+
+
+def end_json(status: Status, trouble: Optional[str]) -> None:
+    """Writes the sentences that were kept, and the trouble that ended a word which was asked for JSON, with its status: so bad input is told in JSON too."""
+    says, Collected.says = Collected.says, None
+    if says is not None or trouble is not None:
+        say_json({"status": int(status), "says": [*(says or []), *([trouble] if trouble is not None else [])]})
 
 
 def finish() -> list[Status]:
@@ -81,7 +102,9 @@ def finish() -> list[Status]:
 
 
 def complain(text: str) -> None:
-    """Writes a trouble to standard error, in which nothing stands raw, as far as that goes."""
+    """Writes a trouble to standard error, in which nothing stands raw, as far as that goes; it stands in JSON too, where that is collected."""
+    if Collected.says is not None:
+        Collected.says.append(text)
     try:
         if sys.stderr is not None:
             finish_quietly()

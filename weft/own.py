@@ -2,7 +2,7 @@
 out.
 
 By them an old store that was put back is found before it makes a step. DIR.look stands there while peers' words are waited for after a
-restore; it has the moment when that began. What follows from all of that is decided in weft.deciding.restoring."""
+restore; it has the moment when that began, and says that it is no copy. What follows from all of that is decided in weft.deciding.restoring."""
 
 from __future__ import annotations
 
@@ -13,7 +13,8 @@ from pathlib import Path
 from typing import Optional, Sequence
 
 from weft import files, judges
-from weft.deciding.restoring import Beside, Missing, Named, Seal, Told, compare_named, find_lacking, find_missing, is_copied, list_steps_to_prove, read_seal
+from weft.deciding.restoring import Begun, Beside, Likeness, Missing, Named, Seal, Told, compare_file, compare_named, find_lacking, find_missing
+from weft.deciding.restoring import is_copied, is_look_copied, list_steps_to_prove, read_look, read_seal, write_look
 from weft.deciding.lines import End, find_end
 from weft.judges import Bench
 from weft.lines import MOST_BYTES, Line, anchors, lines_of, read_line
@@ -23,7 +24,6 @@ from weft.stores import Store
 from weft.texts import beside, count_of, date_of, name_of, printable
 from weft.trouble import Trouble
 
-MOST_MOMENT = 32
 MOST_SEAL = 200
 MOST_NAMED = 64 << 20
 
@@ -192,20 +192,39 @@ class OwnLines:
         """Whether the store and what stands beside it are a copy, as a backup that was put back is."""
         return self.is_there and is_copied(last, self.sealed(), files.identity_of(self.seal))
 
-    def put_seal(self, line: Line) -> None:
-        """Says that the files are where they were written, and which line was noted last."""
-        files.renew(self.seal, lambda identity: f"{identity} {line.text}\n".encode())
+    def put_seal(self, line: Line, part: Optional[Line] = None) -> None:
+        """Says that the files are where they were written, which line was noted last, and which part was made last: this one, or that which it had."""
+        lines = [line, *([part] if part is not None else self.noted_parts())]
+        files.renew(self.seal, lambda identity: f"{identity} ".encode() + anchors(lines))
+
+    def noted_parts(self) -> list[Line]:
+        """The first line of the further part of which is noted beside the first one that it was made last; none where no such part was."""
+        seal = self.sealed()
+        return [seal.part] if seal is not None and seal.part is not None else []
+
+    def note_part(self, part: Line) -> None:
+        """Notes the first line of a further part that was made."""
+        last = self.last()
+        if last is not None:
+            self.put_seal(last, part)
 
     def expect_no_copy(self, store: Store, last: Line) -> None:
         """Raises Trouble where the store is a copy, and no peer can tell whether it is an old one: no step is made until a person says so."""
         if self.is_copy(last):
-            what = f"it and the files beside it are a copy, since {name_of(self.seal)} isn't the file that it was"
+            what = f"it and the files beside it {self.why_copied()}"
             raise Trouble(
                 Status.OLD_STORE,
                 f"the store in {name_of(store.path)} has {count_of(last.step, 'step')}, and {what}: it may be an old one. No step was made",
                 f"Was it put back, or moved? With peers: weft exchange, which asks them. Else, if no later line went out than its last one, name that: "
                 f"{adopting(store)}.",
             )
+
+    def why_copied(self) -> str:
+        """Why the store counts as a copy."""
+        seal = self.sealed()
+        if seal is not None and compare_file(seal.identity, files.identity_of(self.seal)) is Likeness.CHANGED:
+            return f"may be a copy, since {name_of(self.seal)} was changed after it was made, as `chmod` or a link changes it too"
+        return f"are a copy, since {name_of(self.seal)} isn't the file that it was"
 
     @property
     def is_there(self) -> bool:
@@ -242,18 +261,23 @@ class OwnLines:
         self.note(last)
         self.end_look(last)
 
-    def look_since(self) -> Optional[int]:
-        """Since when peers' words are waited for, in seconds since 1970; None where they aren't."""
-        data = files.read_if_there(self.look, MOST_MOMENT)
+    def begun_look(self) -> Optional[Begun]:
+        """The look that goes on; None where peers' words aren't waited for."""
+        data = files.read_if_there(self.look, MOST_SEAL)
         if data is None:
             return None
-        if not data.strip().isdigit():
-            raise Trouble(Status.UNREADABLE, f"{name_of(self.look)} has no moment", "It is made by weft exchange --look: run that again.")
-        return int(data)
+        found = read_look(data.decode("ascii", "replace"))
+        if found is None:
+            raise Trouble(Status.UNREADABLE, f"{name_of(self.look)} has no moment", "Take it away, and run weft exchange --look, which makes it anew.")
+        return found
 
-    def begin_look(self, now: int) -> None:
-        """Begins to wait for peers' words, at this moment."""
-        files.renew(self.look, b"%d\n" % now)
+    def is_look_copied(self, begun: Begun, note: str) -> bool:
+        """Whether a backup was put back since the look began: its file is a copy, or the note of the box, which is this file now."""
+        return is_look_copied(begun, files.identity_of(self.look), note)
+
+    def begin_look(self, now: int, note: str) -> None:
+        """Begins to wait for peers' words, at this moment, by a box of this note."""
+        files.renew(self.look, lambda identity: write_look(Begun(now, identity, note)).encode())
 
     def end_look(self, last: Line) -> None:
         """Peers' words have come, or a person said that the store is the right one."""
@@ -262,9 +286,9 @@ class OwnLines:
 
     def expect_no_look(self, store: Store) -> None:
         """Raises Trouble while peers' words are waited for: no step is made until then."""
-        since = self.look_since()
-        if since is not None:
-            told = f"since {date_of(since)} the words of peers on the store in {name_of(store.path)} are waited for, and no step was made"
+        begun = self.begun_look()
+        if begun is not None:
+            told = f"since {date_of(begun.since)} the words of peers on the store in {name_of(store.path)} are waited for, and no step was made"
             advice = f"weft exchange says for whom, and ends it. Without peers name its last line: {adopting(store)}."
             raise Trouble(Status.OLD_STORE, told, advice)
 

@@ -1,4 +1,4 @@
-"""The parts of a log: services that follow one another, so that each one's history stays one that can be exported, audited and taken over.
+"""The parts of a service: services that follow one another, so that each one's history stays one that can be exported, audited and taken over.
 
 The first part is the service in the folder SERVICE; further ones lie in SERVICE/part-2, SERVICE/part-3 and so on, with what stands beside each of them. The
 last step of a part names the next one, whose first step received the last line of that part: both are proved each time. While a part is being made its
@@ -8,10 +8,10 @@ from __future__ import annotations
 
 import re
 from pathlib import Path
-from typing import NamedTuple, Optional, Sequence
+from typing import Collection, NamedTuple, Optional, Sequence
 
 from weft import files, formats, lines, own
-from weft.deciding.going_on import Joint, Making, find_missing_part, is_being_made, is_next, named_in, naming_event
+from weft.deciding.going_on import Joint, Making, find_missing_part, is_being_made, is_folder_of_part, is_next, named_in, naming_event, next_name
 from weft.entries import Entries
 from weft.formats import MOST_HISTORY, events_file
 from weft.judges import Bench
@@ -25,6 +25,7 @@ from weft.trouble import Trouble
 # A part ends there: what is left to the limit of an exported history is for a last exchange, and for the step that names the next part.
 MOST_PART = MOST_HISTORY * 3 // 4
 MOST_NEXT = 64
+MOST_OTHERS = 1 << 24
 NEXT = re.compile(rb"([1-9][0-9]{0,5}) ([a-z0-9-]{1,16})\n")
 
 
@@ -58,6 +59,13 @@ def folder_of(service: Path, number: int) -> Path:
     return service if number == 1 else service / f"part-{number}"
 
 
+def expect_whole(service: Path) -> None:
+    """Raises Trouble where the folder is that of a part alone."""
+    if is_folder_of_part(service.name, files.is_there(Store(service.parent).file)):
+        told = f"{name_of(service)} is a part of {name_of(service.parent)}, and isn't named by itself"
+        raise Trouble(Status.USAGE, told, f"Name the folder of the whole log: {name_of(service.parent)}.")
+
+
 def parts_of(service: Path, judge: Bench) -> list[Part]:
     """All parts of a log, in their order; one that is still being made, without a step, isn't there yet. Raises Trouble where one isn't proved to be the next
     one."""
@@ -76,10 +84,12 @@ def whole(service: Path, judge: Bench) -> list[Part]:
     """All parts of a log, in their order. Raises Trouble where one is missing, or isn't that of a line that was handed out."""
     found = parts_of(service, judge)
     expect_none_missing(service, judge, found)
+    beside_it = OwnLines(service)
+    held = [(line, beside_it.anchor) for line in beside_it.read(beside_it.anchor)] + [(line, beside_it.seal) for line in beside_it.noted_parts()]
     for part in found[1:]:
-        for line in OwnLines(service).read(OwnLines(service).anchor):
+        for line, path in held:
             if line.service == part.last.service:
-                own.held_against(part.store, judge, part.last, line, f"kept in {name_of(OwnLines(service).anchor)}")
+                own.held_against(part.store, judge, part.last, line, f"kept in {name_of(path)}")
     return found
 
 
@@ -87,14 +97,34 @@ def expect_none_missing(service: Path, judge: Bench, found: Sequence[Part]) -> N
     """Raises Trouble where the last part names a further one that isn't being made, or a part isn't there of which a line was handed out."""
     if being_made(service, judge, found) is None:
         expect_open(judge, found[-1])
-    anchor = OwnLines(service).anchor
-    line = find_missing_part([part.last.service for part in found], OwnLines(service).read(anchor))
+    beside_it = OwnLines(service)
+    handed_out = beside_it.read(beside_it.anchor)
+    line = find_missing_part([part.last.service for part in found], [*handed_out, *beside_it.noted_parts()])
     if line is not None:
+        path = beside_it.anchor if line in handed_out else beside_it.seal
         raise Trouble(
             Status.OLD_STORE,
-            f"{name_of(anchor)} has a line of step {line.step} of {line.service}, and no part of {name_of(service)} is called so. No step was made",
+            f"{name_of(path)} has a line of step {line.step} of {line.service}, and no part of {name_of(service)} is called so. No step was made",
             "Was that part moved, or put back without what stood beside it? Put the right one back. If it is lost, go on under a new name.",
         )
+
+
+def names_of_others(service: Path) -> set[str]:
+    """The names that others have, of those that a part of the service could get, as far as its peers know."""
+    return set((files.read_if_there(beside(service, ".others"), MOST_OTHERS) or b"").decode("ascii", "replace").split())
+
+
+def note_others(service: Path, names: Collection[str]) -> None:
+    """Notes these names, and forgets none."""
+    found = sorted(names_of_others(service) | set(names))
+    if found:
+        files.renew_if_other(beside(service, ".others"), "".join(f"{name}\n" for name in found).encode(), files.PRIVATE)
+
+
+def name_next(service: Path, found: Sequence[Part]) -> Next:
+    """The number and the name of the part behind these: none that another service has, of those that are known, or that a part of its own has."""
+    taken = {*own_kept().services(), *names_of_others(service), *(part.last.service for part in found)}
+    return Next(len(found) + 1, next_name(found[0].last.service, len(found) + 1, taken))
 
 
 def own_kept() -> KeptLines:
@@ -143,11 +173,16 @@ def received_by(judge: Bench, part: Part, line: Line) -> Optional[Line]:
         return None
     if answer.status:
         raise part.store.trouble(answer)
-    verdict = judge.judge("strict", answer.output, lines.anchors([part.last]))
-    proof = formats.read_proof(answer.output)
-    if not verdict.is_accepted or not isinstance(proof, formats.proofs.ThreadProof):
+    return first_received(judge, answer.output, part.last)
+
+
+def first_received(judge: Bench, data: bytes, last: Line) -> Optional[Line]:
+    """The line that a proof shows, under a line of a service, as received by the first step of that service; None where it shows none."""
+    proof = formats.read_proof(data)
+    if not isinstance(proof, formats.proofs.ThreadProof) or (proof.service, proof.step) != (last.service, 1):
         return None
-    return Line(proof.entry.service, proof.entry.step, proof.entry.authenticator.hex())
+    is_accepted = judge.judge("strict", data, lines.anchors([last])).is_accepted
+    return Line(proof.entry.service, proof.entry.step, proof.entry.authenticator.hex()) if is_accepted else None
 
 
 def size_of(store: Store) -> int:
@@ -172,8 +207,9 @@ def being_made(service: Path, judge: Bench, found: Sequence[Part]) -> Optional[N
         return None
     steps = found[-1].last.step if new.number == len(found) else 0
     has_lines = OwnLines(folder_of(service, new.number)).is_there
+    is_noted = any(line.service == new.name for line in OwnLines(service).noted_parts())
     named = named_by(judge, found[new.number - 2])
-    return new if is_being_made(Making(new.number, new.name, len(found), named, steps, has_lines)) else None
+    return new if is_being_made(Making(new.number, new.name, len(found), named, steps, has_lines, is_noted)) else None
 
 
 def forget_next(service: Path) -> None:
@@ -204,8 +240,16 @@ def make_next(service: Path, judge: Bench, old: Part, new: Next) -> Part:
     if not part.entries.is_there:
         files.renew(part.entries.path, b"")
     OwnLines(folder).note(part.last)
+    note_made(service, judge, part)
     forget_next(service)
     return part
+
+
+def note_made(service: Path, judge: Bench, part: Part) -> None:
+    """Notes beside the first part that this further one was made, where that isn't noted yet: so it isn't made once more."""
+    beside_it = OwnLines(service)
+    if all(line.service != part.last.service for line in beside_it.noted_parts()):
+        beside_it.note_part(own.line_at(part.store, judge, 1, part.last))
 
 
 def ended(judge: Bench, old: Part, name: str) -> Line:
@@ -217,6 +261,13 @@ def ended(judge: Bench, old: Part, name: str) -> Line:
         raise Trouble(Status.OLD_STORE, f"{old.last.service} goes on as {named}, and not as {name}. No step was made", "Look what stands in its folder.")
     OwnLines(old.folder).note(end)
     return end
+
+
+def hand_out(service: Path, found: Sequence[Part]) -> None:
+    """Hands out, where there are several parts, the last line of each."""
+    if len(found) > 1:
+        own = OwnLines(service)
+        own.put_lines(own.anchor, lines.anchors([part.last for part in found]))
 
 
 def expect_open(judge: Bench, part: Part) -> None:

@@ -10,11 +10,14 @@ from weft.deciding.checking import Differing, Logged, find_differing
 from weft.entries import Entries, entry_lines, read_event
 from weft.judges import Bench
 from weft.lines import Line
+from weft.parts import Part
 from weft.progress import with_progress
 from weft.statuses import Status
 from weft.stores import Store
 from weft.texts import name_of, shown_event
 from weft.trouble import Trouble
+
+NO_STEP = "No step was made"
 
 
 def events_of(store: Store, judge: Bench, last: Line, first: int = 1) -> Iterator[tuple[int, list[bytes]]]:
@@ -66,18 +69,28 @@ def differing_entry(service: Path, entries: Entries, it: Differing) -> Trouble:
     return false_entry(entries, it.false) if it.false is not None else missing_entries(service, entries, it.step)
 
 
-def false_entry(entries: Entries, it: Logged) -> Trouble:
-    """That an entry isn't what the store recorded."""
+def false_entry(entries: Entries, it: Logged, unmade: str = NO_STEP) -> Trouble:
+    """That an entry isn't what the store recorded, and what wasn't made."""
     told = f"{name_of(entries.path)} was changed: of step {it.step}, index {it.index}, it has {shown_event(it.event)}, and the store hasn't"
-    advice = "What weft log said since rests on it. Keep a copy of it, then let weft check --entries make it anew of the store. No step was made."
+    advice = f"What weft log said since rests on it. Keep a copy of it, then let weft check --entries make it anew of the store. {unmade}."
     return Trouble(Status.OLD_STORE, told, advice)
 
 
-def missing_entries(service: Path, entries: Entries, step: int) -> Trouble:
-    """That the store recorded entries of a log that aren't kept."""
-    told = f"the store beside {name_of(entries.path)} has entries of step {step} that aren't in it. No step was made"
+def missing_entries(service: Path, entries: Entries, step: int, unmade: str = NO_STEP) -> Trouble:
+    """That the store recorded entries of a log that aren't kept, and what wasn't made."""
+    told = f"the store beside {name_of(entries.path)} has entries of step {step} that aren't in it. {unmade}"
     advice = f"Were they lost, or taken away? Put the file back; or weft check --entries {name_of(service)} makes it anew of the store."
     return Trouble(Status.OLD_STORE, told, advice)
+
+
+def expect_end(service: Path, judge: Bench, part: Part, unmade: str = NO_STEP) -> None:
+    """Raises Trouble where entries of a part were lost, at their end or all, or are out of order: then its last entry of a file may be another one."""
+    end = part.entries.last_step()
+    if end.strange is not None:
+        raise false_entry(part.entries, end.strange, unmade)
+    step = find_unkept(part.store, judge, part.last, end.step, end.count)
+    if step is not None:
+        raise missing_entries(service, part.entries, step, unmade)
 
 
 def find_unkept(store: Store, judge: Bench, last: Line, kept: int, count: int) -> Optional[int]:

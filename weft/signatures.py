@@ -5,6 +5,8 @@ A line is signed over its exact text with its line end, in the namespace `timewe
 
 from __future__ import annotations
 
+import argparse
+import functools
 import os
 import re
 import shutil
@@ -12,13 +14,13 @@ import subprocess
 import tempfile
 from fnmatch import fnmatchcase
 from pathlib import Path
-from typing import Optional
+from typing import Iterator, NamedTuple, Optional
 
 from weft import files, locks
 from weft.deciding import signatures as deciding
 from weft.deciding.signatures import MOST_BYTES as MOST_BYTES
 from weft.deciding.signatures import NAMESPACE as NAMESPACE
-from weft.deciding.signatures import Addition, KeyFault, PublicKey, read_armour, read_public_key
+from weft.deciding.signatures import Addition, KeyFault, PublicKey, read_armour, read_check, read_public_key
 from weft.deciding.signatures import Signed as Signed
 from weft.deciding.signatures import read_signed_line as read_signed_line
 from weft.files import AnyPath
@@ -78,17 +80,24 @@ def sign(line: Line, key: AnyPath) -> Signed:
 
 def checked(signed: Signed, signers: AnyPath) -> Optional[str]:
     """The key, as ssh-keygen tells it, by which the line is signed, where the file of signers has that key for the line's service; None where it
-    isn't so. What is handed to ssh-keygen is the line and the signature that are kept, byte for byte."""
-    if not os.path.exists(signers):
+    isn't so. What is handed to ssh-keygen is the line and the signature that are kept, byte for byte. Raises Trouble where that couldn't be checked."""
+    noted = files.read_if_there(signers, MOST_SIGNERS)
+    if noted is None:
         return None
-    with tempfile.NamedTemporaryFile(prefix="weft-", suffix=".sig") as file:
-        file.write(signed.signature)
-        file.flush()
-        status, _, told = keygen(
-            "-Y", "verify", "-n", NAMESPACE, "-f", os.fspath(signers), "-I", signed.line.service, "-s", file.name, given=signed.text,
+    with tempfile.NamedTemporaryFile(prefix="weft-", suffix=".sig") as file, tempfile.NamedTemporaryFile(prefix="weft-", suffix=".signers") as keys:
+        for written, data in ((file, signed.signature), (keys, noted)):
+            written.write(data)
+            written.flush()
+        status, why, told = keygen(
+            "-Y", "verify", "-n", NAMESPACE, "-f", keys.name, "-I", signed.line.service, "-s", file.name, given=signed.text,
         )  # fmt: skip
-    key = re.search(rb"with (\S+) key (SHA256:\S+)", told)
-    return f"{key[1].decode()} {key[2].decode()}" if status == 0 and key else None
+    found = read_check(status, told)
+    if found.is_good is None:
+        what = f"the signature of {signed.line.service}'s line of step {signed.line.step} couldn't be checked, and nothing is said of it"
+        end = f"was ended by signal {-status}" if status < 0 else f"ended with {status}"
+        advice = "Look whether it runs, and whether there is memory; then run this again."
+        raise Trouble(Status.DISK, f"{what}: ssh-keygen {end}{f' ({why})' if why else ''}", advice)
+    return found.key if found.is_good else None
 
 
 def checked_by(signed: Signed, key: PublicKey) -> Optional[str]:
@@ -133,11 +142,42 @@ def public_half(key: Path) -> PublicKey:
 # ---- the file of signers
 
 
+def add_beside(parser: argparse.ArgumentParser) -> None:
+    """The word by which a person adds a second key of a service."""
+    text = "adds the key beside the noted one, which was replaced: both count"
+    parser.add_argument("--beside", action="store_true", help=text)
+
+
 def key_lines(signers: AnyPath, service: str) -> list[bytes]:
     """The lines of a file of signers whose principals, which may be patterns, have the service's name; none where the file isn't there."""
-    found, name = (files.read_if_there(signers, MOST_SIGNERS) or b"").splitlines(), service.encode()
-    principals = ((line, line.split()[0].strip(b'"').split(b",")) for line in found if line.strip())
-    return [line for line, patterns in principals if name in patterns or any(fnmatchcase(name, it) for it in patterns if PATTERN.search(it))]
+    return list(of_principal(files.read_if_there(signers, MOST_SIGNERS) or b"", service.encode()))
+
+
+def of_principal(data: bytes, name: bytes) -> Iterator[bytes]:
+    """The lines of a file of signers that have a name among their principals, in their order."""
+    principals = read_principals(data)
+    places = {*principals.places.get(name, ()), *(place for place, pattern in principals.patterns if fnmatchcase(name, pattern))}
+    return (principals.lines[place] for place in sorted(places))
+
+
+class Principals(NamedTuple):
+    """The lines of a file of signers; of each principal that is a name its lines, by their places; and the principals that are patterns, with theirs."""
+
+    lines: list[bytes]
+    places: dict[bytes, list[int]]
+    patterns: list[tuple[int, bytes]]
+
+
+@functools.lru_cache(maxsize=4)
+def read_principals(data: bytes) -> Principals:
+    """Those of the bytes of a file, which are read once: a box with many peers asks for each of them."""
+    found = Principals([line for line in data.splitlines() if line.strip()], {}, [])
+    for place, line in enumerate(found.lines):
+        for principal in line.split()[0].strip(b'"').split(b","):
+            found.places.setdefault(principal, []).append(place)
+            if PATTERN.search(principal):
+                found.patterns.append((place, principal))
+    return found
 
 
 def fingerprints(signers: AnyPath, service: str) -> set[str]:
@@ -145,10 +185,10 @@ def fingerprints(signers: AnyPath, service: str) -> set[str]:
     return {key.fingerprint for key in map(deciding.read_noted_key, key_lines(signers, service)) if key is not None}
 
 
-def is_noted(signers: AnyPath, service: str, key: PublicKey) -> bool:
-    """Whether the file of signers has this key for the service's name. Raises Trouble where it has others alone: a second one is never added silently; and
-    where it has this one with options under which it may not count."""
-    found = deciding.place_key(key, key_lines(signers, service))
+def is_noted(signers: AnyPath, service: str, key: PublicKey, is_beside: bool = False) -> bool:
+    """Whether the file of signers has this key for the service's name. Raises Trouble where it has others alone: a second one is only added where a person
+    says that it stands beside them; and where it has this one with options under which it may not count."""
+    found = deciding.place_key(key, key_lines(signers, service), is_beside)
     if found is Addition.LIMITED:
         raise Trouble(
             Status.LOOK,
@@ -159,16 +199,17 @@ def is_noted(signers: AnyPath, service: str, key: PublicKey) -> bool:
         raise Trouble(
             Status.LOOK,
             f"{name_of(signers)} has another key of {service} already, and {key.fingerprint} wasn't noted",
-            f"Ask {service}, by another way, which one is its own. To replace the old one, take its line out of {name_of(signers)}, and run this again.",
+            f"Ask {service}, by another way, which one is its own. Was the old one replaced, and not stolen, add the new one by --beside: what the old one "
+            f"signed counts on. Was it stolen, take its line out of {name_of(signers)}, and run this again: then nothing counts that it signed.",
         )
     return found is Addition.KNOWN
 
 
-def add_signer(signers: Path, service: str, key: PublicKey) -> None:
+def add_signer(signers: Path, service: str, key: PublicKey, is_beside: bool = False) -> None:
     """Adds a public key as that of a service, under the lock of the file: of several that are added at one time none is lost. Raises Trouble where the file
-    has another one of that name."""
+    has another one of that name, beside which it isn't wanted."""
     files.make_folder(signers.parent)
     with locks.held(beside(signers, ".lock"), 30, signers):
-        if not is_noted(signers, service, key):
+        if not is_noted(signers, service, key, is_beside):
             old = files.read_if_there(signers, MOST_SIGNERS) or b""
             files.renew(signers, old + (b"" if not old or old.endswith(b"\n") else b"\n") + key.signers_line(service))

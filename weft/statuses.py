@@ -32,7 +32,7 @@ class Status(IntEnum):
 
 MEANINGS = {
     Status.DONE: "All that was asked for is done, or shown.",
-    Status.NOT_SHOWN: "A proof, a map or evidence isn't accepted, or a file isn't the one that was logged.",
+    Status.NOT_SHOWN: "A proof, a map, evidence or a signature isn't accepted, or a file isn't the one that was logged.",
     Status.USAGE: "The words are no command, or one of them isn't as it has to be; nothing was done.",
     Status.NO_INPUT: "A file that is to be read isn't there, is none that can be read, or is a folder, a pipe or a device.",
     Status.OUTPUT: "Standard output failed. What was done stands.",

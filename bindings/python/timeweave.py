@@ -5,7 +5,8 @@
     report = timeweave.verify(proof, anchors)       # bytes of a proof, lines of an anchors file; raises Rejected
     print(report.kind, report.events[0].data)
 
-The library is the file that the variable TIMEWEAVE_LIBRARY names; else that of this repository (`make lib`), else the installed one.
+The library is the file that the variable TIMEWEAVE_LIBRARY names; else that of the repository (`make lib`) or of the `make install` to which
+this file belongs; else the one that the system has. A copy of this file in another folder takes none that lies around it.
 What the library answers is proved; this file, which hands bytes to it and takes its text apart, is tested alone.
 """
 
@@ -17,7 +18,9 @@ from typing import Any, Callable, Dict, List, NoReturn, Optional, Tuple, Union
 
 ACCEPTED, REJECTED, NO_MEMORY, UNREADABLE = 0, 1, 6, 9
 BAD_ANCHORS = UNREADABLE
-BUILT = Path(__file__).resolve().parents[2] / "lib/libtimeweave.so"
+HERE = Path(__file__).resolve().parent
+# The last two folders of a place that this file may belong to, and what else lies there then.
+PLACES = {("bindings", "python"): "crates.txt", ("share", "timeweave"): "share/timeweave/weft/__init__.py"}
 FIRST_ROOM = 1024
 DENIED = "Denied"
 """The rule whose lines have none of its name: that a received thread wasn't received."""
@@ -430,10 +433,18 @@ class Library:
 LOADED: List[Library] = []
 
 
+def library_of(folder: Path) -> Optional[Path]:
+    """The library of the repository or of the installation of which a folder has this file; None of another folder, whoever put what around it."""
+    mark = PLACES.get((folder.parent.name, folder.name))
+    top = folder.parent.parent
+    path = top / "lib/libtimeweave.so"
+    return path if mark is not None and (top / mark).is_file() and path.is_file() else None
+
+
 def library() -> Library:
     """The library, loaded once."""
     if not LOADED:
-        LOADED.append(Library(os.environ.get("TIMEWEAVE_LIBRARY") or (BUILT if BUILT.exists() else "libtimeweave.so.1")))
+        LOADED.append(Library(os.environ.get("TIMEWEAVE_LIBRARY") or library_of(HERE) or "libtimeweave.so.1"))
     return LOADED[0]
 
 

@@ -61,6 +61,34 @@ export function contradicted(own, sent) {
     return others.map((line) => ({ service: line.service, step: line.step, lines: [[...mine.get(keyOf(line)).values()][0], line] }));
 }
 
+/** The lines of yours that count beside what files tell: of a step of which you chose one that one alone, of every other step all. */
+export function linesThatCount(own, chosen) {
+    const mine = groups(own);
+    const wanted = (line) => (mine.get(keyOf(line)).has(chosen.get(keyOf(line))) ? chosen.get(keyOf(line)) : line.authenticator);
+    return own.filter((line) => line.authenticator === wanted(line));
+}
+
+/** What a line that a file tells is to the lines that count: where one of its step differs `another one`, else where there is one `the same`, or `none`. */
+export function heldAs(told, counting) {
+    const held = counting.filter((line) => keyOf(line) === keyOf(told));
+    if (!held.length) return "none";
+    return held.some(({ authenticator }) => authenticator !== told.authenticator) ? "another one" : "the same";
+}
+
+/**
+ * Of one step there is one line: of `told`, lists of a place and a line, the places that tell another one than the first that told one of that step, each
+ * pair once: {first, second, one, other}.
+ */
+export function twoLines(told) {
+    const firsts = new Map(), found = new Map();
+    for (const [place, line] of told) {
+        if (!firsts.has(keyOf(line))) firsts.set(keyOf(line), { place, line });
+        const { place: first, line: one } = firsts.get(keyOf(line)), pair = `${first} ${place}`;
+        if (one.authenticator !== line.authenticator && !found.has(pair)) found.set(pair, { first, second: place, one, other: line });
+    }
+    return [...found.values()];
+}
+
 /** The anchors file of these lines. */
 export const anchorsText = (lines) => lines.map(({ service, step, authenticator }) => `${service} ${step} ${authenticator}\n`).join("");
 

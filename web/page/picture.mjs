@@ -3,7 +3,8 @@
  * line, later steps to the right; else as a list, later steps below, with the services' lines at its side.
  */
 
-import { eventWords, heldAs, timeWords } from "./words.mjs";
+import { heldAs } from "./lines.mjs";
+import { eventWords, timeWords } from "./words.mjs";
 
 const placeKey = ([service, step]) => `${service} ${step}`;
 
@@ -35,7 +36,7 @@ export function drawing(report, anchors, own = []) {
     }
     if (report.received) {
         const { service, step, thread, archived } = report.received;
-        arrow(thread, { service, step: archived }, heldAs(thread, own) === "same" ? "bound" : "carried");
+        arrow(thread, { service, step: archived }, heldAs(thread, own) === "the same" ? "bound" : "carried");
         point(service, archived).says.push(`received step ${thread.step} of ${thread.service}`);
         point(service, step);
     }
@@ -54,7 +55,7 @@ export function drawing(report, anchors, own = []) {
         if (high === undefined) point(peer, upto).says.push(`has received neither step ${step} of ${service} nor a later one so far`);
     }
     for (const { thread, by, archived } of report.fork ? [report.fork.first, report.fork.second] : []) {
-        arrow(thread, { service: by, step: archived }, heldAs(thread, own) === "same" ? "bound" : "carried");
+        arrow(thread, { service: by, step: archived }, heldAs(thread, own) === "the same" ? "bound" : "carried");
         point(thread.service, thread.step).says.push(`the line ${thread.authenticator.slice(0, 16)}…`);
         point(by, archived).says.push(`received step ${thread.step} of ${thread.service}`);
     }

@@ -2,7 +2,8 @@
 
 import { ACCEPTED, MOST_BYTES, readBounds, readContradiction, readFork, readReport } from "../timeweave.mjs";
 import { isLink, kindOf, mapOf } from "./files.mjs";
-import { anchorsText, askedFor, chooseLines, contradicted, contradictions, pickBy, readLines } from "./lines.mjs";
+import { anchorsText, askedFor, chooseLines, contradicted, contradictions, linesThatCount, pickBy, readLines, twoLines } from "./lines.mjs";
+import { toldLines } from "./words.mjs";
 
 /** Where a file was put: among what was sent, or among the lines got another way. */
 export const SENT = "sent";
@@ -117,7 +118,7 @@ export class Session {
      * `lacks` where the module has no such function, or the `fault` of a trap.
      */
     judge(timeweave, subject) {
-        const { call, files } = subject, own = this.linesAt(OWN), judged = { ...subject, file: files[0], own, anchors: [] };
+        const { call, files } = subject, own = this.linesAt(OWN), judged = { ...subject, file: files[0], own: linesThatCount(own, this.chosen), anchors: [] };
         if (!timeweave.has(call)) return { ...judged, lacks: true };
         if (subject.isAlone) return judged;
         const pick = pickBy({ own, sent: this.linesAt(SENT), counted: this.counted, chosen: this.chosen }), bytes = files.map((file) => file.bytes);
@@ -133,8 +134,16 @@ export class Session {
         }
     }
 
-    /** Accepted files that contradict each other on what a service received, as the verifier says of each two: {first, second, told, anchors}. */
+    /** Accepted files that contradict each other: that tell two lines of one step, {first, second, two}, and those of which the verifier says so. */
     conflicts(timeweave, judgements) {
+        const accepted = judgements.filter(({ report }) => report);
+        const told = accepted.flatMap(({ report, anchors }, place) => [...anchors, ...toldLines(report)].map((line) => [place, line]));
+        const found = twoLines(told).map((two) => ({ first: accepted[two.first].file, second: accepted[two.second].file, two, anchors: [] }));
+        return [...found, ...this.brokenRules(timeweave, judgements)];
+    }
+
+    /** Accepted files that contradict each other on what a service received, as the verifier says of each two: {first, second, told, anchors}. */
+    brokenRules(timeweave, judgements) {
         if (!timeweave.has("timeweave_contradict")) return [];
         const shows = ({ report }) => report && ["thread", "absent", "map"].includes(report.kind), found = [];
         const each = judgements.filter(shows).flatMap(({ files, anchors }) => files.map((file) => ({ file, anchors }))).slice(0, MOST_COMPARED);

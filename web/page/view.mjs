@@ -2,11 +2,12 @@
 
 import { ACCEPTED, BAD_ANCHORS, NO_MEMORY } from "../timeweave.mjs";
 import { mapOf, sizeText } from "./files.mjs";
+import { heldAs } from "./lines.mjs";
 import { asLines, asList, drawing, isShownAsLines, legendOf, pointWords } from "./picture.mjs";
 import { OWN, SENT } from "./session.mjs";
 import {
     Foreign, Sentence, TOO_MANY_LINES, WITHOUT_MEMORY, aloneWords, carriedNotes, conflictWords, escaped, eventWords, faultWords, forkNotes, hexOf, lacksWords, mapNotes, mapReasonWords, missingWords, reasonWords,
-    said, shownLineNotes, shownSentence, shownText, strictSentence, timeNote,
+    otherLineWords, said, shownLineNotes, shownSentence, shownText, strictSentence, timeNote, toldLines, twoLinesWords,
 } from "./words.mjs";
 
 const MOST_LISTED = 20;
@@ -120,6 +121,8 @@ export function headOf(judged) {
     if (answer.status === BAD_ANCHORS && answer.text.startsWith("unreadable anchors")) return { ...open, ...TOO_MANY_LINES };
     const why = call === "timeweave_checkmap" ? mapReasonWords : reasonWords;
     if (answer.status !== ACCEPTED) return { look: "no", title: "Rejected", ...why(answer.text, file.size) };
+    const other = toldLines(report).find((line) => heldAs(line, own) === "another one");
+    if (other) return { look: "no", title: "Two lines", ...otherLineWords(other) };
     const sentence = shownSentence(report, anchors), isSenders = anchors.some(({ from }) => from.isSender);
     if (isSenders) return { look: "partly", title: "Accepted, by the sender's own lines", sentence };
     if (report.carried.length) return { look: "partly", title: "Accepted, but in part on somebody's word", sentence };
@@ -180,13 +183,17 @@ function exactTexts({ answer, strict }) {
 /** The names and sizes of files, in words. */
 const namesOf = (files) => files.flatMap((file, at) => [at ? " and " : "", foreign(file.name), ` · ${sizeText(file.size)}`]);
 
+/** What is said of two accepted files that contradict each other. */
+const bothWords = ({ two, told }) => (two ? twoLinesWords(two) : conflictWords(told));
+
 /** The article of two accepted files that contradict each other. */
-export function conflictArticle({ first, second, told, anchors }) {
-    const { sentence, todo } = conflictWords(told);
+export function conflictArticle({ first, second, two, told, anchors }) {
+    const { sentence, todo } = bothWords({ two, told }), files = first === second ? [first] : [first, second];
+    const title = two ? "Two lines of one step in accepted files" : "Two accepted files contradict each other";
     return element("article", { className: "verdict no" },
         element("header", {},
-            element("h3", {}, element("span", { ariaHidden: "true" }, `${MARKS.no} `), "Two accepted files contradict each other"),
-            element("p", {}, ...namesOf([first, second]))),
+            element("h3", {}, element("span", { ariaHidden: "true" }, `${MARKS.no} `), title),
+            element("p", {}, ...namesOf(files))),
         element("p", { className: "sentence" }, sentence),
         element("p", {}, element("b", {}, "What to do: "), todo),
         ...countingLines({ anchors }),
@@ -207,7 +214,8 @@ export function verdictArticle(judged, { room, onCount }) {
         ...(report ? notes(notesOf(judged)) : []),
         ...section("On whose word it rests", ...notes(carried), ...(carried.length ? [element("p", { className: "soft" },
             "What is carried so is bound by no line that counts. Ask for the same proof with links under lines that you hold.")] : [])),
-        ...(report ? [figure(judged, room), ...wholeEvents(report)] : []),
+        ...(report && look !== "no" ? [figure(judged, room)] : []),
+        ...(report ? wholeEvents(report) : []),
         ...countingLines(judged),
         ...exactTexts(judged));
 }
@@ -215,7 +223,7 @@ export function verdictArticle(judged, { room, onCount }) {
 /** What is said of all verdicts to those who don't see them. */
 export function summaryWords(judgements, conflicts = []) {
     const told = judgements.map((judged) => said`${headOf(judged).title}: ${headOf(judged).sentence} (File ${new Foreign(judged.file.name)}.)`);
-    const both = ({ first, second, told: it }) => said`Two files contradict each other: ${conflictWords(it).sentence} (Files ${new Foreign(first.name)} and ${new Foreign(second.name)}.)`;
+    const both = ({ first, second, ...it }) => said`Two files contradict each other: ${bothWords(it).sentence} (Files ${new Foreign(first.name)} and ${new Foreign(second.name)}.)`;
     return [...told, ...conflicts.map(both)].join(" ");
 }
 

@@ -1,5 +1,7 @@
 /** What the page says: sentences, made of the proved text and of the lines that count alone. */
 
+import { heldAs } from "./lines.mjs";
+
 const LAST_DATE = 253402300799;
 
 /** The text of bytes where they are one that can be shown as it is: UTF-8 without characters that control how others look; else null. */
@@ -138,12 +140,24 @@ export function shownSentence(report, anchors) {
     return SHOWN[report.kind](report, anchors.at(0)?.step);
 }
 
-/** Whether you hold a line of a thread: the `same`, `another` one of that service and step, or `none`. */
-export function heldAs(thread, own) {
-    const mine = own.filter(({ service, step }) => service === thread.service && step === thread.step);
-    if (!mine.length) return "none";
-    return mine.some(({ authenticator }) => authenticator === thread.authenticator) ? "same" : "another";
-}
+/** The lines of other steps that an accepted report tells: that of a received thread or of a link, and those that are carried. */
+export const toldLines = (report) => [report.received?.thread ?? report.link?.thread, ...report.carried].filter((it) => it !== undefined);
+
+const KEEP_BOTH = ({ service }) => `Keep what you were sent and both lines, and show them to others who hold lines of ${service}: which of both do they have? Ask ${service} too.`;
+
+/** What is said of an accepted file that tells another line of a step than one of yours. */
+export const otherLineWords = (line) => ({
+    sentence: `The line of step ${line.step} of ${line.service} that you hold is another one than ${line.authenticator.slice(0, 16)}… of this file: `
+        + `${line.service} has shown two histories, or one of both isn't its own.`,
+    todo: KEEP_BOTH(line),
+});
+
+/** What is said of accepted files that tell two lines of one step, or of one file that does. */
+export const twoLinesWords = ({ one, other }) => ({
+    sentence: `Of step ${one.step} of ${one.service} the one tells ${one.authenticator.slice(0, 16)}…, and the other ${other.authenticator.slice(0, 16)}…: `
+        + `${one.service} has shown two histories, or one of both isn't its own.`,
+    todo: KEEP_BOTH(one),
+});
 
 /** Who alone says that a carried thread is right: the service that received it. */
 const receiverOf = ({ hops }, { service, step }) => hops.find((hop) => hop.service === service && hop.step === step).by;
@@ -153,7 +167,7 @@ export function carriedNotes(report, own) {
     return report.carried.map((thread) => {
         const by = receiverOf(report, thread), step = `step ${thread.step} of ${thread.service}`, held = heldAs(thread, own);
         if (held === "none") return `Only ${by} says that ${step} was so. It could have made that up.`;
-        if (held === "same") return `${by} received the very line of ${step} that you hold.`;
+        if (held === "the same") return `${by} received the very line of ${step} that you hold.`;
         return `${by} received another line of ${step} than you hold: one of both is false, or ${thread.service} has shown two histories.`;
     });
 }
@@ -173,7 +187,7 @@ export function shownLineNotes(report, own) {
     const told = `The line is ${thread.service} ${thread.step} ${thread.authenticator}.`;
     const held = heldAs(thread, own);
     if (held === "none") return [report.received ? `${told} Whether ${thread.service} made it isn't shown.` : told];
-    if (held === "same") return [`${told} It is the one that you hold.`];
+    if (held === "the same") return [`${told} It is the one that you hold.`];
     return [`${told} You hold another one of that step: one of both is false, or ${thread.service} has shown two histories. Keep both.`];
 }
 

@@ -1,6 +1,7 @@
 import assert from "node:assert/strict";
+import { readFileSync } from "node:fs";
 import { test } from "node:test";
-import { anchorsText, chooseLines, contradicted, contradictions, pickBy, readLines } from "../page/lines.mjs";
+import { anchorsText, chooseLines, contradicted, contradictions, heldAs, linesThatCount, pickBy, readLines, twoLines } from "../page/lines.mjs";
 
 const A = "a".repeat(64), B = "b".repeat(64);
 const line = (service, step, authenticator = A) => ({ service, step, authenticator });
@@ -80,4 +81,24 @@ test("another answer of the verifier ends the choice", () => {
 test("a sender's line that contradicts one of yours is told beside it", () => {
     const own = [line("a", 2), line("a", 3)], sent = [line("a", 2), line("a", 3, B), line("b", 1)];
     assert.deepEqual(contradicted(own, sent), [{ service: "a", step: 3, lines: [own[1], sent[1]] }]);
+});
+
+/** What weft's own tests say of lines that files tell: the page says the same. */
+const { beside, together } = JSON.parse(readFileSync(new URL("../../tests/deciding/held_lines.json", import.meta.url)));
+const tabled = (text) => ((words) => ({ service: words[0], step: Number(words[1]), authenticator: words[2].repeat(64) }))(text.split(" "));
+
+test("a line that a file tells is to yours what weft says that it is", () => {
+    for (const { told, yours, chosen, is } of beside) {
+        const choice = chosen && tabled(chosen), choices = new Map(choice ? [[`${choice.service} ${choice.step}`, choice.authenticator]] : []);
+        assert.equal(heldAs(tabled(told), linesThatCount(yours.map(tabled), choices)), is, JSON.stringify({ told, yours, chosen }));
+    }
+    const own = [line("a", 2), line("a", 2, B), line("a", 3)];
+    assert.deepEqual(linesThatCount(own, new Map([["a 2", B]])), [own[1], own[2]]);
+    assert.deepEqual(linesThatCount(own, new Map([["a 2", "c".repeat(64)]])), own);
+});
+
+test("files that tell two lines of one step are told as weft tells them", () => {
+    for (const { told, pairs } of together) {
+        assert.deepEqual(twoLines(told.map(([place, text]) => [place, tabled(text)])).map(({ first, second }) => [first, second]), pairs);
+    }
 });

@@ -3,6 +3,7 @@ import { readFileSync } from "node:fs";
 import { test } from "node:test";
 import { kindOf, sizeText } from "../page/files.mjs";
 import { OWN, SENT, Session, readFile, takeFile } from "../page/session.mjs";
+import { headOf, summaryWords } from "../page/view.mjs";
 
 const text = (given) => new TextEncoder().encode(given), line = `shop 2 ${"a".repeat(64)}\n`;
 const held = (name, bytes, place) => readFile({ name, size: bytes.length, bytes, place });
@@ -94,11 +95,51 @@ test("accepted files are held against each other, and a link joins their lines",
     const session = new Session(), told = (kind) => `accepted ${kind}\nthread bank 9 shop 2 ${"a".repeat(64)} 3\nabsent bank 4 shop 2\n`;
     const contradict = (first, lines, second, others, link) => (link.length ? told("broken-rule") : told("broken-rule-or-fork"));
     for (const file of [held("a", text("TWP1\u0003"), SENT), held("b", text("TWP1\u0004"), SENT)]) session.add(file);
-    const judged = session.files.map((file, at) => ({ files: [file], anchors: [], report: { kind: ["thread", "absent"][at] } }));
+    const judged = session.files.map((file, at) => ({ files: [file], anchors: [], report: { kind: ["thread", "absent"][at], carried: [] } }));
     const [found] = session.conflicts(verifier({ contradict }), judged);
     assert.deepEqual([found.first.name, found.second.name, found.told.isJoined, found.told.received.archived, found.told.absent.step], ["a", "b", false, 3, 4]);
     session.add(held("link", text("TWP1\u0005"), SENT));
     assert.equal(session.conflicts(verifier({ contradict }), judged)[0].told.isJoined, true);
     assert.deepEqual(session.conflicts(verifier({}), judged), []);
     assert.deepEqual(session.conflicts(verifier({ contradict: () => "rejected 11 NoConflict\n" }), judged), []);
+});
+
+const X = "a".repeat(64), Y = "b".repeat(64);
+/** A verifier of two files under lines of `bank` and of the last step of `shop`: a thread that tells X of step 1 of shop, and a link that tells Y. */
+const thread = `accepted thread\nthread bank 9 shop 1 ${X} 3\n`, link = `accepted link\nlink shop 1 4 ${Y}\n`;
+const askingFor = (wanted, told) => (file, anchors) => (anchors.includes(wanted) ? told : `rejected 3 NotHeld ${wanted}\n`);
+const ofKinds = (file, anchors) => (file[4] === 3 ? askingFor("bank 9", thread) : askingFor("shop 4", link))(file, anchors);
+const telling = verifier({ verify: ofKinds, strict: ofKinds });
+
+/** A session of these lines of yours and these kinds of proofs, with what is judged and said first of each. */
+function judgedUnder(lines, kinds, chosen = []) {
+    const session = new Session();
+    session.add(held("mine", text([`bank 9 ${X}`, `shop 4 ${X}`, ...lines].join("\n")), OWN));
+    for (const kind of kinds) session.add(held(`sent ${kind}`, text(`TWP1${String.fromCharCode(kind)}`), SENT));
+    for (const [key, authenticator] of chosen) session.chosen.set(key, authenticator);
+    const judged = session.subjects.map((it) => session.judge(telling, it));
+    return { judged, heads: judged.map(headOf), conflicts: session.conflicts(telling, judged) };
+}
+
+test("an accepted file that tells another line of a step than yours isn't called accepted", () => {
+    for (const [lines, look, title] of [[[], "yes", "Accepted"], [[`shop 1 ${X}`], "yes", "Accepted"], [[`shop 1 ${Y}`], "no", "Two lines"], [[`shop 1 ${X}`, `shop 1 ${Y}`], "no", "Two lines"]]) {
+        const [head] = judgedUnder(lines, [3]).heads;
+        assert.deepEqual([head.look, head.title], [look, title]);
+    }
+    const [head] = judgedUnder([`shop 1 ${Y}`], [3]).heads;
+    assert.match(head.sentence, /line of step 1 of shop that you hold is another one than aaaaaaaaaaaaaaaa… of this file/);
+});
+
+test("a line over which you chose another isn't called the one that you hold", () => {
+    const both = [`shop 1 ${X}`, `shop 1 ${Y}`], chose = (authenticator) => judgedUnder(both, [3], [["shop 1", authenticator]]);
+    assert.deepEqual([chose(X).heads[0].look, chose(Y).heads[0].look], ["yes", "no"]);
+    assert.deepEqual(chose(Y).judged[0].own.filter(({ step: at }) => at === 1).map(({ authenticator }) => authenticator), [Y]);
+});
+
+test("two accepted files that tell two lines of one step contradict each other, without a function for it too", () => {
+    const { heads, judged, conflicts } = judgedUnder([], [3, 5]);
+    assert.deepEqual(heads.map(({ look }) => look), ["yes", "yes"]);
+    assert.deepEqual(conflicts.map(({ first, second, two }) => [first.name, second.name, two.one.authenticator, two.other.authenticator]), [["sent 3", "sent 5", X, Y]]);
+    assert.match(summaryWords(judged, conflicts), /Two files contradict each other: Of step 1 of shop the one tells a{16}…, and the other b{16}…/);
+    assert.deepEqual(judgedUnder([], [3]).conflicts, []);
 });

@@ -184,6 +184,7 @@ def shown_line_differs(page):
     page.made.put("false.lines", page.made.lines["registry"] + other_line(page.made.lines["shop 2"]))
     page.fresh().give("sent", "thread.proof").give("own", "false.lines")
     page.says("You hold another one of that step", "two histories")
+    check(page.titles() == ["✘ Two lines"], str(page.titles()))
     page.made.put("true.lines", page.made.lines["registry"] + page.made.lines["shop 2"])
     page.fresh().give("sent", "thread.proof").give("own", "true.lines")
     page.says("It is the one that you hold")

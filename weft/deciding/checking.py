@@ -55,6 +55,27 @@ class Found(NamedTuple):
     disputed: int
 
 
+class EntryState(Enum):
+    """What was found of the entries of a store: it is none of a log; all are what it recorded, or were made anew; none stand beside it, though it has such as a
+    log makes; they differ; a run of weft log was stopped amid a step; or they weren't looked at."""
+
+    NONE = "none"
+    GOOD = "good"
+    MADE = "made anew"
+    MISSING = "missing"
+    DIFFERING = "differing"
+    AMID_A_STEP = "amid a step"
+    UNSEEN = "not looked at"
+
+
+def judge_entries(found: EntryState) -> Status:
+    """Entries that differ from what the store recorded are as a damaged store (8); lost ones, and such as a stopped run left, need a look (10); what wasn't
+    looked at is told with what else wasn't."""
+    if found is EntryState.DIFFERING:
+        return Status.BAD_STORE
+    return Status.LOOK if found in (EntryState.MISSING, EntryState.AMID_A_STEP) else Status.DONE
+
+
 def list_unseen(looked: Looked) -> list[str]:
     """What wasn't looked at, as parts of a sentence: nothing where the whole history was exported; else each event that wasn't proved,
     and the archive of received threads, unless it is known to have none. Of a damaged store nothing is listed: that it is damaged is

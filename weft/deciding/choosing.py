@@ -152,6 +152,12 @@ def choose_headline(is_accepted: bool, carried: int, is_unjudged: bool, is_contr
     return Headline.SHOWN if is_accepted else Headline.NOT_SHOWN
 
 
+def choose_headline_unheld(found: Headline) -> Headline:
+    """Where a file is to be held against another one, and that can't be read, it isn't judged: it is never called shown, not in part either. What isn't shown
+    without that stays so."""
+    return found if found is Headline.NOT_SHOWN else Headline.NOT_JUDGED
+
+
 def choose_history_headline(extent: Extent) -> Headline:
     """A history is shown as far as is asked, shown in part up to an earlier step, not judged where no line binds it, and not shown where
     one differs."""

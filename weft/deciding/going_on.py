@@ -1,13 +1,17 @@
-"""When a log goes on in a new part, under which name, what shows that a part is the next one, and that none is missing."""
+"""When a service goes on in a new part, under which name, what shows that a part is the next one, and that none is missing."""
 
 from __future__ import annotations
 
+import re
+from enum import Enum
 from typing import Collection, NamedTuple, Optional, Sequence
 
 from weft.deciding.lines import Line, may_take_name
 
 GOES_ON = b"goes on as "
 MOST_NAME = 16
+END = re.compile("-[1-9][0-9]{0,5}")
+FOLDER = re.compile("part-[1-9][0-9]{0,5}")
 
 
 class Joint(NamedTuple):
@@ -22,7 +26,7 @@ class Joint(NamedTuple):
 
 class Making(NamedTuple):
     """What is noted of a part that is being made, its number and name; how many parts of the log there are; the name in the last step of the part before it,
-    proved; how many steps it has itself, and whether lines stand beside it."""
+    proved; how many steps it has itself, and whether lines stand beside it; and whether it is noted beside the first part that it was made."""
 
     number: int
     name: str
@@ -30,6 +34,7 @@ class Making(NamedTuple):
     named: Optional[str]
     steps: int
     has_lines: bool
+    is_noted: bool
 
 
 def naming_event(name: str) -> bytes:
@@ -53,8 +58,21 @@ def is_next(joint: Joint) -> bool:
 
 def is_being_made(it: Making) -> bool:
     """A part is being made where it is the one behind the last part, or the last one itself, where the part before it names it, and where it has its first
-    step at most and no line beside it. Any other note of one is an old or a false one: a part that is there, or was, isn't made."""
-    return it.number > 1 and it.number in (it.parts, it.parts + 1) and it.named == it.name and it.steps <= 1 and not it.has_lines
+    step at most, no line beside it, and isn't noted as made. Any other note of one is an old or a false one: a part that is there, or was, isn't made."""
+    is_made = it.steps > 1 or it.has_lines or it.is_noted
+    return it.number > 1 and it.number in (it.parts, it.parts + 1) and it.named == it.name and not is_made
+
+
+def is_folder_of_part(name: str, has_store_above: bool) -> bool:
+    """A folder that is called as a part, in one that has a store, is that of a part: nothing is made there by itself, since the whole log has one lock and one
+    set of entries."""
+    return has_store_above and FOLDER.fullmatch(name) is not None
+
+
+def is_name_of_other(steps: Collection[int]) -> bool:
+    """A name is another service's where its user keeps a line of such a step of that name, and no store of his own has it: no service is made under it. The
+    line of step 0 follows from the name, and says nothing."""
+    return any(step > 0 for step in steps)
 
 
 def find_missing_part(names: Collection[str], handed_out: Sequence[Line]) -> Optional[Line]:
@@ -71,6 +89,37 @@ def next_name(first: str, number: int, taken: Collection[str]) -> str:
         if name not in taken:
             return name
         number += 1
+
+
+def is_name_of_part(first: str, name: str) -> bool:
+    """A part can only have a name that `next_name` makes of the first one's: so no peer takes, by naming a part, a name that isn't its own to take. That it
+    can have it doesn't show that it is the part."""
+    end = name[name.rfind("-") :] if "-" in name else ""
+    return END.fullmatch(end) is not None and end != "-1" and name == first[: MOST_NAME - len(end)] + end
+
+
+class Fault(Enum):
+    """Why a name isn't that of the part in which a peer goes on."""
+
+    UNNAMED = "its last line names none"
+    FOREIGN = "a part of it can't have the name"
+    TAKEN = "another service has the name"
+
+
+def weigh_name(named: Optional[str], first: str, taken: Collection[str]) -> Optional[Fault]:
+    """What a peer's last step names is looked for only under a name that a part of it can have and that nobody else has here: so no peer takes the name of
+    another one, or of the service itself."""
+    if named is None:
+        return Fault.UNNAMED
+    if not is_name_of_part(first, named):
+        return Fault.FOREIGN
+    return Fault.TAKEN if named in taken else None
+
+
+def is_behind_end(end: Line, line: Line) -> bool:
+    """A signed line of a part that has ended is told where it is behind its last one: somebody else has the key, or it went on beside the part that it named.
+    It is never taken up, whatever it names."""
+    return line.step > end.step
 
 
 def must_go_on(size: int, added: int, most: int) -> bool:

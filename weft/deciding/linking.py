@@ -108,9 +108,9 @@ def list_loose(handed_on: Sequence[Sequence[Line]], joined: Collection[Line], op
     found: dict[Line, None] = {}
     for rank in range(max(map(len, ordered), default=0)):
         for lines in ordered:
-            if rank < len(lines) and may_ask(lines[rank], joined, opened):
+            if rank < len(lines):
                 found[lines[rank]] = None
-    return list(found)[:MOST_TRIED]
+    return [line for line in found if may_ask(line, joined, opened)][:MOST_TRIED]
 
 
 def count_night(found: Open, is_heard: bool, limit: int) -> Open:

@@ -6,10 +6,12 @@ lines is of another history, and, where the store or its box may come from a bac
 How these functions, `weft.own`, `weft log` and `weft exchange` go together:
 
 1. `SERVICE.lines` and `SERVICE.anchor` have the lines of the service's own; `SERVICE.look` stands there while a look goes on, and has the
-   moment when it began, in seconds since 1970 (`OwnLines.look_since`, `begin_look`, `end_look`). While it is there `weft log` makes no
-   step and ends with 17.
+   moment when it began, in seconds since 1970 (`OwnLines.begun_look`, `begin_look`, `end_look`), which file it is, and which one the
+   note of the box is, which is made anew then. While it is there `weft log` makes no step and ends with 17.
 2. At its end each turn of `weft exchange` that made no mistake notes the moment in its box. At its beginning the turn asks `must_look`;
-   where the answer is yes and no look goes on, it begins one. `weft exchange --look` begins one anew.
+   where the answer is yes and no look goes on, it begins one (`when_begun`). `weft exchange --look` begins one anew, and so does a turn
+   that finds by `must_begin_anew` that the clock stood otherwise when the last one began, or by `is_look_copied` that a backup was put
+   back since.
 3. The turn reads from each peer of the box (but those of --despite) the lines of this service that are signed by its own key, whoever
    handed them on. They are handed to `judge_turn` as `Told`, those of the files beside the store first; in a box that takes unsigned
    messages so is what an accepted peer says without a signature. Of each accepted peer it hands in a `Word`: when its last word came,
@@ -36,7 +38,7 @@ from __future__ import annotations
 
 import re
 from enum import Enum
-from typing import Mapping, NamedTuple, Optional, Sequence
+from typing import Iterable, Mapping, NamedTuple, Optional, Sequence
 
 from weft.deciding.lines import Line, read_line
 
@@ -45,6 +47,7 @@ OPEN_BOX = re.compile(r"open ([0-9]{1,15}) (.*)")
 IDENTITY = re.compile(r"([0-9]{1,20}\.[0-9]{1,10})(?:\.([0-9]{1,12}))?")
 # So many seconds after it was made a seal may have been changed for the last time, where its file system tells no generation.
 MOST_WRITING = 60
+LOOK = re.compile(r"([0-9]{1,15})(?: (\S+) (\S+))?\n?")
 DAY = 86_400
 LONG_AGO = 26 * 3_600
 
@@ -66,6 +69,22 @@ class Word(NamedTuple):
     claims: tuple[Line, ...] = ()
     handed_back: int = 0
     recorded: int = 0
+
+
+class Look(NamedTuple):
+    """That peers' words are waited for: since when, the moment that it is now, both in seconds since 1970, and how long behind the beginning a word counts."""
+
+    since: int
+    now: int
+    settled: int = DAY
+
+
+class Begun(NamedTuple):
+    """A look that goes on, as its file tells it: since when, in seconds since 1970; which file that is; and which one the note of the box was."""
+
+    since: int
+    identity: str
+    note: str
 
 
 class Go(Enum):
@@ -94,11 +113,20 @@ class Beside(NamedTuple):
 
 
 class Seal(NamedTuple):
-    """What says that files are where they were written, and no copy: which file it is that says so; and the last line that was noted
-    then."""
+    """What says that files are where they were written, and no copy: which file it is that says so; the last line that was noted
+    then; and where a log has parts, beside the first one, the first line of the part that was made last."""
 
     identity: str
     line: Line
+    part: Optional[Line] = None
+
+
+class Likeness(Enum):
+    """What a file is to the one that was sealed: the same; one of its number that was changed since, where the file system tells no more; or another."""
+
+    SAME = "same"
+    CHANGED = "changed"
+    OTHER = "other"
 
 
 class Missing(Enum):
@@ -136,12 +164,46 @@ def find_lacking(last: Line, proved: Mapping[int, Line], told: Sequence[Told]) -
     return None
 
 
+def find_of_other_part(last: Line, told: Sequence[Told]) -> Optional[Told]:
+    """Of another part than the last one a line is told only where that part lacks it, or isn't there: the first such line is lacking."""
+    return next((it for it in told if it.line.service != last.service), None)
+
+
 def must_look(is_asked: bool, last_turn: Optional[int], now: int) -> bool:
     """Peers' words have to be waited for where a person asks for it, and where the box's last turn is more than 26 hours ago, or lies
     ahead: then the box or the store may come from a backup. A box without a turn has nothing to be old."""
     if is_asked:
         return True
     return last_turn is not None and not 0 <= now - last_turn <= LONG_AGO
+
+
+def when_begun(now: int, came: Iterable[Optional[int]]) -> int:
+    """A look begins now, or where a word that lies there already came later, at the latest of these moments: the clock was set back since, and what lies there
+    may have been said before."""
+    return max([now, *(it for it in came if it is not None)])
+
+
+def must_begin_anew(since: int, last_turn: Optional[int], now: int) -> bool:
+    """A look is begun anew where its moment lies ahead, or before the box's last turn, which doesn't lie ahead itself: the clock stood otherwise when it was
+    noted, so no time since tells anything."""
+    return since > now or (last_turn is not None and since < last_turn <= now)
+
+
+def write_look(begun: Begun) -> str:
+    """What the file of a look says."""
+    return f"{begun.since} {begun.identity} {begun.note}\n"
+
+
+def read_look(text: str) -> Optional[Begun]:
+    """The file of a look has a moment, and behind it two files; where it names none, it is taken for a copy."""
+    found = LOOK.fullmatch(text)
+    return Begun(int(found[1]), found[2] or "", found[3] or "") if found else None
+
+
+def is_look_copied(begun: Begun, identity: Optional[str], note: str) -> bool:
+    """A look has to begin anew where its file, or the note of its box, isn't the very one that it names: that was put back since it began, so what lies in the
+    box may have been said before."""
+    return compare_file(begun.identity, identity) is not Likeness.SAME or compare_note(begun.note, note) is not Likeness.SAME
 
 
 def write_open(turn: int, identity: str) -> str:
@@ -155,57 +217,67 @@ def is_box_copied(seal: Optional[str], turn: int, identity: str) -> bool:
     if seal is None:
         return identity != NO_NOTE
     found = OPEN_BOX.fullmatch(seal)
-    return seal != identity if found is None else found[2] != identity and int(found[1]) + 1 != turn
+    if compare_note(seal, identity) is Likeness.SAME:
+        return False
+    return found is None or int(found[1]) + 1 != turn
 
 
-def has_come(word: Word, since: int, settled: int = DAY) -> bool:
-    """A peer's word has come where its file came a day or more after the look began, since what came sooner may have been said before; and
-    where it hands back no older line than it is known to have recorded. (Whoever carries it can bring a word once more that was said
-    before: that is seen by nobody.)"""
-    return word.came is not None and word.came >= since + settled and word.handed_back >= word.recorded
+def compare_note(seal: str, identity: str) -> Likeness:
+    """A box's note is the one that the seal names as a sealed file is; where there was none it is the same as long as there is none."""
+    found = OPEN_BOX.fullmatch(seal)
+    sealed = seal if found is None else found[2]
+    return Likeness.SAME if sealed == identity == NO_NOTE else compare_file(sealed, identity)
+
+
+def has_come(word: Word, look: Look) -> bool:
+    """A peer's word has come where its file came a day or more after the look began, since what came sooner may have been said before, and
+    not later than now, when the clock stood otherwise; and where it hands back no older line than it is known to have recorded. (Whoever
+    carries it can bring a word once more that was said before: that is seen by nobody.)"""
+    return word.came is not None and look.since + look.settled <= word.came <= look.now and word.handed_back >= word.recorded
 
 
 def find_claim(last: Line, proved: Mapping[int, Line], word: Word) -> Optional[Line]:
     """The first line that a peer claims without a signature and that the store lacks. While a look goes on it keeps it open: whoever can
     make it up can hold the peer's word back as well. Else it stops nothing."""
-    found = find_lacking(last, proved, [Told(line, "") for line in word.claims])
+    claims = [Told(line, "") for line in word.claims]
+    found = find_lacking(last, proved, claims) or find_of_other_part(last, claims)
     return found.line if found else None
 
 
-def judge_turn(
-    last: Line, proved: Mapping[int, Line], told: Sequence[Told], words: Sequence[Word], since: Optional[int], settled: int = DAY
-) -> Answer:
-    """A turn goes on where the store lacks no line that is told of it and, while a look goes on (since that moment), each peer's word
-    has come and claims none that it lacks. A line that is told counts at once, whenever it came."""
-    lacking = find_lacking(last, proved, told)
+def judge_turn(last: Line, proved: Mapping[int, Line], told: Sequence[Told], words: Sequence[Word], look: Optional[Look]) -> Answer:
+    """A turn goes on where the store lacks no line that is told of it and, while a look goes on, each peer's word has come and claims none
+    that it lacks. A line that is told counts at once, whenever it came."""
+    lacking = find_lacking(last, proved, told) or find_of_other_part(last, told)
     if lacking is not None:
         return Answer(Go.OLD, lacking)
-    if since is None:
+    if look is None:
         return Answer(Go.ON)
-    waiting = tuple(word.peer for word in words if not has_come(word, since, settled) or find_claim(last, proved, word) is not None)
+    waiting = tuple(word.peer for word in words if not has_come(word, look) or find_claim(last, proved, word) is not None)
     return Answer(Go.WAIT, None, waiting) if waiting else Answer(Go.ON)
 
 
 def read_seal(text: str) -> Optional[Seal]:
-    """A seal is the identity of a file and a line; what is none says nothing."""
-    identity, _, line = text.removesuffix("\n").partition(" ")
+    """A seal is the identity of a file and a line, and perhaps one line more, of a part; what is none says nothing."""
+    first, _, part = text.removesuffix("\n").partition("\n")
+    identity, _, line = first.partition(" ")
     found = read_line(line)
-    return Seal(identity, found) if IDENTITY.fullmatch(identity) and found is not None else None
+    return Seal(identity, found, read_line(part)) if IDENTITY.fullmatch(identity) and found is not None else None
 
 
-def is_same_file(sealed: str, found: Optional[str]) -> bool:
+def compare_file(sealed: str, found: Optional[str]) -> Likeness:
     """A file is the sealed one where it has its number and generation. Where no generation is told, a number may be given to another file:
-    so it mustn't have been changed a minute or more after the seal was made, as a copy of that number was."""
+    so it mustn't have been changed a minute or more after the seal was made, as a copy of that number was, and as `chmod` and a further link
+    change it too."""
     before, now = IDENTITY.fullmatch(sealed), IDENTITY.fullmatch(found or "")
     if before is None or now is None or before[1] != now[1]:
-        return False
-    return 0 <= int(now[2] or 0) - int(before[2] or 0) <= MOST_WRITING
+        return Likeness.OTHER
+    return Likeness.SAME if 0 <= int(now[2] or 0) - int(before[2] or 0) <= MOST_WRITING else Likeness.CHANGED
 
 
 def is_copied(last: Line, seal: Optional[Seal], identity: Optional[str]) -> bool:
     """A store with steps is a copy where no seal stands beside it, or one that isn't the very file that it names. Whether it is an old one
     nothing beside it can tell then."""
-    return last.step > 0 and (seal is None or not is_same_file(seal.identity, identity))
+    return last.step > 0 and (seal is None or compare_file(seal.identity, identity) is not Likeness.SAME)
 
 
 def find_missing(last: Line, beside: Beside) -> Missing:

@@ -7,6 +7,8 @@ import hashlib
 from itertools import chain, islice, zip_longest
 from typing import Collection, Optional, Sequence, TypeVar
 
+from weft.deciding.lines import Line
+
 Handed = TypeVar("Handed")
 
 
@@ -38,13 +40,30 @@ def move_cursor(cursor: int, count: int, room: int, turn: int) -> int:
 def order_lines(lines: Sequence[Sequence[Handed]], room: int) -> list[Handed]:
     """Of lists of lines, each with its newest first, first the newest of each is handed on, then the second of each, and so on, as long as there is room."""
     rows: chain[Optional[Handed]] = chain.from_iterable(zip_longest(*lines))
-    return [it for it in rows if it is not None][:room]
+    return list(islice((it for it in rows if it is not None), room))
 
 
-def is_first_hand(teller: str, parties: Collection[str]) -> bool:
-    """A receipt that was heard is handed on where one of both whom it is of told it, the recorder or the service that was recorded. So each goes round once,
-    to the peers of their peers, and one that somebody has made up for others ends where it was heard."""
-    return teller in parties
+def choose_handed_back(taken: Optional[Line], signed: Optional[Line]) -> Optional[Line]:
+    """A peer is handed back the later one of its line that was recorded and of its latest one that is held with a good signature: of that the message may have been
+    lost on its way, and a store that was put back before it would make that step a second time."""
+    if taken is None or signed is None:
+        return taken or signed
+    return signed if signed.step > taken.step else taken
+
+
+def place_end(lines: Sequence[Handed], end: Optional[Handed], turn: int) -> list[Handed]:
+    """The line by which the part before ended is handed on behind the newest one of a peer, and in each fourth turn before it, so that it goes round too where
+    each peer has room for one: by it a service is found that ends in two ways."""
+    if end is None:
+        return list(lines)
+    place = 0 if turn % 4 == 3 else 1
+    return [*lines[:place], end, *lines[place:]]
+
+
+def is_first_hand(tellers: Collection[str], parties: Collection[str]) -> bool:
+    """A receipt that was heard is handed on where one of both whom it is of told it, the recorder or the service that was recorded, each by all names of its
+    parts. So each goes round once, to the peers of their peers, and one that somebody has made up for others ends where it was heard."""
+    return any(teller in parties for teller in tellers)
 
 
 def choose_receipts(known: Sequence[Handed], told: Collection[Handed], room: int) -> list[Handed]:

@@ -19,6 +19,8 @@ BEGIN, END = b"-----BEGIN SSH SIGNATURE-----", b"-----END SSH SIGNATURE-----"
 ARMOUR = re.compile(BEGIN + rb"\n(?:[A-Za-z0-9+/=]{1,128}\n)+" + END + rb"\n")
 NAMESPACES = re.compile(rb'namespaces="([^"]*)"')
 SIGNED_BY = re.compile(r"signed by \S+ (SHA256:[A-Za-z0-9+/]{43})(?![A-Za-z0-9+/])")
+GOOD_BY = re.compile(rb"with (\S+) key (SHA256:\S+)")
+NOT_VERIFIED, NOT_GOOD = 255, b"Could not verify signature."
 MOST_BYTES = 65_536
 KEY_KINDS = (
     b"ssh-ed25519", b"ssh-rsa", b"ecdsa-sha2-nistp256", b"ecdsa-sha2-nistp384", b"ecdsa-sha2-nistp521", b"sk-ssh-ed25519@openssh.com",
@@ -77,6 +79,22 @@ def read_signed_lines(data: bytes, services: Optional[Iterable[str]] = None) -> 
 def cut_torn(data: bytes) -> bytes:
     """Of a file of signed lines, one after another, what stands up to the end of the last one that was written whole."""
     return data[: data.rfind(END + b"\n") + len(END) + 1] if END + b"\n" in data else b""
+
+
+class Check(NamedTuple):
+    """What ssh-keygen told of a signature: whether it is good, None where nothing is known, since it couldn't check it; and where it is, by which key."""
+
+    is_good: Optional[bool]
+    key: str = ""
+
+
+def read_check(status: int, told: bytes) -> Check:
+    """A signature is good where ssh-keygen ends with 0 and names the key; it isn't where it ends with 255 and says that it couldn't verify it; after another
+    end, as of one that was killed or had no memory, nothing is known of it."""
+    key = GOOD_BY.search(told)
+    if status == 0 and key is not None:
+        return Check(True, f"{key[1].decode()} {key[2].decode()}")
+    return Check(False if status == NOT_VERIFIED and told.startswith(NOT_GOOD) else None)
 
 
 # ---- public keys
@@ -162,15 +180,15 @@ def may_sign_lines(line: bytes) -> bool:
     return not is_limited and (named is None or NAMESPACE.encode() in named[1].split(b","))
 
 
-def place_key(key: PublicKey, noted: Iterable[bytes]) -> Addition:
-    """A key is added where the lines of its service in the file of signers, which are these, have none; a second one is never added beside another. One that
-    is there alone with options under which it may not count isn't called noted."""
+def place_key(key: PublicKey, noted: Iterable[bytes], is_beside: bool = False) -> Addition:
+    """A key is added where the lines of its service in the file of signers, which are these, have none; a second one is added beside another only where a
+    person says so. One that is there alone with options under which it may not count isn't called noted."""
     lines = list(noted)
     blob = key.text.split(" ")[1].encode()
     same = [line for line in lines if blob in line.split()]
     if same:
         return Addition.KNOWN if any(map(may_sign_lines, same)) else Addition.LIMITED
-    return Addition.OTHER if lines else Addition.NEW
+    return Addition.OTHER if lines and not is_beside else Addition.NEW
 
 
 def read_noted_key(line: bytes) -> Optional[PublicKey]:

@@ -14,7 +14,7 @@ from weft.box import Peer, Settings
 from weft.deciding.forks import contradicts
 from weft.deciding.signatures import Signed, read_signed_line
 from weft.lines import Line
-from weft.output import say
+from weft.output import collect, say
 from weft.statuses import Status
 from weft.texts import name_of
 from weft.trouble import Trouble
@@ -24,7 +24,8 @@ SUMMARY = "confirms a new peer of a box: its name, its line and its key"
 DETAILS = (
     "Makes the peer's folders, notes its public key (--key), and accepts it by the line that its waiting message tells. Compare that line with what "
     "the peer gave you by another way (by telephone, on paper, on its page), or name a file that has it: then both have to be the same. Where a key of "
-    "the peer is noted, its line has to be signed by it too, unless the box takes unsigned messages."
+    "the peer is noted, its line has to be signed by it too, unless the box takes unsigned messages. Further parts of a peer need no word; another key is noted "
+    "of the last one."
 )
 STATUSES = (Status.LOOK, Status.CONTRADICTION, Status.MISSING, Status.BUSY)
 EXAMPLE = "weft accept /srv/box bank --key bank_key.pub\nweft accept /srv/box bank bank.line"
@@ -37,13 +38,17 @@ def add(parser: argparse.ArgumentParser) -> None:
     parser.add_argument("peer", metavar="PEER", help="the peer's name, as its service has it")
     parser.add_argument("line", metavar="LINE", nargs="?", help="a file with its line, which came by another way")
     parser.add_argument("--key", metavar="KEY.pub", help="its public key, which came by another way")
+    signatures.add_beside(parser)
     parser.add_argument(
         "--yes", metavar="HEX", help="the 64 digits of the line that was shown, and was compared already; another one that waits by now isn't accepted"
     )
+    parser.add_argument("--json", action="store_true", help="writes JSON")
 
 
 def run(options: argparse.Namespace) -> Status:
     """Accepts the peer."""
+    if options.json:
+        collect()
     name = lines.checked_name(options.peer)
     if options.yes is not None and not AUTHENTICATOR.fullmatch(options.yes):
         raise Trouble(Status.USAGE, "--yes takes the 64 hexadecimal digits of the line that was compared", "Run weft accept without it: it shows the line.")
@@ -52,11 +57,15 @@ def run(options: argparse.Namespace) -> Status:
     files.make_folder(options.box)
     settings = boxes.read_settings(options.box)
     with locks.held(options.box / ".lock", 30, options.box):
-        peer = Peer(options.box, name, settings)
+        peer = boxes.find_peer(options.box, name, settings)
         peer.make()
         if own is not None:
-            signatures.add_signer(signers_of(options.box), name, own)
+            signatures.add_signer(signers_of(options.box), name, own, options.beside)
             say(f"{own.fingerprint} is noted as the key of {name}.")
+        if own is not None and peer.earlier is not None:
+            return Status.DONE
+        if peer.later is not None:
+            raise Trouble(Status.LOOK, f"{name} has ended, and goes on as {peer.last.name}", f"To note another key of it: weft accept .. {peer.last.name} --key.")
         data = peer.take("message", formats.MOST_MESSAGE)
         for text in peer.told:
             say(f"{name}: {text}.")
@@ -140,7 +149,7 @@ def accept(options: argparse.Namespace, peer: Peer, line: Line, good: Optional[G
         told = f"the line that waits now isn't the one of --yes, and {peer.name} wasn't accepted"
         raise Trouble(Status.LOOK, told, "Compare the one that is shown now, and name that.")
     is_compared = options.line is not None or options.yes is not None
-    if not is_compared and not is_confirmed(peer.name):
+    if not is_compared and (options.json or not is_confirmed(peer.name)):
         raise Trouble(
             Status.LOOK, f"{peer.name} wasn't accepted", f"Ask it for its line by another way, and if it is this one: weft accept .. --yes {line.authenticator}"
         )

@@ -9,10 +9,12 @@ from contextlib import ExitStack, contextmanager
 from pathlib import Path
 from typing import Iterator, Optional, Sequence
 
-from weft import chains, choosing, files, formats, judges, lines, locks, pictures, reports
+from weft import chains, choosing, files, formats, judges, lines, locks, outcomes, pictures, reports
 from weft.chains import Event, Misfit, Part, Plan, Sources
-from weft.lines import LAST_STEP, KeptLines
-from weft.output import complain, say
+from weft.deciding.choosing import Headline
+from weft.lines import LAST_STEP
+from weft.outcomes import Named, Outcome
+from weft.output import collect, complain, say
 from weft.parts import whole
 from weft.statuses import Status
 from weft.texts import count_of, listed, name_of, printable
@@ -26,7 +28,7 @@ DETAILS = (
     "judged strictly. Or it says which part is missing and whom to ask. Peers of your boxes are asked, and over them the services that they exchange with; of "
     "others it says the command, to be asked for by hand (--hand). An event is named NAME:STEP:INDEX, or by a file that has its proof."
 )
-STATUSES = (Status.NOT_SHOWN, Status.MISSING, Status.BUSY, Status.SHOWN_BY_REFERENCE, Status.NOT_SHOWN_BY_REFERENCE)
+STATUSES = (Status.NOT_SHOWN, Status.CONTRADICTION, Status.MISSING, Status.BUSY, Status.SHOWN_BY_REFERENCE, Status.NOT_SHOWN_BY_REFERENCE)
 EXAMPLE = "weft chain data:1:0 sent.proof --store /srv/log --store /srv/bank --box /srv/box --out chain"
 MOST_FILES = 10_000
 WAIT = 30
@@ -40,9 +42,10 @@ def add(parser: argparse.ArgumentParser) -> None:
     parser.add_argument("--box", metavar="BOX", action="append", default=[], type=Path, help="a box with what peers handed out; may be repeated")
     parser.add_argument("--hand", metavar="FILE", action="append", default=[], type=Path, help="receipts or proofs, a file or a folder; may be repeated")
     parser.add_argument("--kept", metavar="FILE", type=Path, action="append", help="a file of kept lines; may be repeated (else WEFT_KEPT, ..)")
-    parser.add_argument("--out", metavar="FILE", default="chain", help="where the proof is written (else chain)")
+    parser.add_argument("--out", metavar="FILE", help="where the proof is written (else chain, where that is free)")
     parser.add_argument("--svg", metavar="OUT", help="draws it")
     parser.add_argument("--reference", action="store_true", help="judges by the Python reference alone, which is tested and not proved")
+    parser.add_argument("--json", action="store_true", help="writes JSON")
 
 
 def event_of(word: str) -> Event:
@@ -80,8 +83,10 @@ def read_below(path: Path) -> Optional[bytes]:
 
 def run(options: argparse.Namespace) -> Status:
     """Makes the chain."""
+    if options.json:
+        collect()
     first, second = event_of(options.earlier), event_of(options.later)
-    kept, judge = KeptLines(options.kept or [lines.default_kept()]), judges.bench(options.reference)
+    kept, judge = lines.kept_of(options.kept), judges.bench(options.reference)
     if options.kept:
         say(choosing.told_kept(options.kept))
     hand = at_hand(options.hand) + [event.proof for event in (first, second) if event.proof is not None]
@@ -95,18 +100,19 @@ def run(options: argparse.Namespace) -> Status:
         further = chains.further_parts(sources, first, second, plan)
         with held_boxes(options.box):
             return tell_missing(sources, plan, parts, further)
-    judgement = choosing.judge_proof(judge, proof, kept, allow_carried=False)
-    if not judgement.is_shown or judgement.verdict is None:
-        return tell_refused(options.box, sources, judgement, proof, plan)
-    files.hand_out(options.out, proof)
-    report = reports.read_report(judgement.verdict)
-    say(f"{name_of(options.out)}: shown, {len(proof):,} bytes")
-    for line in [*reports.sentences(report), *choosing.resting(judgement, kept)]:
+    named = [Named("what was joined", proof, formats.kind_of(proof))]
+    judgement = outcomes.judgement_of(judge, kept, named, allow_carried=False)
+    outcome = outcomes.outcome_of(judge, kept, named, judgement)
+    if outcome.headline is not Headline.SHOWN or judgement.verdict is None:
+        return tell_refused(options.box, sources, judgement, outcome, plan)
+    out = options.out or files.unchosen("chain", proof)
+    files.hand_out(out, proof)
+    say(f"{name_of(out)}: {outcome.title}, {len(proof):,} bytes")
+    for line in outcomes.sentences(judge, judgement, outcome):
         say(f"  {line}")
-    say(f"  {judge.told(judgement.call)}")
     if options.svg:
-        files.hand_out(options.svg, pictures.verdict(report, judgement.lines, None).encode())
-    return judge.status(True)
+        files.hand_out(options.svg, pictures.verdict(reports.read_report(judgement.verdict), judgement.lines, None).encode())
+    return outcome.status
 
 
 def tell_missing(sources: Sources, plan: Plan, parts: list[bytes | None], further: list[Part]) -> Status:
@@ -141,14 +147,15 @@ def asked_again(boxes: Sequence[Path], sources: Sources, trouble: Trouble, parts
     return Trouble(trouble.status, trouble.sentence, f"{trouble.advice} {again}")
 
 
-def tell_refused(boxes: Sequence[Path], sources: Sources, judgement: choosing.Judgement, proof: bytes, plan: Plan) -> Status:
-    """Why what was joined isn't accepted."""
-    if judgement.missing:
-        say("What was joined: not judged.")
-        for sentence in choosing.missing_sentences(judgement.missing, sources.kept, proof):
-            say(sentence)
-        return Status.MISSING
-    sentence = reports.reason_sentence(judgement.verdict)[0] if judgement.verdict is not None else judgement.hindrance
-    told = f"what was joined isn't accepted: {sentence}"
-    refused = Trouble(sources.judge.status(False), told, "A part may be of another history than your lines: ask for it again.")
-    raise asked_again(boxes, sources, refused, plan.parts)
+def tell_refused(boxes: Sequence[Path], sources: Sources, judgement: choosing.Judgement, outcome: Outcome, plan: Plan) -> Status:
+    """Why what was joined isn't handed out, as weft judge says it."""
+    if judgement.verdict is not None and not judgement.is_shown:
+        told = f"what was joined isn't accepted: {reports.reason_sentence(judgement.verdict)[0]}"
+        refused = Trouble(outcome.status, told, "A part may be of another history than your lines: ask for it again.")
+        raise asked_again(boxes, sources, refused, plan.parts)
+    say(f"What was joined, and isn't written: {outcome.title}")
+    for sentence in outcomes.sentences(sources.judge, judgement, outcome):
+        say(f"  {sentence}")
+    if outcome.contradicted:
+        say("  In the place of this file keep its parts: they stay where they are.")
+    return outcome.status

@@ -8,7 +8,8 @@ from typing import Iterator, NamedTuple, Optional, Sequence
 
 from weft import checks, files, judges, lines, locks, parts, recorded
 from weft.checks import Bad, Exported, History, Result, Task
-from weft.deciding.checking import Found, Looked, choose_places, find_differing, judge_check, list_unseen, may_make_entries
+from weft.deciding.checking import EntryState, Found, Looked, choose_places, find_differing, judge_check, judge_entries, list_unseen, may_make_entries
+from weft.deciding.restoring import Beside, Missing, find_missing
 from weft.deciding.worst import worst_of
 from weft.entries import Entries
 from weft.lines import Kept, KeptLines, Line
@@ -49,6 +50,7 @@ def run(options: argparse.Namespace) -> Status:
     """Checks the store."""
     folder = files.folder_named(options.folder)
     files.expect_folder(folder, "the folder of the service")
+    parts.expect_whole(folder)
     if options.workers is not None and options.workers < 1:
         raise Trouble(Status.USAGE, "--workers is 1 at least", "Leave it out for one a processor.")
     with locks.held(beside(folder, ".lock"), options.wait, folder):
@@ -79,35 +81,51 @@ def checked(options: argparse.Namespace, store: Store, handed_out: Sequence[Line
     kept = kept_lines(options, store, handed_out)
     exported = checks.exported(store)
     outcome = looked_at(options, store, top, exported, *held_lines(store, kept, exported.history, top))
-    tell(options, store, top, outcome)
-    disputed = [kept.contradiction(service, step) for service, step in kept.disputes() if service == top.service]
-    for trouble in disputed:
-        complain(trouble.told())
+    if not options.json:
+        tell(options, store, top, outcome)
+    disputed = [step for service, step in kept.disputes() if service == top.service]
+    for step in disputed:
+        complain(kept.contradiction(top.service, step).told())
     if disputed:
         complain(whose(store))
     status = judge_check(outcome.found(len(disputed)), outcome.looked)
-    if not may_make_entries(status):
-        return status
+    entries = looked_at_entries(options, store, top, exported.history) if may_make_entries(status) else EntryState.UNSEEN
+    status = worst_of([status, judge_entries(entries)])
+    if options.json:
+        say_json({**as_json(top, outcome), "disputed": disputed, "entries": entries.value, "status": int(status)})
+    return status
+
+
+def looked_at_entries(options: argparse.Namespace, store: Store, top: Line, history: Optional[History]) -> EntryState:
+    """Makes the entries of a log anew where that is wanted, or looks at them, and tells what is wrong."""
     if options.entries:
-        make_entries(store, top, exported.history)
-        return status
-    return worst_of([status, check_entries(options, store, top, exported.history)])
-
-
-def check_entries(options: argparse.Namespace, store: Store, top: Line, history: Optional[History]) -> Status:
-    """Holds the entries of a log against the events of its store; of a history that is too long for an export with --all alone."""
+        make_entries(store, top, history)
+        return EntryState.MADE
     entries = Entries(beside(store.folder, ".entries"))
-    if not entries.is_there or (history is None and not options.all):
-        return Status.DONE
+    if history is None and not options.all:
+        return EntryState.UNSEEN
+    steps = enumerate(history.events, 1) if history is not None else recorded.events_of(store, judges.bench(), top)
+    if not entries.is_there:
+        return expect_entries(options, entries, top, any(recorded.is_of_log(events) for _, events in steps))
     if files.is_there(beside(store.folder, ".pending")):
         complain(f"The entries in {name_of(entries.path)} weren't looked at: a run of weft log was stopped amid a step. Run it again first.")
-        return Status.LOOK
-    steps = enumerate(history.events, 1) if history is not None else recorded.events_of(store, judges.bench(), top)
+        return EntryState.AMID_A_STEP
     differing = find_differing(entries.lines(), steps, recorded.is_of_log)
     if differing is None:
-        return Status.DONE
+        return EntryState.GOOD
     complain(recorded.differing_entry(options.folder, entries, differing).told())
-    return Status.BAD_STORE
+    return EntryState.DIFFERING
+
+
+def expect_entries(options: argparse.Namespace, entries: Entries, top: Line, is_log: bool) -> EntryState:
+    """Tells that the entries of a log aren't there."""
+    if find_missing(top, Beside(True, False, is_log)) is not Missing.ENTRIES:
+        return EntryState.NONE
+    complain(
+        f"{name_of(entries.path)} isn't there, and the store has entries of a log: weft log makes no step without it. Was it lost, or taken away? Put it back; "
+        f"or weft check --entries {name_of(options.folder)} makes it anew of the store."
+    )
+    return EntryState.MISSING
 
 
 def make_entries(store: Store, top: Line, history: Optional[History]) -> None:
@@ -131,7 +149,7 @@ def whose(store: Store) -> str:
 def kept_lines(options: argparse.Namespace, store: Store, handed_out: Sequence[Line]) -> KeptLines:
     """The lines beside the store, those that the log handed out, and those of the named files or else of the user's own."""
     beside_it = [Kept(line, "", "") for line in dict.fromkeys([*OwnLines(store.folder).all(), *handed_out])]
-    return KeptLines(options.kept or [lines.default_kept()], beside_it)
+    return lines.kept_of(options.kept, beside_it)
 
 
 def looked_at(options: argparse.Namespace, store: Store, top: Line, exported: Exported, wrong: list[str], agreeing: int) -> Outcome:
@@ -197,15 +215,17 @@ def linked(store: Store, top: Line, step: int) -> Optional[str]:
     return verdict.lines[1][4] if verdict is not None else None
 
 
+def as_json(top: Line, outcome: Outcome) -> dict[str, object]:
+    """What came of a check, as JSON has it."""
+    looked, history = outcome.looked, outcome.exported.history
+    found = {"service": top.service, "steps": top.step, "bad": [it._asdict() for it in outcome.bad], "lines": outcome.agreeing, "other_lines": outcome.wrong}
+    whether = {"exported": history is not None, "why_not": outcome.exported.why or None, "not_looked_at": list_unseen(looked)}
+    return {**found, "events": looked.events, "events_proved": looked.proved, **whether}
+
+
 def tell(options: argparse.Namespace, store: Store, top: Line, outcome: Outcome) -> None:
     """Says what is good, what isn't, what wasn't looked at, and by what it was found."""
     looked, unseen = outcome.looked, list_unseen(outcome.looked)
-    if options.json:
-        found = {"service": top.service, "steps": top.step, "bad": [it._asdict() for it in outcome.bad]}
-        held = {"lines": outcome.agreeing, "other_lines": outcome.wrong}
-        whether = {"exported": outcome.exported.history is not None, "why_not": outcome.exported.why or None}
-        say_json({**found, **held, "events": looked.events, "events_proved": looked.proved, **whether, "not_looked_at": unseen})
-        return
     tell_found(top, outcome)
     judge = judges.bench()
     if top.step:

@@ -8,10 +8,11 @@ from typing import Optional
 
 from weft import box as boxes
 from weft import files, judges, locks, own, parts, program
+from weft.lines import Line
 from weft.exchange import Turn
 from weft.output import complain, say, say_json
-from weft.parts import Part
 from weft.statuses import Status
+from weft.stores import Store
 from weft.texts import beside, name_of
 from weft.trouble import Trouble
 from weft.waiting import add_wait
@@ -23,7 +24,8 @@ DETAILS = (
     "signed by the key kept for the peer are received; receipts, refusals, the next message and the signed line are put out; requests of peers for "
     "threads and links are answered. A new peer waits for weft accept. Unsigned messages are taken where BOX/box.conf says `unsigned = yes`, which "
     "is told each time. What can't be read, a peer of which nothing new came for three turns, and lines of a service that no link joins, are told, with "
-    "status 10. Two signed lines that no one history has end each turn with 11, until they are moved out of the box. Run it each night, before the backup, "
+    "status 10. Two signed lines that no one history has end each turn with 11, until they are moved out of the box. Before its history outgrows its file the "
+    "service goes on in a new part; a peer's next part is taken where it is proved to be that. Run it each night, before the backup, "
     "and that before the carrier; after a restore with --look."
 )
 STATUSES = (Status.LOOK, Status.CONTRADICTION, Status.BUSY, Status.OLD_STORE)
@@ -48,12 +50,13 @@ def run(options: argparse.Namespace) -> Status:
     program.refuse_second(options.unproved)
     folder, box = files.folder_named(options.folder), options.box
     files.expect_folder(folder, "the folder of the service")
+    parts.expect_whole(folder)
     files.expect_folder(box, "the box, which has a folder for each peer: weft accept BOX PEER makes it")
     settings = boxes.read_settings(box)
     named = own.named_line(options.adopt_store) if options.adopt_store is not None else None
     with locks.held(beside(folder, ".lock"), options.wait, folder), locks.held(box / ".lock", options.wait, box):
-        turn = Turn(open_part(folder).store, box, settings, judges.bench(), options.despite, named)
-        note_others(folder, [peer.name for peer in turn.peers])
+        boxes.claim(box, Store(folder).last().line.service)
+        turn = open_turn(folder, box, settings, options, named)
         trouble = None
         try:
             turn.run(options.look)
@@ -77,26 +80,27 @@ def say_all(options: argparse.Namespace, turn: Turn, status: Optional[Status]) -
         conf = name_of(turn.box / "box.conf")
         general.append(f"Unsigned messages are taken here ({conf}): whoever can write in a folder `in` can speak in a peer's name.")
     if options.json:
-        peers = {peer.name: peer.told for peer in turn.peers}
+        peers = {peer.name: peer.told for peer in turn.all_peers if peer.told or peer.later is None}
         say_json({"line": turn.last._asdict(), "peers": peers, "told": general, "status": None if status is None else int(status)})
     else:
-        for text in [*(f"{peer.name}: {text}." for peer in turn.peers for text in peer.told), *general]:
+        for text in [*(f"{peer.name}: {text}." for peer in turn.all_peers for text in peer.told), *general]:
             say(text)
         if turn.is_made:
             say(turn.last.text)
 
 
-def note_others(folder: Path, names: list[str]) -> None:
-    """Notes with whom a service exchanges: then its log doesn't go on in a new part by itself."""
-    path = beside(folder, ".others")
-    if names or files.is_there(path):
-        files.renew_if_other(path, "".join(f"{name}\n" for name in names).encode(), files.PRIVATE)
-
-
-def open_part(folder: Path) -> Part:
-    """The part of a service in which it goes on; raises Trouble where that has ended, or the next one is still being made."""
-    judge, new = judges.bench(), parts.read_next(folder)
-    if new is not None:
+def open_turn(folder: Path, box: Path, settings: boxes.Settings, options: argparse.Namespace, named: Optional[Line]) -> Turn:
+    """The turn of a service, in the part in which it goes on; the next one may be being made already. Raises Trouble where it has ended, and where a run of
+    weft log that makes the next part has to be brought to its end first."""
+    judge = judges.bench()
+    found = parts.whole(folder, judge)
+    new = parts.being_made(folder, judge, found)
+    if new is None:
+        parts.forget_next(folder)
+        if len(found) > 1:
+            parts.note_made(folder, judge, found[-1])
+    found = found if new is None else found[: new.number - 1]
+    if new is not None and files.is_there(beside(found[-1].folder, ".pending")):
         told = f"{name_of(folder)} is to go on as {new.name}, and the run of weft log that makes that part was stopped"
         raise Trouble(Status.LOOK, told, "Run weft log first.")
-    return parts.whole(folder, judge)[-1]
+    return Turn(found, box, settings, judge, options.despite, named, new)

@@ -5,7 +5,7 @@ from __future__ import annotations
 import argparse
 import itertools
 from pathlib import Path
-from typing import Callable, Iterator, NamedTuple, Optional, Union
+from typing import Iterator, NamedTuple, Optional, Union
 
 from weft import bulk, choosing, files, formats, judges, lines, outcomes, pictures, reports
 from weft.choosing import Judgement
@@ -25,15 +25,15 @@ NAME = "judge"
 SUMMARY = "judges proofs, map files, evidence and histories under the lines that you kept"
 DETAILS = (
     "It picks the lines that each needs, has it judged, and says what is shown, on whose lines that rests and how each came; or which lines are "
-    "missing, all of them, and who may have kept them. First stands shown, shown in part (a line is carried, which its receiver alone vouches for, or kept "
-    "lines bind a history up to an earlier step), not shown, or not judged (lines are missing, or the file is none). A low and a high map file of one step "
-    "are judged together. Proofs that carry a line aren't accepted but with --carried. A history is judged by the rules that it has to keep, and held against "
-    "every kept line of its service. What tells another line than a kept one of that step isn't shown: TWO LINES. Files that are accepted, and contradict each "
-    "other on what a service received, are told where the library judges that; name the link between their lines beside them. Of several files the worst "
-    "status counts. With --many all files of a folder are judged into a table, over all processors. Rows of earlier runs are taken over for files of the same "
-    "SHA-256 digest, from ~/.local/share/weft/judged (or under XDG_DATA_HOME), and never from a table. Put -- in front of names that you didn't choose."
+    "missing, all of them, and who may have kept them. First stands shown, shown in part (a line is carried, or kept lines bind a history up to an earlier "
+    "step), not shown or not judged. A low and a high map file of one step are judged together. Proofs that carry a line aren't accepted but with --carried. A "
+    "history is judged by the rules that it has to keep, and held against every kept line of its service. What tells another line than a kept one of that step "
+    "isn't shown: TWO LINES. Files that are accepted, and contradict each other on what a service received, are told where the library judges that; name the "
+    "link between their lines beside them. With --many all files of a folder are judged into a table."
 )
-STATUSES = (Status.NOT_SHOWN, Status.LOOK, Status.CONTRADICTION, Status.MISSING, Status.BUSY, Status.SHOWN_BY_REFERENCE, Status.NOT_SHOWN_BY_REFERENCE)
+STATUSES = (
+    Status.NOT_SHOWN, Status.LOOK, Status.CONTRADICTION, Status.MISSING, Status.BUSY, Status.FEWER, Status.SHOWN_BY_REFERENCE, Status.NOT_SHOWN_BY_REFERENCE,
+)  # fmt: skip
 EXAMPLE = (
     "weft judge proof --file paid.csv\nweft judge chain --svg chain.svg\nweft judge low high\nweft judge log.history --top 2\nweft judge -- sent/*\n"
     "weft judge --many proofs/ --table proofs.tsv"
@@ -76,10 +76,7 @@ class Judged(NamedTuple):
 
 def run(options: argparse.Namespace) -> Status:
     """Judges what was named."""
-    paths = options.kept or [lines.default_kept()]
-    for path in options.kept or ():
-        files.read(path, lines.MOST_BYTES)
-    kept = KeptLines(paths)
+    kept = lines.kept_of(options.kept)
     judge = judges.bench(options.reference)
     expect_words(options)
     if options.kept and not options.json:
@@ -185,33 +182,23 @@ def judge_group(options: argparse.Namespace, kept: KeptLines, judge: Bench, grou
             return Judged(group, None, trouble.status)
         raise
     if judgement.is_shown and options.file:
-        outcome = unless_troubled(outcome, lambda it: outcomes.with_file(judge, it, judgement, options.file))
+        outcome = outcomes.unless_troubled(outcome, lambda it: outcomes.with_file(judge, it, judgement, options.file))
     if judgement.is_shown and options.audit:
-        outcome = unless_troubled(outcome, lambda it: outcomes.with_histories(judge, kept, it, judgement, group[0].data, options.audit))
+        outcome = outcomes.unless_troubled(outcome, lambda it: outcomes.with_histories(judge, kept, it, judgement, group[0].data, options.audit))
     if options.json:
         say_json(as_json(options, judge, kept, group, judgement, outcome))
     else:
         tell(judge, group, judgement, outcome)
-    if options.svg and judgement.verdict is not None and judgement.is_shown and outcome.headline is not Headline.NOT_SHOWN:
+    if options.svg and judgement.verdict is not None and outcome.headline in (Headline.SHOWN, Headline.IN_PART):
         files.hand_out(options.svg, pictures.verdict(reports.read_report(judgement.verdict), judgement.lines, map_name(group)).encode())
     return Judged(group, judgement, outcome.status)
-
-
-def unless_troubled(outcome: Outcome, work: Callable[[Outcome], Outcome]) -> Outcome:
-    """What comes of holding an outcome against more; where that can't be done, what was found before stands, and the trouble beside it."""
-    try:
-        return work(outcome)
-    except Trouble as trouble:
-        return outcome._replace(status=worst_of([outcome.status, trouble.status]), told=[*outcome.told, trouble.told()])
 
 
 def tell(judge: Bench, group: list[Named], judgement: Judgement, outcome: Outcome) -> None:
     """Says what came of a group, and by whom it was judged."""
     say(f"{' and '.join(name_of(it.path) for it in group)}: {outcome.title}")
-    for line in outcome.told:
+    for line in outcomes.sentences(judge, judgement, outcome):
         say(f"  {line}")
-    if judgement.verdict is not None:
-        say(f"  {judge.told(judgement.call)}")
 
 
 def as_json(

@@ -25,7 +25,7 @@ DETAILS = (
     "the service's name. Lines without one are kept with the words of --by. Of two lines of one step that differ both are kept, and marked; nothing is "
     "judged under either until one is chosen (--choose), and that they differed is told for good."
 )
-STATUSES = (Status.LOOK, Status.CONTRADICTION, Status.MISSING, Status.BUSY)
+STATUSES = (Status.NOT_SHOWN, Status.LOOK, Status.CONTRADICTION, Status.MISSING, Status.BUSY)
 EXAMPLE = (
     "weft keep --signer shop shop_key.pub\nweft keep shop.line\nweft keep letter.txt --by 'by letter from the notary, 3 May'\n"
     "weft keep --choose letter.txt --by 'asked the notary by telephone, 5 May'"
@@ -38,6 +38,7 @@ def add(parser: argparse.ArgumentParser) -> None:
     parser.add_argument("file", metavar="FILE", nargs="?", help="a file of a line, or with --by of several; - for standard input")
     parser.add_argument("--by", metavar="HOW", help="how the lines came, in words, where they aren't signed")
     parser.add_argument("--signer", nargs=2, metavar=("NAME", "KEY.pub"), help="notes that this public key is the service's of this name; with FILE, once its signature is good by it")
+    signatures.add_beside(parser)
     parser.add_argument("--choose", action="store_true", help="of lines of one step that differ, lets that of FILE count from now on, and not the others")
     add_places(parser)
     parser.add_argument("--json", action="store_true", help="writes JSON")
@@ -93,18 +94,21 @@ def signed_line(path: str, data: bytes, signers: AnyPath, signer: Optional[Signe
     service = both.line.service
     if signer is not None and signer.service != service:
         raise Trouble(Status.USAGE, f"the line of {name_of(path)} is of {service}, and --signer names {signer.service}", "Nothing was noted or kept.")
+    if signer is None and not signatures.key_lines(signers, service):
+        advice = f"Ask {service} for its key by another way, then: weft keep --signer {service} KEY.pub. Or keep the line without its signature: --by."
+        raise Trouble(Status.MISSING, f"no key of {service} is noted in {name_of(signers)}, so the signature of {name_of(path)} wasn't checked", advice)
     key = signatures.checked(both, signers) if signer is None else signatures.checked_by(both, signer.key)
     if key is None and signer is not None:
         raise Trouble(
-            Status.CONTRADICTION,
+            Status.NOT_SHOWN,
             f"the signature of {name_of(path)} isn't good by the key of {name_of(signer.path)}, and that key wasn't noted",
             f"Ask {service} for its key, and for the line with its signature, by another way.",
         )
     if key is None:
         raise Trouble(
-            Status.CONTRADICTION if os.path.exists(signers) else Status.MISSING,
+            Status.NOT_SHOWN,
             f"the signature of {name_of(path)} isn't good by a key that {name_of(signers)} has for {service}",
-            f"Ask {service} for its key by another way, then: weft keep --signer {service} KEY.pub. Or keep the line without its signature: --by.",
+            f"Ask {service} for its line and its key by another way. Has it another key by now: weft keep --signer {service} KEY.pub.",
         )
     return both.line, f"signed by {key}"
 
@@ -114,11 +118,11 @@ def run(options: argparse.Namespace) -> Status:
     kept, signers = options.kept or lines.default_kept(), options.signers or signatures.default_signers()
     signer = named_signer(*options.signer) if options.signer else None
     if signer is not None:
-        signatures.is_noted(signers, signer.service, signer.key)
+        signatures.is_noted(signers, signer.service, signer.key, options.beside)
     if options.file is None:
         if signer is None or options.choose:
             raise Trouble(Status.USAGE, "no file is named", "See weft keep --help.")
-        note_signer(signers, signer)
+        note_signer(signers, signer, options.beside)
         return Status.DONE
     if signer is not None and options.by is not None:
         raise Trouble(Status.USAGE, "--by is for lines without a signature, and --signer for a signed one", "Leave one of both out.")
@@ -127,7 +131,7 @@ def run(options: argparse.Namespace) -> Status:
         expect_possible(it.line)
     placed = [choose(options.file, kept, new)] if options.choose else lines.keep(kept, new)
     if signer is not None:
-        note_signer(signers, signer)
+        note_signer(signers, signer, options.beside)
     tell(options, kept, placed)
     return status_of(options.choose, placed)
 
@@ -172,9 +176,9 @@ def named_lines(options: argparse.Namespace, data: bytes, signers: AnyPath, sign
     return [lines.kept_now(line, how)]
 
 
-def note_signer(signers: Path, signer: Signer) -> None:
+def note_signer(signers: Path, signer: Signer, is_beside: bool) -> None:
     """Notes the key of a service."""
-    signatures.add_signer(signers, signer.service, signer.key)
+    signatures.add_signer(signers, signer.service, signer.key, is_beside)
     say(f"{signer.key.fingerprint} is noted as the key of {signer.service}, in {name_of(signers)}.")
 
 

@@ -38,16 +38,18 @@ def run(options: argparse.Namespace) -> Status:
     """Notes the line, and prints it."""
     folder = files.folder_named(options.folder)
     files.expect_folder(folder, "the folder of the service")
+    parts.expect_whole(folder)
     with locks.held(beside(folder, ".lock"), options.wait, folder):
         line = noted_line(folder)
-    out = options.out or (f"{line.service}-{line.step}.line" if options.sign else None)
+    text = f"{line.text}\n".encode()
+    out = options.out or (files.unchosen(f"{line.service}-{line.step}.line", text) if options.sign else None)
     written = []
     if options.sign:
         signed = signatures.sign(line, options.sign)
         files.hand_out(f"{out}.sig", signed.signature)
         written.append(f"{out}.sig")
     if out:
-        files.hand_out(Path(out), f"{line.text}\n".encode())
+        files.hand_out(Path(out), text)
         written.insert(0, out)
     if options.json:
         say_json({**line._asdict(), "files": [str(path) for path in written]})

@@ -7,7 +7,7 @@ import os
 from pathlib import Path
 from typing import Sequence
 
-from weft import files, judges, lines, locks, logs, own, program, shares
+from weft import files, judges, lines, locks, logs, own, parts, program
 from weft.days import Counts, Day, Wanted
 from weft.deciding.gone import Fate
 from weft.lines import Line
@@ -27,8 +27,8 @@ DETAILS = (
     "SERVICE.anchor (the line to hand out), and SERVICE.entries (step, index and event of each entry, by which proofs are made). All of that may be read by "
     "its user alone. Links, pipes and the log itself aren't logged. What can't be looked at, with all that is below it, and what is changed while it is read "
     "is left out, and isn't called gone. Without SERVICE.lines or SERVICE.entries beside it a store makes no step. Files of which nothing changed aren't read "
-    "but once in seven days; SERVICE.known has their states. Before its history outgrows its file the log goes on in a new part, in SERVICE/part-2 and so on, "
-    "unless it exchanges with peers. A run that was stopped is brought to its end by the next one."
+    "but once in seven days; SERVICE.known has their states. Before its history outgrows its file the log goes on in a new part, in SERVICE/part-2 and so on. "
+    "A run that was stopped is brought to its end by the next one."
 )
 STATUSES = (Status.LOOK, Status.BUSY, Status.FEWER, Status.OLD_STORE)
 EXAMPLE = "weft log /srv/data /srv/log data\nweft log /srv/data /srv/log"
@@ -73,6 +73,7 @@ def run(options: argparse.Namespace) -> Status:
 
 def check_folders(folder: Path, service: Path) -> None:
     """Raises Trouble where the folder can't be read, or the service can't lie there."""
+    parts.expect_whole(service)
     if not folder.is_dir() or not os.access(folder, os.R_OK | os.X_OK):
         raise Trouble(Status.NO_INPUT, f"{name_of(folder)} is no folder that can be read", "Is it mounted?")
     if not service.parent.is_dir():
@@ -91,10 +92,6 @@ def logged(options: argparse.Namespace, log: Log, look: Look, day: Day) -> Statu
     if look.left_out:
         what = count_of(len(look.left_out), "file or folder", "files or folders")
         complain(f"{what} left out: nothing is logged of them. See to it that they can be read, and run weft log again.")
-    share = shares.told(log.store, log.last.service) if log.exchanges else None
-    if share is not None:
-        complain(share)
-        log.needs_look = True
     if day.is_fewer and not options.gone:
         complain(fewer(options.folder, day.counts))
         return Status.FEWER

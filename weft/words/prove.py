@@ -14,9 +14,10 @@ from weft.deciding.known import Entry
 from weft.entries import read_event
 from weft.judges import Bench
 from weft.lines import KeptLines, Line, kept_now
-from weft.output import complain, say
+from weft.output import collect, complain, say
 from weft.own import OwnLines
 from weft.parts import Part
+from weft.recorded import expect_end
 from weft.statuses import Status
 from weft.texts import beside, listed, name_of, printable, shown_event
 from weft.trouble import Trouble
@@ -28,7 +29,7 @@ DETAILS = (
     "reader has to hold, and judges the proof before it is handed out. Give the reader the proof; he has the line already. Of a file that an earlier part of the "
     "log has, the proof is that it was recorded before an event of the last part; with --top it is under a line of its own part."
 )
-STATUSES = (Status.LOOK,)
+STATUSES = (Status.LOOK, Status.OLD_STORE)
 EXAMPLE = "weft prove /srv/log paid.csv --top 2 --out paid.proof"
 
 
@@ -39,6 +40,7 @@ def add(parser: argparse.ArgumentParser) -> None:
     parser.add_argument("--step", metavar="STEP", type=int, help="takes the entry of this step, and not the last one")
     parser.add_argument("--top", metavar="STEP", type=int, help="the step whose line the reader holds (else the last one)")
     parser.add_argument("--out", metavar="PROOF", help="where the proof is written (else the file's name with .proof behind, in this folder, where no other file has it)")
+    parser.add_argument("--json", action="store_true", help="writes JSON")
 
 
 class Place(NamedTuple):
@@ -68,6 +70,8 @@ class Made(NamedTuple):
 
 def run(options: argparse.Namespace) -> Status:
     """Makes the proof."""
+    if options.json:
+        collect()
     service = files.folder_named(options.service)
     judge = judges.bench()
     all_parts = parts.whole(service, judge)
@@ -75,7 +79,8 @@ def run(options: argparse.Namespace) -> Status:
     OwnLines(found.part.folder).compare(found.part.store, judge, found.part.last)
     made = chained(judge, all_parts, found) if options.top is None and found.part is not all_parts[-1] else under(judge, found, options)
     check(found.part.folder, made.judgement, found.event)
-    out = options.out or own_name(options.file, made.proof)
+    is_amid = options.step is None and not expect_kept(service, judge, all_parts)
+    out = options.out or files.unchosen(f"{os.path.basename(options.file)}.proof", made.proof)
     files.hand_out(out, made.proof)
     where = f"in step {found.step} of {found.part.last.service}"
     if made.top.service == found.part.last.service:
@@ -87,6 +92,9 @@ def run(options: argparse.Namespace) -> Status:
     say(f"  {judge.told(made.judgement.call)}")
     if found.gone is not None:
         complain(f"step {found.gone.step} of {found.gone.service} logged later that {name_of(options.file)} is gone: this is the entry before that.")
+        return Status.LOOK
+    if is_amid:
+        complain("a run of weft log was stopped amid a step: this is the last entry that is there. Run it again, and then this.")
         return Status.LOOK
     return Status.DONE
 
@@ -118,16 +126,6 @@ def chained(judge: Bench, all_parts: list[Part], found: Found) -> Made:
     return Made(made.proof, choosing.judge_proof(judge, made.proof, kept, allow_carried=False), last.last)
 
 
-def own_name(file: str, proof: bytes) -> str:
-    """The name of a proof for which none was chosen: the file's with .proof behind. Raises Trouble where another file has it: it may be
-    the proof under an older line, which somebody holds."""
-    name = f"{os.path.basename(file)}.proof"
-    if files.read_if_there(name, formats.MOST_PROOF) not in (None, proof):
-        told = f"{name_of(name)} is there already, and is another one; it is left as it is"
-        raise Trouble(Status.REFUSED, told, f"Name a file by --out; --out {name_of(name)} writes over it.")
-    return name
-
-
 def check(service: Path, judgement: choosing.Judgement, event: bytes) -> None:
     """Raises Trouble where the service's own proof isn't accepted, or is of another event than the entry."""
     if judgement.verdict is None or not judgement.is_shown:
@@ -136,6 +134,16 @@ def check(service: Path, judgement: choosing.Judgement, event: bytes) -> None:
     if reports.read_report(judgement.verdict).events[0].data != event:
         told = f"the store in {name_of(service)} has another event there than {name_of(beside(service, '.entries'))}"
         raise Trouble(Status.BAD_STORE, told, "Were the entries changed, or another store put there? weft check.")
+
+
+def expect_kept(service: Path, judge: Bench, all_parts: Sequence[Part]) -> bool:
+    """Raises Trouble where entries of a part were lost: the last one that is kept of a file may be an older one then. Answers whether that could be seen: a run
+    of weft log that was stopped amid a step leaves entries of which it isn't known whether the store has them."""
+    if files.is_there(beside(all_parts[-1].folder, ".pending")):
+        return False
+    for part in all_parts:
+        expect_end(service, judge, part, "No proof was made")
+    return True
 
 
 def note(found: dict[bytes, Found], read: Entry, it: Found) -> None:

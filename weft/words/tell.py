@@ -27,6 +27,14 @@ def add(parser: argparse.ArgumentParser) -> None:
     parser.add_argument("--json", action="store_true", help="writes JSON, a line for each file")
 
 
+def tell_bad(options: argparse.Namespace, path: str, status: Status, told: str) -> Status:
+    """Says why nothing is told of a file; answers the status."""
+    if options.json:
+        say_json({"file": path, "what": None, "says": [told], "judged": False, "status": int(status)})
+    complain(told)
+    return status
+
+
 def run(options: argparse.Namespace) -> Status:
     """Tells each file."""
     status = Status.DONE
@@ -34,12 +42,11 @@ def run(options: argparse.Namespace) -> Status:
         try:
             what, told = telling.tell(files.read(path, formats.MOST_HISTORY))
         except ValueError as bad:
-            status = worst_of([status, Status.UNREADABLE])
-            complain(f"{name_of(path)}: {bad}.{' Is it the right file?' if str(bad) == telling.NO_FORMAT else ''}")
+            told_bad = f"{name_of(path)}: {bad}.{' Is it the right file?' if str(bad) == telling.NO_FORMAT else ''}"
+            status = worst_of([status, tell_bad(options, path, Status.UNREADABLE, told_bad)])
             continue
         except Trouble as trouble:
-            status = worst_of([status, trouble.status])
-            complain(trouble.told())
+            status = worst_of([status, tell_bad(options, path, trouble.status, trouble.told())])
             continue
         if options.json:
             say_json({"file": path, "what": what, "says": told, "judged": False})
