@@ -18,31 +18,20 @@ import tempfile
 import time
 from pathlib import Path
 
+import driven
+
 TOP = Path(__file__).resolve().parent.parent
 PER_FOLDER = 1000
 
-# Runs weft in this process, and tells what it took as JSON on standard error.
-DRIVER = """
-import json, resource, sys, time
-sys.path[:0] = {paths!r}
-from weft import stores
-from weft.main import main
+# What weft and the program hand to one another in memory isn't written to a disk.
+COUNTING = """
 in_memory, real = [0], stores.write_all
 def write_all(number, data):
     in_memory[0] += len(data)
     real(number, data)
 stores.write_all = write_all
-began = time.monotonic()
-status = main(sys.argv[1:])
-seconds = time.monotonic() - began
-io = dict(line.split(": ") for line in open("/proc/self/io").read().splitlines())
-most = next(int(line.split()[1]) for line in open("/proc/self/status") if line.startswith("VmHWM"))
-used = [resource.getrusage(who) for who in (resource.RUSAGE_SELF, resource.RUSAGE_CHILDREN)]
-told = dict(status=status, seconds=round(seconds, 2), processor=round(sum(it.ru_utime + it.ru_stime for it in used), 2), memory_kib=most,
-            bytes_written=int(io["wchar"]) - in_memory[0], bytes_of_pages_dirtied=int(io["write_bytes"]))
-print("TOLD" + json.dumps(told), file=sys.stderr)
-sys.exit(status)
 """
+COUNTED = 'bytes_written=int(io["wchar"]) - in_memory[0], bytes_of_pages_dirtied=int(io["write_bytes"])'
 
 
 def make_files(folder, count):
@@ -63,7 +52,7 @@ def environment(program, folder):
 
 def run(program, folder, *words, before=()):
     """Runs weft in the folder; what it took, and what it wrote."""
-    driver = DRIVER.format(paths=[str(TOP), str(TOP / "reference"), str(TOP / "bindings/python")])
+    driver = driven.driver(COUNTING, COUNTED)
     done = subprocess.run([*before, sys.executable, "-c", driver, *words], cwd=folder, env=environment(program, folder), capture_output=True, text=True)
     told = re.search(r"^TOLD(.*)$", done.stderr, re.M)
     if told is None or done.returncode:

@@ -3,10 +3,26 @@
 import unittest
 from typing import Optional, Sequence
 
-from weft.deciding.checking import Differing, Export, Found, Logged, Looked, Place, choose_places, find_differing, follows, judge_check, list_unseen, may_make_entries
+from weft.deciding.checking import (
+    Differing, EntryState, Export, Found, Logged, Looked, Place, choose_places, find_differing, follows, judge_check, judge_entries, list_unseen, may_make_entries,
+)  # fmt: skip
 from weft.statuses import Status
 
 GOOD = Found(0, 0, 0)
+
+
+class State(unittest.TestCase):
+    """How a check ends by what was found of the entries."""
+
+    def test_lost_entries_need_a_look_and_false_ones_are_damage(self) -> None:
+        self.assertEqual(judge_entries(EntryState.DIFFERING), Status.BAD_STORE)
+        for found in (EntryState.MISSING, EntryState.AMID_A_STEP):
+            self.assertEqual(judge_entries(found), Status.LOOK)
+        for found in (EntryState.NONE, EntryState.GOOD, EntryState.MADE, EntryState.UNSEEN):
+            self.assertEqual(judge_entries(found), Status.DONE)
+
+    def test_json_tells_each_in_a_word_of_its_own(self) -> None:
+        self.assertEqual([it.value for it in EntryState], ["none", "good", "made anew", "missing", "differing", "amid a step", "not looked at"])
 
 
 class Unseen(unittest.TestCase):

@@ -3,7 +3,7 @@
 import unittest
 
 from weft.deciding.choosing import (
-    Beside, Chosen, Extent, Headline, HeldHistory, Needed, choose_headline, choose_history_headline, choose_later_step, choose_lines,
+    Beside, Chosen, Extent, Headline, HeldHistory, Needed, choose_headline, choose_headline_unheld, choose_history_headline, choose_later_step, choose_lines,
     choose_older_step, choose_whom_to_ask, hold_history, hold_line, measure_extent,
 )  # fmt: skip
 from weft.deciding.lines import Line
@@ -152,6 +152,17 @@ class ChooseHeadline(unittest.TestCase):
     def test_what_contradicts_a_kept_line_isnt_shown(self) -> None:
         self.assertIs(choose_headline(True, 1, True, True, False), Headline.NOT_SHOWN)
         self.assertIs(choose_headline(True, 0, False, True, False), Headline.NOT_SHOWN)
+
+
+class ChooseHeadlineUnheld(unittest.TestCase):
+    """What is said first where a file that it is to be held against can't be read."""
+
+    def test_nothing_is_called_shown(self) -> None:
+        for found in (Headline.SHOWN, Headline.IN_PART, Headline.NOT_JUDGED):
+            self.assertIs(choose_headline_unheld(found), Headline.NOT_JUDGED)
+
+    def test_what_isnt_shown_stays_so(self) -> None:
+        self.assertIs(choose_headline_unheld(Headline.NOT_SHOWN), Headline.NOT_SHOWN)
 
 
 class ChooseHistoryHeadline(unittest.TestCase):

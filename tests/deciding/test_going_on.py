@@ -2,7 +2,23 @@
 
 import unittest
 
-from weft.deciding.going_on import Joint, Making, find_missing_part, is_being_made, is_next, must_go_on, named_in, naming_event, next_name
+from weft.deciding.going_on import (
+    Fault,
+    Joint,
+    Making,
+    find_missing_part,
+    is_behind_end,
+    is_being_made,
+    is_folder_of_part,
+    is_name_of_other,
+    is_name_of_part,
+    is_next,
+    must_go_on,
+    named_in,
+    naming_event,
+    next_name,
+    weigh_name,
+)
 from weft.deciding.lines import Line
 
 END = Line("shop", 31, "1" * 64)
@@ -36,15 +52,15 @@ class Next(unittest.TestCase):
 class Made(unittest.TestCase):
     """Whether a part is being made, and whether one is missing."""
 
-    BEGUN = Making(3, "shop-3", 2, "shop-3", 0, False)
-    THERE = Making(3, "shop-3", 3, "shop-3", 1, False)
+    BEGUN = Making(3, "shop-3", 2, "shop-3", 0, False, False)
+    THERE = Making(3, "shop-3", 3, "shop-3", 1, False, False)
 
     def test_it_is_the_part_behind_the_last_one_or_that_itself(self) -> None:
         self.assertTrue(is_being_made(self.BEGUN) and is_being_made(self.THERE))
         for parts in (1, 4, 5):
             self.assertFalse(is_being_made(self.BEGUN._replace(parts=parts)), parts)
-        self.assertFalse(is_being_made(Making(1, "shop", 1, "shop", 1, False)))
-        self.assertTrue(is_being_made(Making(2, "shop-2", 1, "shop-2", 0, False)))
+        self.assertFalse(is_being_made(Making(1, "shop", 1, "shop", 1, False, False)))
+        self.assertTrue(is_being_made(Making(2, "shop-2", 1, "shop-2", 0, False, False)))
 
     def test_a_note_that_the_part_before_it_does_not_bear_out_says_nothing(self) -> None:
         for named in (None, "other"):
@@ -55,6 +71,8 @@ class Made(unittest.TestCase):
         self.assertFalse(is_being_made(self.THERE._replace(steps=2)))
         self.assertFalse(is_being_made(self.THERE._replace(has_lines=True)))
         self.assertFalse(is_being_made(self.BEGUN._replace(has_lines=True)))
+        for it in (self.BEGUN, self.THERE):
+            self.assertFalse(is_being_made(it._replace(is_noted=True)))
 
     def test_a_line_of_no_part_tells_that_one_is_missing(self) -> None:
         other = END._replace(service="shop-2")
@@ -77,6 +95,51 @@ class Names(unittest.TestCase):
     def test_a_name_that_is_taken_is_passed_over(self) -> None:
         self.assertEqual(next_name("shop", 2, {"shop-2", "shop-3"}), "shop-4")
         self.assertEqual(next_name("a" * 16, 9, {"a" * 14 + "-9"}), "a" * 13 + "-10")
+
+
+class Peers(unittest.TestCase):
+    """What a peer may name, and what counts of it once it has ended."""
+
+    def test_each_name_that_is_made_for_a_part_may_be_one(self) -> None:
+        for first in ("shop", "shop-2", "a" * 16, "a" * 14, "a" * 13 + "-2", "a" * 13 + "--b"):
+            for number in (2, 3, 10, 12, 999, 1_000, 999_999):
+                self.assertTrue(is_name_of_part(first, next_name(first, number, ())), (first, number))
+
+    def test_a_peer_takes_no_other_name_by_naming_a_part(self) -> None:
+        for name in ("bank", "bank-2", "shop", "shop-", "shop-1", "shop-0", "shop-02", "shop-2-2", "shop-x", "shop-2x", "sho-2", "shop--2", "-2", "", "2", "shop-1000000"):
+            self.assertFalse(is_name_of_part("shop", name), name)
+        self.assertFalse(is_name_of_part("a" * 16, "a" * 13 + "-2"))
+        self.assertFalse(is_name_of_part("a" * 16, "a" * 15 + "-2"))
+
+    def test_a_name_that_nobody_else_has_is_looked_for(self) -> None:
+        self.assertIsNone(weigh_name("shop-2", "shop", {"shop", "bank", "shop-3"}))
+        self.assertIs(weigh_name("shop-2", "shop", {"shop-2"}), Fault.TAKEN)
+        self.assertIs(weigh_name("bank", "shop", {"bank"}), Fault.FOREIGN)
+        self.assertIs(weigh_name("shop", "shop", ()), Fault.FOREIGN)
+        self.assertIs(weigh_name(None, "shop", ()), Fault.UNNAMED)
+
+    def test_a_thief_of_an_old_key_signs_behind_the_end(self) -> None:
+        self.assertTrue(is_behind_end(END, END._replace(step=32)))
+        self.assertFalse(is_behind_end(END, END))
+        self.assertFalse(is_behind_end(END, END._replace(authenticator="2" * 64)))
+        self.assertFalse(is_behind_end(END, END._replace(step=30)))
+
+
+class Named(unittest.TestCase):
+    """Which folders and names a service is made or goes on under."""
+
+    def test_the_folder_of_a_part_is_not_named_by_itself(self) -> None:
+        for name in ("part-2", "part-10", "part-999999"):
+            self.assertTrue(is_folder_of_part(name, True), name)
+            self.assertFalse(is_folder_of_part(name, False), name)
+        for name in ("part", "part-0", "part-02", "part-2a", "parts-2", "xpart-2", "part-1000000", "log"):
+            self.assertFalse(is_folder_of_part(name, True), name)
+
+    def test_a_name_of_which_a_line_is_kept_is_anothers(self) -> None:
+        for steps in ((1,), (0, 9), (7, 9)):
+            self.assertTrue(is_name_of_other(steps), steps)
+        self.assertFalse(is_name_of_other(()))
+        self.assertFalse(is_name_of_other((0,)))
 
 
 class Share(unittest.TestCase):

@@ -2,7 +2,8 @@
 
 import unittest
 
-from weft.deciding.sharing import choose_names, choose_receipts, count_nights, is_first_hand, move_cursor, order_lines
+from weft.deciding.lines import Line
+from weft.deciding.sharing import choose_handed_back, choose_names, choose_receipts, count_nights, is_first_hand, move_cursor, order_lines, place_end
 
 ROOM = 128
 
@@ -86,16 +87,48 @@ class Receipts(unittest.TestCase):
         self.assertEqual(choose_receipts("abcde", set(), 0), [])
 
 
+class Ends(unittest.TestCase):
+    """Where the line goes by which a peer's part before ended."""
+
+    def test_it_goes_behind_the_newest_one(self) -> None:
+        for turn in (0, 1, 2, 4, 5):
+            self.assertEqual(place_end("cba", "E", turn), ["c", "E", "b", "a"])
+
+    def test_it_goes_before_it_in_one_of_four_turns_in_a_row(self) -> None:
+        for turn in (3, 7, 11):
+            self.assertEqual(place_end("cba", "E", turn), ["E", "c", "b", "a"])
+
+    def test_a_peer_in_its_first_part_has_none(self) -> None:
+        self.assertEqual([place_end("ba", None, turn) for turn in (2, 3)], [["b", "a"]] * 2)
+
+
+class HandedBack(unittest.TestCase):
+    """Whoever holds a line of a peer shows it to that peer: by it a store that was put back is found."""
+
+    def test_a_line_whose_message_was_lost_is_handed_back(self) -> None:
+        taken, signed = Line("shop", 5, "aa" * 32), Line("shop", 8, "bb" * 32)
+        self.assertEqual(choose_handed_back(taken, signed), signed)
+        self.assertEqual(choose_handed_back(None, signed), signed)
+
+    def test_what_was_recorded_is_handed_back_where_it_is_later_or_another_of_that_step(self) -> None:
+        taken = Line("shop", 8, "aa" * 32)
+        self.assertEqual(choose_handed_back(taken, Line("shop", 5, "bb" * 32)), taken)
+        self.assertEqual(choose_handed_back(taken, Line("shop", 8, "bb" * 32)), taken)
+        self.assertEqual(choose_handed_back(taken, None), taken)
+        self.assertIsNone(choose_handed_back(None, None))
+
+
 class FirstHand(unittest.TestCase):
     """Which receipts go on."""
 
     def test_whom_it_is_of_may_tell_it(self) -> None:
-        self.assertTrue(is_first_hand("bank", ("bank", "shop")))
-        self.assertTrue(is_first_hand("shop", ("bank", "shop")))
+        self.assertTrue(is_first_hand(["bank"], ("bank", "shop")))
+        self.assertTrue(is_first_hand(["shop"], ("bank", "shop")))
+        self.assertTrue(is_first_hand(["shop-2", "shop"], ("bank", "shop")))
 
     def test_what_others_tell_ends_there(self) -> None:
-        self.assertFalse(is_first_hand("port", ("bank", "shop")))
-        self.assertFalse(is_first_hand("port", ()))
+        self.assertFalse(is_first_hand(["port", "port-2"], ("bank", "shop")))
+        self.assertFalse(is_first_hand(["port"], ()))
 
     def test_in_a_ring_of_any_size_a_receipt_goes_round_no_more_than_once(self) -> None:
         for size in range(3, 9):
@@ -104,7 +137,7 @@ class FirstHand(unittest.TestCase):
                 has, told = {ring[0]}, 0
                 for _ in range(4 * size):
                     place = next((at for at, name in enumerate(ring) if name in has and ring[(at + 1) % size] not in has), None)
-                    if place is None or not (place == 0 or is_first_hand(ring[place - 1], parties)):
+                    if place is None or not (place == 0 or is_first_hand([ring[place - 1]], parties)):
                         break
                     has.add(ring[(place + 1) % size])
                     told += 1

@@ -7,8 +7,8 @@ import unittest
 
 from weft.deciding.lines import Line
 from weft.deciding.signatures import (
-    BEGIN, END, MOST_BYTES, Addition, KeyFault, PublicKey, Signed, cut_torn, decode_base64, may_rest_on, may_sign_lines, place_key, read_armour,
-    read_noted_key, read_public_key, read_signed_line, read_signed_lines,
+    BEGIN, END, MOST_BYTES, Addition, Check, KeyFault, PublicKey, Signed, cut_torn, decode_base64, may_rest_on, may_sign_lines, place_key, read_armour,
+    read_check, read_noted_key, read_public_key, read_signed_line, read_signed_lines,
 )  # fmt: skip
 
 HEX = "5585fc74c8b89378088d61ce37d82efe4c25f9ab0bbeb79b20a4618dce62a486"
@@ -124,6 +124,25 @@ GOOD, EVIL = blob_of(b"ssh-ed25519"), blob_of(b"ssh-ed25519", b"\0\0\0\4evil")
 GOOD_TEXT, EVIL_TEXT = base64.b64encode(GOOD), base64.b64encode(EVIL)
 
 
+class Checks(unittest.TestCase):
+    """What ssh-keygen tells of a signature."""
+
+    GOOD = b'Good "timeweave-line" signature for bank with ED25519 key SHA256:zPKuFLVCye9ffVST7H6TvmnIAWNxgHIwyyxkUQuUsOg\n'
+
+    def test_a_good_one_is_told_with_its_key(self) -> None:
+        self.assertEqual(read_check(0, self.GOOD), Check(True, "ED25519 SHA256:zPKuFLVCye9ffVST7H6TvmnIAWNxgHIwyyxkUQuUsOg"))
+
+    def test_one_that_could_not_be_verified_is_not_good(self) -> None:
+        self.assertEqual(read_check(255, b"Could not verify signature.\n"), Check(False))
+
+    def test_of_one_whose_check_was_not_made_nothing_is_known(self) -> None:
+        for status, told in (
+            (-9, b""), (-9, b"Could not verify signature.\n"), (255, b""), (127, b"Could not verify signature."), (1, self.GOOD), (0, b""), (255, self.GOOD),
+            (0, b"Could not verify signature.\n"), (255, b"x Could not verify signature.\n"),
+        ):  # fmt: skip
+            self.assertEqual(read_check(status, told), Check(None), (status, told))
+
+
 class Keys(unittest.TestCase):
     """What reads as a public key."""
 
@@ -201,6 +220,12 @@ class Signers(unittest.TestCase):
     def test_a_second_key_is_never_added(self) -> None:
         for line in (b"bank ssh-ed25519 " + EVIL_TEXT, b"bank ssh-ed25519 " + GOOD_TEXT + b"x", b"bank ssh-ed25519 x" + GOOD_TEXT):
             self.assertIs(place_key(self.key, [line]), Addition.OTHER)
+
+    def test_unless_a_person_says_that_it_stands_beside_the_other_one(self) -> None:
+        other = b"bank ssh-ed25519 " + EVIL_TEXT
+        self.assertIs(place_key(self.key, [other], True), Addition.NEW)
+        self.assertIs(place_key(self.key, [other, self.key.signers_line("bank")], True), Addition.KNOWN)
+        self.assertIs(place_key(self.key, [b'bank valid-before="20200101" ssh-ed25519 ' + GOOD_TEXT], True), Addition.LIMITED)
 
     def test_a_key_that_may_not_count_for_lines_is_not_called_noted(self) -> None:
         bare = b"ssh-ed25519 " + GOOD_TEXT

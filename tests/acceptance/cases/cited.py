@@ -113,7 +113,7 @@ def tried(program):
     """The cases and tests that docs/parties.md names and that aren't there; and the rows of its tables that name none."""
     text = (TOP / "docs/parties.md").read_text()
     wrong = []
-    for name in re.findall(r"`((?:weft_\w+|reference)\.\w+|test_\w+|audits)`", text):
+    for name in re.findall(r"`((?:weft_\w+|reference|library|released|web)\.\w+|test_\w+|audits)`", text):
         module, _, function = name.partition(".")
         path = TOP / ("tests/deciding" if module.startswith("test_") else "tests/acceptance/cases") / f"{module}.py"
         if not path.exists() or function and f"\ndef {function}(" not in path.read_text():

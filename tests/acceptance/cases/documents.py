@@ -18,9 +18,10 @@ from harness.rooms import Skipped, Wrong, case, checked, needs
 DOCUMENTS = [TOP / "README.md", TOP / "reference/README.md", TOP / "web/README.md", TOP / "vectors/README.md", *sorted((TOP / "docs").glob("*.md")), *sorted((TOP / "bench").glob("*.md"))]
 
 
-# The most words of all documents and manual pages together, those that tools write among them. (The table of the names that stand otherwise, and what
-# each party can do, have some 2,500 of them.)
-MOST_WORDS = 62_500
+# The most words of all documents and manual pages together, those that tools write among them, but for docs/theorem.md: that has a limit of its own
+# (tools/theorem.py). (The table of the names that stand otherwise, and what each party can do, have some 2,500 of them; how a file is opened, which
+# trust.md prints whole, some 300.)
+MOST_WORDS = 64_000
 
 
 def anchors(document):
@@ -169,9 +170,17 @@ def pages():
 
 def words(program):
     """How many words all documents have, where they are more than may be."""
-    counts = {page.relative_to(TOP): len(page.read_text().split()) for page in pages()}
+    counts = {page.relative_to(TOP): len(page.read_text().split()) for page in pages() if page.name != "theorem.md"}
     told = ", ".join(f"{page} {count}" for page, count in counts.items())
     return f"  {sum(counts.values())} words, at most {MOST_WORDS} are allowed: {told}" if sum(counts.values()) > MOST_WORDS else None
+
+
+def opening(program):
+    """Where docs/trust.md doesn't print how a file is opened as it stands."""
+    lines = (TOP / "crates/tw_hostio/src/opening.rt").read_text().splitlines(keepends=True)
+    code = "".join(line for line in lines if not line.lstrip().startswith("//"))
+    is_there = code.lstrip() in (TOP / "docs/trust.md").read_text()
+    return None if is_there else "  docs/trust.md prints another crates/tw_hostio/src/opening.rt"
 
 
 def kit(room):
@@ -213,6 +222,7 @@ def without_program():
         "length of the README": length,
         "words": words,
         "one word for one thing": glossary,
+        "how a file is opened": opening,
     }
     yield from checked("documents", checks)
     yield from (case(work, "documents") for work in (kit, kits, hour))

@@ -2,9 +2,11 @@
 
 import os
 import re
+import shutil
 import subprocess
 import sys
 from concurrent.futures import ThreadPoolExecutor
+from pathlib import Path
 
 import timeweave
 from example_files import bounds, high_of, low_of, two_histories
@@ -187,6 +189,32 @@ def module(room):
         raise Wrong(f"  the version is {timeweave.version()}")
 
 
+def copied_alone(room):
+    """the module for Python loads no library that lies around a copy of it, in whatever folder, and one that is of its repository or installation"""
+    copy = TOP / "bindings/python/timeweave.py"
+    environment = {name: value for name, value in os.environ.items() if name != "TIMEWEAVE_LIBRARY"}
+    (room.folder / "lib").mkdir()
+    room.put("lib/libtimeweave.so", b"somebody else's")
+    # (of each folder whether its library is the one above it)
+    for below, mark, is_its_own in (
+        ("home/app", None, False), ("bindings/python", None, False), ("bindings/python", "crates.txt", True),
+        ("share/timeweave", None, False), ("share/timeweave", "share/timeweave/weft/__init__.py", True),
+    ):  # fmt: skip
+        folder = room.folder / below
+        folder.mkdir(parents=True, exist_ok=True)
+        shutil.copy(copy, folder)
+        if mark:
+            (room.folder / mark).parent.mkdir(parents=True, exist_ok=True)
+            room.put(mark, b"")
+        words = [sys.executable, "-c", "import timeweave; timeweave.version()"]
+        done = subprocess.run(words, cwd=folder, env=environment, capture_output=True, text=True, timeout=LONGEST)
+        if ("invalid ELF header" in done.stderr or "file too short" in done.stderr) != is_its_own:
+            raise Wrong(f"  in {below} with {mark}: {done}")
+    for folder in ("/", "/t", "/t/u"):
+        if timeweave.library_of(Path(folder)) is not None:
+            raise Wrong(f"  {folder} has a library")
+
+
 def each_proof(room):
     """each proof of this run, by the library"""
     built_library()
@@ -204,5 +232,5 @@ def try_some(program):
 
 
 def cases():
-    for work in (each_proof, calls("gcc"), calls("clang"), races, in_threads, no_state, symbols, installed, types, module):
+    for work in (each_proof, calls("gcc"), calls("clang"), races, in_threads, no_state, symbols, installed, types, module, copied_alone):
         yield case(work, "library")

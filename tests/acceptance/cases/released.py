@@ -19,6 +19,7 @@ import proved_by
 
 from harness.places import LONGEST, TOP
 from harness.rooms import Skipped, Wrong, case, needs
+from timeweave_reference.events_files import events_to_bytes
 
 
 # ---- a release
@@ -378,6 +379,110 @@ def untried_is_told(room):
         raise Wrong(f"  {found}")
 
 
+# ---- what was asked for
+
+
+def bad_of(folder, part, signers=None, line=None, path=None):
+    """What the judge says is bad of one part of a release whose files lie in a folder, with this search path; none where it is good."""
+    release = judge_release.Release(folder, argparse.Namespace(signers=signers, line=line), TOP)
+    with mock.patch.dict(os.environ, {"PATH": path or os.environ["PATH"]}):
+        try:
+            getattr(release, part)()
+        except judge_release.Bad as bad:
+            return str(bad)
+    return None
+
+
+def hold_bad(found, text):
+    """Raises Wrong where a part isn't bad for this reason."""
+    if found is None or text not in found:
+        raise Wrong(f"  wanted bad: {text}\n  got {found}")
+
+
+def asked_for_is_checked(room):
+    """a signature or a record that was asked for and can't be checked is bad: no file of it is there, or no ssh-keygen; unasked it is told"""
+    folder, empty, line = room.folder / "asked", room.folder / "empty", room.folder / "line"
+    for made in (folder, empty):
+        made.mkdir()
+    (folder / "SHA256SUMS").write_text(f"{'0' * 64}  x\n")
+    line.write_text(f"log 3 {'a' * 64}\n")
+    hold_bad(bad_of(folder, "signature", signers="signers"), "isn't signed")
+    hold_bad(bad_of(folder, "record", line=line), "no proof of a log is there")
+    (folder / "SHA256SUMS.sig").write_text("forged")
+    hold_bad(bad_of(folder, "signature", signers="signers", path=str(empty)), "there is no ssh-keygen here")
+    for part, path in (("signature", str(empty)), ("record", None)):
+        found = bad_of(folder, part, path=path)
+        if found:
+            raise Wrong(f"  {part}, which wasn't asked for: {found}")
+
+
+def recorded_by_another(room):
+    """digests that a stranger's service recorded aren't called recorded by the log that received its step, by a proof that carries a line or doesn't"""
+    folder, sums = room.folder / "another", b"f" * 64 + b"  forged.deb\n"
+    folder.mkdir()
+    (folder / "SHA256SUMS").write_bytes(sums)
+    entry = judge_release.digest(sums).encode() + b"  SHA256SUMS"
+
+    def make(name, words):
+        status, output, errors = room.run(*words.split())
+        if status:
+            raise Wrong(f"  timeweave {words}: {status} {errors}")
+        room.put(name, output)
+
+    room.put("entry", events_to_bytes([entry]))
+    room.put("other", events_to_bytes([b"other"]))
+    for name in ("stranger", "log"):
+        (room.folder / name).mkdir()
+        make("made", f"init {name} {name}")
+    for name, words in (("theirs", "append stranger entry"), ("message", "thread stranger 0"), ("receipt", "receive log message"), ("line", "append log other")):
+        make(name, words)
+    make("later", "prove log event 2 0")
+    make("received", "prove log thread 1 stranger 1")
+    make("link", "prove stranger link 1 1")
+    make("earlier", "prove stranger event 1 0 1")
+    make("another/SHA256SUMS.proof", "join later received earlier")
+    line = room.folder / "line"
+    hold_bad(bad_of(folder, "record", line=line), "rejected 8 Carried 1")
+    make("another/SHA256SUMS.proof", "join later received link earlier")
+    line.write_bytes(line.read_bytes() + (room.folder / "theirs").read_bytes())
+    hold_bad(bad_of(folder, "record", line=line), "isn't that of one event of the log")
+    shutil.copyfile(room.folder / "earlier", folder / "SHA256SUMS.proof")
+    if bad_of(folder, "record", line=line):
+        raise Wrong("  a log that did record them is bad")
+
+
+def part_of_deb(name, body, size=None):
+    """A part of a package, with this size told or its own."""
+    return b"%-16s%-12d%-6d%-6d%-8s%-10s`\n" % (name, 0, 0, 0, b"100644", size or b"%d" % len(body)) + body + b"\n" * (len(body) % 2)
+
+
+def hostile_packages(room):
+    """a package whose part tells a size that is no number, or that unpacks to more than a release has, is bad, and takes neither time nor memory"""
+    front, whole = b"!<arch>\n", part_of_deb(b"debian-binary", b"2.0\n")
+    for size in (b"-60", b"+4", b"1_0", b" 4", b""):
+        with_size = front + whole[:48] + size.ljust(10) + whole[58:]
+        hold_bad(raised(judge_release.parts_of_deb, with_size), "whose size is no number")
+    bomb = judge_release.lzma.compress(bytes(1 << 20))
+    package = front + whole + part_of_deb(b"control.tar.xz", bomb) + part_of_deb(b"data.tar.xz", bomb)
+    with mock.patch.object(judge_release, "MOST_BYTES", 1 << 16):
+        hold_bad(raised(judge_release.parts_of_deb, package), "too large")
+    holes = io.BytesIO()
+    with tarfile.open(fileobj=holes, mode="w", format=tarfile.GNU_FORMAT) as tar:
+        told = tarfile.TarInfo("holes")
+        told.type = tarfile.GNUTYPE_SPARSE
+        tar.addfile(told)
+    hold_bad(raised(judge_release.unpacked, holes.getvalue()), "doesn't belong into the archive")
+
+
+def raised(work, data):
+    """What is said to be bad of these bytes."""
+    try:
+        work(data)
+    except judge_release.Bad as bad:
+        return str(bad)
+    return None
+
+
 # ---- the judge by itself
 
 
@@ -410,4 +515,5 @@ def same_archive(room):
 
 
 def cases():
-    return [case(work, "released") for work in (judge_alone, same_archive, untried_is_told, judged_by_faults, trial_is_told)]
+    works = (judge_alone, asked_for_is_checked, recorded_by_another, hostile_packages, same_archive, untried_is_told, judged_by_faults, trial_is_told)
+    return [case(work, "released") for work in works]

@@ -1,6 +1,6 @@
 """The sources keep the project's own rules: long functions say why they are, attributes fit on a line, files of lemmas say what they are
-of, tests stand in crates of their own, crates are small, no chain of crates is long, a definition's name stands for one thing, little
-stands twice, want of memory has a cause, the gate tries one wrong body of a crate and those that are named here, and each worked example has its
+of, tests stand in crates of their own, crates are small, no chain of crates is long, a definition's name stands for one thing and a body has
+one name, little stands twice, want of memory has a cause, the gate tries one wrong body of a crate and those that are named here, and each worked example has its
 tests."""
 
 import json
@@ -9,11 +9,14 @@ import re
 import shutil
 import subprocess
 import sys
+from collections import Counter
 from pathlib import Path
 
 import body_batches
 import body_trials
 import leave_out
+import same_bodies
+import theorem
 import twins
 import wrong_bodies
 from pictures import crates, height
@@ -36,24 +39,30 @@ MOST_TWINS = 38
 # The crates that have more, and how much at most: no crate comes in, no number rises but for a reason that docs/DECISIONS.md tells, and one
 # that has no more than the others goes.
 LARGE = {
-    "tw_base": (3156, 159),
+    "tw_base": (3202, 162),
     "tw_history": (2124, 108),
+    "tw_hostio": (1605, 93),
     "tw_skiplist": (1582, 100),
     "tw_verifier": (1994, 100),
 }
 
 # The names that stand for a definition in two modules of `specs`: one notion over two subjects, which a reader always sees with their module.
 # Each line tells why. There are at most so many, and a name that stands for one definition alone goes from the list.
-MOST_TWICE = 40
+MOST_TWICE = 39
 TWICE = {
     "a form in the two tables of forms, of a script's lines and of the command line": """Form ReadsWords TakesWords any_number append choose_form
         end form_named join maybe maybe_number name_form next no_words number_form proofs prove then_form verify""",
     "a part of the two values over a store, the service and the follower": "HasSameDisk IsOver disk_of has_failed head_of pages_of record_of",
     "a part of the two root records, the service's and the follower's": "FitsStore IsAllowed root_bytes root_codec root_kind",
-    "what an image stands for: of a service, of a follower, and of a store of any kind": """IsBlankOrNew IsNotOpenedFor IsServed OpensWith Served
+    "what an image stands for: of a service, of a follower, and of a store of any kind": """IsBlankOrNew IsNotOpenedFor IsServed OpensWith
         StandsFor StandsForOneOf""",
     "one thing done after another, of a format and of pages": "◌>>=◌",
 }
+
+# The names that stand for a type of code in two files of `src`. There are at most so many: who renames one, or makes one of two, lowers it.
+MOST_TYPES_TWICE = 21
+TYPES_TWICE = """Answer Command Found Heard Hop Judged Judgement Link Part Place Planned RootRecord Shown Side Slot Stop Store Summary Table Taken
+    Told"""
 
 
 def files(pattern):
@@ -208,11 +217,23 @@ def names_twice(program):
     return "\n".join(wrong) or None
 
 
-# Where the sources say that there was no memory, but to hand on what said so: `file: function`, by what it comes from. Status 6 comes
-# from nothing else. No type holds that: neither `NoMemory` nor the variants of faults that hand it on have a field.
+def bodies_twice(program):
+    """The definitions, and the functions of the code, that have one body and two names; and the types of code that stand in two files."""
+    definitions, functions, types = same_bodies.found()
+    wrong = [f"  {same_bodies.told(where)} have one body" for where in definitions + functions]
+    listed = TYPES_TWICE.split()
+    twice = {where[0][0]: where for where in types}
+    wrong += [f"  {same_bodies.told(twice[name])} have one name" for name in sorted(set(twice).difference(listed))]
+    wrong += [f"  {name} is one type of the code, and goes from TYPES_TWICE" for name in sorted(set(listed).difference(twice))]
+    wrong += [f"  {len(listed)} names stand for two types, at most {MOST_TYPES_TWICE} may"] * (len(listed) > MOST_TYPES_TWICE)
+    return "\n".join(wrong) or None
+
+
+# Where the sources say that there was no memory, but to hand on what said so: `file: function`, with the number of places where there
+# are more than one, by what it comes from. Status 6 comes from nothing else. No type holds that: neither `NoMemory` nor the variants of faults that hand it on have a field.
 WANTS = {
     "an allocation that was refused": """
-        timeweave/src/store_path.rt: path_of_store, timeweave/src/words.rt: read_argument, timeweave/src/words.rt: read_arguments,
+        timeweave/src/store_path.rt: path_of_store, timeweave/src/words.rt: read_argument (2), timeweave/src/words.rt: read_arguments,
         timeweave_c/src/exports.rt: tell_no_memory, tw_app/src/ending.rt: end_without_memory, tw_base/src/kinds/label_list.rt: push,
         tw_base/src/kinds/label_list.rt: with_capacity, tw_rbtree/src/listing.rt: child_on_heap, tw_follow/src/follower.rt: move_to,
         tw_script/src/word_values.rt: bytes_of""",
@@ -253,7 +274,7 @@ def is_handed_on(lines, number):
 
 
 def wants(text):
-    """The functions of a file that say that there was no memory, but to hand on what said so."""
+    """The function of each place of a file that says that there was no memory, but to hand on what said so."""
     lines = [line.split("//")[0].rstrip() for line in text.split("\n")]
     name = None
     for number, line in enumerate(lines):
@@ -266,10 +287,11 @@ def wants(text):
 
 
 def memory(program):
-    """The functions that say otherwise than by `WANTS` that there was no memory, and those of `WANTS` that don't say so."""
+    """The places that say otherwise than by `WANTS` that there was no memory, and those of `WANTS` that don't say so."""
     allowed = {place.strip() for places in WANTS.values() for place in places.split(",")}
     paths = [path for path in files("*.rt") if "src" in path.parts and not path.relative_to(TOP).parts[1].endswith("tests")]
-    said = {f"{path.relative_to(TOP / 'crates')}: {name}" for path in paths for name in wants(path.read_text())}
+    counts = Counter(f"{path.relative_to(TOP / 'crates')}: {name}" for path in paths for name in wants(path.read_text()))
+    said = {place if count == 1 else f"{place} ({count})" for place, count in counts.items()}
     wrong = [f"  {place} says that there was no memory, and isn't in WANTS" for place in sorted(said - allowed)]
     return "\n".join(wrong + [f"  {place} doesn't, and is in WANTS" for place in sorted(allowed - said)]) or None
 
@@ -288,7 +310,8 @@ NAMED = {
     "tw_chain/kind_5_is_malformed": "a proof of a link isn't read",
     "tw_chain/last_hop_written_twice": "a proof is written with one hop more than it has",
     "tw_events/path_length_of_the_path": "an event's path may be shorter than the count of the step's events says",
-    "tw_treeproof/absence_past_the_asked_key": "a search for an absent key goes on at the entry that has it",
+    "tw_treeproof/an_empty_place_taken_for_an_entry": "a proof of an empty place answers a question for an entry",
+    "tw_base/absence_past_the_asked_key": "a search for an absent key goes on at the entry that has it",
     "tw_base/bytes_after_the_end_ignored": "a reader takes bytes behind a word's end",
     "tw_base/name_with_letters_after_zeros": "a name has a second spelling",
     "tw_base/number_written_from_its_high_bytes": "a number is written otherwise than it is read",
@@ -514,6 +537,22 @@ def heights(program):
     return "\n".join(f"  {name} stands at {at}, at most {MOST_HEIGHT} is allowed" for name, at in wrong.items()) or None
 
 
+# The bodies of a run: its work, which has no sink, and then its text, which has no disk. (A law that a clause is by does nothing.)
+RUN_BODIES = {
+    "run_to_the_end": [
+        "let Followed { outcome, disk } = work(alloc, words, disk, inputs);", "let status = tell(alloc, &outcome, out);", "Ran { status, disk }"],
+    "run": ["plain_laws::<Sha>();", "run_to_the_end(alloc, words, disk, inputs, out)"],
+}
+
+
+def halves_of_a_run(program):
+    """The functions of a run that do something else than its work and then its text."""
+    text = (TOP / "crates/tw_app/src/ending.rt").read_text()
+    bodies = {name: re.search(rf"\bfn {name}<.*?\n{{\n(.*?)\n}}", text, re.DOTALL) for name in RUN_BODIES}
+    said = {name: [line.strip() for line in body[1].split("\n") if not line.strip().startswith("//")] if body else None for name, body in bodies.items()}
+    return "\n".join(f"  {name} isn't as it has to be: {said[name]}" for name, lines in RUN_BODIES.items() if said[name] != lines) or None
+
+
 def what_stands_twice(program):
     """How many pairs of files share six lines in a row, where these are more than there may be."""
     count = len(twins.pairs())
@@ -528,8 +567,28 @@ def known_to_weft(program):
     return None if is_same else f"  weft/known.py has other digests: `python3 -m weft.packages` notes them anew {done.stderr}"
 
 
+def one_page(program):
+    """The clauses of docs/theorem.md that mean more than may stand there, and the pages that aren't what the sources say."""
+    return "\n".join([*theorem.too_long(), *theorem.stale()]) or None
+
+
+# The modules that docs/definitions.md tells to skip.
+SKIPPED = re.compile(r"Steps$")
+
+
+def modules_to_skip(program):
+    """The modules of what the clauses of `run` mean that docs/definitions.md tells to skip."""
+    found = {home for name in theorem.clauses_of_run() for home, _ in theorem.meaning(name).shown}
+    wrong = [f"  {home}" for home in sorted(found) if SKIPPED.search(home)]
+    if "A module whose name ends in `Steps`" not in " ".join((TOP / "docs/definitions.md").read_text().split()):
+        wrong.append("  docs/definitions.md doesn't say which modules needn't be read")
+    return "\n".join(wrong) or None
+
+
 def cases():
     checks = {
+        "the theorem on one page": one_page,
+        "modules that needn't be read": modules_to_skip,
         "long functions": long_functions,
         "attributes": wide_attributes,
         "files of lemmas": lemma_files,
@@ -547,6 +606,8 @@ def cases():
         "wrong bodies tried together": bodies_together,
         "heights": heights,
         "names of definitions": names_twice,
+        "the halves of a run": halves_of_a_run,
+        "bodies with two names": bodies_twice,
         "what stands twice": what_stands_twice,
         "packages that weft knows": known_to_weft,
     }

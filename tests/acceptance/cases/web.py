@@ -15,7 +15,7 @@ import timeweave
 from cases import forks, maps
 from cases.library import try_some
 from harness import library
-from harness.rooms import Skipped, Wrong, case
+from harness.rooms import Skipped, Wrong, case, needs
 from harness.running import difference
 from harness.web import ASKED, FUNCTIONS, MODULE, PAGE, WEB, asked, built, has
 
@@ -93,11 +93,23 @@ def by_library(form, files):
     return timeweave.library().ask(f"timeweave_{FUNCTIONS[form]}", *files)
 
 
+OF_MODULE = "timeweave.test.mjs"
+
+
 def node_tests(room):
-    """the module for JavaScript and the page's own parts, by Node's test runner"""
+    """the module for JavaScript, by Node's test runner"""
     built()
-    names = sorted((WEB / "tests").glob("*.test.mjs"))
-    done = subprocess.run(["node", "--test", *names], capture_output=True, text=True, timeout=300)
+    run_tests([WEB / "tests" / OF_MODULE])
+
+
+def page_parts(room):
+    """the page's own parts, by Node's test runner; what it says of lines beside the reader's is what weft says, by one table"""
+    run_tests(sorted(path for path in (WEB / "tests").glob("*.test.mjs") if path.name != OF_MODULE))
+
+
+def run_tests(paths):
+    """Runs tests of Node's runner; raises Wrong where one fails."""
+    done = subprocess.run([needs("node", "nodejs"), "--test", *paths], capture_output=True, text=True, timeout=300)
     if done.returncode:
         raise Wrong(done.stdout[-4000:] + done.stderr[-1000:])
 
@@ -163,5 +175,5 @@ def in_browser(name):
 
 
 def cases():
-    for work in (each_proof, changed_proofs, node_tests, of_these_sources, build_stops, in_browser("chromium"), in_browser("firefox")):
+    for work in (each_proof, changed_proofs, node_tests, page_parts, of_these_sources, build_stops, in_browser("chromium"), in_browser("firefox")):
         yield case(work, "page")

@@ -478,7 +478,7 @@ def passed_on(room):
     loom.put("box-bank/maker/in/requests", f"of port event {shipped} 0 {step}\nof maker link 1 1\nof nobody link 1 1\nof port link 1 {step}\n")
     net.turn("bank", 0)
     answers = sorted(path.read_bytes()[:30] for path in (loom.folder / "box-bank/maker/out/answers").iterdir())
-    if answers != [b"refused: no peer of that name "] * 2 or f"link 1 {step}\n".encode() not in loom.read("box-bank/port/out/requests"):
+    if answers != [*[b"refused: no peer of that name "] * 2, b"refused: nothing is passed on "] or f"link 1 {step}\n".encode() not in loom.read("box-bank/port/out/requests"):
         raise Wrong(f"  {answers} {loom.read('box-bank/port/out/requests')}")
     if b"event" in loom.read("box-bank/port/out/requests"):
         raise Wrong("  an event is asked for in another's name")
@@ -550,25 +550,9 @@ def two_at_once(room):
     net.turn("shop", 0)
 
 
-def nearly_full(room):
-    """from half of what a history's file may have on, the share is told, with status 10"""
-    net = pair(room)
-    loom = net.loom
-
-    def small():
-        from weft import formats
-
-        formats.MOST_HISTORY = 40_000
-
-    net.turn("shop", 0, patch=small, absent=("may have",))
-    for number in range(3):
-        loom.append("shop", *[bytes([number]) * 1024] * 10)
-    net.turn("shop", 10, "% of what its file may have", patch=small)
-
-
 def cases():
     works = (
         two_services, carrier, old_message, first_contact, squatter, without_keys, old_store, unsigned_old_store, fork_shown, hostile_folders, requests, chained, passed_on, with_faults,
-        two_at_once, nearly_full,
+        two_at_once,
     )  # fmt: skip
     return [case(work, "weft exchange") for work in works]

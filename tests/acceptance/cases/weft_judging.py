@@ -125,7 +125,7 @@ def audited_by_another(room):
     loom.put("another", loom.timeweave("export", "bank"))
     loom.expect("judge p1 --kept both --audit another", 1, "p1: not shown", "NOT SO: it hangs on step 1 of maker")
     loom.expect("judge true --kept both --audit true", 2, "--audit is for proofs")
-    loom.expect("judge p1 --kept both --audit nothing", 3, "p1: shown", "no file nothing")
+    loom.expect("judge p1 --kept both --audit nothing", 3, "p1: not judged", "no file nothing")
     loom.put("bread4", loom.timeweave("prove", "true-maker", "event", "1", "0", "3"))
     loom.put("other", f"maker 1 {'ab' * 32}\n" + old)
     loom.expect("judge bread4 --kept other --audit nothing", 11, "bread4: not shown", "TWO LINES", "no file nothing")

@@ -41,10 +41,13 @@ def printed(room):
 
 
 def signed(room):
-    """a line that was signed is kept by whoever has the key, is checked by ssh-keygen alone, and no other key or line goes through"""
+    """a line that was signed is kept by whoever has the key, whichever others are noted, is checked by ssh-keygen alone, and no other key or line goes through"""
     loom = with_keys(room)
     loom.expect("line shop --sign shop.key", 0, "Hand out shop-2.line and shop-2.line.sig")
-    loom.expect("keep shop-2.line", 12, "isn't good", "weft keep --signer shop")
+    loom.expect("keep shop-2.line", 12, "no key of shop is noted", "weft keep --signer shop")
+    loom.key("port")
+    loom.expect("keep --signer port port.key.pub", 0)
+    loom.expect("keep shop-2.line", 12, "no key of shop is noted", absent=("isn't good",))
     loom.expect("keep --signer shop shop.key.pub", 0, "SHA256:")
     loom.expect("keep shop-2.line", 0, "signed by ED25519 SHA256:", "step 2 of shop")
     loom.expect("keep shop-2.line", 0, "kept already")
@@ -59,14 +62,14 @@ def signed(room):
     # another line under the signature, another's key, another's name
     loom.put("shop-3.line", loom.read("shop-2.line").replace(b" 2 ", b" 3 "))
     loom.put("shop-3.line.sig", loom.read("shop-2.line.sig"))
-    loom.expect("keep shop-3.line", 11, "isn't good")
+    loom.expect("keep shop-3.line", 1, "isn't good")
     loom.key("thief")
     loom.expect("line shop --sign thief.key --out forged", 0)
-    loom.expect("keep forged", 11, "isn't good")
+    loom.expect("keep forged", 1, "isn't good")
     loom.expect("keep --signer bank shop.key.pub", 0)
     loom.put("bank.line", loom.read("shop-2.line").replace(b"shop", b"bank"))
     loom.put("bank.line.sig", loom.read("shop-2.line.sig"))
-    loom.expect("keep bank.line", 11, "isn't good")
+    loom.expect("keep bank.line", 1, "isn't good")
     if loom.read("kept").count(b"\n") != 1:
         raise Wrong(f"  {loom.read('kept')}")
 
@@ -76,12 +79,12 @@ def wrong_key(room):
     loom = with_keys(room)
     loom.key("bank")
     loom.expect("line shop --sign shop.key --out shop.line", 0)
-    loom.expect("keep shop.line --signer shop bank.key.pub", 11, "isn't good", "wasn't noted")
+    loom.expect("keep shop.line --signer shop bank.key.pub", 1, "isn't good", "wasn't noted")
     loom.put("fake", loom.read("shop.line").replace(b" 2 ", b" 7 "))
     loom.put("bank.line", loom.read("shop.line").replace(b"shop", b"bank"))
     for name in ("fake", "bank.line"):
         loom.put(f"{name}.sig", loom.read("shop.line.sig"))
-    loom.expect("keep fake --signer shop shop.key.pub", 11, "wasn't noted")
+    loom.expect("keep fake --signer shop shop.key.pub", 1, "wasn't noted")
     loom.expect("keep bank.line --signer shop shop.key.pub", 2, "is of bank, and --signer names shop")
     loom.expect("keep shop.line --by mail --signer shop shop.key.pub", 2, "--by")
     loom.put("plain", loom.read("shop.line"))

@@ -4,7 +4,7 @@ import json
 import os
 
 from cases.weft_judging import two_services
-from harness.rooms import Wrong, case
+from harness.rooms import Wrong, case, needs
 from harness.weft_room import Loom
 
 OTHER = "f" * 64
@@ -308,9 +308,163 @@ def speaking_names(room):
     loom.expect(["judge", "my proof"], 0, '"my proof": shown')
 
 
+def received_amid(room):
+    """A shop and a bank that received its step 2, the last lines of both, which are kept, and a chain under these; in `more` another line of that step, too."""
+    loom = Loom(room)
+    for name, file in (("shop", "sold"), ("shop", "next"), ("bank", "open")):
+        loom.put(f"{name}.files/{file}", file)
+        loom.expect(["log", f"{name}.files", name, *[name] * (file != "next")], 0)
+    loom.put("message", loom.timeweave("thread", "shop", "0"))
+    loom.timeweave("receive", "bank", "message")
+    for name, file in (("bank", "paid"), ("shop", "later")):
+        loom.put(f"{name}.files/{file}", file)
+        loom.expect(f"log {name}.files {name}", 0)
+        loom.expect(["keep", f"{name}.anchor", "--by", "by mail"], 0)
+    loom.put("more", loom.read("kept") + f"shop 2 {OTHER} 2026-01-01T00:00:00Z by letter\n".encode())
+    loom.make({
+        "paid": "prove bank event 3 0", "thread": "prove bank thread 2 shop 2", "link": "prove shop link 2", "sold": "prove shop event 1 0 2",
+        "good": "join paid thread link sold",
+    })  # fmt: skip
+    return loom
+
+
+def held_against_nothing(room):
+    """where what a proof is to be held against can't be read, or is of another kind, shown isn't said first: neither in words, in JSON nor as a picture"""
+    loom = two_services(room)
+    (loom.folder / "folder").mkdir()
+    os.mkfifo(loom.folder / "pipe")
+    loom.put("junk", b"no history")
+    asked = [(f"bread3 --{option} {name}", 3) for option in ("file", "audit") for name in ("nothing", "folder", "pipe")]
+    asked += [("thread --file junk", 2), ("link --file junk", 2), ("bread3 --audit junk", 9), ("bank.history --audit bank.history", 2)]
+    for words, status in asked:
+        name = words.split()[0]
+        loom.expect(f"judge {words} --svg picture", status, f"{name}: not judged\n", "What was found without that:", absent=(": shown",))
+        found = json.loads(loom.expect(f"judge {words} --json", status).out)
+        if found["shown"] is not False or found["headline"] != "not judged" or found["status"] != status or (loom.folder / "picture").exists():
+            raise Wrong(f"  {words}: {found}")
+    loom.expect("judge chain --file junk", 1, "recorded, but as no file", 'Neither event is an entry of a log of files: "bread"; "paid".')
+    loom.put("true.history", loom.timeweave("export", "maker"))
+    loom.put("two", loom.read("kept") + f"maker 2 {OTHER}\n".encode())
+    for words in ("--audit true.history --audit nothing", "--audit nothing --audit true.history"):
+        loom.expect(f"judge bread3 --kept two {words}", 11, "bread3: not shown", "TWO LINES", "no file nothing", absent=(": shown",))
+
+
+def audited_once(room):
+    """a history that is swapped while it is audited is held against the kept lines by the bytes that were audited"""
+    loom = two_services(room)
+    loom.put("sent.history", loom.timeweave("export", "maker"))
+    loom.put("two", loom.read("kept") + f"maker 2 {OTHER}\n".encode())
+
+    def swap(data):
+        def patch():
+            from weft import judges
+
+            audit = judges.ProgramJudge.audit
+
+            def swapped(*given):
+                loom.put("sent.history", data)
+                return audit(*given)
+
+            judges.ProgramJudge.audit = swapped
+
+        return patch
+
+    for data in (b"nothing", loom.read("bank.history")):
+        before = loom.read("sent.history")
+        loom.expect("judge bread3 --kept two --audit sent.history", 11, "bread3: not shown", "TWO LINES: the line of step 2 of maker", patch=swap(data))
+        loom.put("sent.history", before)
+
+    def count():
+        from weft import files
+
+        read, seen = files.read, []
+
+        def once(path, *given, **more):
+            if str(path).endswith(".history") and path in seen:
+                raise AssertionError(f"{path} was read twice")
+            seen.append(path)
+            return read(path, *given, **more)
+
+        files.read = once
+
+    loom.expect("judge bread3 --audit sent.history", 0, "bread3: shown", patch=count)
+    loom.expect("judge bread3 --audit sent.history --reference", 20, "bread3: shown", patch=count)
+
+
+def either_file(room):
+    """of a proof that one event precedes another the file of each event is that one, and a file of neither is neither"""
+    loom = received_amid(room)
+    loom.expect("judge good --file bank.files/paid", 0, "good: shown", "paid is the file that was logged as the later event, by its digest and name", absent=("NOT SO",))
+    loom.expect("judge good --file shop.files/sold", 0, "good: shown", "as the earlier event, by its digest and name")
+    loom.put("copy", loom.read("bank.files/paid"))
+    loom.expect("judge good --file copy", 10, "good: shown", "has the digest that was logged as the later event, under the name paid")
+    told = "isn't the file that was logged, neither as the earlier event nor as the later one"
+    loom.expect("judge good --file shop.files/next", 1, "good: not shown: recorded, but not this file", told)
+
+
+def chain_of_two_lines(room):
+    """weft chain says of what it joined what weft judge says: two lines are told with the same words and status, and nothing is written"""
+    loom = received_amid(room)
+    told = "TWO LINES: the line of step 2 of shop that you kept"
+    words = "chain shop:1:0 bank:3:0 --store shop --store bank"
+    loom.expect("judge good", 0, "good: shown")
+    judged = loom.expect("judge good --kept more", 11, "good: not shown", told)
+    joined = loom.expect([*words.split(), "--kept", "more", "--out", "bad", "--svg", "picture"], 11, "isn't written: not shown", absent=(": shown",))
+    sentence = next(line for line in judged.out.splitlines() if told in line)
+    if sentence not in joined.out.splitlines():
+        raise Wrong(f"  {sentence}\n  isn't in\n  {joined.out}")
+    for name in ("bad", "picture"):
+        if (loom.folder / name).exists():
+            raise Wrong(f"  {name} was written")
+
+
+def named_and_missing(room):
+    """a file of kept lines that was named and isn't there, as one whose name was mistyped, ends the run before anything is called shown or good"""
+    loom = received_amid(room)
+    loom.put("ann", f"shop 2 {OTHER} 2026-01-01T00:00:00Z by letter\n")
+    chain = "chain shop:1:0 bank:3:0 --store shop --store bank --out c"
+    for words, status in (("judge good", 11), ("check shop", 17), (chain, 11)):
+        loom.expect(f"{words} --kept ann --kept kept", status, absent=(": shown",))
+        for kept in ("--kept anm --kept kept", "--kept kept --kept anm"):
+            loom.expect(f"{words} {kept}", 3, "there is no file anm", absent=(": shown", " good"))
+        loom.expect(words, 12 if words == "judge good" else 0, "there is no file anm, which WEFT_KEPT names", WEFT_KEPT="anm")
+        loom.expect(words, 0, absent=("there is no file",), WEFT_KEPT="kept")
+
+
+def unchosen_names(room):
+    """what is written under a name that nobody chose writes over no other file: the proof under an older line may be held by somebody"""
+    loom = two_services(room)
+    loom.put("chain", b"the one under older lines")
+    chain = "chain maker:1:0 bank:3:0 --store maker --store bank"
+    loom.expect(chain, 7, "chain is there already, and is another one", "Name a file by --out")
+    if loom.read("chain") != b"the one under older lines":
+        raise Wrong("  chain was written over")
+    (loom.folder / "chain").unlink()
+    for words in (chain, chain, f"{chain} --out chain"):
+        loom.expect(words, 0, "chain: shown")
+    needs("ssh-keygen", "openssh-client")
+    sign = ["line", "maker", "--sign", loom.key("maker")]
+    loom.put("maker-3.line", f"maker 3 {OTHER}\n")
+    loom.expect(sign, 7, "maker-3.line is there already, and is another one")
+    (loom.folder / "maker-3.line").unlink()
+    for _ in range(2):
+        loom.expect(sign, 0)
+
+
+def nothing_to_judge(room):
+    """a folder without files, as one that isn't mounted, isn't called judged"""
+    loom = one_service(room)
+    (loom.folder / "many/below").mkdir(parents=True)
+    for words in ("judge --many many", "judge --many many --json"):
+        done = loom.expect(words, 16, "many has no files, so nothing was judged", "Is it mounted?")
+        said = json.loads(done.out)["status"] if "--json" in words else done.out
+        if said not in (16, "") or (loom.folder / "many.verdicts.tsv").exists():
+            raise Wrong(f"  {done}")
+
+
 def cases():
     works = (
         swapped, believed, read_once, hidden, made_anew, judges_of_histories_differ, whose_lines, carried_lines, wrong_file, json_says_the_same, cut_short,
-        passed_over, without_a_home, speaking_names,
+        passed_over, without_a_home, speaking_names, held_against_nothing, audited_once, either_file, chain_of_two_lines, named_and_missing, unchosen_names, nothing_to_judge,
     )  # fmt: skip
     return [case(work, "weft judge misled") for work in works]

@@ -1,5 +1,6 @@
 """Acceptance cases of logs that grow: what a run reads and writes, what is known of files, and the parts in which a log goes on."""
 
+import hashlib
 import json
 import mmap
 import os
@@ -8,15 +9,18 @@ import time
 from pathlib import Path
 from types import SimpleNamespace
 
-from cases.weft_exchange import pair
+from cases.weft_exchange import Net, pair
 from cases.weft_logs import digest, entries_of, expect_log, folder_of
+from cases.weft_signed import signed
 from cases.weft_stores import long_history
 from harness.rooms import Wrong, case
-from harness.weft_room import SHARE, Loom, each_fault, reseal
+from harness.weft_room import SHARE, Loom, copied, each_fault, reseal
 from timeweave_reference.histories import read_history, timeline_of
 from timeweave_reference.receipts import SIZE as RECEIPT_SIZE
 from timeweave_reference.receipts import Receipt, read_receipt
 from timeweave_reference.tree_pages import PAGE
+
+from weft import formats
 
 
 def counted_steps(most):
@@ -408,28 +412,36 @@ def in_parts(loom, number, name="data"):
     return [line.split()[0] for line in loom.read("log.anchor").decode().splitlines()]
 
 
-def part_folders(number):
-    """The folders of the parts of a log."""
-    return ["log", *(f"log/part-{it}" for it in range(2, number + 1))]
+def part_folders(number, service="log"):
+    """The folders of the parts of a service."""
+    return [service, *(f"{service}/part-{it}" for it in range(2, number + 1))]
 
+
+def expect_joints(loom, folder, names, told=""):
+    """Each part of a service can be exported, ends with the name of the next one, and begins with its last line; none was made twice. Their steps."""
+    found, end = [], None
+    for place, (path, name) in enumerate(zip(part_folders(len(names), folder), names)):
+        read_name, steps = read_history(loom.timeweave("export", path))
+        if read_name != name or (place and (steps[0].thread.service, steps[0].thread.authenticator) != (names[place - 1], end)):
+            raise Wrong(f"{told}\n  {path}: {read_name}, begins with {steps[0]}")
+        if place + 1 < len(names) and list(steps[-1].events) != [b"goes on as " + names[place + 1].encode()]:
+            raise Wrong(f"{told}\n  {path} ends with {steps[-1].events}")
+        end = timeline_of(read_name, steps).auths[-1]
+        found.append(steps)
+    if (loom.folder / folder / f"part-{len(names) + 1}").exists() or (loom.folder / f"{folder}.next").exists():
+        raise Wrong(f"{told}\n  there is more than {names}")
+    return found
 
 def expect_parts(loom, names, told=""):
     """Each part can be exported and is bound to the one before; all files are in the entries, each once."""
     entries = []
-    for place, (folder, name) in enumerate(zip(part_folders(len(names)), names)):
-        read_name, steps = read_history(loom.timeweave("export", folder))
-        line = timeline_of(read_name, steps)
+    for folder, steps in zip(part_folders(len(names)), expect_joints(loom, "log", names, told)):
         recorded = [event for step in steps for event in step.events if not event.startswith(b"goes on as ")]
         kept = [text.split(b" ", 2)[2] for text in loom.read(f"{folder}.entries").split(b"\n")[:-1]]
-        if read_name != name or recorded != kept:
-            raise Wrong(f"{told}\n  {folder}: {read_name}, {len(recorded)} events, {len(kept)} entries")
-        if place + 1 < len(names) and list(steps[-1].events) != [b"goes on as " + names[place + 1].encode()]:
-            raise Wrong(f"{told}\n  {folder} ends with {steps[-1].events}")
-        if place and (steps[0].thread.service, steps[0].thread.authenticator) != (names[place - 1], end):
-            raise Wrong(f"{told}\n  {folder} begins with {steps[0].thread}")
-        end = line.auths[-1]
+        if recorded != kept:
+            raise Wrong(f"{told}\n  {folder}: {len(recorded)} events, {len(kept)} entries")
         entries += kept
-    if len(set(entries)) != len(entries) or (loom.folder / "log.next").exists():
+    if len(set(entries)) != len(entries):
         raise Wrong(f"{told}\n  {len(entries)} entries, {len(set(entries))} different ones")
     return entries
 
@@ -453,7 +465,7 @@ def five_parts(room):
     loom.expect("prove log 0000 --out c", 0, "in step 1 of data, before step", "of data-5, for whoever holds data-5", "judged by: proved")
     if not loom.timeweave("strict", "c", "log.anchor").startswith(b"accepted precedes"):
         raise Wrong("  strict refuses it")
-    loom.expect("judge c --file src/0000", 0, "0000 is that file", "data-2 received step", "data-5 received step")
+    loom.expect("judge c --file src/0000", 0, "0000 is the file that was logged", "data-2 received step", "data-5 received step")
     loom.expect("judge c --file src/0001", 1, "NOT SO")
     loom.expect("prove log last --out p", 0, "of data-5")
     loom.expect("judge p --file src/last", 0, "last is that file")
@@ -537,12 +549,14 @@ def true_stranger(room):
 
 
 def part_destroyed(room):
-    """a part that was destroyed, with all that stood beside it or without, is missed by each word, and isn't made a second time, whatever SERVICE.next says"""
+    """a part that was destroyed, with all that stood beside it or without, is missed by each word, and isn't made a second time, whatever SERVICE.next says, nor
+    where the seal beside the first part was made anew"""
     loom = Loom(room)
     in_parts(loom, 2)
     for note, *told in ((None, "data has ended, and goes on as data-2"), (b"2 data-2\n", "log.anchor has a line of step", "of data-2")):
         if note:
             loom.put("log.next", note)
+            loom.put("log.seal", loom.read("log.seal").split(b"\n")[0] + b"\n")
         for path in loom.folder.glob("log/part-2*"):
             shutil.rmtree(path) if path.is_dir() else path.unlink()
         for word in ("log src log", "line log", "prove log 0000", "check log --all", "chain data:1:0 data:1:1 --store log"):
@@ -582,6 +596,59 @@ def next_made_up(room):
         shutil.copytree(loom.folder / "log/part-2", loom.folder / "good")
 
 
+def part_made_again(room):
+    """a part that was destroyed isn't made again where SERVICE.next is made up and its line is cut out of SERVICE.anchor, whether a store of its name stands in
+    its place or none, with the true first step: the seal beside the first part has it"""
+    loom = Loom(room)
+    in_parts(loom, 2)
+    loom.put("m", loom.timeweave("thread", "log", "0"))
+    (loom.folder / "made").mkdir()
+    loom.timeweave("init", "made", "data-2")
+    loom.timeweave("receive", "made", "m")
+    for path in loom.folder.glob("log/part-2*"):
+        shutil.rmtree(path) if path.is_dir() else path.unlink()
+    loom.put("src/new", "new")
+    for is_there in (False, True):
+        if is_there:
+            shutil.copytree(loom.folder / "made", loom.folder / "log/part-2")
+        loom.put("log.anchor", loom.read("log.anchor").split(b"\n")[0] + b"\n")
+        loom.put("log.next", b"2 data-2\n")
+        (loom.folder / "log.known").unlink(missing_ok=True)
+        told = "stands beside it" if is_there else "data has ended, and goes on as data-2"
+        loom.expect("log src log", 17, told, patch=small_parts())
+    if b"data-2" in loom.read("log.anchor") or (loom.folder / "log/part-2.lines").exists():
+        raise Wrong("  it was made again")
+
+
+def part_alone(room):
+    """a part of a log isn't logged, checked or exchanged by itself, nor is its line noted: nothing is made, under no second lock"""
+    loom = Loom(room)
+    in_parts(loom, 2)
+    (loom.folder / "box").mkdir()
+    before = sorted(loom.folder.rglob("*"))
+    for words in ("log src log/part-2", "log src log/part-3 more", "line log/part-2", "check log/part-2", "check --entries log/part-2", "exchange log/part-2 box"):
+        loom.expect(words, 2, "is a part of log, and isn't named by itself", "Name the folder of the whole log: log")
+    if [path for path in sorted(loom.folder.rglob("*")) if path not in before]:
+        raise Wrong("  something was made")
+    loom.put("src/last", "last")
+    loom.expect("log src log", 0, "1 file new")
+    shutil.copytree(loom.folder / "log/part-2", loom.folder / "part-2")
+    shutil.copy2(loom.folder / "log/part-2.entries", loom.folder / "part-2.entries")
+    loom.expect("check part-2", 0)
+
+
+def name_of_anothers_line(room):
+    """no service is made under a name of which its user keeps somebody else's line: that is told, and the folder can still be made under another one"""
+    loom = Loom(room)
+    loom.put("letter", f"data 9 {'a' * 64}\n")
+    loom.expect(["keep", "letter", "--by", "letter from a stranger"], 0)
+    loom.put("src/a", "a")
+    loom.expect("log src mine data", 2, "you keep a line of another service that is called data", "Choose another name")
+    if (loom.folder / "mine").exists():
+        raise Wrong("  its folder was made")
+    loom.expect("log src mine data2", 0, "1 file new")
+
+
 def parts_with_faults(room):
     """weft log killed, and failing with a full or a bad device, at each of its calls while it goes on in a new part: the next run goes on, no part is made
     twice, and nothing is lost or logged twice"""
@@ -612,22 +679,384 @@ def parts_with_faults(room):
         raise Wrong("  there were fewer than 60 faults")
 
 
+class Growing(Net):
+    """Services that exchange, and whose parts end soon."""
+
+    most = 600
+
+    def turn(self, name, status=0, *texts, **more):
+        """A turn of a service, in small parts."""
+        return super().turn(name, status, *texts, **{"patch": small_parts(self.most), **more})
+
+    def parts(self, name):
+        """The names of a service's parts."""
+        return [line.split()[0] for line in self.loom.read(f"{name}.anchor").decode().splitlines()]
+
+    def folder(self, name):
+        """The folder of its last part."""
+        return part_folders(len(self.parts(name)), name)[-1]
+
+    def record(self, name, *events):
+        """Lets a service record a step; its line."""
+        return self.loom.append(self.folder(name), *events)
+
+    def grown(self, name, number):
+        """Nights until a service has so many parts; in each of them each service records an event."""
+        for night in range(30):
+            if len(self.parts(name)) >= number:
+                return
+            for it in self.peers:
+                self.record(it, b"%s in night %d" % (it.encode(), night))
+            self.night()
+        raise Wrong(f"  no part ends: {self.parts(name)}")
+
+
+def part_of(net, name, peer):
+    """The part in which a peer goes on, as a box has it."""
+    found, place = peer, f"box-{name}/{peer}/kept/"
+    while (net.loom.folder / place / "next").exists():
+        found = net.loom.read(f"{place}next").split()[0].decode()
+        place = f"box-{name}/{peer}/kept/{found}/"
+    return found
+
+
+def growing(room, peers=None):
+    """Services that know one another, and whose parts end soon."""
+    return Growing(room, peers or {"shop": ["bank"], "bank": ["shop"]}).begun()
+
+
+def take_part(net, name, peer, part, told=""):
+    """The other one's next turn, in which it takes a part of a peer."""
+    net.turn(name, 0, f"{part}: ", "both proved")
+    if part_of(net, name, peer) != part:
+        raise Wrong(f"{told}  {name} knows {part_of(net, name, peer)}")
+
+
+def gone_on(net, name, *others):
+    """A turn in which a service goes on, and its files are carried."""
+    net.turn(name, 0, " goes on as ", patch=small_parts(1))
+    for other in others:
+        net.carry(name, other)
+
+
+def exchanged_in_parts(room):
+    """three services that exchange go on in parts by themselves, one in five, several of them in one night: each part names the next one and is received by it;
+    the chain over all five parts, and that from an event of a peer's first part, are accepted by strict; check looks at each part; nobody has to accept
+    anything"""
+    net = growing(room, {"shop": ["bank"], "bank": ["shop", "port"], "port": ["bank"]})
+    loom = net.loom
+    sold, taken = net.record("shop", b"sold").split(), net.record("bank", b"taken").split()
+    net.grown("bank", 5)
+    net.most = 1 << 26
+    net.night()
+    net.night()
+    for name, others in net.peers.items():
+        expect_joints(loom, name, net.parts(name))
+        if [part_of(net, name, it) for it in others] != [net.parts(it)[-1] for it in others]:
+            raise Wrong(f"  {name} knows {[part_of(net, name, it) for it in others]}, and not {[net.parts(it)[-1] for it in others]}")
+    if min(len(net.parts(name)) for name in net.peers) < 2:
+        raise Wrong("  not all went on")
+    loom.expect("check bank --all", 0, *(f"{part}: " for part in net.parts("bank")))
+    paid = net.record("bank", b"paid").split()
+    later, *between = reversed(net.parts("bank"))
+    for first, stores, told in ((taken, ["bank"], [later, *between[:-1]]), (sold, ["shop", "bank"], [later])):
+        words = ["chain", f"{first[0]}:{first[1]}:0", f"{later}:{paid[1]}:0", *(it for store in stores for it in ("--store", store)), "--out", "c"]
+        loom.expect(words, 0, "Every hop is bound", *(f"{name} received step" for name in told))
+        expect_strict(loom, "c", " ".join(paid))
+
+
+def expect_strict(loom, proof, last):
+    """A proof is accepted by strict, under lines that stand beside services, and this one."""
+    noted = [last, *(line for path in loom.folder.rglob("*.lines") for line in path.read_text().splitlines())]
+    needed = [f"{it.service} {it.step} " for it in formats.needed_by_proof(loom.read(proof))]
+    loom.put("anchors", "".join(f"{next(line for line in noted if line.startswith(front))}\n" for front in needed))
+    if len(needed) < 2 or not loom.timeweave("strict", proof, "anchors").startswith(b"accepted precedes"):
+        raise Wrong(f"  strict refuses {proof}: {needed}")
+
+
+def chained_over_peers_parts(room):
+    """from one's own store and box alone the chain from an event of one's first part to one of a peer's last part is made, after both went on twice: what parts
+    that have ended are asked for the last one answers; an event is handed out only where the list has it with the name of its part"""
+    net = pair(room)
+    loom = net.loom
+    sold = loom.append("shop", b"sold").split()
+    net.night()
+    for _ in range(2):
+        for name, other in (("shop", "bank"), ("bank", "shop")):
+            gone_on(net, name, other)
+        net.night()
+        net.night()
+    if (part_of(net, "shop", "bank"), part_of(net, "bank", "shop")) != ("bank-3", "shop-3"):
+        raise Wrong(f"  {part_of(net, 'shop', 'bank')}")
+    paid = loom.append("bank/part-3", b"paid").split()
+    loom.put("box-bank/shop/events", f"{paid[1]} 0\nbank-2 * *\n")
+    words = ["chain", f"shop:{sold[1]}:0", f"bank-3:{paid[1]}:0", "--store", "shop", "--box", "box-shop", "--out", "c"]
+    for night in range(9):
+        net.turn("shop", 0)
+        net.turn("bank", 0)
+        net.carry_all()
+        done = loom.run(*words)
+        if done.status == 0:
+            break
+        if night == 4:
+            if "are handed out by hand here" not in done.out:
+                raise Wrong(f"  {done}")
+            loom.put("box-bank/shop/events", "bank-3 * *\n")
+    if done.status or "Every hop is bound" not in done.out or "bank-3" not in done.out:
+        raise Wrong(f"  {done}")
+
+
+def exchange_with_faults(room):
+    """weft exchange killed, and failing with a full or a bad device, at each of its calls in a night in which it goes on and takes its peer's next part: the next
+    turns go on, no part is made twice, and both know and record the other's"""
+    net = pair(room)
+    loom = net.loom
+    loom.append("shop", b"last")
+    gone_on(net, "bank", "shop")
+
+    class Small(Loom):
+        """The same, with parts that end at once."""
+
+        def run(self, *words, patch=None, **env):
+            return super().run(*words, patch=small_parts(1, patch), **env)
+
+    small = Small(room)
+    small.env = loom.env
+
+    def check(told):
+        for name, other in (("shop", "bank"), ("bank", "shop")):
+            # A note alone, of which no step tells, is dropped: the turn looks anew whether the part has its share.
+            is_begun = b"goes on as" in loom.timeweave("export", "shop")
+            again = small if name == "shop" and not is_begun else loom
+            done = again.run("exchange", name, f"box-{name}")
+            if done.status or "Traceback" in done.err or "EVIDENCE" in done.out:
+                raise Wrong(f"{told}\n  the next turn of {name}: {done}")
+            net.carry(name, other)
+        for name in net.peers:
+            expect_joints(loom, name, [name, f"{name}-2"], told)
+            if f"\n{name}-2 1 ".encode() not in loom.read(f"{name}.seal"):
+                raise Wrong(f"{told}\n  that {name}-2 was made isn't noted")
+        if (part_of(net, "shop", "bank"), part_of(net, "bank", "shop")) != ("bank-2", "shop-2"):
+            raise Wrong(f"{told}\n  {part_of(net, 'shop', 'bank')}, {part_of(net, 'bank', 'shop')}")
+        if not loom.read("box-bank/shop/kept/shop-2/taken").startswith(b"shop-2 "):
+            raise Wrong(f"{told}\n  bank didn't record it")
+
+    if each_fault(small, ["exchange", "shop", "box-shop"], check) < 200 // SHARE:
+        raise Wrong("  there were fewer than 200 faults")
+
+
+def strangers_at_peers(room):
+    """a stranger who calls himself as a peer's next part is never taken for it: the service passes over his name where its peers tell of it; where it couldn't
+    know, its part isn't taken at a box that has the name, which is told; and a peer can't take another name than that of a part of its own"""
+    net = Net(room, {"shop": ["bank"], "bank": ["shop", "shop-2", "evil"], "shop-2": ["bank"], "evil": ["bank"]}).begun()
+    loom = net.loom
+    net.night()
+    shutil.copytree(loom.folder / "box-bank/shop-2", loom.folder / "stranger")
+    gone_on(net, "shop", "bank")
+    take_part(net, "bank", "shop", "shop-3")
+    for name in ("shop-4", "bank-2", "evil"):
+        line = loom.append("evil", f"goes on as {name}".encode())
+        loom.put("box-bank/evil/in/line", signed(loom, "evil", line.encode()))
+        loom.put("box-bank/evil/in/goes-on", loom.timeweave("prove", "evil", "event", line.split()[1], "0", line.split()[1]))
+        net.turn("bank", 10, f"evil: its last step names {name} as the part in which it goes on, and a part of it can't have the name")
+    (loom.folder / "box-bank/evil/in/goes-on").unlink()
+    shutil.copytree(loom.folder / "stranger", loom.folder / "box-bank/shop-4")
+    loom.append("shop/part-2", b"more")
+    gone_on(net, "shop", "bank")
+    net.turn("bank", 10, "shop-3: its last step names shop-4 as the part in which it goes on, and another service has the name: not taken")
+    keys = loom.read("box-bank/allowed_signers")
+    if part_of(net, "bank", "shop") != "shop-3" or any(f"\n{name} ".encode() in keys for name in ("shop-4", "bank-2", "evil-2")):
+        raise Wrong(f"  {part_of(net, 'bank', 'shop')}: {keys}")
+
+
+def carried_wrongly(room):
+    """a carrier who holds back what shows a peer's next part, brings it of before, changed or made up, or puts his own service there, has nothing taken for it,
+    and nobody accused; after some turns that counts; once all is brought the part is taken"""
+    net = pair(room)
+    loom = net.loom
+    line = loom.append("shop", b"goes on as shop-2", b"not alone")
+    not_alone = loom.timeweave("prove", "shop", "event", line.split()[1], "0", line.split()[1]), signed(loom, "shop", line.encode())
+    net.night()
+    gone_on(net, "shop")
+    net.turn("shop", 0)
+    older = {name: loom.read(f"box-shop/bank/out/{name}") for name in ("shop-2/line", "shop-2/came-from")}
+    loom.append("shop/part-2", b"more")
+    net.turn("shop", 0)
+    whole = {name: loom.read(f"box-shop/bank/out/{name}") for name in ("line", "goes-on", "shop-2/line", "shop-2/came-from", "shop-2/message")}
+    loom.service("evil", folder="evil")
+    loom.key("evil")
+    (loom.folder / "stranger").mkdir()
+    loom.timeweave("init", "stranger", "shop-2")
+    loom.put("m", loom.timeweave("thread", "shop", "0"))
+    loom.timeweave("receive", "stranger", "m")
+    own = signed(loom, "evil", loom.run("line", "stranger").out.encode())
+    received = loom.timeweave("prove", "stranger", "thread", "1", "shop", str(len(read_history(loom.timeweave("export", "shop"))[1])), "1")
+    changed = whole["goes-on"][:-3] + bytes([whole["goes-on"][-3] ^ 1]) + whole["goes-on"][-2:]
+    wrongs = [
+        {"goes-on": None}, {"shop-2/line": None}, {"shop-2/came-from": None}, {"goes-on": changed}, {"goes-on": b"goes on as shop-2"},
+        {"shop-2/came-from": older["shop-2/came-from"]}, {"shop-2/line": older["shop-2/line"]}, {"shop-2/line": whole["line"]}, {"line": whole["shop-2/line"]},
+        {"goes-on": not_alone[0], "line": not_alone[1]}, {"shop-2/line": own, "shop-2/came-from": received}, {"goes-on": whole["shop-2/came-from"]},
+    ]  # fmt: skip
+    back = copied(loom)
+    for wrong in wrongs:
+        back()
+        for turn in range(4):
+            for name, data in {**whole, **wrong}.items():
+                if data is not None:
+                    loom.put(f"box-bank/shop/in/{name}", data)
+            loom.append("bank", b"x")
+            done = loom.run("exchange", "bank", "box-bank")
+            if part_of(net, "bank", "shop") != "shop" or b"\nshop-2 " in loom.read("box-bank/allowed_signers") or "EVIDENCE" in done.out:
+                raise Wrong(f"  {list(wrong)}, turn {turn}: {done}")
+        if done.status != 10:
+            raise Wrong(f"  {list(wrong)}: {done}")
+        net.carry("shop", "bank")
+        take_part(net, "bank", "shop", "shop-2", f"  {list(wrong)}\n")
+
+
+def stolen_after_the_end(room):
+    """who has the key of a part that has ended, which its service doesn't use any more, has nothing taken: no line behind the end, which is told, no other next
+    part, and no line of the part that goes on"""
+    net = pair(room)
+    loom = net.loom
+    gone_on(net, "shop", "bank")
+    take_part(net, "bank", "shop", "shop-2")
+    net.carry("bank", "shop")
+    (loom.folder / "shop.key").rename(loom.folder / "old.key")
+    (loom.folder / "shop.key.pub").rename(loom.folder / "old.key.pub")
+    loom.key("shop")
+    signers = loom.read("box-bank/allowed_signers").decode().splitlines(True)
+    loom.put("box-bank/allowed_signers", "".join(line for line in signers if not line.startswith("shop-2 ")))
+    loom.expect("accept box-bank shop-2 --key shop.key.pub", 0, "is noted as the key of shop-2")
+    loom.append("shop/part-2", b"more")
+    net.turn("shop", 0)
+    net.carry("shop", "bank")
+    net.turn("bank", 0, "shop-2: its step")
+    (loom.folder / "false").mkdir()
+    loom.timeweave("init", "false", "shop")
+    for _ in range(9):
+        line = loom.append("false", b"goes on as shop-3").encode()
+    (loom.folder / "false-3").mkdir()
+    loom.timeweave("init", "false-3", "shop-3")
+    loom.put("m", loom.timeweave("thread", "false", "0"))
+    loom.timeweave("receive", "false-3", "m")
+    into = "box-bank/shop/in"
+    loom.put(f"{into}/line", signed(loom, "old", line))
+    loom.put(f"{into}/goes-on", loom.timeweave("prove", "false", "event", "9", "0", "9"))
+    loom.put(f"{into}/shop-3/line", signed(loom, "old", loom.run("line", "false-3").out.encode()))
+    loom.put(f"{into}/shop-3/came-from", loom.timeweave("prove", "false-3", "thread", "1", "shop", "9", "1"))
+    loom.put(f"{into}/shop-2/line", signed(loom, "old", f"shop-2 99 {'a' * 64}\n".encode()))
+    before = loom.read("bank/timeline.tw")
+    net.turn("bank", 10, "shop: its key signed a line of step 9, and with step", "the line in its folder isn't signed by the key", absent=("EVIDENCE",))
+    if part_of(net, "bank", "shop") != "shop-2" or loom.read("bank/timeline.tw") != before or b"\nshop-3 " in loom.read("box-bank/allowed_signers"):
+        raise Wrong(f"  {part_of(net, 'bank', 'shop')}")
+
+
+def away_for_parts(room):
+    """a peer that made no turn while a service went on three times catches up in one, and a new peer does, which accepts the first part alone"""
+    net = Net(room, {"shop": ["bank", "port"], "bank": ["shop"], "port": ["shop"]})
+    loom = net.loom
+    loom.put("box-shop/box.conf", "key = ../shop.key\nsilent = 0\n")
+    for name in ("shop", "bank"):
+        loom.run("exchange", name, f"box-{name}")
+    net.carry_all()
+    for name, other in (("shop", "bank"), ("bank", "shop")):
+        loom.expect(f"accept box-{name} {other} --yes {net.waiting(name, other)}", 0)
+    for _ in range(2):
+        for name in ("shop", "bank"):
+            loom.run("exchange", name, f"box-{name}")
+        net.carry_all()
+    for number in range(3):
+        loom.append(part_folders(number + 1, "shop")[-1], b"x")
+        gone_on(net, "shop")
+    net.carry_all()
+    net.turn("bank", 0, "shop-2: shop goes on so", "shop-3: shop-2 goes on so", "shop-4: shop-3 goes on so", "shop-4: its step 1 is recorded")
+    net.carry_all()
+    net.turn("shop", 0)
+    if not loom.read("box-shop/bank/kept/has").startswith(b"shop-4 "):
+        raise Wrong(f"  {loom.read('box-shop/bank/kept/has')}")
+    net.turn("port", 10, "shop: it is new")
+    loom.expect(f"accept box-port shop --yes {net.waiting('port', 'shop')}", 0)
+    net.turn("port", 0, "shop-4: its step")
+    expect_joints(loom, "shop", [f"shop-{it}" if it > 1 else "shop" for it in range(1, 5)])
+
+
+def old_part_put_back(room):
+    """a store that was put back as it was before it went on is found by the signed line of the next part that a peer hands back: the turn ends with 17, and makes
+    no step"""
+    net = pair(room)
+    loom = net.loom
+    back = copied(loom, "shop", "box-shop")
+    gone_on(net, "shop", "bank")
+    take_part(net, "bank", "shop", "shop-2")
+    handed = {path.name: path.read_bytes() for path in (loom.folder / "box-bank/shop/out").iterdir() if path.is_file()}
+    back()
+    for name, data in handed.items():
+        loom.put(f"box-shop/bank/in/{name}", data)
+    reseal(loom.folder)
+    before = loom.read("shop/timeline.tw")
+    net.turn("shop", 17, "no part of it is called shop-2", "handed back by bank")
+    if loom.read("shop/timeline.tw") != before:
+        raise Wrong("  a step was made")
+
+
+def other_history_for_a_new_part(room):
+    """a peer that shows another history to the next part of a service, which has recorded nothing of it, is found out by the link that joins it to what the part
+    before recorded"""
+    net = pair(room)
+    loom = net.loom
+    shutil.copytree(loom.folder / "bank", loom.folder / "false")
+    loom.append("bank", b"one")
+    net.night()
+    net.night()
+    gone_on(net, "shop")
+    for _ in range(9):
+        loom.append("false", b"another")
+    into, out = "box-shop/bank/in", "box-shop/bank/out/shop-2"
+    loom.put(f"{into}/message", loom.timeweave("thread", "false", "0"))
+    loom.put(f"{into}/line", signed(loom, "bank", loom.run("line", "false").out.encode()))
+    (loom.folder / into / "next").unlink(missing_ok=True)
+    for _ in range(4):
+        done = loom.run("exchange", "shop", "box-shop")
+        for request in loom.read(f"{out}/requests").decode().splitlines():
+            if request.startswith("link "):
+                loom.put(f"{into}/answers/{hashlib.sha256(request.encode()).hexdigest()[:16]}", loom.timeweave("prove", "false", *request.split()))
+        if done.status == 11:
+            break
+    if done.status != 11 or "EVIDENCE" not in done.out:
+        raise Wrong(f"  {done}")
+
+
 def with_peers(room):
-    """a service that exchanges doesn't go on by itself, since its peers know its name: how full it is is told; one that has parts exchanges in its last one"""
-    loom = Loom(room)
-    in_parts(loom, 2)
-    loom.key("data")
-    loom.key("bank")
-    loom.put("box/box.conf", "key = ../data.key\n")
-    loom.expect("accept box bank --key bank.key.pub", 10)
-    loom.run("exchange", "log", "box")
-    if not loom.read("box/bank/out/line").startswith(b"data-2 "):
-        raise Wrong(f"  {loom.read('box/bank/out/line')[:20]}")
-    for number in range(300):
-        loom.put(f"src/more{number:04}", "x")
-    loom.expect("log src log", 0, "300 files new", patch=small_parts())
-    if (loom.folder / "log/part-3").exists():
-        raise Wrong("  it went on")
+    """a log that exchanges goes on by itself too, whichever of both runs ends a part; its peer takes each part, and what was logged stays proved; a part that one
+    run began is made by the other, but for one that weft log began amid a step, which it brings to its end itself"""
+    net = Net(room, {"log": ["bank"], "bank": ["log"]}).begun()
+    loom = net.loom
+    if in_parts(loom, 2, "log") != ["log", "log-2"]:
+        raise Wrong("  weft log didn't go on")
+    net.turn("log", 0)
+    net.carry("log", "bank")
+    take_part(net, "bank", "log", "log-2")
+    net.carry("bank", "log")
+    loom.put("src/late", "late")
+    loom.expect("log src log", 0, "1 file new")
+    gone_on(net, "log", "bank")
+    take_part(net, "bank", "log", "log-3")
+    loom.put("src/later", "later")
+    loom.expect("log src log", 0, "1 file new, 0 changed, 0 gone", "log-3")
+    loom.append("log/part-3", b"goes on as log-4")
+    loom.put("log.next", b"4 log-4\n")
+    loom.put("log/part-3.pending", b"1 0\n")
+    net.turn("log", 10, "the run of weft log that makes that part was stopped", "Run weft log first")
+    (loom.folder / "log/part-3.pending").unlink()
+    net.turn("log", 0, "log-3 goes on as log-4")
+    net.carry("log", "bank")
+    take_part(net, "bank", "log", "log-4")
+    loom.put("src/last", "last")
+    loom.expect("log src log", 0, "1 file new, 0 changed, 0 gone", "log-4")
+    expect_parts(loom, ["log", "log-2", "log-3", "log-4"])
+    loom.expect("prove log 0000 --out c", 0, "of log-4", "judged by: proved")
+    loom.expect("check log --all", 0, "log-4: ")
 
 
 def audited(room):
@@ -664,32 +1093,12 @@ def audited(room):
     loom.expect("judge --many . --audit shop.history", 2, "--many takes no proofs")
 
 
-def nearly_full(room):
-    """from half of what a history's file may have on weft log tells the share of a service that exchanges each night, with status 10, and that it can't be
-    exported once it can't; one that goes on by itself tells nothing"""
-    loom = Loom(room)
-
-    def small():
-        from weft import formats
-
-        formats.MOST_HISTORY = 40_000
-
-    folder_of(loom, "a")
-    loom.expect("log src log data", 0, patch=small, absent=("may have",))
-    for number in range(275):
-        loom.put(f"src/{number:03}", "x")
-    loom.expect("log src log", 0, "275 files new", absent=("may have",), patch=small)
-    loom.put("log.others", "bank\n")
-    loom.expect("log src log", 10, "The history of data has 5", "can be exported until then", "Plan a new name", patch=small)
-    loom.expect("log src log", 10, "% of what its file may have", patch=small)
-    loom.expect("log src log", 10, "has 100 %", "can't be exported any more", patch=small, **long_history(loom))
-    loom.expect("log src log", 0)
-
-
 def cases():
     works = (
         unread, changed_through_a_mapping, read_each_week, known_lost, added, by_many, entries_lost, entries_taken_out, checked_amid_a_step, five_parts,
-        strangers, true_stranger, part_destroyed, next_made_up, parts_with_faults, with_peers, nearly_full, chained_over, many_receipts, many_kept_lines,
+        strangers, true_stranger, part_destroyed, next_made_up, part_made_again, part_alone, name_of_anothers_line, parts_with_faults, with_peers,
+        exchanged_in_parts, chained_over_peers_parts, exchange_with_faults, strangers_at_peers, carried_wrongly, stolen_after_the_end, away_for_parts,
+        old_part_put_back, other_history_for_a_new_part, chained_over, many_receipts, many_kept_lines,
         audited,
     )  # fmt: skip
     return [case(work, "weft parts") for work in works]

@@ -1,10 +1,13 @@
 """Acceptance cases of what `weft exchange` reads of its peers, asks them and tells of them: what can't be read, peers that are cut off, two histories whose
 steps never meet, lines of many peers, stores and boxes that were put back."""
 
+import errno
 import fcntl
 import itertools
 import os
 import shutil
+import subprocess
+import time
 from pathlib import Path
 
 from cases.weft_exchange import Net, pair, shipped_later
@@ -12,10 +15,12 @@ from cases.weft_signed import NO_SIGNATURE, signed
 from harness.rooms import Room, Skipped, Wrong, case
 from harness.weft_room import SHARE, reseal
 from timeweave_reference.receipts import Receipt
+from weft import files
 from weft.asking import id_of
 
 NOBODY = 65_534
 MADE_UP = 40
+TEN_YEARS = 10 * 365 * 86_400
 
 
 # ---- what can't be read
@@ -65,8 +70,6 @@ def of_another_user(room):
     if os.geteuid() == 0:
         for path in [loom.folder, *loom.folder.rglob("*")]:
             os.lchown(path, NOBODY, NOBODY)
-        for name in (".turn", ".seal"):
-            (loom.folder / "box-shop" / name).unlink()
         closed = 0o700
     else:
         closed = 0
@@ -609,6 +612,124 @@ def a_copied_box(room):
     net.turn("shop", 10, "its word is waited for")
 
 
+def clock_at(seconds, settled=None):
+    """What sets the clock of a run so many seconds on, and of a look how long behind its beginning a word counts."""
+
+    def patch():
+        from weft import exchange, looking
+
+        real = looking.now
+        looking.now = lambda: real() + seconds
+        exchange.SETTLED = exchange.SETTLED if settled is None else settled
+
+    return patch
+
+
+def clock_set(room):
+    """after a restore words are waited for while the clock stands ten years back, once it is right again, and until one comes a day after that"""
+    state = Backup(room)
+    loom = state.loom
+    state.exchange()
+    state.log()
+    state.restore()
+    before, moments = loom.read("shop/timeline.tw"), (-TEN_YEARS, -TEN_YEARS, 0, 0)
+    for seconds in moments:
+        loom.expect("exchange shop box-shop", 10, "its word is waited for", "No step was made", patch=clock_at(seconds))
+        loom.expect("log src shop", 17, patch=clock_at(seconds))
+    state.net.carry("bank", "shop")
+    loom.expect("exchange shop box-shop", 17, "handed back by bank")
+    if loom.read("shop/timeline.tw") != before:
+        raise Wrong("  a step was made")
+
+
+def clock_ahead(room):
+    """a look that began while the clock stood a year ahead begins anew once it is right, which is told, and ends once words come after that"""
+    net = pair(room)
+    loom = net.loom
+    net.night()
+    net.turn("shop", 0)
+    net.turn("shop", 10, "its word is waited for", patch=clock_at(TEN_YEARS))
+    net.turn("shop", 10, "its word is waited for", "they are waited for anew", patch=clock_at(0, 1))
+    net.turn("shop", 10, "its word is waited for", absent=("anew",))
+    time.sleep(1.1)
+    net.carry("bank", "shop")
+    net.turn("shop", 0, absent=("waited for",), patch=clock_at(0, 1))
+    # a word that lies ahead hasn't come, and is waited for until it comes anew
+    loom.expect("exchange shop box-shop --look", 10, patch=clock_at(-TEN_YEARS))
+    net.turn("shop", 10, "its word is waited for", patch=clock_at(-TEN_YEARS, 0))
+    net.turn("shop", 10, "they are waited for anew", patch=clock_at(0, 60))
+
+
+def other_rights(room):
+    """chmod -R, chown -R and a backup by hard links make no box and no store a copy; where the file system tells a file from an earlier one of its number by
+    its time alone, they do a minute after a turn, and that they may have done so is told"""
+    net = pair(room)
+    loom = net.loom
+    loom.put("box-shop/box.conf", "key = ../shop.key\nsilent = 0\n")
+    loom.put("src/a", "a")
+    loom.expect("log src shop", 0)
+    net.turn("shop", 0)
+    for number, words in enumerate((["chmod", "-R", "g+rX"], ["chown", "-R", f"{os.geteuid()}"], ["cp", "-al"])):
+        paths = ["shop", "shop.seal", "shop.lines", "box-shop"] + ([str(loom.folder / "tmp")] if number == 2 else [])
+        subprocess.run([*words, *paths], cwd=loom.folder, check=True)
+        net.turn("shop", 0, absent=("waited for",))
+        loom.expect("log src shop", 0)
+
+    def without_generation():
+        def fails(*_):
+            raise OSError(errno.ENOTTY, "")
+
+        files.fcntl.ioctl = fails
+
+    for path in (loom.folder / "box-shop/.seal", loom.folder / "shop.seal"):
+        path.unlink()
+    loom.expect(["log", "src", "shop", "--adopt-store", loom.run("line", "shop").out.strip()], 0, patch=without_generation)
+    (loom.folder / "box-shop/.turn").unlink()
+    net.turn("shop", 0, patch=without_generation)
+    for name in ("box-shop/.seal", "shop.seal"):
+        identity, space, line = loom.read(name).decode().partition(" ")
+        number, generation, moment = identity.strip().split(".")
+        loom.put(name, f"{number}.{generation}.{int(moment) - 61}{space}{line}" if space else f"{number}.{generation}.{int(moment) - 61}\n")
+    loom.expect("log src shop", 17, "shop.seal was changed after it was made, as `chmod` or a link changes it too", patch=without_generation)
+    net.turn("shop", 10, "box-shop/.turn was changed since its turn", "`cp -al` change it too", "its word is waited for", patch=without_generation)
+
+
+def box_of_another(room):
+    """a box is the service's that made its first turn: another one that is named with it makes nothing, puts nothing out and notes nothing there"""
+    net = Net(room, {"shop": ["bank"], "bank": ["shop", "port"], "port": ["bank"]}).begun()
+    loom = net.loom
+    before = {path: path.read_bytes() for path in loom.folder.rglob("*") if path.is_file() and path.suffix != ".lock" and path.name != ".lock"}
+    for words in ("exchange port box-shop", "exchange port box-shop --look", "exchange bank box-shop"):
+        loom.expect(words, 2, "box-shop is the box of shop, and not of", "nothing was made or put out")
+    changed = [path for path in loom.folder.rglob("*") if path.is_file() and path.suffix != ".lock" and path.name != ".lock" and before.get(path) != path.read_bytes()]
+    if changed:
+        raise Wrong(f"  {changed}")
+    net.turn("shop", 0)
+    loom.put("box-shop/.own", b"\xff" * 65)
+    net.turn("shop", 9, "box-shop/.own")
+    loom.put("box-shop/.own", b"\xff\n")
+    net.turn("shop", 2, "is the box of")
+    (loom.folder / "box-shop/.own").unlink()
+    net.turn("shop", 0)
+
+
+def no_peers_folders(room):
+    """a folder in a box under a name that no peer has is told and counts where something is carried to it, and is only told where nothing is"""
+    net = pair(room)
+    loom = net.loom
+    net.turn("shop", 0)
+    (loom.folder / "box-shop/Notes").mkdir()
+    net.turn("shop", 0, "Notes in box-shop is no peer's folder.")
+    for name in ("Bank", "bank_two", "shop"):
+        (loom.folder / f"box-shop/{name}/in").mkdir(parents=True)
+        net.turn("shop", 10, f"{name} in box-shop is no peer's folder, and nothing of it was read")
+        shutil.rmtree(loom.folder / f"box-shop/{name}")
+    os.symlink("Loop", loom.folder / "box-shop/Loop")
+    net.turn("shop", 10, "Loop in box-shop is a link")
+    (loom.folder / "box-shop/Loop").unlink()
+    net.turn("shop", 0)
+
+
 def two_handed_on(room):
     """two signed lines of one step of a service, of which one peer hands on the one and another peer the other, are evidence, though neither came from the
     service itself; made-up ones beside them aren't"""
@@ -695,7 +816,7 @@ def told_by_a_receipt(room):
             net.turn("bank", 0)
             net.carry("bank", "shop")
             loom.put(f"box-shop/bank/in/{name}", made_up(step + 7))
-            told = f"bank: a file of it tells your step {step + 7}, not signed by your key, and the store's last one is {step}"
+            told = f"bank: a file of it tells your step {step + 7} of shop, not signed by your key, and the store's last one is {step}"
             net.turn("shop", 10, told, "bank: its step", "is recorded", "It stops no turn", absent=("No step was made",))
             if net.last("shop") != step + 1:
                 raise Wrong("  no step was made")
@@ -846,7 +967,8 @@ def chain_and_turn(room):
 def cases():
     works = (
         two_handed_on, joined_and_other, seen_held_back, seen_in_its_place, without_public_half, unreadable_in, of_another_user, cut_off, quiet_days,
-        even_and_odd, without_links, a_line_that_was_lost, many_peers, made_up_receipts, put_back, look, a_copied_box,
+        even_and_odd, without_links, a_line_that_was_lost, many_peers, made_up_receipts, put_back, look, a_copied_box, clock_set, clock_ahead,
+        other_rights, box_of_another, no_peers_folders,
         told_by_a_receipt, made_up_receipt, made_up_refusals, made_up_answers, chain_and_turn,
     )  # fmt: skip
     return [case(work, "weft peers") for work in works]

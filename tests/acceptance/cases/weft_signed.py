@@ -307,7 +307,7 @@ def behind_the_end(room):
         loom.put("line.sig", bad.split(b"\n", 1)[1])
         loom.expect("keep line", 9, "no signature by ssh-keygen")
     loom.put("bad", loom.read("true") + NO_SIGNATURE)
-    loom.expect("keep bad", 11, "isn't good by a key")
+    loom.expect("keep bad", 1, "isn't good by a key")
     if (loom.folder / "kept").exists():
         raise Wrong("  something was kept")
     loom.put("good", good.replace(b"\n", b"\r\n")[:-2])
@@ -689,6 +689,61 @@ def confirmed(room):
         raise Wrong(f"  {loom.read('box-bank/shop/kept/accepted')}")
 
 
+def unchecked(room):
+    """a check of a signature that couldn't be made, since ssh-keygen was killed amid it or the file of signers can't be read, is told as that: no line is called
+    unsigned, no key another one, and evidence that was kept isn't called nothing"""
+    net = pair(room)
+    loom = net.loom
+    real = shutil.which("ssh-keygen")
+    loom.put("bin/ssh-keygen", f'#!/bin/sh\ncase "$*" in *"-Y verify"*) kill -9 $$;; esac\nexec {real} "$@"\n').chmod(0o755)
+    killed = f"{loom.folder}/bin:{loom.env['PATH']}"
+    loom.expect("line shop --sign shop.key --out shop.line", 0)
+    loom.expect("keep --signer shop shop.key.pub", 0)
+    told = "couldn't be checked, and nothing is said of it: ssh-keygen was ended by signal 9"
+    loom.expect("keep shop.line", 5, told, absent=("isn't good",), PATH=killed)
+    loom.expect("keep shop.line --signer shop shop.key.pub", 5, told, absent=("isn't good",), PATH=killed)
+    (loom.folder / "folder").mkdir()
+    loom.expect("keep shop.line", 3, "folder is a folder", WEFT_SIGNERS=loom.folder / "folder")
+    loom.expect("keep shop.line", 0)
+    loom.append("bank", b"x")
+    net.turn("bank", 0)
+    net.carry("bank", "shop")
+    for _ in range(3):
+        net.turn("shop", 5, told, absent=("isn't signed", "isn't that of the key", "is recorded"), PATH=killed)
+    net.turn("shop", 0, "is recorded")
+    line = loom.read("box-bank/shop/out/line").split(b"\n")[0] + b"\n"
+    loom.put("box-shop/bank/in/line", signed(loom, "bank", other_of(line)))
+    net.turn("shop", 11, "EVIDENCE")
+    net.turn("shop", 5, told, absent=("shows nothing against it",), PATH=killed)
+    net.turn("shop", 11, "EVIDENCE")
+
+
+def second_key(room):
+    """a peer's new key is noted beside one that was replaced only where a person says so: then what both signed counts, and parts of before are still found;
+    without that word both cases are told, and nothing is noted"""
+    net = pair(room)
+    loom = net.loom
+    loom.key("new")
+    both = "Was the old one replaced, and not stolen, add the new one by --beside", "Was it stolen, take its line out of"
+    loom.expect("accept box-shop bank --key new.key.pub", 10, "another key of bank already", *both)
+    loom.expect("accept box-shop bank --key new.key.pub --beside", 10, "is noted as the key of bank", absent=("another key",))
+    loom.append("bank", b"x")
+    loom.put("box-bank/box.conf", "key = ../new.key\n")
+    net.turn("bank", 0)
+    net.carry("bank", "shop")
+    before = loom.read("box-shop/bank/kept/signed")
+    net.turn("shop", 0, "is recorded", absent=("isn't signed",))
+    if loom.read("box-shop/allowed_signers").count(b"bank ") != 2 or not loom.read("box-shop/bank/kept/signed").startswith(before):
+        raise Wrong(f"  {loom.read('box-shop/allowed_signers')}")
+    loom.put("signers", b"")
+    loom.expect("keep --signer bank bank.key.pub", 0)
+    loom.expect("keep --signer bank new.key.pub", 10, "another key of bank already", *both)
+    loom.expect("keep --signer bank new.key.pub --beside", 0)
+    for key in ("bank", "new"):
+        loom.expect(f"line bank --sign {key}.key --out {key}.line", 0)
+        loom.expect(f"keep {key}.line", 0, "signed by ED25519")
+
+
 def appending_carrier(room):
     """eight services weave for twenty-four nights (bench/network.py), and to one signed line in ten whoever carries it appends a made-up one: nobody is
     accused but who shows two histories, and all else is as it has to be"""
@@ -703,7 +758,7 @@ def appending_carrier(room):
 def cases():
     works = (
         second_letter, choices, clock_set_back, checked_store, handed_out, three_lines, changed_amid, noted_with_options, many_keys, dashes, behind_the_end,
-        appended, false_record, revoked,
+        appended, false_record, unchecked, second_key, revoked,
         revoked_first, revoked_links, revoked_chain, far_ahead, full_of_lines, resigned, long_ago, told_though_ended, liars_own, confirmed, appending_carrier,
     )  # fmt: skip
     return [case(work, "weft signed") for work in works]

@@ -345,8 +345,48 @@ def emptied(room):
     loom.expect("check shop", 17, "shop has no step yet", "The store has no such step")
 
 
+def told_of_entries(room):
+    """weft check tells that the entries of a log were lost, with 10, as weft log does with 17; of a service that logs nothing it wants none. Its JSON has what
+    was found of them, the steps whose kept lines contradict, and the status"""
+    loom = Loom(room)
+    loom.service("shop", [b"bread"])
+    loom.put("src/a", "a")
+    loom.expect("log src log data", 0)
+    entries, line = loom.read("log.entries"), loom.read("log.anchor")
+
+    def found(status, name="log"):
+        told = json.loads(loom.run("check", name, "--json").out)
+        if told["status"] != status:
+            raise Wrong(f"  {told}")
+        return told["entries"], told["disputed"]
+
+    wanted = [(0, ("good", []))]
+    seen = [(0, found(0))]
+    (loom.folder / "log.entries").unlink()
+    for words in ("check log", "check log --all"):
+        loom.expect(words, 10, "log.entries isn't there, and the store has entries of a log", "weft check --entries log makes it anew")
+    loom.expect("log src log", 17)
+    seen.append((10, found(10)))
+    loom.put("log.entries", entries.replace(b"./a", b"./b"))
+    seen.append((8, found(8)))
+    loom.put("log.entries", entries)
+    loom.put("log.pending", b"1 0\n")
+    seen.append((10, found(10)))
+    (loom.folder / "log.pending").unlink()
+    loom.put("false", line[:-2] + (b"0" if line[-2:-1] != b"0" else b"1") + b"\n")
+    loom.expect(["keep", "false", "--by", "letter"], 0)
+    seen.append((17, found(17)))
+    seen.append((0, found(0, "shop")))
+    wanted += [(10, ("missing", [])), (8, ("differing", [])), (10, ("amid a step", [])), (17, ("not looked at", [1])), (0, ("none", []))]
+    if seen != wanted:
+        raise Wrong(f"  {seen}")
+    loom.expect("check log --entries", 17)
+    (loom.folder / "kept").unlink()
+    loom.expect("check log --entries --json", 0, '"entries": "made anew"')
+
+
 def cases():
     works = (
-        for_its_user_alone, modes_kept, links_kept, many_writers, not_told_as_not_there, odd_folders, odd_other_folders, beyond_a_file, flipped_anywhere, emptied,
+        for_its_user_alone, modes_kept, links_kept, many_writers, not_told_as_not_there, odd_folders, odd_other_folders, beyond_a_file, flipped_anywhere, emptied, told_of_entries,
     )  # fmt: skip
     return [case(work, "weft stores") for work in works]

@@ -227,6 +227,9 @@ def reseal(folder):
     for path in folder.rglob("*.seal"):
         _, _, line = path.read_text().partition(" ")
         files.renew(path, lambda identity, line=line: f"{identity} {line}".encode())
+    for path in folder.rglob("*.look"):
+        since = path.read_text().split()[0]
+        files.renew(path, lambda identity, since=since: f"{since} {identity} none\n".encode())
 
 
 def copied(loom, *names):
