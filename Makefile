@@ -11,7 +11,7 @@ LIBDIR ?= $(PREFIX)/lib
 # Names of crates, for `make wrong-bodies`.
 NAMES ?=
 
-.PHONY: look build demo test check crash fuzz fuzz-pairs wrong-bodies bench
+.PHONY: look build demo test check crash fuzz fuzz-pairs search-weft search-planted wrong-bodies bench
 
 # Shows the README's examples in some seconds, with Python alone: by the second implementation, which isn't proved. Nothing is built.
 look:
@@ -29,7 +29,7 @@ build:
 demo:
 	@python3 tools/demo.py
 
-# The gate: every proof, test and program, 75 chosen wrong bodies, and then the acceptance run. How far it is is shown, and what it says stands in log/test.log;
+# The gate: every proof, test and program, 78 chosen wrong bodies, and then the acceptance run. How far it is is shown, and what it says stands in log/test.log;
 # `.ci/run` by itself says it on the screen.
 test:
 	python3 tools/progress.py test .ci/run
@@ -63,6 +63,17 @@ PAIRS ?= 100000
 
 fuzz-pairs:
 	python3 tests/acceptance/fuzz_pairs.py $(PAIRS) $(SEED)
+
+# Searches for what weft does wrong, over so many turns of a state machine: services, their carrier, a liar, a thief, backups and killed runs, held against what is
+# true. The first script that breaks a rule is shrunk and written into tests/acceptance/cases/found_search; `make check` plays some scripts.
+TURNS ?= 20000
+
+search-weft:
+	python3 tests/acceptance/search_weft.py $(TURNS) $(SEED)
+
+# Plants faults in weft, each in a process of its own, and tells at which turn that search finds each.
+search-planted:
+	python3 tests/acceptance/search_weft.py --planted $(SEED)
 
 # The wrong bodies, of which the gate tries those that tell most, of each crate that isn't as it was when its own were tried, over a copy of this tree. A
 # crate's line of docs/wrong-bodies-tried.txt, by which `make package` goes, is written as soon as all of its own are refused. ANEW=1 tries those of all
