@@ -250,8 +250,9 @@ def with_file(judge: Bench, outcome: Outcome, judgement: Judgement, path: str) -
     report = reports.read_report(judgement.verdict)
     if report.kind not in ("exists", "precedes") or judgement.history is not None:
         raise Trouble(Status.USAGE, "--file is for the proof of one event, or of one before another", "Name a proof of an event.")
-    events, found = [event.data for event in report.events], digest_of(path)
+    events = [event.data for event in report.events]
     logged = [read_logged(event) for event in events]
+    found = digest_of(path, is_whole=any(logged))
     match, places = match_file(logged, found, os.path.basename(os.fsencode(path)))
     if match is Match.NO_ENTRY:
         is_none = "Neither event is an" if len(events) > 1 else "The event is no"
@@ -274,12 +275,14 @@ def other_file(judge: Bench, outcome: Outcome, text: str, aside: str) -> Outcome
     return Outcome(headline, worst_of([outcome.status, judge.status(False)]), [*outcome.told, text], outcome.contradicted, aside)
 
 
-def digest_of(path: str) -> str:
-    """The SHA-256 digest of a regular file of any size."""
+def digest_of(path: str, is_whole: bool) -> str:
+    """The SHA-256 digest of a regular file of any size; where it isn't wanted whole, it is opened all the same, and of its first piece."""
     digest = hashlib.sha256()
     with os.fdopen(files.opened(path), "rb") as file:
         for piece in iter(lambda: file.read(1 << 20), b""):
             digest.update(piece)
+            if not is_whole:
+                break
     return digest.hexdigest()
 
 

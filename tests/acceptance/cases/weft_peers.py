@@ -653,6 +653,7 @@ def clock_ahead(room):
     net.turn("shop", 10, "its word is waited for", absent=("anew",))
     time.sleep(1.1)
     net.carry("bank", "shop")
+    time.sleep(1.1)
     net.turn("shop", 0, absent=("waited for",), patch=clock_at(0, 1))
     # a word that lies ahead hasn't come, and is waited for until it comes anew
     loom.expect("exchange shop box-shop --look", 10, patch=clock_at(-TEN_YEARS))
