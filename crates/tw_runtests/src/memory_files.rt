@@ -4,7 +4,6 @@ use crate::playing::{event_file, words};
 use std::alloc::Global;
 use std::process::Abort;
 use tw_app::run;
-use tw_disk::Disk;
 use tw_hostio::{Access, FileDisk, HostInputs, HostSink, MemFile, MemInput, MemOutput};
 use tw_outside::MemSink;
 
@@ -95,15 +94,5 @@ fn each_call_of_an_append_fails_in_turn(rt: HostRuntime) {
             "{call}"
         );
     }
-    drop(disk);
-}
-
-/// Whether the page count isn't told any more after a write behind the last page that failed.
-#[test]
-fn a_count_in_doubt(rt: HostRuntime) {
-    let mut disk = short_file(&rt, rt.alloc(), &[7; 4096 + 100], 0, 3);
-    assert!(rt; disk.pages() == Ok(1));
-    assert!(rt; disk.write(1, &[5; 4096]).is_err());
-    assert!(rt; disk.pages().is_err());
     drop(disk);
 }
