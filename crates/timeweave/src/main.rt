@@ -2,43 +2,66 @@
 #![tactic(auto)]
 
 mod standard_streams;
-mod store_access;
-mod store_path;
+mod store_file;
 mod words;
 
-use standard_streams::keep_standard_numbers;
+ghost use Rattle.std.specs.Prelude.{◌≡◌, ◌⊎◌, IfOk, MatchResult};
+ghost use Rattle.std.specs.Process.{exit_status};
+ghost use Rattle.tw_app.specs.Statuses.{IsStatus};
+ghost use Rattle.tw_base.specs.kinds.Faults.{Rose};
+ghost use Rattle.tw_outside.specs.TakenBytes.{Appends, AppendsPart};
+ghost use Rattle.tw_text.specs.Lines.{no_memory_text};
+
+use standard_streams::{StandardNumbers, keep};
 use std::process::ExitCode;
-use store_access::access_of;
-use store_path::path_of_store;
-use tw_app::{Store, StoreAccess, end_without_memory, run, store_of};
+use store_file::file_of;
+use tw_app::{end_without_memory, run};
 use tw_base::NoMemory;
 use tw_hostio::{FileDisk, HostInputs, HostOutput, HostSink};
-use words::read_arguments;
+use tw_outside::Sink;
+use words::{SystemArguments, read_arguments};
 
 /// The status where the number of a closed standard stream can't be kept from the files that are opened: that of an
 /// output that failed.
 const NO_OUTPUT: u8 = 4;
 
-/// What stands for the store where the words ask for none: no command makes a call of its disk then.
-const NO_STORE: Store<'static> = Store {
-    folder: "",
-    access: StoreAccess::Read,
-};
-
 fn main(rt: HostRuntime) -> ExitCode {
-    let status = match keep_standard_numbers(&rt) {
-        Some(_kept) => status_of_run(&rt),
-        None => NO_OUTPUT,
+    let mut numbers = StandardNumbers {
+        rt: &rt,
+        kept: [None, None, None],
     };
+    if keep(&mut numbers) {
+        exit_of(status_of_run(&rt))
+    } else {
+        exit_of(NO_OUTPUT)
+    }
+}
+
+/// What the process ends with.
+fn exit_of(status: u8) -> ExitCode
+    ensures { exit_status result ≡ status }
+{
     ExitCode::from(status)
 }
 
 /// Does what the words of the program say, and answers the status.
-fn status_of_run(rt: &HostRuntime) -> u8 {
+fn status_of_run(rt: &HostRuntime) -> u8
+    ensures { IsStatus result }
+{
     let mut out = HostSink::new(rt);
-    match run_words(rt, &mut out) {
+    let ran = run_words(rt, &mut out);
+    status_of(ran, &mut out)
+}
+
+/// The status of a run that was made; where there was no memory to make it, that of this, which is told.
+fn status_of<S: Sink>(ran: Result<u8, NoMemory>, out: &mut S) -> u8
+    ensures { MatchResult ran (λ status. result ≡ status)
+        (λ _. ((result ≡ 6) × Appends (S.taken out.old) (S.taken out.new) no_memory_text)
+        ⊎ ((result ≡ 4) × AppendsPart (S.taken out.old) (S.taken out.new) no_memory_text × Rose (S.faults out.old) (S.faults out.new))) }
+{
+    match ran {
         Ok(status) => status,
-        Err(NoMemory) => end_without_memory(&mut out),
+        Err(NoMemory) => end_without_memory(out),
     }
 }
 
@@ -47,11 +70,12 @@ fn status_of_run(rt: &HostRuntime) -> u8 {
 fn run_words(
     rt: &HostRuntime,
     out: &mut HostSink<HostOutput<'_, HostRuntime>>,
-) -> Result<u8, NoMemory> {
-    let words = read_arguments(rt)?;
-    let store = store_of(rt.alloc(), &words)?.unwrap_or(NO_STORE);
-    let path = path_of_store(rt.alloc(), store.folder)?;
-    let disk = FileDisk::new(rt, path.as_str(), access_of(store.access));
+) -> Result<u8, NoMemory>
+    ensures { IfOk result IsStatus }
+{
+    let words = read_arguments(rt.alloc(), &SystemArguments { rt })?;
+    let file = file_of(rt.alloc(), &words)?;
+    let disk = FileDisk::new(rt, file.path.as_str(), file.access);
     let mut inputs = HostInputs::new(rt);
     Ok(run(rt.alloc(), &words, disk, &mut inputs, out).status)
 }

@@ -1,22 +1,59 @@
 // Keeping the numbers of standard streams that are closed from files that are opened later.
 
+ghost use Rattle.std.specs.Prelude.{◌≡◌, Bool, Option, IfSome};
+
 use std::fs::{self, File};
 use std::os::fd::AsFd;
 
-/// Files that take the numbers of standard input, output and error where these are closed. While
-/// they are kept, no file that is opened later takes such a number, so that what is written to a
-/// closed standard output fails, and doesn't go into a store. None where such a number can't be taken.
-pub fn keep_standard_numbers(rt: &HostRuntime) -> Option<[Option<File>; 3]> {
-    if are_open(rt) {
-        return Some([None, None, None]);
-    }
-    let kept = [null_device(rt), null_device(rt), null_device(rt)];
-    if are_open(rt) { Some(kept) } else { None }
+/// The numbers of the standard streams.
+pub trait Numbers {
+    /// Whether each of them is that of an open file; none where that isn't told.
+    ghost told: { Self → Option Bool };
+
+    /// Whether each of them is that of an open file.
+    fn are_open(&self) -> bool
+        ensures { IfSome (told self.now) (λ is. result ≡ is) };
+
+    /// Opens files, which take numbers that are closed.
+    fn fill(&mut self);
 }
 
-/// Whether each standard stream's number is that of an open file.
-fn are_open(rt: &HostRuntime) -> bool {
-    is_open(rt.stdin()) && is_open(rt.stdout()) && is_open(rt.stderr())
+/// Sees that each number is that of an open file, and tells whether it is. As long as what was opened is kept, no file that is
+/// opened later takes such a number, so that what is written to a closed standard output fails, and doesn't go into a store.
+pub fn keep<N: Numbers>(numbers: &mut N) -> bool
+    ensures { IfSome (N.told numbers.new) (λ is. result ≡ is) }
+{
+    if numbers.are_open() {
+        return true;
+    }
+    numbers.fill();
+    numbers.are_open()
+}
+
+/// Those of standard input, output and error. The system tells nothing of them: that they are as `Numbers` says is trusted.
+#[derive(Drop)]
+pub struct StandardNumbers<'a> {
+    pub rt: &'a HostRuntime,
+    /// The files that were opened to take those that were closed.
+    pub kept: [Option<File>; 3],
+}
+
+impl Numbers for StandardNumbers<'_> {
+    ghost use Rattle.std.specs.Prelude.{None};
+
+    ghost told = { λ _. None };
+
+    fn are_open(&self) -> bool {
+        is_open(self.rt.stdin()) && is_open(self.rt.stdout()) && is_open(self.rt.stderr())
+    }
+
+    fn fill(&mut self) {
+        self.kept = [
+            null_device(self.rt),
+            null_device(self.rt),
+            null_device(self.rt),
+        ];
+    }
 }
 
 /// Whether the stream is open: only such a one has a duplicate.

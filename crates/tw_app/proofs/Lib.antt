@@ -20,4 +20,7 @@ pub mod OneAnswer
 pub mod AuditsFound
 pub mod Adoptions
 pub mod Completeness
+mod PlainWords
 mod PlainRuns
+mod PlainMapRuns
+mod PlainAdoptions

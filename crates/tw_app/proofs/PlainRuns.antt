@@ -1,8 +1,6 @@
--- What a run of `verify` or `strict` with status 0 says, by the lines of its file alone.
-use Rattle.std.proofs.Common.{◌≡◌, ◌⊎◌, ℕ, List, [], ◌∷◌, ◌++◌, length, refl, ap, sym, ◌∙◌, subst, inl, inr, arith}
-use Rattle.std.specs.Prelude.{codes, map, Option, Some, None, MatchOption, Ok, if◌then◌else◌}
-use Rattle.std.specs.Result.{result_ok}
-use Rattle.std.proofs.lemmas.Bool.{le-leb}
+-- What a run of `verify` or `strict` with status 0 says, by the lines of its file alone, or by the line of its words.
+use Rattle.std.proofs.Common.{◌≡◌, ◌⊎◌, ℕ, List, [], ◌∷◌, ◌++◌, refl, ap, sym, ◌∙◌, subst, inl, inr}
+use Rattle.std.specs.Prelude.{codes, map, Option, Some, None, MatchOption}
 use Rattle.sha2.specs.Sha256.{sha256}
 use Rattle.tw_base.specs.declared.history.thread.Thread.{Thread}
 use Rattle.tw_base.specs.format.Formats.{Spells}
@@ -16,69 +14,15 @@ use Rattle.tw_msg.specs.AnchorsFile.{anchor_on, lines as lines_in}
 use Rattle.tw_outside.specs.Files.{Files, file_bytes}
 use Rattle.tw_outside.specs.TakenBytes.{Appends}
 use Rattle.tw_plain.specs.Hashed.{hashed_texts}
-use Rattle.tw_plain.specs.Plain.{IsPlain, IsReport, IsSoByLines, file_lines}
+use Rattle.tw_plain.specs.Plain.{IsPlain, IsReport, IsSoByLines, file_lines, line_of_words}
 use Rattle.tw_text.specs.Reports.{report_text}
-use Rattle.tw_words.specs.CommandLine.{command_of, strict, verify, verify_file, verify_one}
-use Rattle.tw_words.specs.Forms.{Form, either, either_reading, end, next, no_words, path, path_value, then_form}
+use Rattle.tw_words.specs.CommandLine.{command_of}
 use Rattle.tw_words.specs.declared.command.Command.{Command}
-use Rattle.tw_words.specs.declared.command.Command.TheVariants.{Strict, VerifyFile, VerifyOne}
 use Rattle.tw_app.specs.Around.{Around}
 use Rattle.tw_app.specs.Running.{EndsAllowed, work}
-use Rattle.tw_app.specs.Statuses.{AreWordsOf, GivesAnchors, IsAcceptedRun, IsVerify, proof_file}
+use Rattle.tw_app.specs.Statuses.{GivesAnchors, IsAcceptedRun, IsVerify, proof_file}
 use Rattle.tw_app.proofs.Endings.{accepted, done}
-
--- ---- the words
-
--- a word that isn't empty is a path
-some_path : (b : ℕ) (bs : List ℕ) → path_value (b ∷ bs) ≡ Some (b ∷ bs)
-some_path b bs = ap (λ t. if t then Some (b ∷ bs) else None) (le-leb 1 (length (b ∷ bs)) (omega arith))
-
-taken_path : (form : List ℕ → Form) (b : ℕ) (bs : List ℕ) (words : List (List ℕ)) → path form ((b ∷ bs) ∷ words) ≡ form (b ∷ bs) words
-unfolding next
-taken_path form b bs words = ap (λ o. then_form (λ word. o) form ((b ∷ bs) ∷ words)) (some_path b bs)
-
--- the last word of a form
-last_path : (command : List ℕ → Command) (b : ℕ) (bs : List ℕ) → path (λ file. end (command file)) ((b ∷ bs) ∷ []) ≡ Ok (command (b ∷ bs))
-unfolding no_words
-last_path command b bs = taken_path (λ file. end (command file)) b bs []
-
--- what the words behind the first one make
-verify_named : (words : List (List ℕ)) → command_of (codes "verify" ∷ words) ≡ result_ok (verify words)
-unfolding next
-verify_named words = refl
-
-strict_named : (words : List (List ℕ)) → command_of (codes "strict" ∷ words) ≡ result_ok (strict words)
-unfolding next
-strict_named words = refl
-
-verify_words : (proof file : List ℕ) (c : Command) → result_ok (verify (proof ∷ file ∷ [])) ≡ Some c → VerifyFile proof file ≡ c
-unfolding verify verify_file verify_one next
-verify_words [] file c is = let none : None ≡ Some c = is in cc
-verify_words (b ∷ bs) [] c is =
-    let behind = taken_path (λ proof. either (verify_file proof) (verify_one proof)) b bs ([] ∷ []) in
-    let none : None ≡ Some c = sym (ap result_ok behind) ∙ is in cc
-verify_words (b ∷ bs) (d ∷ ds) c is =
-    let proof : List ℕ = b ∷ bs in
-    let file : List ℕ = d ∷ ds in
-    let behind = taken_path (λ proof. either (verify_file proof) (verify_one proof)) b bs (file ∷ []) in
-    let read : either_reading (verify_file proof (file ∷ [])) (verify_one proof (file ∷ [])) ≡ Ok (VerifyFile proof file) =
-    ap (λ r. either_reading r (verify_one proof (file ∷ []))) (last_path (λ anchors. VerifyFile proof anchors) d ds) in
-    let command : Some (VerifyFile proof file) ≡ Some c = sym (ap result_ok (behind ∙ read)) ∙ is in
-    cc
-
-strict_words : (proof file : List ℕ) (c : Command) → result_ok (strict (proof ∷ file ∷ [])) ≡ Some c → Strict proof file ≡ c
-unfolding strict next
-strict_words [] file c is = let none : None ≡ Some c = is in cc
-strict_words (b ∷ bs) [] c is =
-    let behind = taken_path (λ proof. path (λ anchors. end (Strict proof anchors))) b bs ([] ∷ []) in
-    let none : None ≡ Some c = sym (ap result_ok behind) ∙ is in cc
-strict_words (b ∷ bs) (d ∷ ds) c is =
-    let proof : List ℕ = b ∷ bs in
-    let file : List ℕ = d ∷ ds in
-    let behind = taken_path (λ proof. path (λ anchors. end (Strict proof anchors))) b bs (file ∷ []) in
-    let read = last_path (λ anchors. Strict proof anchors) d ds in
-    let command : Some (Strict proof file) ≡ Some c = sym (ap result_ok (behind ∙ read)) ∙ is in
-    cc
+use Rattle.tw_app.proofs.PlainWords.{strict_named, strict_words, verify_line, verify_named, verify_words}
 
 -- the command judges the file of this name under the lines of the other
 pub record Judges (told : Option Files) (c : Command) (proof file : List ℕ) : Type 0 where
@@ -96,21 +40,37 @@ judged_by told words proof file c (inr are) is =
     subst (λ (command : Command). Judges told command proof file) (strict_words proof file c (sym (strict_named (proof ∷ file ∷ [])) ∙ ap command_of (sym are) ∙ is))
     (record { judges = tt; of = refl; under = λ anchors gives. gives })
 
+-- the command judges the file of this name under the line
+pub record JudgesLine (told : Option Files) (c : Command) (proof : List ℕ) (line : Thread) : Type 0 where
+  pub judges : IsVerify c
+  pub of : proof_file c ≡ Some proof
+  pub under : (anchors : List Thread) → GivesAnchors told c anchors → anchors ≡ line ∷ []
+
+judged_by_line : (told : Option Files) (words : List (List ℕ)) (proof name step hex : List ℕ) (c : Command)
+    → words ≡ codes "verify" ∷ proof ∷ name ∷ step ∷ hex ∷ [] → command_of words ≡ Some c → JudgesLine told c proof (line_of_words name step hex)
+judged_by_line told words proof name step hex c are is =
+    let tail : List (List ℕ) = proof ∷ name ∷ step ∷ hex ∷ [] in
+    subst (λ (command : Command). JudgesLine told command proof (line_of_words name step hex))
+    (verify_line proof name step hex c (sym (verify_named tail) ∙ ap command_of (sym are) ∙ is))
+    (record { judges = tt; of = refl; under = λ anchors gives. gives })
+
 -- ---- the run
 
-some_of : {X : Type 0} (P : X → Type 0) (o : Option X) → MatchOption o ⊥ P → (x : X) × (o ≡ Some x)
+pub some_of : {X : Type 0} (P : X → Type 0) (o : Option X) → MatchOption o ⊥ P → (x : X) × (o ≡ Some x)
 some_of P None is = absurd is
 some_of P (Some x) is = (x, refl)
 
-same_some : {X : Type 0} (x y : X) → Some x ≡ Some y → x ≡ y
+pub same_some : {X : Type 0} (x y : X) → Some x ≡ Some y → x ≡ y
 same_some x y e = cc
 
-module _ (so : (bytes file : List ℕ) (p : Proof) → Spells proof_layout bytes p → IsAccepted sha256 (map anchor_on (lines_in file)) p
+module _ (held : (bytes : List ℕ) (lines : List Thread) (p : Proof) → Spells proof_layout bytes p → IsAccepted sha256 lines p
+    → IsSoByLines sha256 lines (hashed_texts sha256 bytes) (report_of p))
+    (so : (bytes file : List ℕ) (p : Proof) → Spells proof_layout bytes p → IsAccepted sha256 (map anchor_on (lines_in file)) p
     → IsSoByLines sha256 (file_lines file) (hashed_texts sha256 bytes) (report_of p))
     (readable : (bytes : List ℕ) (p : Proof) → Spells proof_layout bytes p → IsReport (report_of p)) where
   -- what was accepted under the lines of the file
   accepted-plain : (proof lines : List ℕ) (anchors : List Thread) → anchors ≡ map anchor_on (lines_in lines) → (accepts : Accepts sha256 anchors proof)
-      → IsPlain sha256 proof lines (report_text (report_of accepts.0))
+      → IsPlain sha256 proof (file_lines lines) (report_text (report_of accepts.0))
   accepted-plain proof lines anchors are accepts = record {
     report = report_of accepts.0;
     readable = readable proof accepts.0 accepts.1;
@@ -118,31 +78,87 @@ module _ (so : (bytes file : List ℕ) (p : Proof) → Spells proof_layout bytes
     so = so proof lines accepts.0 accepts.1 (subst (λ (held : List Thread). IsAccepted sha256 held accepts.0) are accepts.2);
   }
 
-  run-plain : (told : Option Files) (words : List (List ℕ)) (old new : Option (List ℕ)) (proof_name lines_name proof lines before : List ℕ)
-      → (c : Command) → command_of words ≡ Some c → Judges told c proof_name lines_name → IsAcceptedRun told words old new
-      → file_bytes told proof_name ≡ Some proof → file_bytes told lines_name ≡ Some lines → old ≡ Some before
-      → (text : List ℕ) × (new ≡ Some (before ++ text)) × IsPlain sha256 proof lines text
-  run-plain told words old new proof_name lines_name proof lines before c is judges run proof_told lines_told taken =
-      let command : c ≡ run.command = same_some c run.command (sym is ∙ run.is_command) in
-      let of : Judges told run.command proof_name lines_name = subst (λ (d : Command). Judges told d proof_name lines_name) command judges in
-      let named : proof_name ≡ run.file = same_some proof_name run.file (sym of.of ∙ run.asked) in
-      let has = of.under run.anchors run.given in
-      let come = run.accepted proof (subst (λ name. file_bytes told name ≡ Some proof) named proof_told) in
-      (report_text (report_of come.0.0), come.1 before taken, accepted-plain proof lines run.anchors (has.same lines lines_told) come.0)
+  -- what was accepted under these
+  accepted-held : (proof : List ℕ) (anchors lines : List Thread) → anchors ≡ lines → (accepts : Accepts sha256 anchors proof)
+      → IsPlain sha256 proof lines (report_text (report_of accepts.0))
+  accepted-held proof anchors lines are accepts = record {
+    report = report_of accepts.0;
+    readable = readable proof accepts.0 accepts.1;
+    tells = refl;
+    so = held proof lines accepts.0 accepts.1 (subst (λ (held : List Thread). IsAccepted sha256 held accepts.0) are accepts.2);
+  }
+
+  module _ (told : Option Files) (words : List (List ℕ)) (old new : Option (List ℕ)) (proof_name proof before : List ℕ)
+      (c : Command) (is : command_of words ≡ Some c) (run : IsAcceptedRun told words old new) (proof_told : file_bytes told proof_name ≡ Some proof)
+      (taken : old ≡ Some before) where
+    command : c ≡ run.command
+    command = same_some c run.command (sym is ∙ run.is_command)
+
+    come : (of : proof_file run.command ≡ Some proof_name)
+        → (accepts : Accepts sha256 run.anchors proof) × Appends old new (report_text (report_of accepts.0))
+    come of =
+        let named : proof_name ≡ run.file = same_some proof_name run.file (sym of ∙ run.asked) in
+        run.accepted proof (subst (λ name. file_bytes told name ≡ Some proof) named proof_told)
+
+    run-plain : (lines_name lines : List ℕ) → Judges told c proof_name lines_name → file_bytes told lines_name ≡ Some lines
+        → (text : List ℕ) × (new ≡ Some (before ++ text)) × IsPlain sha256 proof (file_lines lines) text
+    run-plain lines_name lines judges lines_told =
+        let of : Judges told run.command proof_name lines_name = subst (λ (d : Command). Judges told d proof_name lines_name) command judges in
+        let has = of.under run.anchors run.given in
+        let accepts = come of.of in
+        (report_text (report_of accepts.0.0), accepts.1 before taken, accepted-plain proof lines run.anchors (has.same lines lines_told) accepts.0)
+
+    run-line : (line : Thread) → JudgesLine told c proof_name line
+        → (text : List ℕ) × (new ≡ Some (before ++ text)) × IsPlain sha256 proof (line ∷ []) text
+    run-line line judges =
+        let of : JudgesLine told run.command proof_name line = subst (λ (d : Command). JudgesLine told d proof_name line) command judges in
+        let accepts = come of.of in (
+          report_text (report_of accepts.0.0),
+          accepts.1 before taken,
+          accepted-held proof run.anchors (line ∷ []) (of.under run.anchors run.given) accepts.0,
+        )
 
   module _ {D : Type 0} (view : D → DiskView)
       (only_now : (d : D) (image : Image) → (view d).left_since (view d).moment image → (view d).may_leave image)
-      (as_it_reads : (d : D) (image : Image) → (view d).content ≡ Some image → (view d).may_leave image) (a : Around D) (status : ℕ) where
-    pub plain_run : EndsAllowed view a status → status ≡ 0 → (proof_name lines_name proof lines before : List ℕ)
-        → (a.words ≡ codes "verify" ∷ proof_name ∷ lines_name ∷ []) ⊎ (a.words ≡ codes "strict" ∷ proof_name ∷ lines_name ∷ [])
+      (as_it_reads : (d : D) (image : Image) → (view d).content ≡ Some image → (view d).may_leave image) (a : Around D) (status : ℕ)
+      (run : EndsAllowed view a status) (zeroth : status ≡ 0) where
+    abbrev Found : Type 0
+    Found = (c : Command) × (command_of a.words ≡ Some c)
+
+    found : Found
+    found =
+        let is_done = done view only_now as_it_reads a status run zeroth in
+        some_of (λ (c : Command). (work view a.outside c).done is_done.0) (command_of a.words) is_done.1
+
+    run_of : (c : Command) → command_of a.words ≡ Some c → IsVerify c → IsAcceptedRun a.outside.inputs.told a.words a.taken.before a.taken.after
+    run_of c is judges =
+        accepted view only_now as_it_reads a status run zeroth
+        (subst (λ (o : Option Command). MatchOption o ⊥ IsVerify) (sym is) judges)
+
+    pub plain_run : (proof_name lines_name proof lines before word : List ℕ) → (word ≡ codes "verify") ⊎ (word ≡ codes "strict")
+        → a.words ≡ word ∷ proof_name ∷ lines_name ∷ []
         → file_bytes a.outside.inputs.told proof_name ≡ Some proof → file_bytes a.outside.inputs.told lines_name ≡ Some lines
         → a.taken.before ≡ Some before
-        → (text : List ℕ) × (a.taken.after ≡ Some (before ++ text)) × IsPlain sha256 proof lines text
-    plain_run run zeroth proof_name lines_name proof lines before asked proof_told lines_told taken =
+        → (text : List ℕ) × (a.taken.after ≡ Some (before ++ text)) × IsPlain sha256 proof (file_lines lines) text
+    plain_run proof_name lines_name proof lines before word named are proof_told lines_told taken =
         let told : Option Files = a.outside.inputs.told in
-        let is_done = done view only_now as_it_reads a status run zeroth in
-        let found = some_of (λ (c : Command). (work view a.outside c).done is_done.0) (command_of a.words) is_done.1 in
+        let tail : List (List ℕ) = proof_name ∷ lines_name ∷ [] in
+        let asked : (a.words ≡ codes "verify" ∷ tail) ⊎ (a.words ≡ codes "strict" ∷ tail) =
+        elim named [
+          | inl is ↦ inl (are ∙ ap (λ first. first ∷ tail) is)
+          | inr is ↦ inr (are ∙ ap (λ first. first ∷ tail) is)
+        ]
+        in
         let judges : Judges told found.0 proof_name lines_name = judged_by told a.words proof_name lines_name found.0 asked found.1 in
-        let words : AreWordsOf IsVerify a.words = subst (λ (o : Option Command). MatchOption o ⊥ IsVerify) (sym found.1) judges.judges in
-        run-plain told a.words a.taken.before a.taken.after proof_name lines_name proof lines before found.0 found.1 judges
-        (accepted view only_now as_it_reads a status run zeroth words) proof_told lines_told taken
+        run-plain told a.words a.taken.before a.taken.after proof_name proof before found.0 found.1 (run_of found.0 found.1 judges.judges)
+        proof_told taken lines_name lines judges lines_told
+
+    pub plain_line : (proof_name name step hex proof before : List ℕ) → a.words ≡ codes "verify" ∷ proof_name ∷ name ∷ step ∷ hex ∷ []
+        → file_bytes a.outside.inputs.told proof_name ≡ Some proof → a.taken.before ≡ Some before
+        → (text : List ℕ) × (a.taken.after ≡ Some (before ++ text)) × IsPlain sha256 proof (line_of_words name step hex ∷ []) text
+    plain_line proof_name name step hex proof before are proof_told taken =
+        let told : Option Files = a.outside.inputs.told in
+        let judges : JudgesLine told found.0 proof_name (line_of_words name step hex) =
+        judged_by_line told a.words proof_name name step hex found.0 are found.1 in
+        run-line told a.words a.taken.before a.taken.after proof_name proof before found.0 found.1 (run_of found.0 found.1 judges.judges)
+        proof_told taken (line_of_words name step hex) judges

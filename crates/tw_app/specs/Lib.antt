@@ -2,6 +2,7 @@ pub mod Alike
 pub mod Around
 pub mod Audits
 pub mod Adoptions
+pub mod PlainAdoptions
 pub mod Commands
 pub mod Complete
 pub mod Judging

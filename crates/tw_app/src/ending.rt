@@ -10,7 +10,8 @@ ghost use Rattle.tw_diskcmd.specs.Disks.{IsLeft};
 ghost use Rattle.tw_outside.specs.Asked.{asked};
 ghost use Rattle.tw_outside.specs.Files.{file_bytes};
 ghost use Rattle.tw_outside.specs.TakenBytes.{Appends, AppendsPart};
-ghost use Rattle.tw_plain.specs.Plain.{IsPlain};
+ghost use Rattle.tw_plain.specs.Maps.{IsPlainMap};
+ghost use Rattle.tw_plain.specs.Plain.{IsPlain, file_lines, line_of_words};
 ghost use Rattle.tw_words.specs.CommandLine.{command_of};
 ghost use Rattle.tw_text.specs.Lines.{anchor_text, no_memory_text};
 ghost use Rattle.tw_app.specs.declared.outcome.Outcome.TheVariants.{Undone};
@@ -19,6 +20,7 @@ ghost use Rattle.tw_app.specs.Adoptions.{AsksAdoption, IsAdoptedRun, IsAdoptingR
 ghost use Rattle.tw_app.specs.Around.{around, outside, span};
 ghost use Rattle.tw_app.specs.Commands.{command_files};
 ghost use Rattle.tw_app.specs.MapRuns.{AsksMap, IsMapRun};
+ghost use Rattle.tw_app.specs.PlainAdoptions.{IsPlainAdoption};
 ghost use Rattle.tw_app.specs.Outcomes.{TakesMemory, status_of as status_of_outcome};
 ghost use Rattle.tw_app.specs.Audits.{AsksAudit, IsAuditOf, IsClashRun, IsFoundRun, IsStandingRun};
 ghost use Rattle.tw_app.specs.Running.{EndsAllowed, EndsWith, work as work_of};
@@ -28,13 +30,14 @@ use crate::following::{Followed, work};
 use crate::outcome::Outcome;
 use crate::printing::print;
 use std::alloc::Global;
+use tw_adopt::{first_steps_laws, same_laws};
 use tw_base::{NoMemory, Sha, Thread};
 use tw_chain::Verdict;
 use tw_disk::Disk;
 use tw_filecmd::Joined;
 use tw_msg::write_receipt;
 use tw_outside::{Inputs, Sink, write_all};
-use tw_plain::plain_laws;
+use tw_plain::{plain_laws, plain_map_laws};
 use tw_reachcmd::{Accused, Answer, Taken, answer_status};
 use tw_text::{CommandFault, anchor_line, fault_disk, fault_input, fault_status, no_memory};
 
@@ -191,10 +194,37 @@ pub fn run<D: Disk, I: Inputs, S: Sink>(
     // has each of the lines of the file LINES which is of a service that the report names, and each thread that the report
     // tells as carried, what the report says is so; or two different texts, both of bytes, of those that these histories and
     // checking the proof hash, have one SHA-256 digest.
-    ensures plain { (proof_file lines_file proof lines before : List ℕ) → result.status ≡ 0
-        → (map string_bytes words.now ≡ codes "verify" ∷ proof_file ∷ lines_file ∷ []) ⊎ (map string_bytes words.now ≡ codes "strict" ∷ proof_file ∷ lines_file ∷ [])
-        → file_bytes (I.told inputs.old) proof_file ≡ Some proof → file_bytes (I.told inputs.old) lines_file ≡ Some lines → S.taken out.old ≡ Some before
-        → (text : List ℕ) × (S.taken out.new ≡ Some (before ++ text)) × IsPlain sha256 proof lines text }
+    ensures plain { (proof_file lines_file proof lines before word : List ℕ) → result.status ≡ 0 → S.taken out.old ≡ Some before
+        → (word ≡ codes "verify") ⊎ (word ≡ codes "strict") → map string_bytes words.now ≡ word ∷ proof_file ∷ lines_file ∷ []
+        → file_bytes (I.told inputs.old) proof_file ≡ Some proof → file_bytes (I.told inputs.old) lines_file ≡ Some lines
+        → (text : List ℕ) × (S.taken out.new ≡ Some (before ++ text)) × IsPlain sha256 proof (file_lines lines) text }
+    // The same of `verify PROOF NAME STEP HEX`, whose words are the one line.
+    ensures plain_line { (proof_file name step hex proof before : List ℕ) → result.status ≡ 0
+        → map string_bytes words.now ≡ codes "verify" ∷ proof_file ∷ name ∷ step ∷ hex ∷ []
+        → file_bytes (I.told inputs.old) proof_file ≡ Some proof → S.taken out.old ≡ Some before
+        → (text : List ℕ) × (S.taken out.new ≡ Some (before ++ text)) × IsPlain sha256 proof (line_of_words name step hex ∷ []) text }
+    // Status 0 of `checkmap LOW HIGH LINES`, in the words of docs/theorem.md, where the inputs tell the bytes of all three files
+    // and the sink tells what it has taken: it took the text of bounds whole. Of which step of which service they are, and of
+    // which peer, the first bytes of LOW name. And in every list of sound histories that has each of the lines of the file LINES
+    // which is of the service or of the peer, they are the bounds of its histories; or two different texts, both of bytes, of
+    // those that these histories and checking both map files hash, have one SHA-256 digest.
+    ensures plain_map { (low_file high_file lines_file low high lines before : List ℕ) → result.status ≡ 0
+        → map string_bytes words.now ≡ codes "checkmap" ∷ low_file ∷ high_file ∷ lines_file ∷ []
+        → file_bytes (I.told inputs.old) low_file ≡ Some low → file_bytes (I.told inputs.old) high_file ≡ Some high
+        → file_bytes (I.told inputs.old) lines_file ≡ Some lines → S.taken out.old ≡ Some before
+        → (text : List ℕ) × (S.taken out.new ≡ Some (before ++ text)) × IsPlainMap sha256 low high (file_lines lines) text }
+    // Status 0 of `adopt HISTORY LINES PROOF..`, in the words of docs/theorem.md, where the inputs tell the bytes of all files and
+    // the sink tells what it has taken: it took the file of a sound history whole, which is the same as the one of HISTORY up to
+    // its own last step. Of each PROOF a thread of it was received, and of one the thread of its last step: in every list of
+    // sound histories that has each of the lines of the file LINES which is of the service that received it, this service did
+    // so; or two different texts, both of bytes, of those that these histories and checking the proof hash, have one SHA-256
+    // digest. And in every list of sound histories that has the thread of its last step, the history of its name is the
+    // same up to there; or two different texts, both of bytes, of it and of these have one.
+    ensures plain_adoption { (history_file lines_file proof_file whole lines before : List ℕ) (more_files proofs : List (List ℕ)) → result.status ≡ 0
+        → map string_bytes words.now ≡ codes "adopt" ∷ history_file ∷ lines_file ∷ proof_file ∷ more_files
+        → file_bytes (I.told inputs.old) history_file ≡ Some whole → file_bytes (I.told inputs.old) lines_file ≡ Some lines
+        → map (file_bytes (I.told inputs.old)) (proof_file ∷ more_files) ≡ map Some proofs → S.taken out.old ≡ Some before
+        → (text : List ℕ) × (S.taken out.new ≡ Some (before ++ text)) × IsPlainAdoption sha256 whole (file_lines lines) proofs text }
     // Status 0 of `verify` and `strict`: the proof file is there, and its bytes spell a proof that is accepted under the
     // command's anchors. These are the one of its words, or those of the anchors file, which is there and has no bad line.
     // Of `strict` the proof carries no thread. The proof's report was written whole. And in every list of sound histories
@@ -290,7 +320,10 @@ pub fn run<D: Disk, I: Inputs, S: Sink>(
     // wasn't written whole, by `ends`.)
     ensures unwritten { IsIdle result.status → IsLeft D.view disk result.disk }
 {
-    // By the laws of printed reports.
+    // By the laws of what is printed, and of histories that are the same up to a step.
     plain_laws::<Sha>();
+    plain_map_laws::<Sha>();
+    same_laws::<Sha>();
+    first_steps_laws::<Sha>();
     run_to_the_end(alloc, words, disk, inputs, out)
 }

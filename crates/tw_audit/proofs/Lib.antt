@@ -12,3 +12,4 @@ pub mod StopLaws
 pub mod ClimbLaws
 pub mod Doubtful
 pub mod KeyLaws
+pub mod FinderLaws

@@ -11,9 +11,9 @@ use Rattle.std.specs.Option.{option_map}
 use Rattle.std.proofs.lemmas.List.{drop-append-le, drop_at, length-append, length-drop, take-append-le, take_all}
 use Rattle.tw_base.specs.kinds.Clash.{clash_pair, clashes}
 use Rattle.tw_audit.specs.declared.table.Place.{Place}
-use Rattle.tw_audit.specs.declared.table.PairPlaces.{PairPlaces}
 use Rattle.tw_audit.specs.declared.table.Table.{Table}
-use Rattle.tw_audit.specs.Tables.{HasTaken, IsInside, kept, other_than, pair_at, place_in_table, text_at, words_of}
+use Rattle.tw_audit.specs.declared.table.TextPair.{TextPair}
+use Rattle.tw_audit.specs.Tables.{HasTaken, IsInside, kept, other_than, pair_kept, place_in_table, text_at, words_of}
 use Rattle.tw_audit.proofs.Knowing.{knows-new, knows-same}
 use Rattle.tw_audit.proofs.PairLaws.{pair-none, pair-some}
 
@@ -72,7 +72,7 @@ IsAdded old new text p = (new.arena.items ≡ old.arena.items ++ text) × (p.sta
 module _ (dig : List ℕ → List ℕ) (texts : List (List ℕ)) where
   -- a table that has no pair has found none
   no_pair : (t : Table) → HasTaken dig texts t → t.found ≡ None → clash_pair dig texts ≡ None
-  no_pair t is none = is.pair ∙ ap (option_map (pair_at t.arena.items)) none
+  no_pair t is none = is.pair ∙ ap (option_map pair_kept) none
 
   -- ---- a first text of its digest
 
@@ -113,11 +113,9 @@ module _ (dig : List ℕ → List ℕ) (texts : List (List ℕ)) where
     taken-new = record {
       pair = pair-none dig texts s (no_pair old is none) ∙ ap (option_map (λ one. record { one = one; other = s }))
           no_clash
-          ∙ sym (ap (option_map (pair_at new.arena.items)) (same ∙ none));
+          ∙ sym (ap (option_map pair_kept) (same ∙ none));
       knows = λ unfound. knows-new dig texts s (kept old) (kept new) (is.knows none) absent kept_here kept_others;
       places = inside;
-      found = subst (λ o. IfSome o (λ (q : PairPlaces). IsInside new.arena.items q.one × IsInside new.arena.items
-          q.other)) (sym (same ∙ none)) tt;
     }
 
   -- ---- the text that is kept, once more
@@ -127,58 +125,44 @@ module _ (dig : List ℕ → List ℕ) (texts : List (List ℕ)) where
   taken-same t s is none here = record {
     pair = pair-none dig texts s (no_pair t is none)
         ∙ ap (option_map (λ one. record { one = one; other = s })) (is.knows none s ∙ ap (other_than s) here ∙ itself s)
-        ∙ sym (ap (option_map (pair_at t.arena.items)) none);
+        ∙ sym (ap (option_map pair_kept) none);
     knows = λ unfound. knows-same dig texts s (kept t) (is.knows none) here;
     places = is.places;
-    found = is.found;
   }
 
   -- ---- a text that clashes with the one that is kept
 
-  pub taken-pair : (old new : Table) (s first : List ℕ) (one other : Place) → HasTaken dig texts old → old.found ≡ None
-      → kept old (dig s) ≡ Some first → first ≢ s
-      → text_at old.arena.items one ≡ first → IsInside old.arena.items one → IsAdded old new s other
-      → new.places ≡ old.places → new.found ≡ Some (record { one = one; other = other })
+  pub taken-pair : (old new : Table) (s first : List ℕ) (pair : TextPair) → HasTaken dig texts old → old.found ≡ None
+      → kept old (dig s) ≡ Some first → first ≢ s → pair.one ≡ first → pair.other ≡ s
+      → new.arena.items ≡ old.arena.items → new.places ≡ old.places → new.found ≡ Some pair
       → HasTaken dig (texts ++ s ∷ []) new
-  taken-pair old new s first one other is none here differ at inside (arena, start, end) places found = record {
+  taken-pair old new s first pair is none here differ one other arena places found = record {
     pair = pair-none dig texts s (no_pair old is none)
         ∙ ap (option_map (λ one. record { one = one; other = s })) (is.knows none s ∙ ap (other_than s) here ∙ another s
         first differ)
-        ∙ sym (ap (option_map (pair_at new.arena.items)) found
-        ∙ (λ k. Some (record { one = one_is k; other = other_is k })));
-    knows = λ unfound. (let no : Some (record { one = one; other = other }) ≡ None = sym found ∙ unfound in cc);
+        ∙ sym (ap (option_map pair_kept) found ∙ (λ k. Some (record { one = one k; other = other k })));
+    knows = λ unfound. (let no : Some pair ≡ None = sym found ∙ unfound in cc);
     places = λ words. subst (λ a. IfSome (place_in_table new words) (IsInside a)) (sym arena)
-        (subst (λ m. IfSome (get (slice_cmp nat_cmp) m words) (IsInside (old.arena.items ++ s))) (sym places)
-        (insides-more old.arena.items s (place_in_table old words) (is.places words)));
-    found = subst (λ o. IfSome o (λ (q : PairPlaces). IsInside new.arena.items q.one × IsInside new.arena.items
-        q.other)) (sym found)
-        (subst (λ a. IsInside a one × IsInside a other) (sym arena)
-        (inside-more old.arena.items s one inside, inside-new old.arena.items s other start end));
+        (subst (λ m. IfSome (get (slice_cmp nat_cmp) m words) (IsInside old.arena.items)) (sym places)
+        (is.places words));
   }
-    where
-      one_is : text_at new.arena.items one ≡ first
-      one_is = ap (λ a. text_at a one) arena ∙ text-more old.arena.items s one inside ∙ at
-
-      other_is : text_at new.arena.items other ≡ s
-      other_is = ap (λ a. text_at a other) arena ∙ text-new old.arena.items s other start end
 
   -- ---- with a pair nothing more counts
 
-  pub taken-past : (t : Table) (s : List ℕ) (p : PairPlaces) → HasTaken dig texts t → t.found ≡ Some p
+  pub taken-past : (t : Table) (s : List ℕ) (p : TextPair) → HasTaken dig texts t → t.found ≡ Some p
       → HasTaken dig (texts ++ s ∷ []) t
   taken-past t s p is found = record {
-    pair = pair-some dig texts s (pair_at t.arena.items p) (is.pair ∙ ap (option_map (pair_at t.arena.items)) found)
-        ∙ sym (ap (option_map (pair_at t.arena.items)) found);
+    pair = pair-some dig texts s (pair_kept p) (is.pair ∙ ap (option_map pair_kept) found)
+        ∙ sym (ap (option_map pair_kept) found);
     knows = λ unfound. (let no : Some p ≡ None = sym found ∙ unfound in cc);
     places = is.places;
-    found = is.found;
   }
 
   pub taken-found : (t : Table) (s : List ℕ) → HasTaken dig texts t → is_some t.found ≡ true
       → HasTaken dig (texts ++ s ∷ []) t
   taken-found t s is some = by t.found refl some
     where
-      by : (o : Option PairPlaces) → t.found ≡ o → is_some o ≡ true → HasTaken dig (texts ++ s ∷ []) t
+      by : (o : Option TextPair) → t.found ≡ o → is_some o ≡ true → HasTaken dig (texts ++ s ∷ []) t
       by None found some = cc
       by (Some p) found some = taken-past t s p is found
 

@@ -1,5 +1,5 @@
 -- What is kept of texts by the keys of their digests.
-use Rattle.std.specs.Prelude.{◌≡◌, ℕ, List, map, false, Bool, Option, IfSome, slice_range}
+use Rattle.std.specs.Prelude.{◌≡◌, ℕ, List, [], ◌∷◌, length, map, false, Bool, Option, IfSome, slice_range}
 use Rattle.std.specs.BTreeMap.{get}
 use Rattle.std.specs.BTreeSet.{contains}
 use Rattle.std.specs.Cmp.Lexicographic.{slice_cmp}
@@ -26,6 +26,11 @@ pub record HasKeys (dig : List ℕ → List ℕ) (texts : List (List ℕ)) (k : 
 -- unless memory was wanting
 abbrev pub TookKeys : (dig : List ℕ → List ℕ) → Keys → List (List ℕ) → Type 0
 TookKeys dig k texts = k.spent ≡ false → HasKeys dig texts k
+
+-- keys as texts, behind their number: what a finder has taken before the first text. A transcript's relation speaks of the transcript and
+-- the texts alone, so what is to stay as it is stands in front of these
+abbrev pub key_front : Repeated → List (List ℕ)
+key_front r = (length r.keys.keys ∷ []) ∷ r.keys.keys
 
 -- the digest's key is one of these
 abbrev pub is_among_keys : Repeated → (digest : List ℕ) → Bool

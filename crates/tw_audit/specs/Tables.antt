@@ -1,5 +1,5 @@
 -- What a table of texts keeps of those that it took: of each digest the first of its texts, until one clashes with it.
-use Rattle.std.specs.Prelude.{◌≡◌, ℕ, ◌≤◌, List, [], ◌∷◌, length, false, Option, Some, None, find, slice_range, if◌then◌else◌, IfSome}
+use Rattle.std.specs.Prelude.{◌≡◌, ℕ, ◌≤◌, List, [], ◌∷◌, ◌++◌, length, false, Option, Some, None, find, slice_range, if◌then◌else◌, IfSome}
 use Rattle.std.specs.BTreeMap.{get}
 use Rattle.std.specs.Cmp.Lexicographic.{slice_cmp}
 use Rattle.std.specs.Int.{from_be_bytes, w64}
@@ -8,9 +8,11 @@ use Rattle.std.specs.Ordering.{nat_cmp}
 use Rattle.std.specs.Str.{bytes_eq}
 use Rattle.tw_base.specs.kinds.Bytes.{HasBytes}
 use Rattle.tw_base.specs.kinds.Clash.{Pair, clash_pair, clashes}
+use Rattle.tw_audit.specs.KeyLists.{doubtful, key_front}
+use Rattle.tw_audit.specs.declared.keys.Repeated.{Repeated}
 use Rattle.tw_audit.specs.declared.table.Place.{Place}
-use Rattle.tw_audit.specs.declared.table.PairPlaces.{PairPlaces}
 use Rattle.tw_audit.specs.declared.table.Table.{Table}
+use Rattle.tw_audit.specs.declared.table.TextPair.{TextPair}
 
 -- a digest as four numbers, by which it is kept
 abbrev pub words_of : (digest : List ℕ) → List ℕ
@@ -21,8 +23,9 @@ words_of digest =
 abbrev pub text_at : (arena : List ℕ) → Place → List ℕ
 text_at arena p = slice_range arena p.start p.end
 
-abbrev pub pair_at : (arena : List ℕ) → PairPlaces → Pair
-pair_at arena p = record { one = text_at arena p.one; other = text_at arena p.other }
+-- the texts that clash, as they are kept
+abbrev pub pair_kept : TextPair → Pair
+pair_kept p = record { one = p.one; other = p.other }
 
 abbrev pub place_in_table : Table → (words : List ℕ) → Option Place
 place_in_table t words = get (slice_cmp nat_cmp) t.places words
@@ -46,14 +49,19 @@ Knows dig texts kept = (text : List ℕ) → find (clashes dig text) texts ≡ o
 
 -- the table took these texts: it has their pair, or knows all of them
 pub record HasTaken (dig : List ℕ → List ℕ) (texts : List (List ℕ)) (t : Table) : Type 0 where
-  pub pair : clash_pair dig texts ≡ option_map (pair_at t.arena.items) t.found
+  pub pair : clash_pair dig texts ≡ option_map pair_kept t.found
   pub knows : t.found ≡ None → Knows dig texts (kept t)
   pub places : (words : List ℕ) → IfSome (place_in_table t words) (IsInside t.arena.items)
-  pub found : IfSome t.found (λ (p : PairPlaces). IsInside t.arena.items p.one × IsInside t.arena.items p.other)
 
 -- unless memory was wanting
 abbrev pub Took : (dig : List ℕ → List ℕ) → Table → List (List ℕ) → Type 0
 Took dig t texts = t.spent ≡ false → HasTaken dig texts t
+
+-- the texts are the keys and texts behind them, and of those the table took the ones with such a key
+pub record TookBehind (dig : List ℕ → List ℕ) (r : Repeated) (t : Table) (texts : List (List ℕ)) : Type 0 where
+  pub behind : List (List ℕ)
+  pub are : texts ≡ key_front r ++ behind
+  pub took : Took dig t (doubtful dig r behind)
 
 abbrev pub GivesDigests : (dig : List ℕ → List ℕ) → Type 0
 GivesDigests dig = (text : List ℕ) → HasBytes 32 (dig text)

@@ -1,9 +1,10 @@
 // Holding a proof against histories: the calls of an audit, over the passes of `passing.rt` and `proofs.rt`. Values are given
 // up by `drop`: those that go out of scope on many ways are proved slowly (docs/proving.md).
 
-ghost use Rattle.std.specs.Prelude.{◌≡◌, ◌++◌, [], List, false, IfOk, OnOk};
+ghost use Rattle.std.specs.Prelude.{◌≡◌, ◌++◌, List, false, Ok, IfOk, OnOk};
 ghost use Rattle.std.specs.Option.{option_map};
 ghost use Rattle.tw_base.specs.format.Formats.{Spells};
+ghost use Rattle.tw_base.specs.declared.history.report.Reason.{Reason};
 ghost use Rattle.tw_base.specs.declared.history.thread.Thread.{Thread as ThreadMeant};
 ghost use Rattle.tw_base.specs.history.Family.{AllSound, family_texts};
 ghost use Rattle.tw_base.specs.kinds.Clash.{clash_pair};
@@ -13,25 +14,26 @@ ghost use Rattle.tw_chain.specs.Accepting.{held, proof_texts, report_of};
 ghost use Rattle.tw_chain.specs.Checks.{checks};
 ghost use Rattle.tw_chain.specs.Proofs.{proof_layout};
 ghost use Rattle.tw_chain.specs.Reasons.{IsVerdict};
+ghost use Rattle.tw_chain.specs.declared.verdict.Verdict.TheVariants.{No as Rejected};
 ghost use Rattle.tw_audit.specs.Answers.{AnswerMeans};
 ghost use Rattle.tw_audit.specs.Auditing.{IsAudit, IsAuditAnswer, audited_texts, of_pair};
-ghost use Rattle.tw_audit.specs.KeyLists.{CoversClashes, TookKeys, doubtful};
+ghost use Rattle.tw_audit.specs.KeyLists.{CoversClashes, TookKeys, key_front};
 ghost use Rattle.tw_audit.specs.Shapes.{IsCheckShaped};
 ghost use Rattle.tw_audit.specs.Stops.{missing_in};
-ghost use Rattle.tw_audit.specs.Tables.{Took};
-ghost use Rattle.tw_audit.specs.declared.table.TextPair.{TextPair as TextPairMeant};
+ghost use Rattle.tw_audit.specs.Tables.{TookBehind, pair_kept};
+ghost use Rattle.tw_audit.specs.declared.finding.Finding.TheVariants.{NotAccepted};
+ghost use Rattle.tw_audit.specs.declared.keys.Repeated.{Repeated as RepeatedMeant};
 ghost use Rattle.tw_base.specs.kinds.Handing.{Hands};
 
 use crate::finder::Finder;
 use crate::finding::{AuditFault, Finding};
 use crate::held::held_threads;
 use crate::key_transcript::KeyTranscript;
-use crate::keys::Repeated;
 use crate::passing::{Missing, first_missing, pass_histories};
 use crate::proofs::hash_proof;
 use crate::table::TextPair;
 use std::alloc::Global;
-use tw_base::{Hasher, NoMemory, Report, Thread, Transcript};
+use tw_base::{Hasher, NoMemory, ReadFault, Report, Thread, Transcript};
 use tw_chain::{Proof, Verdict, read_proof};
 use tw_history::{History, table_of};
 use tw_verifier::verify;
@@ -54,7 +56,7 @@ fn missing_of<T: Transcript>(
 
 /// What is found of the pair of all texts, where the histories have the threads held.
 fn found<H: Hasher>(report: Report, pair: Option<TextPair>) -> Finding
-    ensures { result ≡ of_pair H.dig report (option_map (λ (p : TextPairMeant). record { one = p.one; other = p.other }) pair) }
+    ensures { result ≡ of_pair H.dig report (option_map pair_kept pair) }
 {
     match pair {
         None => Finding::Stands(report),
@@ -66,26 +68,24 @@ fn found<H: Hasher>(report: Report, pair: Option<TextPair>) -> Finding
     }
 }
 
-/// The pair of the texts of the histories and of the proof, if two of them clash. Each text is hashed once more, and the finder
-/// keeps those that have one of its keys. `repeated` are the finder's keys a second time: what a finder took doesn't tell that
-/// it has still the keys that it was made with, so `into_pair` compares them.
+/// The pair of the texts of the histories and of the proof, if two of them clash and the finder's keys are of all that do. Each
+/// text is hashed once more, and the finder keeps those that have one of its keys.
 fn pair_among<H: Hasher>(
     alloc: Global,
     proof: &Proof,
     histories: &[History],
-    repeated: &Repeated,
     finder: Finder<H>,
 ) -> Result<Option<TextPair>, NoMemory>
     requires { Each IsCheckShaped (checks proof.now) }
-    ensures { IfOk result (λ pair. CoversClashes H.dig (audited_texts H.dig histories.now proof.now) repeated.now → Took H.dig finder.table (doubtful H.dig finder.repeated []) →
-        option_map (λ (p : TextPairMeant). record { one = p.one; other = p.other }) pair ≡ clash_pair H.dig (audited_texts H.dig histories.now proof.now)) }
+    ensures { IfOk result (λ pair. (repeated : RepeatedMeant) → CoversClashes H.dig (audited_texts H.dig histories.now proof.now) repeated →
+        TookBehind H.dig finder.repeated finder.table (key_front repeated) → option_map pair_kept pair ≡ clash_pair H.dig (audited_texts H.dig histories.now proof.now)) }
 {
     let mut finder = finder;
     match pass_histories(alloc, histories, &[], &mut finder) {
         Ok(passed) => {
             drop(passed);
             hash_proof(proof, &mut finder);
-            finder.into_pair(alloc, repeated)
+            finder.into_pair()
         }
         Err(NoMemory) => {
             drop(finder);
@@ -103,14 +103,14 @@ fn pair_of<H: Hasher>(
 ) -> Result<Option<TextPair>, NoMemory>
     requires { Each IsCheckShaped (checks proof.now) }
     ensures { IfOk result (λ pair. TookKeys H.dig keys.keys (proof_texts H.dig proof.now ++ family_texts H.dig histories.now) →
-        option_map (λ (p : TextPairMeant). record { one = p.one; other = p.other }) pair ≡ clash_pair H.dig (audited_texts H.dig histories.now proof.now)) }
+        option_map pair_kept pair ≡ clash_pair H.dig (audited_texts H.dig histories.now proof.now)) }
 {
-    let both = keys.keys.into_repeated(alloc)?;
-    if both.0.keys.is_empty() {
+    let repeated = keys.keys.into_repeated(alloc)?;
+    if repeated.keys.is_empty() {
         return Ok(None);
     }
-    let finder = Finder::<H>::new(alloc, both.1);
-    pair_among(alloc, proof, histories, &both.0, finder)
+    let finder = Finder::<H>::new(alloc, repeated);
+    pair_among(alloc, proof, histories, finder)
 }
 
 /// What is found once the histories were passed: the first thread held that they don't have, or what the
@@ -179,7 +179,7 @@ fn hold<H: Hasher>(
     }
 }
 
-/// Holds the bytes of an accepted proof with this report against the histories.
+/// Holds the bytes of a proof, an accepted one with this report, against the histories.
 fn hold_bytes<H: Hasher>(
     alloc: Global,
     bytes: &[u8],
@@ -187,6 +187,7 @@ fn hold_bytes<H: Hasher>(
     anchors: &[Thread],
     histories: &[History],
 ) -> Result<Finding, AuditFault>
+    requires { (p : ProofMeant) × Spells proof_layout bytes.now p }
     ensures { (p : ProofMeant) → Spells proof_layout bytes.now p → report ≡ report_of p → IsAuditAnswer H.dig histories.now anchors.now p result }
 {
     match read_proof(alloc, bytes) {
@@ -195,11 +196,11 @@ fn hold_bytes<H: Hasher>(
             drop(proof);
             finding
         }
-        // Bytes that spell a proof are read, but for want of memory.
-        Err(_) => {
+        Err(ReadFault::NoMemory) => {
             drop(report);
             Err(AuditFault::NoMemory)
         }
+        Err(ReadFault::Malformed { .. }) => unreachable!(),
     }
 }
 
@@ -223,6 +224,8 @@ pub fn audit_judged<H: Hasher>(
     requires { IsVerdict H.dig anchors.now false bytes.now verdict }
     // An audit with a verdict at hand answers what an audit of the bytes answers.
     ensures answer { IsAudit H.dig histories.now anchors.now bytes.now result }
+    // A proof that isn't accepted is told so whatever memory there is.
+    ensures rejected { (reason : Reason) → verdict ≡ Rejected reason → result ≡ Ok (NotAccepted reason) }
 {
     match verdict {
         Verdict::No(reason) => Ok(Finding::NotAccepted(reason)),

@@ -107,11 +107,11 @@ impl Keys {
         }
     }
 
-    /// The keys that stand twice, and the same once more (`pair_among` of holding.rt says why). Any two texts that were
-    /// taken, differ and have one digest have one of them; `NoMemory` where there was none for one of the texts, or for the keys.
-    pub(crate) fn into_repeated(self, alloc: Global) -> Result<(Repeated, Repeated), NoMemory>
-        ensures { IfOk result (λ both. (dig : List ℕ → List ℕ) (texts : List (List ℕ)) → TookKeys dig self texts →
-            CoversClashes dig texts both.0) }
+    /// The keys that stand twice. Any two texts that were taken, differ and have one digest have one of them; `NoMemory`
+    /// where there was none for one of the texts, or for the keys.
+    pub(crate) fn into_repeated(self, alloc: Global) -> Result<Repeated, NoMemory>
+        ensures { IfOk result (λ repeated. (dig : List ℕ → List ℕ) (texts : List (List ℕ)) → TookKeys dig self texts →
+            CoversClashes dig texts repeated) }
     {
         if self.spent {
             return Err(NoMemory);
@@ -119,13 +119,7 @@ impl Keys {
         let mut keys = self.keys;
         keys.sort_unstable();
         let repeated = repeated_of(alloc, keys.as_slice())?;
-        match repeated_of(alloc, keys.as_slice()) {
-            Ok(again) => Ok((repeated, again)),
-            Err(NoMemory) => {
-                drop(repeated);
-                Err(NoMemory)
-            }
-        }
+        Ok(repeated)
     }
 }
 

@@ -1,11 +1,10 @@
 // The texts that a `Finder` took, each once, by their digests, and the pair of two that clash.
 
-ghost use Rattle.std.specs.Prelude.{◌≡◌, ◌≢◌, ◌↔◌, ◌+◌, ◌≤◌, ℕ, List, [], ◌∷◌, ◌++◌, length, slice_range, IfOk, IsTrue, OnOk};
+ghost use Rattle.std.specs.Prelude.{◌≡◌, ◌≢◌, ◌↔◌, ◌+◌, ◌≤◌, ℕ, List, [], ◌∷◌, ◌++◌, length, slice_range, IfOk, IsErr, IsTrue, OnOk};
 ghost use Rattle.std.specs.Int.{from_be_bytes, w64};
 ghost use Rattle.std.specs.Option.{option_map};
 ghost use Rattle.tw_base.specs.kinds.Clash.{clash_pair};
-ghost use Rattle.tw_audit.specs.declared.table.TextPair.{TextPair as TextPairMeant};
-ghost use Rattle.tw_audit.specs.Tables.{GivesDigests, HasTaken, IsInside, Took, kept, place_in_table, text_at as text_of_place, words_of};
+ghost use Rattle.tw_audit.specs.Tables.{GivesDigests, HasTaken, IsInside, Took, kept, pair_kept, place_in_table, text_at as text_of_place, words_of};
 
 use std::alloc::Global;
 use std::collections::BTreeMap;
@@ -18,14 +17,7 @@ pub(crate) struct Place {
     pub(crate) end: usize,
 }
 
-/// Where two texts of one digest stand, the earlier one first.
-#[derive(Clone, Copy, Drop)]
-pub(crate) struct PairPlaces {
-    pub(crate) one: Place,
-    pub(crate) other: Place,
-}
-
-/// Two different texts of one digest.
+/// Two different texts of one digest, the earlier one first.
 #[derive(Drop)]
 pub(crate) struct TextPair {
     pub(crate) one: Bytes,
@@ -36,9 +28,10 @@ pub(crate) struct TextPair {
 /// only that pair counts.
 #[derive(Drop)]
 pub(crate) struct Table {
+    pub(crate) alloc: Global,
     pub(crate) arena: Vec<u8>,
     pub(crate) places: BTreeMap<[u64; 4], Place>,
-    pub(crate) found: Option<PairPlaces>,
+    pub(crate) found: Option<TextPair>,
     /// There was no memory for one of the texts.
     pub(crate) spent: bool,
 }
@@ -71,6 +64,7 @@ impl Table {
         ensures { (dig : List ℕ → List ℕ) → HasTaken dig [] result }
     {
         Table {
+            alloc,
             arena: Vec::new(alloc),
             places: BTreeMap::new(alloc),
             found: None,
@@ -127,15 +121,16 @@ impl Table {
         Ok(())
     }
 
-    /// Keeps the text that clashes with the one at this place.
+    /// Keeps the one at this place and the text that clashes with it.
     fn pair(&mut self, one: Place, text: &[u8]) -> Result<(), NoMemory>
         ensures taken { OnOk result ((dig : List ℕ → List ℕ) (texts : List (List ℕ)) → self.old.found ≡ None →
             kept self.old (dig text.now) ≡ Some (text_of_place self.old.arena.items one) → text_of_place self.old.arena.items one ≢ text.now → IsInside self.old.arena.items one →
             HasTaken dig texts self.old → HasTaken dig (texts ++ text.now ∷ []) self.new) }
         ensures spent { self.new.spent ≡ self.old.spent }
     {
-        let other = self.add(text)?;
-        self.found = Some(PairPlaces { one, other });
+        let one = Bytes::from_slice(self.alloc, self.text_at(one))?;
+        let other = Bytes::from_slice(self.alloc, text)?;
+        self.found = Some(TextPair { one, other });
         Ok(())
     }
 
@@ -172,21 +167,15 @@ impl Table {
     }
 
     /// The pair of the texts that were taken, if two of them clash; `NoMemory` where there was none for one of
-    /// them, or for the pair.
-    pub(crate) fn into_pair(self, alloc: Global) -> Result<Option<TextPair>, NoMemory>
-        ensures { IfOk result (λ pair. (dig : List ℕ → List ℕ) (texts : List (List ℕ)) → Took dig self texts →
-            option_map (λ (p : TextPairMeant). record { one = p.one; other = p.other }) pair ≡ clash_pair dig texts) }
+    /// them. Takes no memory.
+    pub(crate) fn into_pair(self) -> Result<Option<TextPair>, NoMemory>
+        ensures pair { IfOk result (λ pair. (dig : List ℕ → List ℕ) (texts : List (List ℕ)) → Took dig self texts →
+            option_map pair_kept pair ≡ clash_pair dig texts) }
+        ensures memory { IsErr result ↔ IsTrue self.spent }
     {
         if self.spent {
             return Err(NoMemory);
         }
-        match self.found {
-            None => Ok(None),
-            Some(places) => {
-                let one = Bytes::from_slice(alloc, self.text_at(places.one))?;
-                let other = Bytes::from_slice(alloc, self.text_at(places.other))?;
-                Ok(Some(TextPair { one, other }))
-            }
-        }
+        Ok(self.found)
     }
 }

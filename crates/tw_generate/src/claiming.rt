@@ -1,6 +1,6 @@
 // The proof that is claimed of the services' histories: that an event precedes another one, or, after few rounds, of one event.
 
-ghost use Rattle.std.specs.Prelude.{◌≡◌, ◌≤◌, ◌-◌, ◌++◌, [], ◌∷◌, ℕ, Ok, Some, IfErr, IfOk, OnOk};
+ghost use Rattle.std.specs.Prelude.{◌≡◌, ◌↔◌, ◌≤◌, ◌-◌, ◌++◌, [], ◌∷◌, ℕ, Ok, Some, IfErr, IfOk, IsErr, OnOk};
 ghost use Rattle.tw_base.specs.declared.history.question.Question.TheVariants as ask;
 ghost use Rattle.tw_base.specs.declared.history.thread.Entry.{Entry as EntryMeant};
 ghost use Rattle.tw_base.specs.format.Formats.{Spells};
@@ -139,7 +139,8 @@ fn parts<D: Disk, H: Hasher>(
 /// What parts that fit together join to.
 fn whole_of(joined: Result<Proof, JoinFault>) -> Result<Proof, NoMemory>
     requires { IfErr joined (λ fault. fault ≡ WantedMemory) }
-    ensures { IfOk result (λ proof. joined ≡ Ok proof) }
+    ensures value { IfOk result (λ proof. joined ≡ Ok proof) }
+    ensures memory { IsErr result ↔ IsErr joined }
 {
     match joined {
         Ok(proof) => Ok(proof),

@@ -1,7 +1,7 @@
 // What is told of the services' histories by a proof, a map and an audit, and the histories that are read of their files for
 // that.
 
-ghost use Rattle.std.specs.Prelude.{◌≡◌, ℕ, [], ◌∷◌, length, Option, Result, true, Ok, IfErr, IfOk};
+ghost use Rattle.std.specs.Prelude.{◌≡◌, ◌↔◌, ℕ, [], ◌∷◌, length, Option, Result, true, Ok, IfErr, IfOk, IsErr};
 ghost use Rattle.tw_audit.specs.Auditing.{IsAudit};
 ghost use Rattle.tw_audit.specs.declared.finding.AuditFault.{AuditFault as AuditFaultMeant};
 ghost use Rattle.tw_audit.specs.declared.finding.Finding.{Finding as FindingMeant};
@@ -163,7 +163,8 @@ fn read(alloc: Global, bytes: &Bytes) -> Result<History, HistoryFault>
 /// The history that was read of a file that has one.
 fn history_read(read: Result<History, HistoryFault>) -> Result<History, NoMemory>
     requires { IfErr read (λ fault. fault ≡ WantedMemory) }
-    ensures { IfOk result (λ history. read ≡ Ok history) }
+    ensures value { IfOk result (λ history. read ≡ Ok history) }
+    ensures memory { IsErr result ↔ IsErr read }
 {
     match read {
         Ok(history) => Ok(history),
@@ -185,7 +186,8 @@ fn history_of(alloc: Global, bytes: &Bytes) -> Result<History, NoMemory>
 /// and one that isn't is told as want of memory.
 fn file_given(answer: Result<Bytes, Refusal>) -> Result<Bytes, NoMemory>
     requires { IfErr answer IsFileFailure }
-    ensures { IfOk result (λ bytes. answer ≡ Ok bytes) }
+    ensures value { IfOk result (λ bytes. answer ≡ Ok bytes) }
+    ensures memory { IsErr result ↔ IsErr answer }
 {
     match answer {
         Ok(bytes) => Ok(bytes),
@@ -219,7 +221,8 @@ pub(crate) fn exported<D: Disk, H: Hasher>(
 /// Whether it is told that the proof stands; else texts clash.
 fn stands_told(told: Result<Finding, AuditFault>) -> Result<bool, NoMemory>
     requires { IsAuditTold told }
-    ensures { IfOk result (λ stands. (finding : FindingMeant) × (told ≡ Ok finding) × TellsStands finding stands) }
+    ensures stands { IfOk result (λ stands. (finding : FindingMeant) × (told ≡ Ok finding) × TellsStands finding stands) }
+    ensures memory { IsErr result ↔ IsErr told }
 {
     match told {
         Ok(Finding::Stands(_)) => Ok(true),

@@ -1,7 +1,7 @@
 // What one service on a disk does in a schedule: it is made, appends, answers, or tells another one its last step; for a
 // script, tw_world/src/serving.rt has that.
 
-ghost use Rattle.std.specs.Prelude.{◌≡◌, Some, None, Ok, IfErr, IfOk, OnOk, nat_lt, if◌then◌else◌};
+ghost use Rattle.std.specs.Prelude.{◌≡◌, ◌↔◌, Some, None, Ok, IfErr, IfOk, IsErr, OnOk, nat_lt, if◌then◌else◌};
 ghost use Rattle.tw_base.specs.declared.kinds.failure.ReadFault.TheVariants.{NoMemory as WantedMemory};
 ghost use Rattle.tw_base.specs.history.History.{History};
 ghost use Rattle.tw_base.specs.history.Questions.{MayAsk};
@@ -27,7 +27,8 @@ use tw_service::Service;
 /// The answer of a call that can't be refused. A fault of a disk in memory is want of memory.
 pub(crate) fn given<T: Drop>(answer: Result<T, Refusal>) -> Result<T, NoMemory>
     requires { IfErr answer IsFailure }
-    ensures { IfOk result (λ value. answer ≡ Ok value) }
+    ensures value { IfOk result (λ value. answer ≡ Ok value) }
+    ensures memory { IsErr result ↔ IsErr answer }
 {
     match answer {
         Ok(value) => Ok(value),
@@ -39,7 +40,8 @@ pub(crate) fn given<T: Drop>(answer: Result<T, Refusal>) -> Result<T, NoMemory>
 /// What was read of bytes that are a word of its format.
 pub(crate) fn read_whole<T: Drop>(read: Result<T, ReadFault>) -> Result<T, NoMemory>
     requires { IfErr read (λ fault. fault ≡ WantedMemory) }
-    ensures { IfOk result (λ value. read ≡ Ok value) }
+    ensures value { IfOk result (λ value. read ≡ Ok value) }
+    ensures memory { IsErr result ↔ IsErr read }
 {
     match read {
         Ok(value) => Ok(value),
@@ -67,7 +69,8 @@ fn service_made<D: Disk + Drop, H: Hasher>(
     made: Result<Service<D, H>, (D, StoreFault)>,
 ) -> Result<Service<D, H>, NoMemory>
     requires { IfErr made (λ e. e.1 ≡ FailedDisk) }
-    ensures { IfOk result (λ service. made ≡ Ok service) }
+    ensures value { IfOk result (λ service. made ≡ Ok service) }
+    ensures memory { IsErr result ↔ IsErr made }
 {
     match made {
         Ok(service) => Ok(service),

@@ -1,3 +1,4 @@
 mod BadLines
 pub mod OneReceiver
 mod PlainVerdicts
+mod PlainMapVerdicts

@@ -19,7 +19,7 @@ use Rattle.tw_text.specs.Faults.{fault_status}
 use Rattle.tw_judge.specs.declared.told.Told.{Told}
 use Rattle.tw_judge.specs.Told.{IsTold, verdict_status, verdict_text}
 
-no_fault : (f : CommandFault) → fault_status f ≡ 0 → ⊥
+pub no_fault : (f : CommandFault) → fault_status f ≡ 0 → ⊥
 no_fault InputFault zeroth = omega (arith, zeroth)
 no_fault _ zeroth = omega (arith, zeroth)
 
@@ -27,7 +27,7 @@ module _ (so : (bytes file : List ℕ) (p : Proof) → Spells proof_layout bytes
     → IsSoByLines sha256 (file_lines file) (hashed_texts sha256 bytes) (report_of p))
     (readable : (bytes : List ℕ) (p : Proof) → Spells proof_layout bytes p → IsReport (report_of p)) where
   verdict-plain : (strict : Bool) (proof anchors : List ℕ) (v : Verdict) → IsVerdict sha256 (map anchor_on (lines anchors)) strict proof v
-      → verdict_status v ≡ 0 → IsPlain sha256 proof anchors (verdict_text v)
+      → verdict_status v ≡ 0 → IsPlain sha256 proof (file_lines anchors) (verdict_text v)
   verdict-plain strict proof anchors (Yes report) is zeroth =
       let accepts = is.0 in
       record {
@@ -39,15 +39,15 @@ module _ (so : (bytes file : List ℕ) (p : Proof) → Spells proof_layout bytes
   verdict-plain strict proof anchors (No reason) is zeroth = absurd (omega (arith, zeroth))
 
   told-plain : (file : List ℕ) (strict : Bool) (proof anchors : List ℕ) (status : ℕ) (text : List ℕ) → IsTold file strict proof anchors status text
-      → status ≡ 0 → IsPlain sha256 proof anchors text
+      → status ≡ 0 → IsPlain sha256 proof (file_lines anchors) text
   told-plain file strict proof anchors status text (inl judged) zeroth =
-      subst (IsPlain sha256 proof anchors) (sym judged.text_is)
+      subst (IsPlain sha256 proof (file_lines anchors)) (sym judged.text_is)
       (verdict-plain strict proof anchors judged.verdict judged.judged.is_verdict (sym judged.status_is ∙ zeroth))
   told-plain file strict proof anchors status text (inr why) zeroth = absurd (no_fault why.fault (sym why.status_is ∙ zeroth))
 
   pub result-plain : (file : List ℕ) (strict : Bool) (proof anchors : List ℕ) (r : Result Told NoMemory)
       → IfOk r (λ told. IsTold file strict proof anchors told.status told.text)
-      → IfOk r (λ told. told.status ≡ 0 → IsPlain sha256 proof anchors told.text)
+      → IfOk r (λ told. told.status ≡ 0 → IsPlain sha256 proof (file_lines anchors) told.text)
   result-plain file strict proof anchors (Ok told) is =
       λ zeroth. told-plain file strict proof anchors told.status told.text is zeroth
   result-plain file strict proof anchors (Err fault) is = tt

@@ -3,7 +3,10 @@
 
 ghost use Rattle.std.specs.Prelude.{◌≡◌, ℕ, List, IfOk};
 ghost use Rattle.tw_base.specs.format.Formats.{Spells};
+ghost use Rattle.sha2.specs.Sha256.{sha256};
 ghost use Rattle.tw_judge.specs.Maps.{AreMapsTold};
+ghost use Rattle.tw_plain.specs.Maps.{IsPlainMap};
+ghost use Rattle.tw_plain.specs.Plain.{file_lines};
 ghost use Rattle.tw_tmap.specs.MapFiles.{high_codec, high_layout, low_codec, low_layout};
 ghost use Rattle.tw_tmap.specs.Texts.{map_status, map_text};
 
@@ -11,6 +14,7 @@ use crate::told::{Told, tell_byte, tell_line};
 use std::alloc::Global;
 use tw_base::{NoMemory, ReadFault, Sha};
 use tw_msg::{AnchorFault, read_anchors};
+use tw_plain::plain_map_laws;
 use tw_tmap::{HighFile, LowFile, MapVerdict, check_map, print_map, read_high, read_low};
 
 /// Judges the bytes of a low and of a high map file under those of an anchors file, each with the name of
@@ -29,6 +33,29 @@ pub fn judge_maps(
     // What is told of two map files is the status and the text of what they tell under the anchors of the lines, with the
     // bounds theorem, where both are map files of their kinds and each line is good; else those of the first file that is none,
     // with its first bad byte, or else of the first bad line.
+    ensures told { IfOk result (λ told. AreMapsTold (record { low = low.now; high = high.now; anchors = anchors.now })
+        (record { low = low_file.now; high = high_file.now; anchors = anchors_file.now }) told.status told.text) }
+    // Status 0, in the words of docs/theorem.md: the text is that of bounds, of the step and the peer that the first bytes of the
+    // low file name. And in every list of sound histories that has each of the lines of the anchors file which is of the service
+    // or of the peer, they are the bounds of its histories; or two different texts, both of bytes, of those that these histories
+    // and checking both map files hash, have one SHA-256 digest.
+    ensures plain { IfOk result (λ told. told.status ≡ 0 → IsPlainMap sha256 low.now high.now (file_lines anchors.now) told.text) }
+{
+    // By the laws of printed bounds.
+    plain_map_laws::<Sha>();
+    judge_low(alloc, low_file, low, high_file, high, anchors_file, anchors)
+}
+
+/// The same, by its first clause alone.
+fn judge_low(
+    alloc: Global,
+    low_file: &str,
+    low: &[u8],
+    high_file: &str,
+    high: &[u8],
+    anchors_file: &str,
+    anchors: &[u8],
+) -> Result<Told, NoMemory>
     ensures { IfOk result (λ told. AreMapsTold (record { low = low.now; high = high.now; anchors = anchors.now })
         (record { low = low_file.now; high = high_file.now; anchors = anchors_file.now }) told.status told.text) }
 {

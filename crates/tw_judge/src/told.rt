@@ -3,7 +3,7 @@
 
 ghost use Rattle.std.specs.Prelude.{◌≡◌, IfOk};
 ghost use Rattle.sha2.specs.Sha256.{sha256};
-ghost use Rattle.tw_plain.specs.Plain.{IsPlain};
+ghost use Rattle.tw_plain.specs.Plain.{IsPlain, file_lines};
 ghost use Rattle.tw_judge.specs.Told.{IsTold, verdict_status, verdict_text};
 ghost use Rattle.tw_text.specs.Faults.{fault_status as fault_status_of, fault_text};
 ghost use Rattle.tw_text.specs.declared.fault.CommandFault.TheVariants.{Unreadable};
@@ -45,7 +45,7 @@ pub fn judge(
     // the lines of the anchors file which is of a service that the report names, and each thread that the report tells as carried,
     // what the report says is so; or two different texts, both of bytes, of those that these histories and checking the
     // proof hash, have one SHA-256 digest.
-    ensures plain { IfOk result (λ told. told.status ≡ 0 → IsPlain sha256 proof.now anchors.now told.text) }
+    ensures plain { IfOk result (λ told. told.status ≡ 0 → IsPlain sha256 proof.now (file_lines anchors.now) told.text) }
 {
     // By the laws of printed reports.
     plain_laws::<Sha>();

@@ -6,13 +6,14 @@ use Rattle.std.proofs.lemmas.Grind.{flat_map-append}
 use Rattle.sha2.specs.Sha256.{sha256}
 use Rattle.tw_base.specs.declared.history.thread.Thread.{Thread}
 use Rattle.tw_base.specs.format.Formats.{Spells}
-use Rattle.tw_base.specs.kinds.Lists.{In}
+use Rattle.tw_base.specs.kinds.Lists.{Each, In}
 use Rattle.tw_disk.specs.Disk.{DiskView}
 use Rattle.tw_disk.specs.Image.{Image}
 use Rattle.tw_pages.specs.Runs.{GoesOnFrom, HoldsOnly}
 use Rattle.tw_pages.specs.Runs as kept
 use Rattle.tw_msg.specs.declared.message.Message.{Message}
 use Rattle.tw_msg.specs.Messages.{message_layout}
+use Rattle.tw_outside.specs.Files.{Files}
 use Rattle.tw_pages.specs.Slots.{IsTaken}
 use Rattle.tw_pages.specs.declared.open.StoreFault.{StoreFault}
 use Rattle.tw_service.specs.Stands.{IsNotOpenedFor as IsNoService}
@@ -20,14 +21,14 @@ use Rattle.tw_text.specs.declared.fault.CommandFault.{CommandFault}
 use Rattle.tw_follow.specs.declared.judging.Offered.{Offered}
 use Rattle.tw_follow.specs.declared.judging.Offered.TheVariants.{Known, Moves}
 use Rattle.tw_base.specs.declared.history.refusal.FollowRefusal.{FollowRefusal}
-use Rattle.tw_follow.specs.DiskRuns.{GoesOnByMoves, IsImageOfList, KeepsAll}
+use Rattle.tw_follow.specs.DiskRuns.{IsImageOfList, KeepsAll}
 use Rattle.tw_follow.specs.HeadLists.{Kept, last_head, with_head}
 use Rattle.tw_follow.specs.Offers.{judged_offer}
-use Rattle.tw_follow.specs.Runs.{GoesByMove}
+use Rattle.tw_follow.specs.Runs.{GoesByMove, MayMove, Move, MovesBy, RunsByMoves}
 use Rattle.tw_follow.specs.Runs.Move.{Answered, Stopped as StoppedOffer}
 use Rattle.tw_follow.specs.Stands.{StandsFor, StandsForOneOf}
 use Rattle.tw_text.specs.Lines.{anchor_text}
-use Rattle.tw_follow.proofs.DiskRunning.{both, has_on, none, one}
+use Rattle.tw_follow.proofs.DiskRunning.{both, has_on, none}
 use Rattle.tw_follow.proofs.Offering.{moved-is}
 use Rattle.tw_follow.proofs.Running.{runs-answered, runs-grow, runs-rise}
 use Rattle.tw_follow.proofs.Standing.{stands_rising}
@@ -46,7 +47,8 @@ use Rattle.tw_app.specs.Around.{Outside, found_around}
 use Rattle.tw_app.specs.Outcomes.{outcome_by}
 use Rattle.tw_app.specs.Running.{HaveNoForm, IsDiskUntouched, work}
 use Rattle.tw_app.proofs.Commands.{rows}
-use Rattle.tw_laws.specs.FollowerTurns.{AreRunsFrom, GoesOnFromLines, IsListedByCommand, IsListedIn, IsListedInRuns}
+use Rattle.tw_laws.specs.FollowerTurns.{AreRunsFrom, GoesOnByOffered, GoesOnFromLines, IsListedByCommand, IsListedIn}
+use Rattle.tw_laws.specs.FollowerTurns.{IsListedInRuns, IsOfferedByCommand, IsOfferedIn, IsOfferedInRuns, KeepsOffered}
 use Rattle.tw_laws.specs.FollowerTurns.{IsToldByCommand, IsToldIn, IsToldInRuns, IsListText, KeepsLists, LeadsByRun}
 use Rattle.tw_laws.specs.FollowerTurns.{NeverFalls, Run, RunBehind, disk_behind_runs}
 use Rattle.tw_laws.specs.FollowerTurns.Run.{Ran, Stopped}
@@ -59,21 +61,42 @@ ok-is lines later is = cc
 written-is : (lines bytes : List ℕ) → IsListText (WrittenOut bytes) lines → lines ≡ bytes
 written-is lines bytes is = is
 
+each_both : {X : Type 0} (P : X → Type 0) (xs ys : List X) → Each P xs → Each P ys → Each P (xs ++ ys)
+each_both P [] ys first second = second
+each_both P (x ∷ xs) ys first second = (first.0, each_both P xs ys first.1 second)
+
+-- a message that the file's bytes spell is one of the file
+of_bytes : (told : Option Files) (file : List ℕ) (m other : Message) (is : IsMessageIn told file m)
+    → Spells message_layout is.bytes other → IsMessageIn told file other
+of_bytes told file m other is spelled =
+    record { there = is.there; bytes = is.bytes; spelled = spelled; same = is.same }
+
+-- one move, with the message by which the list grew, if it did
+one_offered : (FromFile : Message → Type 0) (k : Kept) (move : Move) (next : Kept) → GoesByMove sha256 k move next
+    → ((m : Message) → MayMove sha256 k move m next → FromFile m)
+    → (moved : List Message) × RunsByMoves sha256 k (move ∷ []) moved next × Each FromFile moved
+unfolding RunsByMoves
+one_offered FromFile k move next (inl stay) own = ([], inl (stay.0, (refl, stay.1)), tt)
+one_offered FromFile k move next (inr (m, may)) own =
+    (m ∷ [], inr (m, [], next, refl, may, (refl, refl)), (own m may, tt))
+
 -- ---- lists that go on by a message
 
 module _ (k : Kept) (bytes : List ℕ) (m : Message) (spells : Spells message_layout bytes m) where
+  -- the list moves by the message where that is judged to move it
+  moved-by : (thread : Thread) → judged_offer sha256 (last_head sha256 k) m ≡ Ok (Moves thread)
+      → MovesBy sha256 k bytes m (with_head k thread)
+  moved-by thread is =
+      let same : thread ≡ m.thread = (moved-is sha256 (last_head sha256 k) m thread is).thread_is in
+      record {
+        spelled = spells;
+        moves = is ∙ ap (λ (t : Thread). Ok (Moves t)) same;
+        adds = ap (λ (t : Thread). with_head k t) same;
+      }
+
   goes_by : (r : Result Offered FollowRefusal) → judged_offer sha256 (last_head sha256 k) m ≡ r
       → GoesByMove sha256 k (StoppedOffer bytes) (list_after k r)
-  goes_by (Ok (Moves thread)) is =
-      let same : thread ≡ m.thread = (moved-is sha256 (last_head sha256 k) m thread is).thread_is in
-      inr (
-        m,
-        record {
-          spelled = spells;
-          moves = is ∙ ap (λ (t : Thread). Ok (Moves t)) same;
-          adds = ap (λ (t : Thread). with_head k t) same;
-        },
-      )
+  goes_by (Ok (Moves thread)) is = inr (m, moved-by thread is)
   goes_by (Ok Known) is = inl (tt, refl)
   goes_by (Err refusal) is = inl (tt, refl)
 
@@ -83,17 +106,7 @@ module _ (k : Kept) (bytes : List ℕ) (m : Message) (spells : Spells message_la
   answers_by thread (Ok (Moves later)) is told =
       let same : later ≡ m.thread = (moved-is sha256 (last_head sha256 k) m later is).thread_is in
       let answer : thread ≡ later = cc in
-      inr (
-        m,
-        (
-          record {
-            spelled = spells;
-            moves = is ∙ ap (λ (t : Thread). Ok (Moves t)) same;
-            adds = ap (λ (t : Thread). with_head k t) same;
-          },
-          answer ∙ same,
-        ),
-      )
+      inr (m, (moved-by later is, answer ∙ same))
   answers_by thread (Ok Known) is told =
       let answer : thread ≡ last_head sha256 k = cc in
       inl (((m, spells, is), answer), refl)
@@ -101,19 +114,30 @@ module _ (k : Kept) (bytes : List ℕ) (m : Message) (spells : Spells message_la
 
 module _ {D : Type 0} (view : D → DiskView)
     (only_now : (d : D) (image : Image) → (view d).left_since (view d).moment image → (view d).may_leave image)
-    (as_it_reads : (d : D) (image : Image) → (view d).content ≡ Some image → (view d).may_leave image) where
+    (as_it_reads : (d : D) (image : Image) → (view d).content ≡ Some image → (view d).may_leave image)
+    (FromFile : Message → Type 0) where
+  abbrev GoesOn : (k next : Kept) → Type 0
+  GoesOn k next = GoesOnByOffered FromFile k next
+
   abbrev GoesFrom : Kept → Image → Type 0
-  GoesFrom k image = GoesOnFrom (IsImageOfList sha256) (GoesOnByMoves sha256) view k image
+  GoesFrom k image = GoesOnFrom (IsImageOfList sha256) GoesOn view k image
 
   abbrev Wavers : D → Kept → Type 0
-  Wavers disk k = kept.Wavers (IsImageOfList sha256) (GoesOnByMoves sha256) view disk k
+  Wavers disk k = kept.Wavers (IsImageOfList sha256) GoesOn view disk k
 
-  stays_on : (k : Kept) → GoesOnByMoves sha256 k k
-  stays_on k = ([], [], none sha256 k)
+  stays_on : (k : Kept) → GoesOn k k
+  stays_on k = ([], [], none sha256 k, tt)
 
-  goes_then : (a b c : Kept) → GoesOnByMoves sha256 a b → GoesOnByMoves sha256 b c → GoesOnByMoves sha256 a c
-  goes_then a b c first second =
-      (first.0 ++ second.0, first.1 ++ second.1, both sha256 a first.0 first.1 b second.0 second.1 c first.2 second.2)
+  goes_then : (a b c : Kept) → GoesOn a b → GoesOn b c → GoesOn a c
+  goes_then a b c first second = (
+    first.0 ++ second.0,
+    first.1 ++ second.1,
+    both sha256 a first.0 first.1 b second.0 second.1 c first.2 second.2,
+    each_both FromFile first.1 second.1 first.3 second.3,
+  )
+
+  has_still : (k next : Kept) (t : Thread) → GoesOn k next → In t k.heads → In t next.heads
+  has_still k next t on there = has_on sha256 k next t (on.0, on.1, on.2) there
 
   holds : (disk : D) (P : Image → Type 0) (k : Kept) → ((c : Image) → P c → GoesFrom k c) → HoldsOnly view P disk
       → Wavers disk k
@@ -138,7 +162,7 @@ module _ {D : Type 0} (view : D → DiskView)
     -- images that go on from this one
     record Left (k : Kept) (Tells : Thread → Type 0) : Type 0 where
       now : Kept
-      goes_on : GoesOnByMoves sha256 k now
+      goes_on : GoesOn k now
       settled : Wavers o.disk.after now
       any_moment : (c : Image) → (view o.disk.after).left_since (view o.disk.before).moment c → GoesFrom k c
       tells : (t : Thread) → Tells t → In t now.heads
@@ -176,17 +200,18 @@ module _ {D : Type 0} (view : D → DiskView)
       -- ---- an offer
 
       module _ (file : List ℕ) (outcome : Outcome) (safe : OfferSafe view o.disk.before o.disk.after o.inputs.told
-          file) where
+          file) (own : (m : Message) → IsMessageIn o.inputs.told file m → FromFile m) where
         one_goes : (m : Message) → IsMessageIn o.inputs.told file m → (next : Kept) → next ≡ next_list read m
             → (c : Image) → StandsForOneOf sha256 read next c → GoesFrom k c
         one_goes m is next same c each = ⊎_elim
             (λ was. (read, was, waver.0.has.2))
             (λ now.
-            let on = one sha256 read (StoppedOffer is.bytes) (next_list read m)
-            (goes_by read is.bytes m is.spelled (judged_offer sha256 (last_head sha256 read) m) refl) in (
+            let step = goes_by read is.bytes m is.spelled (judged_offer sha256 (last_head sha256 read) m) refl in
+            let on = one_offered FromFile read (StoppedOffer is.bytes) (next_list read m) step
+            (λ other may. own other (of_bytes o.inputs.told file m other is may.spelled)) in (
               next_list read m,
               subst (λ (x : Kept). StandsFor sha256 c x) same now,
-              goes_then k read (next_list read m) waver.0.has.2 (StoppedOffer is.bytes ∷ [], on.0, on.1),
+              goes_then k read (next_list read m) waver.0.has.2 (StoppedOffer is.bytes ∷ [], on.0, on.1, on.2),
             ))
             each
 
@@ -234,13 +259,14 @@ module _ {D : Type 0} (view : D → DiskView)
             let moved = may.1.0.2.1 read reads in
             let step = answers_by read there.bytes m there.spelled thread (judged_offer sha256 (last_head sha256 read)
             m) refl (may.1.0.2.0.list read reads) in
-            let on = one sha256 read (Answered there.bytes (Ok thread)) (next_list read m) step in
+            let on = one_offered FromFile read (Answered there.bytes (Ok thread)) (next_list read m) step
+            (λ other may. own other (of_bytes o.inputs.told file m other there may.0.spelled)) in
             let has = runs-answered sha256 there.bytes thread read (Answered there.bytes (Ok thread) ∷ []) on.0
             (next_list read m) on.1 (inl refl) in
             subst (λ (x : Outcome). By (command.Offer file) x) (sym is) (record {
               now = next_list read m;
               goes_on = goes_then k read (next_list read m) waver.0.has.2
-                  (Answered there.bytes (Ok thread) ∷ [], on.0, on.1);
+                  (Answered there.bytes (Ok thread) ∷ [], on.0, on.1, on.2);
               settled = rests_waver o.disk.after (next_list read m) (subst (λ (x : Kept). RestsAtHeads view o.disk.after x)
                   moved.1 moved.2.0);
               any_moment = moments;
@@ -254,63 +280,66 @@ module _ {D : Type 0} (view : D → DiskView)
       closed : (why : StoreFault) × IsNoService waver.0.image why
       closed = list_closed waver.0.image read waver.0.has.1
 
-      leaves : (c : Command) (outcome : Outcome) → Does c outcome → By c outcome
-      leaves (command.Offer file) outcome came = of_result file outcome
-          ((rows view only_now as_it_reads o (command.Offer file)).safe outcome came) came.0 came.1 came.2
-      leaves (command.Init of) outcome came =
+      leaves : (c : Command) (outcome : Outcome) → ((m : Message) → IsOfferedByCommand o.inputs.told c m → FromFile m)
+          → Does c outcome → By c outcome
+      leaves (command.Offer file) outcome own came = of_result file outcome
+          ((rows view only_now as_it_reads o (command.Offer file)).safe outcome came) own came.0 came.1 came.2
+      leaves (command.Init of) outcome own came =
           idle (λ t. ⊥) (((rows view only_now as_it_reads o (command.Init of)).safe outcome came).2 waver.0.image
           waver.0.told taken) (λ t told. told)
-      leaves (command.Watch of) outcome came =
+      leaves (command.Watch of) outcome own came =
           idle (λ t. ⊥) (((rows view only_now as_it_reads o (command.Watch of)).safe outcome came).2 waver.0.image
           waver.0.told taken) (λ t told. told)
-      leaves (command.Append file time) outcome came =
+      leaves (command.Append file time) outcome own came =
           idle (λ t. ⊥) (((rows view only_now as_it_reads o (command.Append file time)).safe outcome came).0
           waver.0.image closed.0 waver.0.told closed.1) (λ t told. told)
-      leaves (command.Receive file time) outcome came =
+      leaves (command.Receive file time) outcome own came =
           idle (λ t. ⊥) (((rows view only_now as_it_reads o (command.Receive file time)).safe outcome came).0
           waver.0.image closed.0 waver.0.told closed.1) (λ t told. told)
-      leaves command.Heads outcome came = idle (λ t. ⊥) ((rows view only_now as_it_reads o command.Heads).safe outcome
+      leaves command.Heads outcome own came = idle (λ t. ⊥) ((rows view only_now as_it_reads o command.Heads).safe outcome
           came).0 (λ t told. told)
-      leaves (command.Thread since) outcome came =
+      leaves (command.Thread since) outcome own came =
           idle (λ t. ⊥) ((rows view only_now as_it_reads o (command.Thread since)).safe outcome came).0 (λ t told. told)
-      leaves (command.ProveEvent step index top) outcome came =
+      leaves (command.ProveEvent step index top) outcome own came =
           idle (λ t. ⊥) ((rows view only_now as_it_reads o (command.ProveEvent step index top)).safe outcome came).0
           (λ t told. told)
-      leaves (command.ProveThread step peer j top) outcome came =
+      leaves (command.ProveThread step peer j top) outcome own came =
           idle (λ t. ⊥) ((rows view only_now as_it_reads o (command.ProveThread step peer j top)).safe outcome came).0
           (λ t told. told)
-      leaves (command.ProveAbsent step peer j top) outcome came =
+      leaves (command.ProveAbsent step peer j top) outcome own came =
           idle (λ t. ⊥) ((rows view only_now as_it_reads o (command.ProveAbsent step peer j top)).safe outcome came).0
           (λ t told. told)
-      leaves (command.ProveLink step top) outcome came =
+      leaves (command.ProveLink step top) outcome own came =
           idle (λ t. ⊥) ((rows view only_now as_it_reads o (command.ProveLink step top)).safe outcome came).0
           (λ t told. told)
-      leaves (command.MapLow step peer top) outcome came =
+      leaves (command.MapLow step peer top) outcome own came =
           idle (λ t. ⊥) ((rows view only_now as_it_reads o (command.MapLow step peer top)).safe outcome came).0
           (λ t told. told)
-      leaves (command.MapHigh step peer top) outcome came =
+      leaves (command.MapHigh step peer top) outcome own came =
           idle (λ t. ⊥) ((rows view only_now as_it_reads o (command.MapHigh step peer top)).safe outcome came).0
           (λ t told. told)
-      leaves command.Export outcome came = idle (λ t. ⊥) ((rows view only_now as_it_reads o command.Export).safe outcome
+      leaves command.Export outcome own came = idle (λ t. ⊥) ((rows view only_now as_it_reads o command.Export).safe outcome
           came).0 (λ t told. told)
-      leaves c outcome came = idle (IsToldByCommand c outcome) (untouched_left view o.disk.before o.disk.after only_now
+      leaves c outcome own came = idle (IsToldByCommand c outcome) (untouched_left view o.disk.before o.disk.after only_now
           ((rows view only_now as_it_reads o c).safe outcome came).0) (λ t told. told)
 
   -- ---- a run, and what is there behind it
 
   of_words : (words : List (List ℕ)) (o : Outside D) (outcome : Outcome) (k : Kept) → Wavers o.disk.before k
       → (asked : Option Command)
+      → ((m : Message) → MatchOption asked ⊥ (λ c. IsOfferedByCommand o.inputs.told c m) → FromFile m)
       → MatchOption asked (HaveNoForm words outcome × IsDiskUntouched view o) (λ c. (work view o c).does outcome)
       → Left o k (λ t. MatchOption asked ⊥ (λ c. IsToldByCommand c outcome t))
-  of_words words o outcome k waver None came = idle o k waver (λ t. ⊥) (untouched_left view o.disk.before o.disk.after
+  of_words words o outcome k waver None own came = idle o k waver (λ t. ⊥) (untouched_left view o.disk.before o.disk.after
       only_now came.1) (λ t told. told)
-  of_words words o outcome k waver (Some c) came = leaves o k waver c outcome came
+  of_words words o outcome k waver (Some c) own came = leaves o k waver c outcome own came
 
   of_run : (disk : D) (words : List (List ℕ)) (o : Outside D) (outcome : Outcome) (k : Kept) → Wavers disk k
+      → ((m : Message) → MatchOption (command_of words) ⊥ (λ c. IsOfferedByCommand o.inputs.told c m) → FromFile m)
       → IsWorkOn view disk words o outcome
       → Left o k (λ t. MatchOption (command_of words) ⊥ (λ c. IsToldByCommand c outcome t))
-  of_run disk words o outcome k waver run = of_words words o outcome k
-      (subst (λ (d : D). Wavers d k) (sym run.on) waver) (command_of words) run.comes
+  of_run disk words o outcome k waver own run = of_words words o outcome k
+      (subst (λ (d : D). Wavers d k) (sym run.on) waver) (command_of words) own run.comes
 
   -- ---- what `heads` writes is the list that the disk then stands for
 
@@ -343,40 +372,43 @@ module _ {D : Type 0} (view : D → DiskView)
         }
     of_heads (Err f) may is =
         no_lists o k (IsToldByCommand command.Heads outcome) (IsListedByCommand command.Heads outcome)
-        (leaves o k waver command.Heads outcome (Err f, may, is))
+        (leaves o k waver command.Heads outcome (λ m no. absurd no) (Err f, may, is))
         (λ lines written. subst (λ (x : Outcome). IsListText x lines) is written)
 
-    all_listed : (c : Command) → (work view o c).does outcome
-        → Lists o k (IsToldByCommand c outcome) (IsListedByCommand c outcome)
-    all_listed command.Heads came = of_heads came.0 came.1 came.2
-    all_listed c came = no_lists o k (IsToldByCommand c outcome) (IsListedByCommand c outcome)
-        (leaves o k waver c outcome came) (λ lines written. written)
+    all_listed : (c : Command) → ((m : Message) → IsOfferedByCommand o.inputs.told c m → FromFile m)
+        → (work view o c).does outcome → Lists o k (IsToldByCommand c outcome) (IsListedByCommand c outcome)
+    all_listed command.Heads own came = of_heads came.0 came.1 came.2
+    all_listed c own came = no_lists o k (IsToldByCommand c outcome) (IsListedByCommand c outcome)
+        (leaves o k waver c outcome own came) (λ lines written. written)
 
     words_listed : (words : List (List ℕ)) (asked : Option Command)
+        → ((m : Message) → MatchOption asked ⊥ (λ c. IsOfferedByCommand o.inputs.told c m) → FromFile m)
         → MatchOption asked (HaveNoForm words outcome × IsDiskUntouched view o) (λ c. (work view o c).does outcome)
         → Lists o k (λ t. MatchOption asked ⊥ (λ c. IsToldByCommand c outcome t))
         (λ lines. MatchOption asked ⊥ (λ c. IsListedByCommand c outcome lines))
-    words_listed words None came = no_lists o k (λ t. ⊥) (λ lines. ⊥)
-        (of_words words o outcome k waver None came) (λ lines written. written)
-    words_listed words (Some c) came = all_listed c came
+    words_listed words None own came = no_lists o k (λ t. ⊥) (λ lines. ⊥)
+        (of_words words o outcome k waver None own came) (λ lines written. written)
+    words_listed words (Some c) own came = all_listed c own came
 
   run_listed : (disk : D) (words : List (List ℕ)) (o : Outside D) (outcome : Outcome) (k : Kept) → Wavers disk k
+      → ((m : Message) → MatchOption (command_of words) ⊥ (λ c. IsOfferedByCommand o.inputs.told c m) → FromFile m)
       → IsWorkOn view disk words o outcome
       → Lists o k (λ t. MatchOption (command_of words) ⊥ (λ c. IsToldByCommand c outcome t))
       (λ lines. MatchOption (command_of words) ⊥ (λ c. IsListedByCommand c outcome lines))
-  run_listed disk words o outcome k waver run = words_listed o k
-      (subst (λ (d : D). Wavers d k) (sym run.on) waver) outcome words (command_of words) run.comes
+  run_listed disk words o outcome k waver own run = words_listed o k
+      (subst (λ (d : D). Wavers d k) (sym run.on) waver) outcome words (command_of words) own run.comes
 
   record GoesTo (run : Run D) (left : D) (k : Kept) : Type 0 where
     now : Kept
-    goes_on : GoesOnByMoves sha256 k now
+    goes_on : GoesOn k now
     is : Wavers left now
     tells : (t : Thread) → IsToldIn run t → In t now.heads
     listed : (lines : List ℕ) → IsListedIn run lines → lines ≡ head_lines now.heads
 
-  goes : (run : Run D) (disk left : D) (k : Kept) → Wavers disk k → LeadsByRun view run disk left → GoesTo run left k
-  goes (Ran words o outcome) disk left k waver leads =
-      let all = run_listed disk words o outcome k waver leads.0 in
+  goes : (run : Run D) (disk left : D) (k : Kept) → Wavers disk k → ((m : Message) → IsOfferedIn run m → FromFile m)
+      → LeadsByRun view run disk left → GoesTo run left k
+  goes (Ran words o outcome) disk left k waver own leads =
+      let all = run_listed disk words o outcome k waver own leads.0 in
       let b = all.left in
       record {
         now = b.now;
@@ -386,8 +418,8 @@ module _ {D : Type 0} (view : D → DiskView)
         tells = b.tells;
         listed = all.listed;
       }
-  goes (Stopped words o outcome) disk left k waver leads =
-      let b = of_run disk words o outcome k waver leads.0 in
+  goes (Stopped words o outcome) disk left k waver own leads =
+      let b = of_run disk words o outcome k waver own leads.0 in
       record {
         now = k;
         goes_on = stays_on k;
@@ -399,7 +431,7 @@ module _ {D : Type 0} (view : D → DiskView)
       }
 
   -- the lines of a list that goes on from another one go on from the other's
-  lines_on : (k next : Kept) → GoesOnByMoves sha256 k next
+  lines_on : (k next : Kept) → GoesOn k next
       → GoesOnFromLines (head_lines k.heads) (head_lines next.heads)
   lines_on k next on =
       let more = map (λ (m : Message). m.thread) on.1 in (
@@ -410,17 +442,17 @@ module _ {D : Type 0} (view : D → DiskView)
 
   record Ends (disk : D) (runs : List (RunBehind D)) (k : Kept) : Type 0 where
     now : Kept
-    goes_on : GoesOnByMoves sha256 k now
+    goes_on : GoesOn k now
     is : Wavers (disk_behind_runs disk runs) now
     tells : (t : Thread) → IsToldInRuns runs t → In t now.heads
     -- each list that is written stands between the first one and the last
-    listed : (lines : List ℕ) → IsListedInRuns runs lines → (between : Kept) × GoesOnByMoves sha256 k between
-        × GoesOnByMoves sha256 between now × (lines ≡ head_lines between.heads)
+    listed : (lines : List ℕ) → IsListedInRuns runs lines → (between : Kept) × GoesOn k between × GoesOn between now
+        × (lines ≡ head_lines between.heads)
     rises : NeverFalls runs
 
-  all_runs : (disk : D) (runs : List (RunBehind D)) (k : Kept) → Wavers disk k → AreRunsFrom view disk runs
-      → Ends disk runs k
-  all_runs disk [] k waver leads = record {
+  all_runs : (disk : D) (runs : List (RunBehind D)) (k : Kept) → Wavers disk k
+      → ((m : Message) → IsOfferedInRuns runs m → FromFile m) → AreRunsFrom view disk runs → Ends disk runs k
+  all_runs disk [] k waver own leads = record {
     now = k;
     goes_on = stays_on k;
     is = waver;
@@ -428,14 +460,14 @@ module _ {D : Type 0} (view : D → DiskView)
     listed = λ lines written. absurd written;
     rises = tt;
   }
-  all_runs disk (x ∷ runs) k waver leads =
-      let first = goes x.run disk x.left k waver leads.0 in
-      let rest = all_runs x.left runs first.now first.is leads.1 in
+  all_runs disk (x ∷ runs) k waver own leads =
+      let first = goes x.run disk x.left k waver (λ m by. own m (inl by)) leads.0 in
+      let rest = all_runs x.left runs first.now first.is (λ m later. own m (inr later)) leads.1 in
       record {
         now = rest.now;
         goes_on = goes_then k first.now rest.now first.goes_on rest.goes_on;
         is = rest.is;
-        tells = λ t told. ⊎_elim (λ by. has_on sha256 first.now rest.now t rest.goes_on (first.tells t by))
+        tells = λ t told. ⊎_elim (λ by. has_still first.now rest.now t rest.goes_on (first.tells t by))
             (λ later. rest.tells t later) told;
         listed = λ lines written. ⊎_elim
             (λ by. (first.now, first.goes_on, rest.goes_on, first.listed lines by))
@@ -451,44 +483,67 @@ module _ {D : Type 0} (view : D → DiskView)
         );
       }
 
-  pub lists_rise : (disk : D) (first : Kept) (runs : List (RunBehind D))
-      → HoldsOnly view (λ i. StandsFor sha256 i first) disk → AreRunsFrom view disk runs → NeverFalls runs
-  lists_rise disk first runs is leads =
-      let start = holds disk (λ i. StandsFor sha256 i first) first (λ i stands. (first, stands, stays_on first)) is in
-      (all_runs disk runs first start leads).rises
+  -- from a disk that stands for a list for good
+  all_from : (disk : D) (first : Kept) (runs : List (RunBehind D))
+      → HoldsOnly view (λ i. StandsFor sha256 i first) disk → ((m : Message) → IsOfferedInRuns runs m → FromFile m)
+      → AreRunsFrom view disk runs → Ends disk runs first
+  all_from disk first runs is own leads = all_runs disk runs first
+      (holds disk (λ i. StandsFor sha256 i first) first (λ i stands. (first, stands, stays_on first)) is) own leads
 
-  pub no_list_lost : (disk : D) (first : Kept) (runs : List (RunBehind D))
-      → HoldsOnly view (λ i. StandsFor sha256 i first) disk → AreRunsFrom view disk runs
-      → HoldsOnly view (KeepsLists runs) (disk_behind_runs disk runs)
-  no_list_lost disk first runs is leads =
-      let start = holds disk (λ i. StandsFor sha256 i first) first (λ i stands. (first, stands, stays_on first)) is in
-      let end = all_runs disk runs first start leads in
-      let all : (i : Image) → GoesFrom end.now i → KeepsLists runs i = λ i on. (
+  -- what holds of each list that goes on from the last one holds of what the last disk may hold
+  at_end : (P : Image → Type 0) (disk : D) (runs : List (RunBehind D)) (k : Kept) (end : Ends disk runs k)
+      → ((i : Image) → GoesFrom end.now i → P i) → HoldsOnly view P (disk_behind_runs disk runs)
+  at_end P disk runs k end all = (
+    record { image = end.is.0.image; told = end.is.0.told; has = all end.is.0.image end.is.0.has },
+    λ c may. all c (end.is.1 c may),
+  )
+
+module _ {D : Type 0} (view : D → DiskView)
+    (only_now : (d : D) (image : Image) → (view d).left_since (view d).moment image → (view d).may_leave image)
+    (as_it_reads : (d : D) (image : Image) → (view d).content ≡ Some image → (view d).may_leave image)
+    (disk : D) (first : Kept) (runs : List (RunBehind D)) (is : HoldsOnly view (λ i. StandsFor sha256 i first) disk)
+    (leads : AreRunsFrom view disk runs) where
+  abbrev FromFile : Message → Type 0
+  FromFile m = IsOfferedInRuns runs m
+
+  end : Ends view only_now as_it_reads FromFile disk runs first
+  end = all_from view only_now as_it_reads FromFile disk first runs is (λ m by. by) leads
+
+  abbrev Goes : Image → Type 0
+  Goes i = GoesFrom view only_now as_it_reads FromFile end.now i
+
+  on_from_first : (i : Image) (on : Goes i) → GoesOnByOffered FromFile first on.0
+  on_from_first i on = goes_then view only_now as_it_reads FromFile first end.now on.0 end.goes_on on.2
+
+  pub lists_rise : NeverFalls runs
+  lists_rise = end.rises
+
+  pub no_list_lost : HoldsOnly view (KeepsLists runs) (disk_behind_runs disk runs)
+  no_list_lost =
+      let all : (i : Image) → Goes i → KeepsLists runs i = λ i on. (
         on.0,
         on.1,
         λ lines written.
             let one = end.listed lines written in
-            let after = lines_on one.0 on.0 (goes_then one.0 end.now on.0 one.2 on.2) in
+            let after = lines_on view only_now as_it_reads FromFile one.0 on.0
+            (goes_then view only_now as_it_reads FromFile one.0 end.now on.0 one.2 on.2) in
             (after.0, after.1 ∙ ap (λ (ls : List ℕ). ls ++ head_lines after.0) (sym one.3)),
-      ) in (
-        record { image = end.is.0.image; told = end.is.0.told; has = all end.is.0.image end.is.0.has },
-        λ c may. all c (end.is.1 c may),
-      )
+      ) in
+      at_end view only_now as_it_reads FromFile (KeepsLists runs) disk runs first end all
 
-  pub no_head_lost : (disk : D) (first : Kept) (runs : List (RunBehind D))
-      → HoldsOnly view (λ i. StandsFor sha256 i first) disk → AreRunsFrom view disk runs
-      → HoldsOnly view (KeepsAll sha256 first (IsToldInRuns runs)) (disk_behind_runs disk runs)
-  no_head_lost disk first runs is leads =
-      let start = holds disk (λ i. StandsFor sha256 i first) first (λ i stands. (first, stands, stays_on first)) is in
-      let end = all_runs disk runs first start leads in
-      let all : (i : Image) → GoesFrom end.now i → KeepsAll sha256 first (IsToldInRuns runs) i = λ i on.
-      let whole = goes_then first end.now on.0 end.goes_on on.2 in (
+  pub no_head_lost : HoldsOnly view (KeepsAll sha256 first (IsToldInRuns runs)) (disk_behind_runs disk runs)
+  no_head_lost =
+      let all : (i : Image) → Goes i → KeepsAll sha256 first (IsToldInRuns runs) i = λ i on.
+      let whole = on_from_first i on in (
         on.0,
         on.1,
-        whole,
+        (whole.0, whole.1, whole.2),
         runs-rise sha256 first whole.0 whole.1 on.0 (stands_rising sha256 is.0.image first is.0.has) whole.2,
-        λ t told. has_on sha256 end.now on.0 t on.2 (end.tells t told),
-      ) in (
-        record { image = end.is.0.image; told = end.is.0.told; has = all end.is.0.image end.is.0.has },
-        λ c may. all c (end.is.1 c may),
-      )
+        λ t told. has_still view only_now as_it_reads FromFile end.now on.0 t on.2 (end.tells t told),
+      ) in
+      at_end view only_now as_it_reads FromFile (KeepsAll sha256 first (IsToldInRuns runs)) disk runs first end all
+
+  pub moves_offered : HoldsOnly view (KeepsOffered first runs) (disk_behind_runs disk runs)
+  moves_offered =
+      at_end view only_now as_it_reads FromFile (KeepsOffered first runs) disk runs first end
+      (λ i on. (on.0, on.1, on_from_first i on))

@@ -1,19 +1,21 @@
 -- Histories that go on from others keep their threads and their steps.
 use Rattle.std.proofs.Common.{◌≡◌, ℕ, suc, zero, ◌+◌, ◌<◌, ◌≤◌, List, [], ◌∷◌, ◌++◌, length, refl, ap, sym, ◌∙◌, subst, arith}
 use Rattle.std.proofs.Common.{inl, inr}
-use Rattle.std.specs.Prelude.{Option, Some, None, MatchOption}
+use Rattle.std.specs.Prelude.{Ok, Option, Some, None, MatchOption}
 use Rattle.std.proofs.lemmas.List.{append-nil, append_assoc, length-append, length_push}
 use Rattle.std.proofs.lemmas.Option.{slice_get_within}
 use Rattle.tw_base.specs.declared.history.thread.Thread.{Thread}
+use Rattle.tw_base.specs.declared.history.refusal.Refusal.{Refusal}
 use Rattle.tw_base.specs.history.History.{History, Step, plus, root_of, step_at, thread_of}
 use Rattle.tw_base.proofs.lemmas.history.Plus.{step_at-new, step_at-plus}
 use Rattle.tw_msg.specs.declared.message.Message.{Message}
 use Rattle.tw_msg.specs.declared.receipt.Receipt.{Receipt}
 use Rattle.tw_outside.specs.Files.{Files}
 use Rattle.tw_service.specs.EventStep.{event_step, with_events_at}
-use Rattle.tw_service.specs.Machine.{Call, IsStepOf, NextOf, Reply, RepliesTo, last_thread, receipt_by, received_as}
+use Rattle.tw_service.specs.Machine.{Call, IsStepOf, NextOf, Reply, RepliesTo, append_table, last_thread, receipt_by}
+use Rattle.tw_service.specs.Machine.{received_as}
 use Rattle.tw_service.specs.Machine.Call.{Append, Ask, Receive, CountSteps, TellHead, TellName}
-use Rattle.tw_service.specs.Machine.Reply.{OfReceipt, Refused}
+use Rattle.tw_service.specs.Machine.Reply.{OfReceipt, OfThread, Refused}
 use Rattle.tw_service.specs.declared.receiving.Reception.{Reception}
 use Rattle.tw_service.specs.declared.receiving.Reception.TheVariants.{Refuse, Known, Archive}
 use Rattle.tw_service.proofs.ReceivingLaws.{own-receipt}
@@ -21,8 +23,13 @@ use Rattle.tw_words.specs.declared.command.Command.{Command}
 use Rattle.tw_words.specs.declared.command.Command.TheVariants as command
 use Rattle.tw_app.specs.declared.outcome.Outcome.{Outcome}
 use Rattle.tw_app.specs.declared.outcome.Outcome.TheVariants.{Made, Received}
-use Rattle.tw_laws.specs.Acknowledged.{Extends, HasAnswered, HasAppended, HasArchived, HasEvents, HasReceived}
+use Rattle.tw_laws.specs.Acknowledged.{Extends, HasAnswered, HasAppended, HasArchived, HasEvents, HasOfEvent, HasOfRun}
+use Rattle.tw_laws.specs.Acknowledged.{HasReceived, HasAcknowledged, IsLineReplied}
 use Rattle.tw_laws.specs.Published.{IsThreadOf}
+use Rattle.tw_laws.specs.Runs.{ServiceAct}
+use Rattle.tw_laws.specs.Runs.ServiceAct.{Answered}
+use Rattle.tw_pages.specs.Runs.{Event, Happening}
+use Rattle.tw_pages.specs.Runs.Event.{Acts}
 use Rattle.tw_laws.proofs.Threads.{own_plus}
 
 -- ---- histories that go on
@@ -100,6 +107,24 @@ pub words_on : (told : Option Files) (outcome : Outcome) (h later : History) →
 words_on told outcome h later on None has = tt
 words_on told outcome h later on (Some c) has = answered_on told c outcome h later on has
 
+-- of what services replied
+replied_on : (call : Call) (reply : Reply) (h later : History) → Extends h later → HasAcknowledged call reply h
+    → HasAcknowledged call reply later
+replied_on (Append events time) (OfThread line) h later on has =
+    (has.0, step_on h later on line.step has.0 has.1, has.2, has.3)
+replied_on (Receive m time) (OfReceipt receipt) h later on has = received_on h later on receipt.by.step m.thread has
+replied_on call reply h later on has = has
+
+pub event_on : (event : Event ServiceAct) (h later : History) → Extends h later → HasOfEvent event h
+    → HasOfEvent event later
+event_on (Acts (Answered call (Ok reply))) h later on has = replied_on call reply h later on has
+event_on event h later on has = has
+
+pub run_on : {D S : Type 0} (run : List (Happening D S ServiceAct)) (h later : History) → Extends h later
+    → HasOfRun run h → HasOfRun run later
+run_on [] h later on has = has
+run_on (x ∷ run) h later on has = (event_on x.event h later on has.0, run_on run h later on has.1)
+
 module _ (dig : List ℕ → List ℕ) where
   own_on : (more : List Step) (h later : History) (t : Thread) → later.name ≡ h.name → later.steps ≡ h.steps ++ more
       → IsThreadOf dig h t → IsThreadOf dig later t
@@ -168,3 +193,32 @@ module _ (dig : List ℕ → List ℕ) where
       let own = own-receipt dig h m time next r is in
       own.received ∙ ap (λ (t : Thread). Some t)
       (receipt_thread h next m time r (received_as dig h m time) is)
+
+  -- the line is the thread of the last step
+  line_last : (h next : History) (events : List (List ℕ)) (time : Option ℕ) (line : Thread)
+      → IsStepOf dig h (Append events time) (OfThread line) next → line ≡ last_thread dig next
+  line_last h next events time line step = by (append_table h events time) step
+    where
+      by : (o : Option Refusal) → MatchOption o (NextOf dig (Append events time) h next
+          × (OfThread line ≡ OfThread (last_thread dig next))) (λ refusal. (next ≡ h)
+          × (OfThread line ≡ Refused refusal)) → line ≡ last_thread dig next
+      by None is = let same = is.1 in cc
+      by (Some refusal) is = absurd (let no = is.1 in cc)
+
+  -- what a service replied stands in its next history
+  pub replied_stands : (call : Call) (reply : Reply) (h next : History) → NextOf dig call h next
+      → IsStepOf dig h call reply next → HasAcknowledged call reply next
+  replied_stands (Append events time) (OfThread line) h next is step =
+      (events_stand h next events time line is (line_last h next events time line step)).0
+  replied_stands (Receive m time) (OfReceipt receipt) h next is step = receipt_stands h next m time receipt step
+  replied_stands call reply h next is step = tt
+
+  -- and a line is of a step behind those before
+  pub line_above : (call : Call) (reply : Reply) (h next : History) → NextOf dig call h next
+      → IsStepOf dig h call reply next → (t : Thread) → IsLineReplied call reply t
+      → (length h.steps < t.step) × (t.step ≤ length next.steps)
+  line_above (Append events time) (OfThread line) h next is step t own =
+      let stand = events_stand h next events time line is (line_last h next events time line step) in
+      let at : t.step ≡ line.step = ap (λ (u : Thread). u.step) own in
+      (omega (arith, at, stand.1.0), omega (arith, at, stand.1.1))
+  line_above call reply h next is step t none = absurd none

@@ -2,6 +2,7 @@ mod AnsweredCalls
 pub mod Threads
 pub mod GoingOn
 pub mod Wavering
+mod ServedRuns
 pub mod TreeSizes
 mod OtherStores
 mod CommandTurns

@@ -21,14 +21,14 @@ use Rattle.tw_app.specs.Around.{Outside, found_around}
 use Rattle.tw_app.specs.Outcomes.{outcome_by}
 use Rattle.tw_app.specs.Running.{HaveNoForm, IsDiskUntouched, IsOutcomeOf, work}
 use Rattle.tw_laws.specs.Acknowledged.{AppendsRise, Extends, HasAnswered, HasOfAll, HasOfTurn, IsAppended}
-use Rattle.tw_laws.specs.Acknowledged.{IsAppendedByAny, IsAppendedIn, KeepsAcknowledged}
-use Rattle.tw_laws.proofs.GoingOn.{longer_on, then_on, thread_on, words_on}
+use Rattle.tw_laws.specs.Acknowledged.{IsAppendedByAny, IsAppendedIn, KeepsAcknowledged, TurnRises}
+use Rattle.tw_laws.proofs.GoingOn.{longer_on, run_on, then_on, thread_on, words_on}
+use Rattle.tw_laws.proofs.ServedRuns.{closed_run}
 use Rattle.tw_laws.specs.Published.{IsThreadOf}
 use Rattle.tw_pages.specs.Runs.{HoldsOnly}
-use Rattle.tw_pages.specs.Runs.State.{Closed}
 use Rattle.tw_laws.specs.Runs.{HasOneAuthenticator}
 use Rattle.tw_laws.proofs.Threads.{last_own}
-use Rattle.tw_laws.proofs.Wavering.{GoesOnFrom, Has, Wavers, ends, holds, one_for, same_has}
+use Rattle.tw_laws.proofs.Wavering.{GoesOnFrom, Has, Wavers, holds, one_for, same_has}
 use Rattle.tw_laws.specs.Publishing.{IsOutBy}
 use Rattle.tw_laws.specs.Turns.{AreTurnsFrom, HasOne, IsMadeFirst, IsMaking, IsOut, IsOutIn, IsWorkOn, LeadsTo, StartsAs}
 use Rattle.tw_laws.specs.Turns.{Turn, TurnBehind, last_disk}
@@ -119,22 +119,29 @@ module _ {D : Type 0} (view : D → DiskView) (name : List ℕ)
           above = λ t line. absurd line;
         }
     goes (Serves run) disk left h waver leads =
-        let end = ends sha256 view name only_now (Closed disk) run h waver leads.0 in
+        let end = closed_run view name only_now disk run h waver leads.0 in
         record {
           now = end.now;
           keeps = end.keeps;
           is = subst (λ (d : D). Wavers sha256 view name d end.now) (sym leads.1) end.is;
           tells = end.tells;
-          has = tt;
-          above = λ t line. absurd line;
+          has = end.has;
+          above = end.above;
         }
+
+    -- the lines of services rise
+    turn_rises : (turn : Turn D (Service D H g k)) (disk left : D) (h : History) → Wavers sha256 view name disk h
+        → LeadsTo view turn disk left → TurnRises turn
+    turn_rises (Serves run) disk left h waver leads = (closed_run view name only_now disk run h waver leads.0).rises
+    turn_rises (Runs words o outcome) disk left h waver leads = tt
+    turn_rises (StopsBefore words o outcome) disk left h waver leads = tt
 
     -- what a turn acknowledged stays
     turn_on : (turn : Turn D (Service D H g k)) (h later : History) → Extends h later → HasOfTurn turn h
         → HasOfTurn turn later
     turn_on (Runs words o outcome) h later on has = words_on o.inputs.told outcome h later on (command_of words) has
     turn_on (StopsBefore words o outcome) h later on has = has
-    turn_on (Serves run) h later on has = has
+    turn_on (Serves run) h later on has = run_on run h later on has
 
     all_on : (moves : List (TurnBehind D (Service D H g k))) (h later : History) → Extends h later → HasOfAll moves h
         → HasOfAll moves later
@@ -153,8 +160,9 @@ module _ {D : Type 0} (view : D → DiskView) (name : List ℕ)
       rises : AppendsRise moves
 
     and_then : (disk : D) (x : TurnBehind D (Service D H g k)) (moves : List (TurnBehind D (Service D H g k)))
-        (h : History) → (first : Goes x.turn disk x.left h) → Ends x.left moves first.now → Ends disk (x ∷ moves) h
-    and_then disk x moves h first rest = record {
+        (h : History) → TurnRises x.turn → (first : Goes x.turn disk x.left h) → Ends x.left moves first.now
+        → Ends disk (x ∷ moves) h
+    and_then disk x moves h rising first rest = record {
       now = rest.now;
       keeps = then_on h first.now rest.now first.keeps rest.keeps;
       is = rest.is;
@@ -163,7 +171,11 @@ module _ {D : Type 0} (view : D → DiskView) (name : List ℕ)
       has = (turn_on x.turn first.now rest.now rest.keeps first.has, rest.has);
       above = λ t line. ⊎_elim (λ by. (first.above t by).0)
           (λ later. omega (arith, longer_on h first.now first.keeps, rest.above t later)) line;
-      rises = (λ one later by behind. omega (arith, (first.above one by).1, rest.above later behind), rest.rises);
+      rises = (
+        λ one later by behind. omega (arith, (first.above one by).1, rest.above later behind),
+        rising,
+        rest.rises,
+      );
     }
 
     all_turns : (disk : D) (moves : List (TurnBehind D (Service D H g k))) (h : History) → Wavers sha256 view name disk
@@ -180,7 +192,8 @@ module _ {D : Type 0} (view : D → DiskView) (name : List ℕ)
         }
     all_turns disk (x ∷ moves) h waver turns =
         let first = goes x.turn disk x.left h waver turns.0 in
-        and_then disk x moves h first (all_turns x.left moves first.now first.is turns.1)
+        and_then disk x moves h (turn_rises x.turn disk x.left h waver turns.0) first
+        (all_turns x.left moves first.now first.is turns.1)
 
     -- ---- a list that begins with the making of a service
 
@@ -219,6 +232,11 @@ module _ {D : Type 0} (view : D → DiskView) (name : List ℕ)
         of_result (Err f) may same = absurd (made_undone thread f same)
     made _ disk left image told is leads = absurd is
 
+    making_rises : (turn : Turn D (Service D H g k)) → IsMaking view name turn → TurnRises turn
+    making_rises (Runs words o outcome) is = tt
+    making_rises (StopsBefore words o outcome) is = tt
+    making_rises (Serves run) is = absurd is
+
     -- ---- the law
 
     steps_kept : (disk : D) (moves : List (TurnBehind D (Service D H g k))) (first : History) → first.name ≡ name
@@ -248,7 +266,8 @@ module _ {D : Type 0} (view : D → DiskView) (name : List ℕ)
     from_making disk [] image told is turns = absurd is
     from_making disk (x ∷ moves) image told is turns =
         let first = made x.turn disk x.left image told is turns.0 in
-        and_then disk x moves (no_history name) first (all_turns x.left moves first.now first.is turns.1)
+        and_then disk x moves (no_history name) (making_rises x.turn is) first
+        (all_turns x.left moves first.now first.is turns.1)
 
 module _ {D H : Type 0} {g : _} {k : _} (view : D → DiskView)
     (only_now : (d : D) (image : Image) → (view d).left_since (view d).moment image → (view d).may_leave image)

@@ -82,15 +82,15 @@ module _ {D : Type 0} (dig : List ℕ → List ℕ) (view : D → DiskView) (nam
     abbrev pub ServesAs : Service D H g k → History → Type 0
     ServesAs service h = Serves dig view service h × (h.name ≡ name)
 
-    own_name : (service : Service D H g k) (h : History) → ServesAs service h → name_of service ≡ name
+    pub own_name : (service : Service D H g k) (h : History) → ServesAs service h → name_of service ≡ name
     own_name service h served = sym served.0.keeps.named ∙ served.1
 
-    rests : (service : Service D H g k) (h : History) → ServesAs service h → IsAtRest (view (disk_of service)) (IsOf h)
+    pub rests : (service : Service D H g k) (h : History) → ServesAs service h → IsAtRest (view (disk_of service)) (IsOf h)
     rests service h served =
         subst (λ (n : List ℕ). IsAtRest (view (disk_of service)) (λ i. StandsFor dig i n h)) (own_name service h served)
         (rest_for_good view only_now dig service.recorded.kept.store service.recorded.kept.root h served.0)
 
-    shows : (service : Service D H g k) (h : History) (t : Thread) → ServesAs service h → ShowsHead service t
+    pub shows : (service : Service D H g k) (h : History) (t : Thread) → ServesAs service h → ShowsHead service t
         → IsThreadOf dig h t
     shows service h t served shown =
         let named = sym served.0.keeps.named in
@@ -101,7 +101,7 @@ module _ {D : Type 0} (dig : List ℕ → List ℕ) (view : D → DiskView) (nam
         subst (λ (u : Thread). IsThreadOf dig h u) (sym (shown ∙ head)) (last_own dig h)
 
     -- after a refusal the value shows the head that it showed
-    shows_still : (old new : Service D H g k) → (head_of new ≡ head_of old) × (name_of new ≡ name_of old) → (t : Thread)
+    pub shows_still : (old new : Service D H g k) → (head_of new ≡ head_of old) × (name_of new ≡ name_of old) → (t : Thread)
         → ShowsHead new t → ShowsHead old t
     shows_still old new same_record t shown =
         let head = same_record.0 in
@@ -110,7 +110,7 @@ module _ {D : Type 0} (dig : List ℕ → List ℕ) (view : D → DiskView) (nam
         λ j. record { from = named j; step = (head j).step; auth = (head j).auth } in
         shown ∙ same
 
-    abbrev ActsBy : (act : ServiceAct) (old new : Service D H g k) (h : History) → Type 0
+    abbrev pub ActsBy : (act : ServiceAct) (old new : Service D H g k) (h : History) → Type 0
     ActsBy act old new h = Acted view (services dig view) IsOf Has ServesAs (IsThreadOf dig) ShowsHead (TellsThread dig)
         act old new h
 
@@ -167,7 +167,7 @@ module _ {D : Type 0} (dig : List ℕ → List ℕ) (view : D → DiskView) (nam
           done = inr (inl (served, λ t told. absurd told));
         }
 
-    acts : (act : ServiceAct) (old new : Service D H g k) (h : History) → DoesAct dig view act old new → ServesAs old h
+    pub acts : (act : ServiceAct) (old new : Service D H g k) (h : History) → DoesAct dig view act old new → ServesAs old h
         → ActsBy act old new h
     acts (Answered call answer) old new h does served = answered call answer old new h does served
     acts (Told call answer) old new h does served = subst (λ (s : Service D H g k). ActsBy (Told call answer) old s h)
@@ -182,12 +182,12 @@ module _ {D : Type 0} (dig : List ℕ → List ℕ) (view : D → DiskView) (nam
         (subst (λ (r : Result Reply Refusal). IfErr r (λ refusal. (refusal ≡ DiskFault) ⊎ HasSameDisk view old new))
         reopen unwritten)
 
-    abbrev StaysBy : (act : ServiceAct) (old new : Service D H g k) → Type 0
+    abbrev pub StaysBy : (act : ServiceAct) (old new : Service D H g k) → Type 0
     StaysBy act old new =
         (has_failed new ≡ true) × IsSameDisk (view (disk_of old)) (view (disk_of new))
         × ((t : Thread) → TellsThread dig act t → ⊥) × ((t : Thread) → ShowsHead new t → ShowsHead old t)
 
-    stays : (act : ServiceAct) (old new : Service D H g k) → DoesAct dig view act old new → has_failed old ≡ true
+    pub stays : (act : ServiceAct) (old new : Service D H g k) → DoesAct dig view act old new → has_failed old ≡ true
         → StaysBy act old new
     stays (Answered call answer) old new a failed =
         let reopen = a.reopen failed in

@@ -1,5 +1,6 @@
--- What runs of the program acknowledge: the steps that `append` and `receive` told, at their places, with what was asked for.
-use Rattle.std.specs.Prelude.{◌≡◌, ◌⊎◌, ◌<◌, ℕ, List, [], ◌∷◌, ◌++◌, Option, Some, MatchOption}
+-- What runs of the program, and services that are opened between them, acknowledge: the steps that `append` and `receive` told, at their places,
+-- with what was asked for.
+use Rattle.std.specs.Prelude.{◌≡◌, ◌⊎◌, ◌<◌, ℕ, List, [], ◌∷◌, ◌++◌, Option, Some, MatchOption, Ok}
 use Rattle.sha2.specs.Sha256.{sha256}
 use Rattle.tw_base.specs.declared.history.content.Content.TheVariants.{Events}
 use Rattle.tw_base.specs.declared.history.thread.Thread.{Thread}
@@ -7,6 +8,11 @@ use Rattle.tw_base.specs.history.History.{History, Step, step_at, thread_of}
 use Rattle.tw_disk.specs.Image.{Image}
 use Rattle.tw_msg.specs.declared.message.Message.{Message}
 use Rattle.tw_outside.specs.Files.{Files}
+use Rattle.tw_pages.specs.Runs.{Event, Happening}
+use Rattle.tw_pages.specs.Runs.Event.{Acts}
+use Rattle.tw_service.specs.Machine.{Call, Reply}
+use Rattle.tw_service.specs.Machine.Call.{Append, Receive}
+use Rattle.tw_service.specs.Machine.Reply.{OfReceipt, OfThread}
 use Rattle.tw_service.specs.Stands.{StandsFor}
 use Rattle.tw_service.specs.declared.service.Service.{Service}
 use Rattle.tw_diskcmd.specs.Appending.{AreEventsOf}
@@ -17,6 +23,8 @@ use Rattle.tw_words.specs.declared.command.Command.TheVariants as command
 use Rattle.tw_app.specs.declared.outcome.Outcome.{Outcome}
 use Rattle.tw_app.specs.declared.outcome.Outcome.TheVariants.{Made, Received}
 use Rattle.tw_app.specs.Statuses.{AreWordsOf}
+use Rattle.tw_laws.specs.Runs.{ServiceAct}
+use Rattle.tw_laws.specs.Runs.ServiceAct.{Answered}
 use Rattle.tw_laws.specs.Turns.{Turn, TurnBehind}
 use Rattle.tw_laws.specs.Turns.Turn.{Runs, StopsBefore, Serves}
 
@@ -59,12 +67,46 @@ abbrev pub IsAppended : Command → Outcome → Thread → Type 0
 IsAppended (command.Append file time) outcome t = IsLine outcome t
 IsAppended c outcome t = ⊥
 
+-- what a service replied to a call stands in the history: at the line's step the events that it was given, and at the receipt's step the thread of
+-- the message
+abbrev pub HasAcknowledged : Call → Reply → History → Type 0
+HasAcknowledged (Append events time) (OfThread line) h = HasEvents h line.step events time
+HasAcknowledged (Receive m time) (OfReceipt receipt) h = HasReceived h receipt.by.step m.thread
+HasAcknowledged call reply h = Unit {0}
+
+abbrev pub HasOfEvent : Event ServiceAct → History → Type 0
+HasOfEvent (Acts (Answered call (Ok reply))) h = HasAcknowledged call reply h
+HasOfEvent event h = Unit {0}
+
+-- so of each call of a service's run
+abbrev pub HasOfRun : {D S : Type 0} → List (Happening D S ServiceAct) → History → Type 0
+HasOfRun [] h = Unit {0}
+HasOfRun (x ∷ run) h = HasOfEvent x.event h × HasOfRun run h
+
+-- the thread is that of the line which the service replied to events that it was given
+abbrev pub IsLineReplied : Call → Reply → Thread → Type 0
+IsLineReplied (Append events time) (OfThread line) t = t ≡ line
+IsLineReplied call reply t = ⊥
+
+abbrev pub IsAppendedBy : Event ServiceAct → Thread → Type 0
+IsAppendedBy (Acts (Answered call (Ok reply))) t = IsLineReplied call reply t
+IsAppendedBy event t = ⊥
+
+abbrev pub IsAppendedInRun : {D S : Type 0} → List (Happening D S ServiceAct) → Thread → Type 0
+IsAppendedInRun [] t = ⊥
+IsAppendedInRun (x ∷ run) t = IsAppendedBy x.event t ⊎ IsAppendedInRun run t
+
+-- each step that is appended comes behind those that were appended before
+abbrev pub RunRises : {D S : Type 0} → List (Happening D S ServiceAct) → Type 0
+RunRises [] = Unit {0}
+RunRises (x ∷ run) = ((one later : Thread) → IsAppendedBy x.event one → IsAppendedInRun run later → one.step < later.step) × RunRises run
+
 module _ {D H : Type 0} {g : _} {k : _} where
-  -- what the turn acknowledges stands in the history; services that are opened between runs aren't looked at here
+  -- what the turn acknowledges stands in the history
   abbrev pub HasOfTurn : Turn D (Service D H g k) → History → Type 0
   HasOfTurn (Runs words o outcome) h = MatchOption (command_of words) (Unit {0}) (λ c. HasAnswered o.inputs.told c outcome h)
   HasOfTurn (StopsBefore words o outcome) h = Unit {0}
-  HasOfTurn (Serves run) h = Unit {0}
+  HasOfTurn (Serves run) h = HasOfRun run h
 
   abbrev pub HasOfAll : List (TurnBehind D (Service D H g k)) → History → Type 0
   HasOfAll [] h = Unit {0}
@@ -73,16 +115,22 @@ module _ {D H : Type 0} {g : _} {k : _} where
   abbrev pub IsAppendedIn : Turn D (Service D H g k) → Thread → Type 0
   IsAppendedIn (Runs words o outcome) t = AreWordsOf (λ c. IsAppended c outcome t) words
   IsAppendedIn (StopsBefore words o outcome) t = ⊥
-  IsAppendedIn (Serves run) t = ⊥
+  IsAppendedIn (Serves run) t = IsAppendedInRun run t
 
   abbrev pub IsAppendedByAny : List (TurnBehind D (Service D H g k)) → Thread → Type 0
   IsAppendedByAny [] t = ⊥
   IsAppendedByAny (x ∷ moves) t = IsAppendedIn x.turn t ⊎ IsAppendedByAny moves t
 
-  -- each step that is appended comes behind those that were appended before
+  -- so within the turn of services
+  abbrev pub TurnRises : Turn D (Service D H g k) → Type 0
+  TurnRises (Serves run) = RunRises run
+  TurnRises turn = Unit {0}
+
+  -- and of all turns
   abbrev pub AppendsRise : List (TurnBehind D (Service D H g k)) → Type 0
   AppendsRise [] = Unit {0}
-  AppendsRise (x ∷ moves) = ((one later : Thread) → IsAppendedIn x.turn one → IsAppendedByAny moves later → one.step < later.step) × AppendsRise moves
+  AppendsRise (x ∷ moves) =
+      ((one later : Thread) → IsAppendedIn x.turn one → IsAppendedByAny moves later → one.step < later.step) × TurnRises x.turn × AppendsRise moves
 
   -- the image stands for a history that has the first one's steps, and all that was acknowledged
   abbrev pub KeepsAcknowledged : (first : History) → List (TurnBehind D (Service D H g k)) → Image → Type 0

@@ -1,13 +1,18 @@
 -- Runs of the program on one disk that stands for a list of heads, one after the other; and the heads that they tell.
-use Rattle.std.specs.Prelude.{◌≡◌, ◌⊎◌, ℕ, List, [], ◌∷◌, ◌++◌}
+use Rattle.std.specs.Prelude.{◌≡◌, ◌⊎◌, ℕ, List, [], ◌∷◌, ◌++◌, Option}
 use Rattle.sha2.specs.Sha256.{sha256}
 use Rattle.tw_base.specs.declared.history.thread.Thread.{Thread}
+use Rattle.tw_base.specs.kinds.Lists.{Each}
 use Rattle.tw_disk.specs.Disk.{DiskView}
 use Rattle.tw_disk.specs.Image.{Image}
+use Rattle.tw_msg.specs.declared.message.Message.{Message}
+use Rattle.tw_outside.specs.Files.{Files}
 use Rattle.tw_pages.specs.Runs.{HoldsOnly}
 use Rattle.tw_words.specs.declared.command.Command.{Command}
 use Rattle.tw_follow.specs.HeadLists.{Kept}
+use Rattle.tw_follow.specs.Runs.{Move, RunsByMoves}
 use Rattle.tw_follow.specs.Stands.{StandsFor}
+use Rattle.tw_diskcmd.specs.Files.{IsMessageIn}
 use Rattle.tw_diskcmd.specs.Heads.{head_lines}
 use Rattle.tw_words.specs.declared.command.Command.TheVariants.{Heads, Offer}
 use Rattle.tw_app.specs.declared.outcome.Outcome.{Outcome}
@@ -54,6 +59,29 @@ IsToldIn (Stopped words o outcome) t = ⊥
 abbrev pub IsToldInRuns : {D : Type 0} → List (RunBehind D) → Thread → Type 0
 IsToldInRuns [] t = ⊥
 IsToldInRuns (x ∷ runs) t = IsToldIn x.run t ⊎ IsToldInRuns runs t
+
+-- the message is offered: it is that of the file which `offer` reads
+abbrev pub IsOfferedByCommand : Option Files → Command → Message → Type 0
+IsOfferedByCommand told (Offer file) m = IsMessageIn told file m
+IsOfferedByCommand told command m = ⊥
+
+-- by a run, be it done or stopped
+abbrev pub IsOfferedIn : {D : Type 0} → Run D → Message → Type 0
+IsOfferedIn (Ran words o outcome) m = AreWordsOf (λ command. IsOfferedByCommand o.inputs.told command m) words
+IsOfferedIn (Stopped words o outcome) m = AreWordsOf (λ command. IsOfferedByCommand o.inputs.told command m) words
+
+-- by one of the runs
+abbrev pub IsOfferedInRuns : {D : Type 0} → List (RunBehind D) → Message → Type 0
+IsOfferedInRuns [] m = ⊥
+IsOfferedInRuns (x ∷ runs) m = IsOfferedIn x.run m ⊎ IsOfferedInRuns runs m
+
+-- there are moves by which the one list comes to the other, and each message by which it grows is such a one
+abbrev pub GoesOnByOffered : (Offered : Message → Type 0) → (kept next : Kept) → Type 0
+GoesOnByOffered Offered kept next = (moves : List Move) × (moved : List Message) × RunsByMoves sha256 kept moves moved next × Each Offered moved
+
+-- the image stands for a list to which this one came by messages that were offered
+abbrev pub KeepsOffered : {D : Type 0} → (first : Kept) → List (RunBehind D) → Image → Type 0
+KeepsOffered first runs image = (last : Kept) × StandsFor sha256 image last × GoesOnByOffered (IsOfferedInRuns runs) first last
 
 -- the run's text is this list of lines: `heads` writes it
 abbrev pub IsListText : Outcome → (lines : List ℕ) → Type 0

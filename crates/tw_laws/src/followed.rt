@@ -5,7 +5,7 @@ ghost use Rattle.tw_follow.specs.DiskRuns.{KeepsAll};
 ghost use Rattle.tw_follow.specs.HeadLists.{Kept};
 ghost use Rattle.tw_follow.specs.Stands.{StandsFor};
 ghost use Rattle.tw_pages.specs.Runs.{HoldsOnly};
-ghost use Rattle.tw_laws.specs.FollowerTurns.{AreRunsFrom, IsToldInRuns, KeepsLists, NeverFalls, disk_behind_runs};
+ghost use Rattle.tw_laws.specs.FollowerTurns.{AreRunsFrom, IsToldInRuns, KeepsLists, KeepsOffered, NeverFalls, disk_behind_runs};
 
 use tw_disk::Disk;
 
@@ -25,4 +25,8 @@ pub fn followed_laws<D: Disk>()
     // And what the disk reads as at the end, and each image that a crash may then leave, stands for a list whose lines begin with each of these.
     ensures lists { (disk : D) (first : Kept) (runs : _) → HoldsOnly D.view (λ i. StandsFor sha256 i first) disk → AreRunsFrom D.view disk runs
         → HoldsOnly D.view (KeepsLists runs) (disk_behind_runs disk runs) }
+    // Over every such list: that stands for a list to which moves lead from the first one by the messages of files alone that runs of `offer`
+    // read, be these done or stopped.
+    ensures offered { (disk : D) (first : Kept) (runs : _) → HoldsOnly D.view (λ i. StandsFor sha256 i first) disk → AreRunsFrom D.view disk runs
+        → HoldsOnly D.view (KeepsOffered first runs) (disk_behind_runs disk runs) }
 {}

@@ -26,10 +26,11 @@ pub fn published_laws<D: Disk>(service: &Service<D, Sha>)
     // which has all of them.
     ensures runs { (disk : D) (first : History) (moves : _) → AreTurnsOf service.now moves → StartsAs D.view first disk moves →
         AreTurnsFrom D.view disk moves → HasOne D.view first disk moves }
-    // Over every such list: each step whose line `append` came to, be it written whole, in part or not at all, is above those of the lines
-    // before it. And what the disk reads as at the end, and each image that a crash may then leave, stands for a history of that name which
-    // begins with the steps of the first one, and has, at each such line's step, the events of the file and the time that was asked for, and
-    // at the step of each receipt that `receive` came to the thread of the file's message.
+    // Over every such list: each step whose line `append` came to, be it written whole, in part or not at all, or a service between the runs
+    // answered, is above those of the lines before it. And what the disk reads as at the end, and each image that a crash may then leave,
+    // stands for a history of that name which begins with the steps of the first one, and has, at each such line's step, the events of the
+    // file, or those that the service was given, and the time that was asked for, and at the step of each receipt that `receive` came to, or
+    // that the service answered, the thread of the message.
     ensures steps { (disk : D) (first : History) (moves : _) → AreTurnsOf service.now moves → StartsAs D.view first disk moves →
         AreTurnsFrom D.view disk moves → AppendsRise moves × HoldsOnly D.view (KeepsAcknowledged first moves) (last_disk disk moves) }
 {}

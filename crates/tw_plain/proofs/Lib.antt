@@ -6,3 +6,6 @@ mod EachThread
 mod HeldNamed
 mod PlainReports
 mod Readable
+mod Bounds
+mod PlainMaps
+mod OneMap

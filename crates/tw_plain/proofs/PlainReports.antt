@@ -59,7 +59,7 @@ module _ (dig : List ℕ → List ℕ) (family : List History) where
   Has t = HasThread dig family t
 
   -- a line of a service that is named
-  line-has : (services : List (List ℕ)) (t : Thread) → In t.from services → Each (λ service. t.from ≡ service → Has t) services → Has t
+  pub line-has : (services : List (List ℕ)) (t : Thread) → In t.from services → Each (λ service. t.from ≡ service → Has t) services → Has t
   line-has [] t is all = absurd is
   line-has (service ∷ services) t (inl is) all = all.0 is
   line-has (service ∷ services) t (inr is) all = line-has services t is all.1
@@ -78,22 +78,28 @@ module _ (dig : List ℕ → List ℕ) (family : List History) where
 
 -- ---- each line of a file stands between its line feeds
 
-parts-each : (P : Thread → Type 0) (parts : List (List ℕ)) → Each P (map anchor_on parts) → Each P (map anchor_on (lines_of_parts parts))
+pub parts-each : (P : Thread → Type 0) (parts : List (List ℕ)) → Each P (map anchor_on parts) → Each P (map anchor_on (lines_of_parts parts))
 parts-each P [] all = tt
 parts-each P ([] ∷ []) all = tt
 parts-each P ((b ∷ bs) ∷ []) all = (all.0, tt)
 parts-each P (line ∷ next ∷ more) all = (all.0, parts-each P (next ∷ more) all.1)
 
-pub plain : (dig : List ℕ → List ℕ) (size : (text : List ℕ) → length (dig text) ≡ 32) (are : (text : List ℕ) → AreBytes (dig text))
-    (bytes file : List ℕ) (p : Proof) → Spells proof_layout bytes p → IsAccepted dig (map anchor_on (lines file)) p
-    → IsSoByLines dig (file_lines file) (hashed_texts dig bytes) (report_of p)
-plain dig size are bytes file p spelled accepted family sound has carries =
-    let held_by_file : List Thread = map anchor_on (lines file) in
-    let holds = accepted-holds held_by_file dig p accepted in
-    let services : List (List ℕ) = services_named (report_of p) in
-    let line-has = parts-each (λ (t : Thread). Each (λ service. t.from ≡ service → HasThread dig family t) services) (slice_split is_line_feed file) has in
-    let all : Each (HasThread dig family) (held held_by_file p) = held-has dig family services held_by_file (carried p) (held held_by_file p)
-    line-has (unturned (HasThread dig family) (carried p) carries) holds.only (held-named held_by_file p) in
-    let Said : Type 0 = Facts dig family (report_of p).hops (report_of p).claim × TimesRise (report_of p).hops (report_of p).claim in
-    subst (λ texts. OrClash dig texts Said) (sym (texts-are dig bytes p family spelled))
-    (headline dig size are held_by_file bytes p spelled accepted family sound all)
+-- ---- what the report says
+
+module _ (dig : List ℕ → List ℕ) (size : (text : List ℕ) → length (dig text) ≡ 32) (are : (text : List ℕ) → AreBytes (dig text))
+    (bytes : List ℕ) (p : Proof) (spelled : Spells proof_layout bytes p) where
+  pub plain-held : (lines : List Thread) → IsAccepted dig lines p → IsSoByLines dig lines (hashed_texts dig bytes) (report_of p)
+  plain-held lines accepted family sound has carries =
+      let holds = accepted-holds lines dig p accepted in
+      let services : List (List ℕ) = services_named (report_of p) in
+      let all : Each (HasThread dig family) (held lines p) = held-has dig family services lines (carried p) (held lines p)
+      has (unturned (HasThread dig family) (carried p) carries) holds.only (held-named lines p) in
+      let Said : Type 0 = Facts dig family (report_of p).hops (report_of p).claim × TimesRise (report_of p).hops (report_of p).claim in
+      subst (λ texts. OrClash dig texts Said) (sym (texts-are dig bytes p family spelled))
+      (headline dig size are lines bytes p spelled accepted family sound all)
+
+  pub plain : (file : List ℕ) → IsAccepted dig (map anchor_on (lines file)) p
+      → IsSoByLines dig (file_lines file) (hashed_texts dig bytes) (report_of p)
+  plain file accepted family sound has carries =
+      let Has : Thread → Type 0 = λ t. Each (λ service. t.from ≡ service → HasThread dig family t) (services_named (report_of p)) in
+      plain-held (map anchor_on (lines file)) accepted family sound (parts-each Has (slice_split is_line_feed file) has) carries

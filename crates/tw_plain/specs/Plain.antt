@@ -14,11 +14,12 @@ use Rattle.tw_base.specs.history.Sound.{IsSound}
 use Rattle.tw_base.specs.kinds.Bytes.{AreBytes}
 use Rattle.tw_base.specs.kinds.Clash.{OrClash}
 use Rattle.tw_base.specs.kinds.Lists.{Each}
-use Rattle.tw_base.specs.kinds.Names.{IsName}
+use Rattle.tw_base.specs.kinds.Names.{IsName, padded_name}
 use Rattle.tw_chain.specs.Services.{services_of}
 use Rattle.tw_msg.specs.AnchorsFile.{anchor_on, is_line_feed}
 use Rattle.tw_plain.specs.Hashed.{hashed_texts}
 use Rattle.tw_text.specs.Reports.{report_text}
+use Rattle.tw_text.specs.Words.{word_digest, word_number}
 
 -- ---- what a text can tell: names that are names, numbers of 64 bits, and bytes
 
@@ -27,7 +28,7 @@ IsNamedStep service step = IsName service × (step < 2 ^ 64)
 
 abbrev pub IsSeen : Seen → Type 0
 IsSeen seen =
-    IsNamedStep seen.place.service seen.place.step × (seen.place.index < 2 ^ 64) × AreBytes seen.event × IfSome seen.time (λ time. time < 2 ^ 64)
+    IsNamedStep seen.place.service seen.place.step × (seen.place.index < 2 ^ 64) × AreBytes seen.event × IfSome seen.time (λ t. t < 2 ^ 64)
 
 abbrev pub IsClaim : Claim → Type 0
 IsClaim (Exists seen) = IsSeen seen
@@ -48,6 +49,10 @@ pub record IsReport (report : Report) : Type 0 where
 abbrev pub file_lines : List ℕ → List Thread
 file_lines file = map anchor_on (slice_split is_line_feed file)
 
+-- the line of three words: a name, a step and a digest
+abbrev pub line_of_words : (name step hex : List ℕ) → Thread
+line_of_words name step hex = record { from = padded_name name; step = word_number step; auth = word_digest hex }
+
 -- ---- what it says
 
 -- the services of whose histories the report speaks: those of its claim, and both of each hop
@@ -55,18 +60,24 @@ abbrev pub services_named : Report → List (List ℕ)
 services_named report = services_of report.claim ++ flat_map (λ (hop : Hop). hop.from ∷ hop.by ∷ []) report.hops
 
 module _ (dig : List ℕ → List ℕ) where
-  -- in every list of sound histories that has each of these lines that is of a service which the report names, and each thread which it
-  -- tells as carried, what the report claims is so, by its own hops; or two different texts of the list that is named have one digest
+  -- in every list of sound histories that has each of these lines that is of one of these services, and each of these carried threads,
+  -- this is so of the list; or two different texts of those that are named have one digest
+  abbrev pub IsSoInLists : (held : List Thread) (services : List (List ℕ)) (carried : List Thread) → (List History → List (List ℕ)) → (List History → Type 0) → Type 0
+  IsSoInLists held services carried texts IsSo =
+      (family : List History) → Each IsSound family
+      → Each (λ (line : Thread). Each (λ service. line.from ≡ service → HasThread dig family line) services) held
+      → Each (HasThread dig family) carried → OrClash dig (texts family) (IsSo family)
+
+  -- so is what the report claims, by its own hops: the services are those that it names, and the carried threads those that it tells as
+  -- carried
   abbrev pub IsSoByLines : (held : List Thread) (texts : List History → List (List ℕ)) → Report → Type 0
   IsSoByLines held texts report =
-      (family : List History) → Each IsSound family
-      → Each (λ (line : Thread). Each (λ service. line.from ≡ service → HasThread dig family line) (services_named report)) held
-      → Each (HasThread dig family) report.carried
-      → OrClash dig (texts family) (Facts dig family report.hops report.claim × TimesRise report.hops report.claim)
+      IsSoInLists held (services_named report) report.carried texts
+      (λ family. Facts dig family report.hops report.claim × TimesRise report.hops report.claim)
 
-  -- the text is a report's, and what that says is so by the lines of a file, given by its bytes
-  pub record IsPlain (proof file text : List ℕ) : Type 0 where
+  -- the text is a report's, and what that says of the proof of these bytes is so by the lines that are held
+  pub record IsPlain (proof : List ℕ) (held : List Thread) (text : List ℕ) : Type 0 where
     pub report : Report
     pub readable : IsReport report
     pub tells : text ≡ report_text report
-    pub so : IsSoByLines (file_lines file) (hashed_texts dig proof) report
+    pub so : IsSoByLines held (hashed_texts dig proof) report

@@ -1,6 +1,7 @@
-// What a printed report says by the reader's own lines: the theorem of docs/theorem.md. And each text of a report has one reading.
+// What is printed of an accepted proof, and of accepted map files, says by the reader's own lines: the theorem of docs/theorem.md. And it
+// has one reading.
 #![tactic(auto)]
 
 mod laws;
 
-pub use laws::{plain_laws, reading_laws};
+pub use laws::{plain_laws, plain_map_laws, reading_laws};

@@ -18,3 +18,5 @@ mod memory_files;
 mod playing;
 #[cfg(test)]
 mod runs;
+#[cfg(test)]
+mod told_last;

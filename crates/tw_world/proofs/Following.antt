@@ -5,7 +5,8 @@ use Rattle.std.specs.Prelude.{IsSome, Some, None, slice_get, slice_set, if◌the
 use Rattle.std.specs.Str.{bytes_eq}
 use Rattle.std.proofs.Math.Seq.{drop-cons}
 use Rattle.std.proofs.lemmas.Slice.Eq.{bytes_eq-Decides}
-use Rattle.tw_world.specs.Players.{AreHostsOf, IsFirst, IsHostOf}
+use Rattle.tw_world.specs.OnDisks.{IsFirst}
+use Rattle.tw_world.specs.Players.{AreHostsOf, IsHostOf}
 use Rattle.tw_world.specs.Worlds.{Member, member_of, put_member}
 use Rattle.tw_world.specs.declared.host.Host.{Host}
 use Rattle.tw_world.proofs.Members.{is_same}

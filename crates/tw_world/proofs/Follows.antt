@@ -9,7 +9,8 @@ use Rattle.tw_base.specs.declared.history.refusal.Refusal.{Refusal}
 use Rattle.tw_base.specs.declared.history.question.Question.{Question}
 use Rattle.tw_base.specs.history.History.{History}
 use Rattle.tw_world.specs.Hosts.{Given, GivesReply, GoesOnByReply, HoldsHistory, TakesGiven, own_answer}
-use Rattle.tw_world.specs.Players.{AreHostsOf, IsFirst, IsHostOf, IsMessage, PlayerFollows, mail_kept}
+use Rattle.tw_world.specs.OnDisks.{IsFirst}
+use Rattle.tw_world.specs.Players.{AreHostsOf, IsHostOf, IsMessage, PlayerFollows, mail_kept}
 use Rattle.tw_world.specs.Runs.{IsMember, Moves, loss_answer}
 use Rattle.tw_world.specs.Worlds.{Mail, Member, World, after_line, numbered, with_member, without_message}
 use Rattle.tw_world.specs.declared.host.Host.{Host}

@@ -13,6 +13,7 @@ pub mod Resting
 pub mod AnsweredCalls
 pub mod Ends
 pub mod Following
+pub mod GivenOn
 pub mod LineMoves
 pub mod ToldLines
 pub mod Follows

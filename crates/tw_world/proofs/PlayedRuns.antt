@@ -34,7 +34,8 @@ use Rattle.tw_script.proofs.LineValues.{HasValues, line-has}
 use Rattle.tw_service.specs.Machine.{Reply}
 use Rattle.tw_service.specs.Machine.Reply.{OfBytes, Refused}
 use Rattle.tw_world.specs.Hosts.{claims_none}
-use Rattle.tw_world.specs.PlayedLines.{AreLinesRead}
+use Rattle.tw_world.specs.OnDisks.{IsLineOn}
+use Rattle.tw_world.specs.PlayedLines.{AreLinesRead, PlaysOn}
 use Rattle.tw_world.specs.Players.{MayTell}
 use Rattle.tw_world.specs.Playing.{script_lines}
 use Rattle.tw_world.specs.Runs.{Appending, IsDelivered, IsLineTold, JoinTold, Moves, ProofTold, Receiving, RunsLines}
@@ -42,6 +43,7 @@ use Rattle.tw_world.specs.Runs.{mail_of}
 use Rattle.tw_world.specs.Worlds.{Mail, Member, World, no_world, numbered}
 use Rattle.tw_world.specs.Worlds.Mail.{Made as MadeMail, Unmade, Dropped}
 use Rattle.tw_world.specs.declared.told.Answer.{Answer}
+use Rattle.tw_world.specs.declared.host.Host.{Host}
 use Rattle.tw_world.specs.declared.told.Told.{Told}
 use Rattle.tw_world.proofs.MadeWorlds.{HasMade, file-there, files-there, free-new, is_there, made-anchor, made-file}
 use Rattle.tw_world.proofs.MadeWorlds.{made-hostile, made-later, made-lost, made-mail, made-member, made-service}
@@ -186,6 +188,29 @@ module _ (dig : List ℕ → List ℕ) (may_claim : Option ℕ → Bool) where
   runs-length [] (t ∷ told) w end is = absurd is
   runs-length (l ∷ lines) [] w end is = absurd is
   runs-length (l ∷ lines) (t ∷ told) w end (mid, first, rest) = ap suc (runs-length lines told mid end rest)
+
+-- so over the disks
+pub plays-none : (w : World) (hosts : List Host) → [] ≡ hosts → PlaysOn w [] [] [] w hosts
+unfolding PlaysOn
+plays-none w hosts none = (refl, none)
+
+pub plays-more : (lines : List Line) (told : List Told) (w end : World) (hosts last : List Host) (line : Line) (t : Told)
+    (next : World) (after : List Host) → PlaysOn w hosts lines told end last
+    → IsLineTold sha256 claims_none end line t next → IsLineOn end last line t after
+    → PlaysOn w hosts (lines ++ line ∷ []) (told ++ t ∷ []) next after
+unfolding PlaysOn
+plays-more [] [] w end hosts last line t next after is more on = (
+  next,
+  after,
+  subst (λ (v : World). IsLineTold sha256 claims_none v line t next) (sym is.0) more,
+  subst (λ (v : World). IsLineOn v hosts line t after) (sym is.0)
+      (subst (λ (hs : List Host). IsLineOn end hs line t after) (sym is.1) on),
+  (refl, refl),
+)
+plays-more [] (u ∷ told) w end hosts last line t next after is more on = absurd is
+plays-more (l ∷ lines) [] w end hosts last line t next after is more on = absurd is
+plays-more (l ∷ lines) (u ∷ told) w end hosts last line t next after (mid, between, first, led, rest) more on =
+    (mid, between, first, led, plays-more lines told mid end between last line t next after rest more on)
 
 -- ---- scripts
 

@@ -1,11 +1,11 @@
 -- Disks in memory that stand for histories for good.
-use Rattle.std.proofs.Common.{◌⊎◌, List, ℕ, Some, ap, sym, ◌∙◌, subst, inl, inr}
+use Rattle.std.proofs.Common.{◌≡◌, ◌⊎◌, List, ℕ, Some, ap, sym, ◌∙◌, subst, inl, inr}
 use Rattle.sha2.specs.Sha256.{sha256}
 use Rattle.tw_base.specs.history.History.{History}
 use Rattle.tw_disk.specs.Disk.{IsAtRest}
 use Rattle.tw_disk.specs.Image.{Image}
 use Rattle.tw_disk.specs.KeptCalls.{written_of}
-use Rattle.tw_disk.specs.MemDisk.{IsSameMemDisk, mem_disk_view}
+use Rattle.tw_disk.specs.MemDisk.{IsSameMemDisk, mem_disk_view, pages_of}
 use Rattle.tw_disk.specs.Model.{IsImage}
 use Rattle.tw_disk.specs.declared.memory_disk.MemDisk.{MemDisk}
 use Rattle.tw_service.specs.Stands.{IsImageOfHistory, StandsFor}
@@ -57,3 +57,13 @@ stands-left_one old new h rest stands =
       only = rest.only;
       has = stands-each old h stands rest.image rest.has;
     }
+
+pub same-image : (one other : Image) → Some one ≡ Some other → one ≡ other
+same-image one other is = cc
+
+-- and it holds the same pages
+pub pages-left : (old new : MemDisk) (h : History) → IsAtRest (mem_disk_view new) (mem_disk_view old).may_leave
+    → StandsForGood old h → pages_of new ≡ pages_of old
+pages-left old new h rest stands =
+    same-image (pages_of new) rest.image rest.told ∙ stands.only rest.image rest.has
+    ∙ sym (same-image (pages_of old) stands.image stands.told)

@@ -3,6 +3,7 @@ pub mod Telling
 pub mod Runs
 pub mod Order
 pub mod Hosts
+pub mod OnDisks
 pub mod Players
 pub mod Playing
 pub mod PlayedLines

@@ -1,6 +1,5 @@
 -- What is played of a world: services on disks, messages, files and anchors.
-use Rattle.std.specs.Prelude.{◌≡◌, ◌⊎◌, ℕ, zero, suc, ◌≤◌, List, [], ◌∷◌, length, map, false, Option, Some, None, is_some, IsSome, MatchOption, Result, Ok, Err}
-use Rattle.std.specs.Str.{bytes_eq}
+use Rattle.std.specs.Prelude.{◌≡◌, ◌⊎◌, ℕ, ◌≤◌, List, [], ◌∷◌, length, map, Option, Some, None, is_some, IsSome, MatchOption, Result, Ok, Err}
 use Rattle.sha2.specs.Sha256.{sha256}
 use Rattle.tw_base.specs.declared.history.refusal.Refusal.{Refusal}
 use Rattle.tw_base.specs.format.Formats.{Spells}
@@ -18,6 +17,7 @@ use Rattle.tw_msg.specs.declared.message.Message.{Message}
 use Rattle.tw_script.specs.declared.line.Line.{Line}
 use Rattle.tw_script.specs.declared.line.Line.TheVariants.{Service, Hostile, Append, Send, Inject, Deliver, Lose, Crash, Prove, Join, Anchor, Verify}
 use Rattle.tw_world.specs.Hosts.{GivesReply, HoldsHistory, claims_none}
+use Rattle.tw_world.specs.OnDisks.{Becomes, IsAskedOn, IsLineOn}
 use Rattle.tw_world.specs.Runs.{AreFiles, AreProofs, IsLineTold, IsMember, IsNew, loss_answer}
 use Rattle.tw_world.specs.Worlds.{Mail, Member, World, member_of, numbered}
 use Rattle.tw_world.specs.Worlds.Mail.{Made, Unmade, Dropped}
@@ -39,12 +39,6 @@ AreHostsOf [] [] = Unit {0}
 AreHostsOf (host ∷ hosts) (m ∷ members) = IsHostOf host m × AreHostsOf hosts members
 AreHostsOf _ _ = ⊥
 
--- the place of the first service of this name
-abbrev pub IsFirst : List Host → (name : List ℕ) → (at : ℕ) → Type 0
-IsFirst [] name at = ⊥
-IsFirst (host ∷ hosts) name zero = host.name ≡ name
-IsFirst (host ∷ hosts) name (suc at) = (bytes_eq host.name name ≡ false) × IsFirst hosts name at
-
 abbrev pub mail_kept : KeptMail → Mail
 mail_kept (kept.Made bytes) = Made bytes
 mail_kept kept.Unmade = Unmade
@@ -57,6 +51,10 @@ pub record PlayerFollows (player : Player) (w : World) : Type 0 where
   pub messages : map mail_kept player.messages.items ≡ w.messages
   pub files : player.files.items ≡ w.files
   pub anchors : player.anchors.items ≡ w.anchors
+
+-- the services are as they were
+abbrev pub KeepsHosts : (old new : Player) → Type 0
+KeepsHosts old new = new.hosts.items ≡ old.hosts.items
 
 -- the files of these numbers are there
 abbrev pub AreFiled : World → (numbers : List ℕ) → Type 0
@@ -112,12 +110,15 @@ FilesJoinTo w numbers joined =
 abbrev pub thread_of_link : LinkProof → Thread
 thread_of_link link = record { from = link.service; step = link.step; auth = link.auth }
 
--- the service of this name gives this, and what is played stays the world
+-- the service of this name gives this, what is played stays the world, and no other service is touched
 abbrev pub HasGiven : (old new : Player) → (name : List ℕ) → Question → Result (List ℕ) Refusal → Type 0
 HasGiven old new name question given =
-    (w : World) → PlayerFollows old w → (m : Member) × IsMember w name m × GivesReply m.history question given × PlayerFollows new w
+    (w : World) → PlayerFollows old w
+    → (m : Member) × IsMember w name m × GivesReply m.history question given × PlayerFollows new w × Becomes name IsAskedOn old.hosts.items new.hosts.items
 
--- where a line may be told of the world that is played, it is told so, and what is played then is the next world
+-- where a line may be told of the world that is played, it is told so, what is played then is the next world, and the line led from the one's
+-- services to the other's
 abbrev pub PlaysLine : (old new : Player) → Line → Told → Type 0
 PlaysLine old new line told =
-    (w : World) → PlayerFollows old w → MayTell w line → (next : World) × IsLineTold sha256 claims_none w line told next × PlayerFollows new next
+    (w : World) → PlayerFollows old w → MayTell w line
+    → (next : World) × IsLineTold sha256 claims_none w line told next × PlayerFollows new next × IsLineOn w old.hosts.items line told new.hosts.items

@@ -1,5 +1,5 @@
 -- What playing a script comes to.
-use Rattle.std.specs.Prelude.{◌≡◌, ℕ, List, codes, map, Result, Ok, Err}
+use Rattle.std.specs.Prelude.{◌≡◌, ℕ, List, [], codes, map, Result, Ok, Err}
 use Rattle.std.specs.Cmp.Lexicographic.{slice_cmp}
 use Rattle.std.specs.List.Sorted.{IsPermutation, IsSorted}
 use Rattle.std.specs.Ordering.{nat_cmp}
@@ -12,10 +12,12 @@ use Rattle.tw_script.specs.declared.line.Line.{Line}
 use Rattle.tw_script.specs.declared.script.NumberedLine.{NumberedLine}
 use Rattle.tw_script.specs.declared.script.ScriptFault.{ScriptFault}
 use Rattle.tw_world.specs.Hosts.{StandsForGood, claims_none}
+use Rattle.tw_world.specs.PlayedLines.{AreHostDisks, PlaysOn}
 use Rattle.tw_world.specs.Runs.{RunsLines}
 use Rattle.tw_world.specs.Telling.{replayed_text, told_count_of}
 use Rattle.tw_world.specs.Worlds.{World, family, no_world}
 use Rattle.tw_world.specs.declared.counts.Counts.{Counts}
+use Rattle.tw_world.specs.declared.host.Host.{Host}
 use Rattle.tw_world.specs.declared.replaying.Played.{Played}
 use Rattle.tw_world.specs.declared.replaying.WorldDisk.{WorldDisk}
 use Rattle.tw_world.specs.declared.told.Told.{Told}
@@ -41,7 +43,8 @@ abbrev pub script_lines : List NumberedLine → List Line
 script_lines script = map (λ (l : NumberedLine). l.line) script
 
 -- what came of a script: its lines were told, one after another, from a world of nothing on, in which no service claims a time. The text is
--- that of what was told and of the histories at the end, the counts are those of what was told, and the disks are those of the histories
+-- that of what was told and of the histories at the end, the counts are those of what was told, and the disks are those of the histories. So the
+-- lines led, from no service on, to services over these disks, each by what it says; a crash line to a crash at its call, which leaves what it chose
 pub record IsPlayed (script : List NumberedLine) (played : Played) : Type 0 where
   pub told : List Told
   pub end : World
@@ -49,6 +52,9 @@ pub record IsPlayed (script : List NumberedLine) (played : Played) : Type 0 wher
   pub text : played.text ≡ replayed_text script told (family end)
   pub counts : played.counts ≡ counts_of told
   pub disks : AreDisksOf (family end) played.disks
+  pub hosts : List Host
+  pub plays : PlaysOn no_world [] (script_lines script) told end hosts
+  pub over : AreHostDisks hosts played.disks
 
 -- bytes that are a script are played as it; of others it is told what reading them tells. Want of memory is free
 abbrev pub Replays : (bytes : List ℕ) → Result Played ScriptFault → Type 0

@@ -1,8 +1,12 @@
 // A service on a disk in memory.
 
-use tw_base::Name;
+use tw_base::{Name, Sha};
 use tw_disk::MemDisk;
 use tw_script::CrashChoice;
+use tw_service::Service;
+
+/// A service over a disk in memory.
+pub(crate) type MemService = Service<MemDisk, Sha>;
 
 /// A crash that waits for a service's next append or delivery.
 #[derive(Clone, Copy, Drop)]
@@ -11,6 +15,13 @@ pub(crate) struct Planned {
     pub call: u64,
     /// What is left then.
     pub choice: CrashChoice,
+}
+
+/// A service that is opened over its disk for a line, with the crash that waits for it.
+#[derive(Drop)]
+pub(crate) struct Opened {
+    pub service: MemService,
+    pub crash: Option<Planned>,
 }
 
 /// A service on a disk in memory, which is at rest between its calls.

@@ -13,5 +13,5 @@ mod told;
 
 pub use counts::Counts;
 pub use laws::world_laws;
-pub use replaying::{Played, WorldDisk, WorldDiskList, replay};
+pub use replaying::{Played, ReplayFault, Replayed, WorldDisk, WorldDiskList, replay};
 pub use told::{Answer, Told};

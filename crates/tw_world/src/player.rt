@@ -14,7 +14,8 @@ ghost use Rattle.tw_join.specs.Joining.{Joins};
 ghost use Rattle.tw_script.specs.AskedWords.{AsksWell};
 ghost use Rattle.tw_script.specs.declared.line.Line.TheVariants.{Service, Append, Send, Inject, Deliver, Lose, Crash, Prove, Join, Anchor, Verify};
 ghost use Rattle.tw_world.specs.PlayedLines.{AreLinesRead, HasPlayed, TellsNext};
-ghost use Rattle.tw_world.specs.Players.{AreFiled, AreProofsOfNumbers, CanPlayLine, FilesJoinTo, HasGiven, HasService, IsFirst, PlayerFollows, PlaysLine, ProofsJoinTo, mail_kept, thread_of_link};
+ghost use Rattle.tw_world.specs.OnDisks.{IsFirst};
+ghost use Rattle.tw_world.specs.Players.{AreFiled, AreProofsOfNumbers, CanPlayLine, FilesJoinTo, KeepsHosts, HasGiven, HasService, PlayerFollows, PlaysLine, ProofsJoinTo, mail_kept, thread_of_link};
 ghost use Rattle.tw_world.specs.Playing.{script_lines};
 ghost use Rattle.tw_world.specs.Runs.{IsFiled, IsNotFiled, loss_answer as loss_answer_of, verdict_answer};
 ghost use Rattle.tw_world.specs.Worlds.{World, after_line, no_world, with_anchor, with_message};
@@ -168,7 +169,7 @@ impl Player {
     /// Makes the next message, or none, and tells its number.
     fn add_message(&mut self, mail: Mail) -> Result<u64, NoMemory>
         ensures { IfOk result (λ number. (w : World) → PlayerFollows self.old w
-            → (number ≡ suc (length w.messages)) × PlayerFollows self.new (after_line (with_message w (mail_kept mail)))) }
+            → (number ≡ suc (length w.messages)) × PlayerFollows self.new (after_line (with_message w (mail_kept mail))) × KeepsHosts self.old self.new) }
     {
         self.messages.push(mail)?;
         Ok(self.messages.len() as u64)
@@ -255,7 +256,7 @@ impl Player {
 
     /// Makes the next file of these bytes.
     fn add_file(&mut self, bytes: Bytes) -> Result<Told, NoMemory>
-        ensures { IfOk result (λ told. (w : World) → PlayerFollows self.old w → (next : World) × IsFiled w bytes told next × PlayerFollows self.new next) }
+        ensures { IfOk result (λ told. (w : World) → PlayerFollows self.old w → (next : World) × IsFiled w bytes told next × PlayerFollows self.new next × KeepsHosts self.old self.new) }
     {
         self.files.push(Some(bytes))?;
         Ok(Told::Plain(Answer::Filed {
@@ -265,7 +266,7 @@ impl Player {
 
     /// The next file isn't made, for this reason.
     fn add_none(&mut self, why: Answer) -> Result<Told, NoMemory>
-        ensures { IfOk result (λ told. (w : World) → PlayerFollows self.old w → (next : World) × IsNotFiled w why told next × PlayerFollows self.new next) }
+        ensures { IfOk result (λ told. (w : World) → PlayerFollows self.old w → (next : World) × IsNotFiled w why told next × PlayerFollows self.new next × KeepsHosts self.old self.new) }
     {
         self.files.push(None)?;
         Ok(Told::Plain(why))
@@ -339,7 +340,7 @@ impl Player {
     fn hold_linked(&mut self, bytes: &[u8]) -> Result<Told, NoMemory>
         requires { (link : LinkProof) × Spells proof_layout bytes.now (Linked link) }
         ensures { IfOk result (λ told. (told ≡ Plain Done) × ((w : World) → PlayerFollows self.old w → (link : LinkProof)
-            × Spells proof_layout bytes.now (Linked link) × PlayerFollows self.new (after_line (with_anchor w (thread_of_link link))))) }
+            × Spells proof_layout bytes.now (Linked link) × PlayerFollows self.new (after_line (with_anchor w (thread_of_link link))) × KeepsHosts self.old self.new)) }
     {
         let anchor = linked_thread(self.alloc, bytes)?;
         self.hold(anchor)?;
@@ -348,7 +349,7 @@ impl Player {
 
     /// Holds an anchor in place of one of its service.
     fn hold(&mut self, anchor: Thread) -> Result<(), NoMemory>
-        ensures { OnOk result ((w : World) → PlayerFollows self.old w → PlayerFollows self.new (after_line (with_anchor w anchor))) }
+        ensures { OnOk result ((w : World) → PlayerFollows self.old w → PlayerFollows self.new (after_line (with_anchor w anchor)) × KeepsHosts self.old self.new) }
     {
         self.anchors.retain(|held| held.from != anchor.from);
         self.anchors.push(anchor)?;

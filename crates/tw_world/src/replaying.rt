@@ -38,6 +38,12 @@ pub struct Played {
     pub disks: WorldDiskList,
 }
 
+/// The promised name of what came of a script.
+pub type Replayed = Played;
+
+/// The promised name of why a script isn't played.
+pub type ReplayFault = ScriptFault;
+
 /// Plays a script: several services on disks in memory, messages between them, losses, repeats, crashes, proofs and verdicts.
 /// The whole script is read before anything runs; BadLine and TooLong come exactly where reading it tells them. NoMemory is
 /// for want of memory.
@@ -46,7 +52,11 @@ pub fn replay(alloc: Global, bytes: &[u8]) -> Result<Played, ScriptFault>
     // world of nothing on, in which no service claims a time. The text has what was told, each behind its line's number, and then
     // the summary of it and of the numbers of steps at the end; the counts are the numbers of lines whose answers begin with each
     // of the four words; and there is one disk for each service, in the order of their names, at rest, which stands for good for
-    // the history that the service has at the end. Else the line is told that reading tells.
+    // the history that the service has at the end. Each line led to them from the disks that the line before it left. A crash line
+    // has its crash wait. The service's next append, or delivery of a message that was made, runs over its disk, planned to stop at
+    // the crash's call behind the one that opening makes; it is told its answer where it has one, and as stopped only where that
+    // disk is; and then the pages are those that the crash's choice leaves of what was written. Else the line is told that reading
+    // tells.
     ensures { Replays bytes.now result }
 {
     match read_script(alloc, bytes) {

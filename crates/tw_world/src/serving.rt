@@ -1,30 +1,27 @@
 // What a service on a disk in memory does for a line of a script; for a schedule, tw_generate/src/telling.rt has that.
 
-ghost use Rattle.std.specs.Prelude.{◌≡◌, ◌⊎◌, ◌≤◌, true, false, None, Ok, is_some, IfErr, IfOk, IsNone, IsTrue, OnOk};
+ghost use Rattle.std.specs.Prelude.{◌≡◌, ◌⊎◌, ◌≤◌, true, false, None, Some, Ok, is_some, IfErr, IfOk, IsNone, IsTrue, OnOk};
 ghost use Rattle.sha2.specs.Sha256.{sha256};
 ghost use Rattle.tw_base.specs.history.History.{History};
 ghost use Rattle.tw_base.specs.history.Questions.{MayAsk};
 ghost use Rattle.tw_disk.specs.Image.{Image};
-ghost use Rattle.tw_disk.specs.MemDisk.{is_stopped, mem_disk_view};
+ghost use Rattle.tw_disk.specs.MemDisk.{is_stopped, mem_disk_view, pages_of};
 ghost use Rattle.tw_pages.specs.declared.open.StoreFault.TheVariants.{DiskFault as FailedDisk};
 ghost use Rattle.tw_service.specs.Serves.{Serves, disk_of, has_failed};
 ghost use Rattle.tw_service.specs.Stands.{IsImageOfHistory, no_history};
 ghost use Rattle.tw_world.specs.Hosts.{Given, Answered, AnswersRefusal, LineEnds, GivesReply, GoesOnByReply, HoldsHistory, IsGiven, RestsAs, StandsForGood, crash_told as crash_told_of};
 ghost use Rattle.tw_world.specs.Hosts.Given.{OfBytes, OfEvents};
+ghost use Rattle.tw_world.specs.OnDisks.{DoesGiven, LineEndsWith, IsAskedOn, IsGivenOn, IsOpenedFor, IsOpenedOn, StartsOn, choice_number, pages_left};
 
-use crate::host::{Host, Planned};
+use crate::host::{Host, MemService, Opened, Planned};
 use crate::told::{Answer, Told};
 use std::alloc::Global;
 use std::mem;
 use tw_answers::Refusal;
-use tw_base::{Bytes, EventList, Name, NoMemory, Question, Sha};
+use tw_base::{Bytes, EventList, Name, NoMemory, Question};
 use tw_disk::MemDisk;
 use tw_pages::StoreFault;
 use tw_script::CrashChoice;
-use tw_service::Service;
-
-/// A service over a disk in memory.
-type MemService = Service<MemDisk, Sha>;
 
 /// The service that was made or opened; a fault of the disk comes from want of memory.
 fn service_of(opened: Result<MemService, (MemDisk, StoreFault)>) -> Result<MemService, NoMemory>
@@ -43,13 +40,15 @@ fn open(alloc: Global, disk: MemDisk) -> Result<MemService, NoMemory>
     requires { (h : History) × StandsForGood disk h }
     ensures serves { IfOk result (λ service. (h : History) → StandsForGood disk h → Serves sha256 mem_disk_view service h) }
     ensures whole { IfOk result (λ service. has_failed service ≡ false) }
+    ensures opens { IfOk result (λ service. IsOpenedOn disk service) }
 {
     service_of(MemService::open(alloc, disk))
 }
 
 /// The disk, to be stopped where a crash waits: opening makes the first device call.
 fn stopping(disk: MemDisk, crash: Option<Planned>) -> MemDisk
-    ensures { (h : History) → StandsForGood disk h → StandsForGood result h }
+    ensures stands { (h : History) → StandsForGood disk h → StandsForGood result h }
+    ensures starts { StartsOn crash disk result }
 {
     match crash {
         Some(planned) => {
@@ -62,18 +61,20 @@ fn stopping(disk: MemDisk, crash: Option<Planned>) -> MemDisk
 }
 
 /// Opens it, where a crash waits so that the service is stopped at its call.
-fn open_for(alloc: Global, disk: MemDisk, crash: Option<Planned>) -> Result<MemService, NoMemory>
+fn open_for(alloc: Global, disk: MemDisk, crash: Option<Planned>) -> Result<Opened, NoMemory>
     requires { (h : History) × StandsForGood disk h }
-    ensures serves { IfOk result (λ service. (h : History) → StandsForGood disk h → Serves sha256 mem_disk_view service h) }
-    ensures whole { IfOk result (λ service. has_failed service ≡ false) }
+    ensures serves { IfOk result (λ opened. (h : History) → StandsForGood disk h → Serves sha256 mem_disk_view opened.service h) }
+    ensures whole { IfOk result (λ opened. has_failed opened.service ≡ false) }
+    ensures opens { IfOk result (IsOpenedFor disk crash) }
 {
     let service = open(alloc, stopping(disk, crash))?;
-    Ok(service)
+    Ok(Opened { service, crash })
 }
 
 /// The number of a crash's choice to a disk in memory.
 fn number_of(choice: CrashChoice) -> u8
-    ensures { result ≤ 3 }
+    ensures few { result ≤ 3 }
+    ensures number { result ≡ choice_number choice }
 {
     match choice {
         CrashChoice::Old => 0,
@@ -93,7 +94,8 @@ struct Rested {
 /// The disk, at rest, without what its calls wrote over, which it would keep from line to line: a crash that leaves the new
 /// bytes lets go of that, and changes nothing that such a disk holds.
 fn settled(disk: MemDisk) -> MemDisk
-    ensures { (h : History) → StandsForGood disk h → StandsForGood result h }
+    ensures stands { (h : History) → StandsForGood disk h → StandsForGood result h }
+    ensures left { (h : History) → StandsForGood disk h → pages_of result ≡ pages_of disk }
 {
     let mut disk = disk;
     disk.crash(number_of(CrashChoice::New));
@@ -102,7 +104,8 @@ fn settled(disk: MemDisk) -> MemDisk
 
 /// Closes a service.
 fn closed(service: MemService) -> Rested
-    ensures { (h : History) → Serves sha256 mem_disk_view service h → RestsAs result.disk result.steps h }
+    ensures rests { (h : History) → Serves sha256 mem_disk_view service h → RestsAs result.disk result.steps h }
+    ensures left { (h : History) → Serves sha256 mem_disk_view service h → pages_of result.disk ≡ pages_of (disk_of service) }
 {
     let steps = service.steps();
     Rested {
@@ -114,8 +117,9 @@ fn closed(service: MemService) -> Rested
 /// Crashes, and opens the service again.
 fn reopened(alloc: Global, disk: MemDisk, planned: Planned) -> Result<Rested, NoMemory>
     requires { (one : History) × (other : History) × ((c : Image) → (mem_disk_view disk).may_leave c → IsImageOfHistory sha256 one c ⊎ IsImageOfHistory sha256 other c) }
-    ensures { IfOk result (λ rested. (one other : History) → ((c : Image) → (mem_disk_view disk).may_leave c → IsImageOfHistory sha256 one c ⊎ IsImageOfHistory sha256 other c)
+    ensures rests { IfOk result (λ rested. (one other : History) → ((c : Image) → (mem_disk_view disk).may_leave c → IsImageOfHistory sha256 one c ⊎ IsImageOfHistory sha256 other c)
         → RestsAs rested.disk rested.steps one ⊎ RestsAs rested.disk rested.steps other) }
+    ensures left { IfOk result (λ rested. pages_of rested.disk ≡ pages_left (Some planned) disk) }
 {
     let mut disk = disk;
     disk.crash(number_of(planned.choice));
@@ -162,6 +166,7 @@ fn crashed(
         → LineEnds given true h ended.told ended.rested.disk ended.rested.steps) }
     ensures told { IfOk result (λ ended. ended.told ≡ crash_told_of answer ended.rested.steps) }
     ensures stopped { IfOk result (λ _. IsNone answer → IsTrue (is_stopped (disk_of service))) }
+    ensures left { IfOk result (λ ended. pages_of ended.rested.disk ≡ pages_left (Some planned) (disk_of service)) }
 {
     let disk = service.close();
     see_stopped(&answer, &disk)?;
@@ -174,16 +179,13 @@ fn crashed(
 }
 
 /// Ends a line that may add a step, with its answer, or none after a disk fault.
-fn end_line(
-    alloc: Global,
-    service: MemService,
-    crash: Option<Planned>,
-    answer: Option<Answer>,
-) -> Result<Ended, NoMemory>
-    requires { (given : Given) × (h : History) × Answered given h service answer }
-    ensures { IfOk result (λ ended. (given : Given) (h : History) → Answered given h service answer
-        → LineEnds given (is_some crash) h ended.told ended.rested.disk ended.rested.steps) }
+fn end_line(alloc: Global, opened: Opened, answer: Option<Answer>) -> Result<Ended, NoMemory>
+    requires { (given : Given) × (h : History) × Answered given h opened.service answer }
+    ensures ends { IfOk result (λ ended. (given : Given) (h : History) → Answered given h opened.service answer
+        → LineEnds given (is_some opened.crash) h ended.told ended.rested.disk ended.rested.steps) }
+    ensures leaves { IfOk result (λ ended. LineEndsWith opened answer ended.told ended.rested.disk ended.rested.steps) }
 {
+    let Opened { service, crash } = opened;
     match crash {
         Some(planned) => {
             let ended = crashed(alloc, service, planned, answer)?;
@@ -215,8 +217,9 @@ fn refused(refusal: Refusal) -> Result<Option<Answer>, NoMemory>
 
 /// Appends a step of these events.
 fn appended(service: &mut MemService, events: &EventList) -> Result<Option<Answer>, NoMemory>
-    ensures { IfOk result (λ answer. (h : History) → Serves sha256 mem_disk_view service.old h → has_failed service.old ≡ false
+    ensures answers { IfOk result (λ answer. (h : History) → Serves sha256 mem_disk_view service.old h → has_failed service.old ≡ false
         → Answered (OfEvents events.now) h service.new answer) }
+    ensures does { IfOk result (DoesGiven (OfEvents events.now) service.old service.new) }
 {
     match service.append(events) {
         Ok(_) => Ok(Some(Answer::Stepped {
@@ -228,8 +231,9 @@ fn appended(service: &mut MemService, events: &EventList) -> Result<Option<Answe
 
 /// Receives the bytes of a message.
 fn received(service: &mut MemService, bytes: &[u8]) -> Result<Option<Answer>, NoMemory>
-    ensures { IfOk result (λ answer. (h : History) → Serves sha256 mem_disk_view service.old h → has_failed service.old ≡ false
+    ensures answers { IfOk result (λ answer. (h : History) → Serves sha256 mem_disk_view service.old h → has_failed service.old ≡ false
         → Answered (OfBytes bytes.now) h service.new answer) }
+    ensures does { IfOk result (DoesGiven (OfBytes bytes.now) service.old service.new) }
 {
     match service.receive(bytes) {
         Ok(receipt) => Ok(Some(Answer::Archived {
@@ -296,11 +300,11 @@ impl Host {
         requires { (h : History) × HoldsHistory self.old h }
         ensures goes { IfOk result (λ told. (h : History) → HoldsHistory self.old h
             → (next : History) × GoesOnByReply (OfEvents events.now) (is_some self.old.crash) h next told × HoldsHistory self.new next) }
-        ensures same { OnOk result ((self.new.name ≡ self.old.name) × (self.new.crash ≡ None)) }
+        ensures given { IfOk result (λ told. IsGivenOn (OfEvents events.now) told self.old self.new) }
     {
-        let mut service = open_for(alloc, self.take_disk(alloc), self.crash)?;
-        let answer = appended(&mut service, events)?;
-        let ended = end_line(alloc, service, self.crash, answer)?;
+        let mut opened = open_for(alloc, self.take_disk(alloc), self.crash)?;
+        let answer = appended(&mut opened.service, events)?;
+        let ended = end_line(alloc, opened, answer)?;
         Ok(self.end(ended))
     }
 
@@ -309,11 +313,11 @@ impl Host {
         requires { (h : History) × HoldsHistory self.old h }
         ensures goes { IfOk result (λ told. (h : History) → HoldsHistory self.old h
             → (next : History) × GoesOnByReply (OfBytes bytes.now) (is_some self.old.crash) h next told × HoldsHistory self.new next) }
-        ensures same { OnOk result ((self.new.name ≡ self.old.name) × (self.new.crash ≡ None)) }
+        ensures given { IfOk result (λ told. IsGivenOn (OfBytes bytes.now) told self.old self.new) }
     {
-        let mut service = open_for(alloc, self.take_disk(alloc), self.crash)?;
-        let answer = received(&mut service, bytes)?;
-        let ended = end_line(alloc, service, self.crash, answer)?;
+        let mut opened = open_for(alloc, self.take_disk(alloc), self.crash)?;
+        let answer = received(&mut opened.service, bytes)?;
+        let ended = end_line(alloc, opened, answer)?;
         Ok(self.end(ended))
     }
 
@@ -326,7 +330,7 @@ impl Host {
         requires asks { MayAsk question.now }
         requires holds { (h : History) × HoldsHistory self.old h }
         ensures gives { IfOk result (λ given. (h : History) → HoldsHistory self.old h → GivesReply h question.now given × HoldsHistory self.new h) }
-        ensures waits { OnOk result (self.new.crash ≡ self.old.crash) }
+        ensures asked { OnOk result (IsAskedOn self.old self.new) }
     {
         let mut service = open(alloc, self.take_disk(alloc))?;
         let reply = service.ask(question);

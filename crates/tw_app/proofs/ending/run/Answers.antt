@@ -3,7 +3,9 @@ use Rattle.tw_app.proofs.Audits.{clashes, stands}
 use Rattle.tw_app.proofs.AuditsFound.{finds}
 use Rattle.tw_app.proofs.Adoptions.{adopted, adopts}
 use Rattle.tw_app.proofs.MapRuns.{between}
-use Rattle.tw_app.proofs.PlainRuns.{plain_run}
+use Rattle.tw_app.proofs.PlainAdoptions.{plain_adoption}
+use Rattle.tw_app.proofs.PlainMapRuns.{plain_map}
+use Rattle.tw_app.proofs.PlainRuns.{plain_line, plain_run}
 use Rattle.tw_app.proofs.ending.run.Goals as goal
 
 pub returns-clause-accepted : goal.returns-clause-accepted
@@ -45,8 +47,29 @@ pub returns-clause-adopts : goal.returns-clause-adopts
 returns-clause-adopts g c = λ h anchors proofs is. adopts g.D.Disk.view _ _ h anchors proofs is c.run_to_the_end.ensures
 
 pub returns-clause-plain : goal.returns-clause-plain
-returns-clause-plain g c = λ proof_file lines_file proof lines before zeroth asked proof_told lines_told taken.
+returns-clause-plain g c = λ proof_file lines_file proof lines before word zeroth taken named asked proof_told lines_told.
     let run = c.run_to_the_end.ensures in
     let laws = c.plain_laws.ensures in
-    plain_run laws.so laws.readable g.D.Disk.view g.met.D.Disk.only_now g.met.D.Disk.as_it_reads _ _ run zeroth proof_file lines_file
-    proof lines before asked proof_told lines_told taken
+    plain_run laws.held laws.so laws.readable g.D.Disk.view g.met.D.Disk.only_now g.met.D.Disk.as_it_reads _ _ run zeroth
+    proof_file lines_file proof lines before word named asked proof_told lines_told taken
+
+pub returns-clause-plain_line : goal.returns-clause-plain_line
+returns-clause-plain_line g c = λ proof_file name step hex proof before zeroth asked proof_told taken.
+    let run = c.run_to_the_end.ensures in
+    let laws = c.plain_laws.ensures in
+    plain_line laws.held laws.so laws.readable g.D.Disk.view g.met.D.Disk.only_now g.met.D.Disk.as_it_reads _ _ run zeroth
+    proof_file name step hex proof before asked proof_told taken
+
+pub returns-clause-plain_map : goal.returns-clause-plain_map
+returns-clause-plain_map g c = λ low_file high_file lines_file low high lines before zeroth asked low_told high_told lines_told taken.
+    let run = c.run_to_the_end.ensures in
+    plain_map c.plain_map_laws.ensures.so g.D.Disk.view _ _ run zeroth low_file high_file lines_file low high lines before
+    g.met.D.Disk.only_now g.met.D.Disk.as_it_reads asked low_told high_told lines_told taken
+
+pub returns-clause-plain_adoption : goal.returns-clause-plain_adoption
+returns-clause-plain_adoption g c = λ history_file lines_file proof_file whole lines before more_files proofs zeroth asked whole_told lines_told proofs_told taken.
+    let run = c.run_to_the_end.ensures in
+    let fronts = c.first_steps_laws.ensures in
+    plain_adoption c.plain_laws.ensures.so c.same_laws.ensures.same fronts.same g.D.Disk.view _ _ run zeroth
+    history_file lines_file proof_file whole lines before more_files proofs
+    g.met.D.Disk.only_now g.met.D.Disk.as_it_reads asked whole_told lines_told proofs_told taken

@@ -11,16 +11,16 @@ pub returns-then-is_empty : goal.returns-then-is_empty
 returns-then-is_empty g c = λ took.
     let family = family_texts g.H.Hasher.dig c.args.histories.now in
     let own = proof_texts g.H.Hasher.dig c.args.proof.now in
-    clash_pair-none-kept g.H.Hasher.dig (is_among_keys c.in_ok-both.both.0) (family ++ own)
-    (none-among c.in_ok-both.both.0 (c.is_empty.ensures.0 c.if-is_empty.true))
-    (covers-within g.H.Hasher.dig (family ++ own) (own ++ family) c.in_ok-both.both.0 (turned-within family own)
-    (c.in_ok-both.ensures g.H.Hasher.dig (own ++ family) took))
+    clash_pair-none-kept g.H.Hasher.dig (is_among_keys c.in_ok-repeated.repeated) (family ++ own)
+    (none-among c.in_ok-repeated.repeated (c.is_empty.ensures.0 c.if-is_empty.true))
+    (covers-within g.H.Hasher.dig (family ++ own) (own ++ family) c.in_ok-repeated.repeated (turned-within family own)
+    (c.in_ok-repeated.ensures g.H.Hasher.dig (own ++ family) took))
 
 pub returns : goal.returns
 returns g c =
     IfOk-weaker c.pair_among.result _ _ (λ pair is took.
     let family = family_texts g.H.Hasher.dig c.args.histories.now in
     let own = proof_texts g.H.Hasher.dig c.args.proof.now in
-    is (covers-within g.H.Hasher.dig (family ++ own) (own ++ family) c.in_ok-both.both.0 (turned-within family own)
-    (c.in_ok-both.ensures g.H.Hasher.dig (own ++ family) took))
+    is c.in_ok-repeated.repeated (covers-within g.H.Hasher.dig (family ++ own) (own ++ family) c.in_ok-repeated.repeated (turned-within family own)
+    (c.in_ok-repeated.ensures g.H.Hasher.dig (own ++ family) took))
     c.new-finder.ensures) c.pair_among.ensures

@@ -13,7 +13,7 @@ returns c =
     if-ok c.write_proof-written.result (λ bytes is. (
       proof,
       subst (λ (ps : List Proof). Joins ps (Ok proof)) c.as_slice.ensures
-          (subst (λ (r : Result Proof JoinFault). Joins c.as_slice.result.now r) c.in_ok-proof.ensures c.join.ensures),
+          (subst (λ (r : Result Proof JoinFault). Joins c.as_slice.result.now r) c.in_ok-proof.ensures.value c.join.ensures),
       is,
     )) c.write_proof-written.ensures.bytes
 

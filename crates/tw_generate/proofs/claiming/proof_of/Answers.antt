@@ -15,4 +15,4 @@ pub returns : goal.returns
 returns c = if-ok c.read_whole.result
     (λ p is. subst (λ (bytes : List ℕ). Spells proof_layout bytes p) c.as_slice.ensures
     (read-is (λ (q : Proof). q) proof_layout c.as_slice.result.now p c.read_proof.result is c.read_proof.ensures))
-    c.read_whole.ensures
+    c.read_whole.ensures.value

@@ -25,12 +25,12 @@ read_whole-requires-2 g c =
     c.read_high.ensures.read
 
 pub check_map-requires-clause-low : goal.check_map-requires-clause-low
-check_map-requires-clause-low g c = subst (λ (r : Result LowFile ReadFault). IfOk r low_codec.Fits) c.in_ok-low.ensures
+check_map-requires-clause-low g c = subst (λ (r : Result LowFile ReadFault). IfOk r low_codec.Fits) c.in_ok-low.ensures.value
     c.read_low.ensures.fits
 
 pub check_map-requires-clause-high : goal.check_map-requires-clause-high
 check_map-requires-clause-high g c = subst (λ (r : Result HighFile ReadFault). IfOk r high_codec.Fits)
-    c.in_ok-high.ensures c.read_high.ensures.fits
+    c.in_ok-high.ensures.value c.read_high.ensures.fits
 
 pub bounds_of-requires : goal.bounds_of-requires
 bounds_of-requires g c =
@@ -39,11 +39,11 @@ bounds_of-requires g c =
     let low : c.in_ok-low.low ≡ files.low_file =
     c.map_file_laws.ensures.low_once.one_value c.args.low.now c.in_ok-low.low files.low_file
     (spelled-by low_layout c.as_slice.result.now c.args.low.now c.in_ok-low.low c.read_low.result c.as_slice.ensures
-    c.in_ok-low.ensures c.read_low.ensures.read) files.low_spelled in
+    c.in_ok-low.ensures.value c.read_low.ensures.read) files.low_spelled in
     let high : c.in_ok-high.high ≡ files.high_file =
     c.map_file_laws.ensures.high_once.one_value c.args.high.now c.in_ok-high.high files.high_file
     (spelled-by high_layout c.as_slice-2.result.now c.args.high.now c.in_ok-high.high c.read_high.result
-    c.as_slice-2.ensures c.in_ok-high.ensures c.read_high.ensures.read) files.high_spelled in (
+    c.as_slice-2.ensures c.in_ok-high.ensures.value c.read_high.ensures.read) files.high_spelled in (
       c.requires.0,
       c.requires.1,
       files.upto,
@@ -57,10 +57,10 @@ pub returns : goal.returns
 returns g c = record {
   low_file = c.in_ok-low.low;
   low_spelled = spelled-by low_layout c.as_slice.result.now c.args.low.now c.in_ok-low.low c.read_low.result
-      c.as_slice.ensures c.in_ok-low.ensures c.read_low.ensures.read;
+      c.as_slice.ensures c.in_ok-low.ensures.value c.read_low.ensures.read;
   high_file = c.in_ok-high.high;
   high_spelled = spelled-by high_layout c.as_slice-2.result.now c.args.high.now c.in_ok-high.high c.read_high.result
-      c.as_slice-2.ensures c.in_ok-high.ensures c.read_high.ensures.read;
+      c.as_slice-2.ensures c.in_ok-high.ensures.value c.read_high.ensures.read;
   upto = c.bounds_of.ensures.0;
   is_accepted = ap (λ (anchors : List Thread). map_verdict g.H.Hasher.dig anchors c.in_ok-low.low c.in_ok-high.high)
       (sym c.as_slice-3.ensures) ∙ sym c.check_map.ensures.verdict ∙ c.bounds_of.ensures.1;

@@ -14,7 +14,7 @@ returns g c = λ h plays. if-ok c.file_given.result (λ bytes is.
     c.ask.ensures is in
     let accepted = rw is at c.ask.ensures.accepted in
     let reads : ReadsHistory bytes (Ok h) = accepted h plays.0 in
-    (both.0, reads)) c.file_given.ensures
+    (both.0, reads)) c.file_given.ensures.value
 
 pub file_given-requires : goal.file_given-requires
 file_given-requires g c =

@@ -9,7 +9,7 @@ use Rattle.tw_generate.proofs.judging.history_of.Goals as goal
 pub returns : goal.returns
 returns c = λ h reads. if-ok c.history_read.result (λ history is.
     let read = subst (λ (r : Result History HistoryFault). ReadsHistory c.args.bytes.now r) is c.read.ensures in
-    c.history_laws.ensures.format.one_value c.args.bytes.now history h read.1 reads.1) c.history_read.ensures
+    c.history_laws.ensures.format.one_value c.args.bytes.now history h read.1 reads.1) c.history_read.ensures.value
 
 pub history_read-requires : goal.history_read-requires
 history_read-requires c =

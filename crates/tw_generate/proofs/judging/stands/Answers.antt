@@ -26,7 +26,7 @@ returns g c =
       subst (λ (r : Result Finding AuditFault). IsAudit dig c.args.histories.now c.args.heads.now c.args.proof.now r)
           told.1 audited,
       told.2,
-    )) c.stands_told.ensures
+    )) c.stands_told.ensures.stands
 
 pub stands_told-requires : goal.stands_told-requires
 stands_told-requires g c =

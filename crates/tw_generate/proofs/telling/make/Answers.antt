@@ -5,7 +5,7 @@ pub returns : goal.returns
 returns g c = λ image is. if-ok c.service_made.result (λ service made.
     let served = rw made at c.init.ensures.served in
     let thread = rw made at c.init.ensures.thread in
-    (served image is, thread.2)) c.service_made.ensures
+    (served image is, thread.2)) c.service_made.ensures.value
 
 pub service_made-requires : goal.service_made-requires
 service_made-requires g c =

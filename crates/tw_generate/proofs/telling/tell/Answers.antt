@@ -28,7 +28,7 @@ returns g c = λ a b sends takes known.
     let spelled : Spells message_layout c.as_slice.result.now m =
     subst (λ (bytes : List ℕ). Spells message_layout bytes m) (sym c.as_slice.ensures) made.1 in
     let received = received-by dig g.D.Disk.view c.args.to.now c.receive.new.self b takes c.as_slice.result.now m
-    c.receive.result c.in_ok-given.field-0 c.receive.ensures spelled c.in_ok-given.ensures in
+    c.receive.result c.in_ok-given.field-0 c.receive.ensures spelled c.in_ok-given.ensures.value in
     let next : History = received.0 in
     let before : c.steps-before.result ≡ length b.steps = c.steps-before.ensures.served b takes.0 in
     let after : c.steps.result ≡ length next.steps = c.steps.ensures.served next received.1.0 in

@@ -1,9 +1,9 @@
-use Rattle.std.proofs.Common.{◌≡◌, ◌∙◌, ◌++◌, List, length, ap, subst, sym}
+use Rattle.std.proofs.Common.{◌≡◌, ◌∙◌, ◌++◌, List, [], length, ap, subst, sym}
 use Rattle.std.proofs.lemmas.List.{length-map}
 use Rattle.sha2.specs.Sha256.{sha256}
 use Rattle.tw_script.specs.declared.script.NumberedLine.{NumberedLine}
 use Rattle.tw_world.specs.Hosts.{claims_none, hosts_line}
-use Rattle.tw_world.specs.PlayedLines.{HasPlayed}
+use Rattle.tw_world.specs.PlayedLines.{HasPlayed, PlaysOn}
 use Rattle.tw_world.specs.Players.{AreHostsOf}
 use Rattle.tw_world.specs.Playing.{counts_of, script_lines}
 use Rattle.tw_world.specs.Telling.{told_lines}
@@ -44,4 +44,8 @@ returns c =
       counts = counts;
       disks = disks-are end.members hosts c.in_ok-disks.disks are (own-histories (script_lines c.args.script.now) told
           end played.1) c.in_ok-disks.ensures;
+      hosts = hosts;
+      plays = subst (λ hs. PlaysOn no_world [] (script_lines c.args.script.now) told end hs.items)
+          (sym c.into_hosts-hosts.ensures) played.3;
+      over = c.in_ok-disks.ensures;
     }

@@ -1,5 +1,6 @@
 use Rattle.tw_world.proofs.AnsweredCalls.{if-ok}
 use Rattle.tw_world.proofs.Opened.{opened-only}
+use Rattle.tw_world.proofs.Resting.{same-image}
 use Rattle.tw_world.proofs.serving.open.Goals as goal
 
 pub returns-clause-serves : goal.returns-clause-serves
@@ -10,6 +11,12 @@ returns-clause-serves c = if-ok c.service_of.result _ _ (λ service is. λ h sta
 pub returns-clause-whole : goal.returns-clause-whole
 returns-clause-whole c = if-ok c.service_of.result _ _ (λ service is. rw is at c.open.ensures.whole)
     c.service_of.ensures
+
+pub returns-clause-opens : goal.returns-clause-opens
+returns-clause-opens c = if-ok c.service_of.result _ _ (λ service is.
+    let same = rw is at c.open.ensures.unchanged in
+    let since = rw is at c.open.ensures.any_moment in
+    (same-image _ _ same, since)) c.service_of.ensures
 
 pub service_of-requires : goal.service_of-requires
 service_of-requires c =

@@ -1,14 +1,11 @@
-use Rattle.std.proofs.Common.{◌∙◌}
+use Rattle.std.specs.Option.{option_map}
 use Rattle.std.proofs.lemmas.Result.{IfOk-weaker}
-use Rattle.tw_audit.specs.KeyLists.{doubtful, is_among_keys}
-use Rattle.tw_audit.proofs.Doubtful.{clash_pair-kept}
-use Rattle.tw_audit.proofs.KeyLaws.{covers-more}
+use Rattle.tw_audit.specs.Tables.{pair_kept}
+use Rattle.tw_audit.proofs.FinderLaws.{found-pair}
 use Rattle.tw_audit.proofs.finder.Finder.into_pair.Goals as goal
 
-pub returns-then-is_subset : goal.returns-then-is_subset
-returns-then-is_subset g c =
-    IfOk-weaker c.into_pair.result _ _ (λ pair is texts covered took.
-    is g.H.Hasher.dig (doubtful g.H.Hasher.dig c.args.self.repeated texts) took
-    ∙ clash_pair-kept g.H.Hasher.dig (is_among_keys c.args.self.repeated) texts
-    (covers-more g.H.Hasher.dig texts c.args.repeated.now c.args.self.repeated
-    (c.is_subset.ensures.0 c.if-is_subset.true) covered)) c.into_pair.ensures
+pub returns-clause-pair : goal.returns-clause-pair
+returns-clause-pair g c =
+    IfOk-weaker c.into_pair.result _ _ (λ pair is repeated texts covered took.
+    found-pair g.H.Hasher.dig c.args.self.repeated c.args.self.table repeated texts (option_map pair_kept pair) covered
+    took (is g.H.Hasher.dig)) c.into_pair.ensures.pair

@@ -5,8 +5,8 @@ use Rattle.std.specs.Ordering.{nat_cmp}
 use Rattle.tw_audit.proofs.KeyLaws.{covers}
 use Rattle.tw_audit.proofs.keys.Keys.into_repeated.Goals as goal
 
-pub returns-in-Ok : goal.returns-in-Ok
-returns-in-Ok c = λ dig texts took.
+pub returns : goal.returns
+returns c = λ dig texts took.
     covers dig texts c.args.self c.sort_unstable.new.self.items c.in_ok-repeated.repeated (took c.if-self.false)
     c.sort_unstable.ensures.permutation c.sort_unstable.ensures.sorted
     (subst (λ keys. (i : ℕ) → i + 1 < length keys → get_or keys i [] ≡ get_or keys (i + 1) []

@@ -13,6 +13,7 @@ pub returns-clause-taken : goal.returns-clause-taken
 returns-clause-taken c = λ dig texts gives key none absent is.
     let new : Table =
     record {
+      alloc = c.args.self.now.alloc;
       arena = c.add.new.self.arena;
       places = c.insert.new.self;
       found = c.add.new.self.found;

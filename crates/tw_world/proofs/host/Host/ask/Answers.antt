@@ -1,17 +1,17 @@
-use Rattle.std.proofs.Common.{List, ℕ, refl, ◌∙◌, sym, subst}
+use Rattle.std.proofs.Common.{List, ℕ, ap, refl, ◌∙◌, sym, subst}
 use Rattle.std.specs.Prelude.{Result, Ok, Err}
 use Rattle.sha2.specs.Sha256.{sha256}
 use Rattle.tw_base.specs.declared.history.refusal.Refusal.{Refusal}
 use Rattle.tw_base.specs.declared.history.refusal.Refusal.TheVariants.{BadPage, DiskFault, NoMemory, Reopen}
 use Rattle.tw_base.specs.declared.history.question.Question.{Question}
 use Rattle.tw_base.specs.history.History.{History}
-use Rattle.tw_disk.specs.MemDisk.{mem_disk_view}
+use Rattle.tw_disk.specs.MemDisk.{mem_disk_view, pages_of}
 use Rattle.tw_service.specs.Machine.{AnswersByMachine}
 use Rattle.tw_service.specs.Machine.Call.{Ask}
 use Rattle.tw_service.specs.Machine.Reply.{OfBytes}
 use Rattle.tw_service.specs.Serves.{Serves, name_of}
 use Rattle.tw_world.specs.Hosts.{GivesReply, IsGiven, StandsForGood}
-use Rattle.tw_world.proofs.Resting.{stands-closed}
+use Rattle.tw_world.proofs.Resting.{same-image, stands-closed}
 use Rattle.tw_world.proofs.host.Host.ask.Goals as goal
 
 -- what is given is the machine's reply
@@ -41,6 +41,14 @@ returns-clause-gives c h holds =
         stands = stands-closed c.close.result name h (c.close.ensures.stands h (asks.same h served).0);
       },
     )
+
+pub returns-clause-asked : goal.returns-clause-asked
+returns-clause-asked c = record {
+  named = c.take_disk.ensures.same.0;
+  waits = c.take_disk.ensures.same.2;
+  pages = ap pages_of c.close.ensures.disk ∙ same-image _ _ c.ask-reply.ensures.asks.unwritten.disk.content
+      ∙ c.in_ok-service.ensures.opens.0 ∙ ap pages_of c.take_disk.ensures.disk;
+}
 
 pub open-requires : goal.open-requires
 open-requires c = let has = c.requires.holds in

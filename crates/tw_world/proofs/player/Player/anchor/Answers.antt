@@ -9,7 +9,7 @@ use Rattle.tw_chain.specs.declared.proof.Proof.TheVariants.{Linked}
 use Rattle.tw_script.specs.declared.line.Line.TheVariants.{Anchor}
 use Rattle.sha2.specs.Sha256.{sha256}
 use Rattle.tw_world.specs.Hosts.{GivesReply, claims_none}
-use Rattle.tw_world.specs.Players.{PlayerFollows, PlaysLine, thread_of_link}
+use Rattle.tw_world.specs.Players.{KeepsHosts, PlayerFollows, PlaysLine, thread_of_link}
 use Rattle.tw_world.specs.Runs.{IsLineTold}
 use Rattle.tw_world.specs.Worlds.{World, after_line, with_anchor}
 use Rattle.tw_world.specs.declared.told.Answer.TheVariants.{Done}
@@ -17,6 +17,7 @@ use Rattle.tw_world.specs.declared.told.Told.{Told}
 use Rattle.tw_world.specs.declared.told.Told.TheVariants.{Plain}
 use Rattle.tw_world.proofs.AnsweredCalls.{if-ok}
 use Rattle.tw_world.proofs.Follows.{later}
+use Rattle.tw_world.proofs.GivenOn.{asked-still}
 use Rattle.tw_world.proofs.ToldLines.{linked-made, told-anchored, told-unanchored}
 use Rattle.tw_world.proofs.player.Player.anchor.Goals as goal
 
@@ -28,6 +29,7 @@ returns-in-Err c w f may =
       after_line w,
       told-unanchored w c.args.service.now c.args.step given.0 given.1 may.0 c.in-Err.refusal gives,
       later c.ask.new.self w given.3,
+      given.4,
     )
 
 pub returns-in-Ok : goal.returns-in-Ok
@@ -40,7 +42,7 @@ returns-in-Ok c =
     if-ok c.hold_linked.result
     (λ (told : Told). (told ≡ Plain Done) × ((w : World) → PlayerFollows mid w → (link : LinkProof)
     × Spells proof_layout c.as_slice.result.now (Linked link) × PlayerFollows new
-    (after_line (with_anchor w (thread_of_link link)))))
+    (after_line (with_anchor w (thread_of_link link))) × KeepsHosts mid new))
     (PlaysLine c.args.self.now new (Anchor name step))
     (λ told held w f may.
     let given = c.in_ok-refusal.ensures w f in
@@ -53,6 +55,7 @@ returns-in-Ok c =
       subst (λ (t : Told). IsLineTold sha256 claims_none w (Anchor name step) t next) (sym held.0)
           (told-anchored w name step given.0 given.1 may.0 bytes done.0 gives spells),
       done.2,
+      asked-still name c.args.self.now.hosts.items mid.hosts.items new.hosts.items given.4 done.3,
     ))
     c.hold_linked.ensures
 

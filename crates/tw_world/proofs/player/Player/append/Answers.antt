@@ -1,3 +1,4 @@
+use Rattle.std.proofs.Common.{refl}
 use Rattle.tw_world.specs.Hosts.Given.{OfEvents}
 use Rattle.tw_world.specs.declared.host.Host.{Host}
 use Rattle.tw_world.proofs.Follows.{follows-moved, held-at, served-at, with_host}
@@ -12,8 +13,12 @@ returns c w f may =
     let served = served-at old name c.find-at.result host one c.find-at.ensures c.index_mut.ensures.value in
     let moved = follows-moved old (with_host old c.find-at.result one) name c.find-at.result host one served w f
     (OfEvents c.args.events.now) c.in_ok-told.told
-    c.in_ok-told.ensures.goes c.in_ok-told.ensures.same.0 c.in_ok-told.ensures.same.1 in
-    (moved.2.0, (may.0, (moved.0, moved.1, moved.2.1)), moved.2.2)
+    c.in_ok-told.ensures.goes c.in_ok-told.ensures.given.named c.in_ok-told.ensures.given.over in (
+      moved.2.0,
+      (may.0, (moved.0, moved.1, moved.2.1)),
+      moved.2.2,
+      (c.find-at.result, host, one, c.find-at.ensures.1, served.there, refl, c.in_ok-told.ensures.given),
+    )
 
 pub find-at-requires : goal.find-at-requires
 find-at-requires c = let can = c.requires in (can.0, can.1, can.2.1)

@@ -12,6 +12,7 @@ use Rattle.tw_world.specs.declared.told.Told.TheVariants.{Plain}
 use Rattle.tw_world.proofs.Following.{find-member}
 use Rattle.tw_world.proofs.Follows.{follows-moved, held-at, host-there, later, message-kept, message-there}
 use Rattle.tw_world.proofs.Follows.{message-within, served-at, with_host}
+use Rattle.tw_world.proofs.GivenOn.{delivered-on}
 use Rattle.tw_world.proofs.ToldLines.{told-delivered}
 use Rattle.tw_world.proofs.player.Player.deliver.Goals as goal
 
@@ -31,11 +32,14 @@ returns-in_ok-told-in-Made c w f may =
     let served = served-at old name c.find-at.result host one c.find-at.ensures c.index_mut.ensures.value in
     let moved = follows-moved old (with_host old c.find-at.result one) name c.find-at.result host one served w f
     (OfBytes bytes) c.in_ok-told-in-Made.told
-    c.in_ok-told-in-Made.ensures.goes c.in_ok-told-in-Made.ensures.same.0 c.in_ok-told-in-Made.ensures.same.1 in (
+    c.in_ok-told-in-Made.ensures.goes c.in_ok-told-in-Made.ensures.given.named c.in_ok-told-in-Made.ensures.given.over in (
       moved.2.0,
       told-delivered w name c.args.number index moved.0 (Made bytes) c.in_ok-told-in-Made.told moved.2.0 moved.1 at.1
           there moved.2.1,
       moved.2.2,
+      delivered-on w old.hosts.items (with_host old c.find-at.result one).hosts.items c.args.number index name
+          c.in_ok-told-in-Made.told (Made bytes) at.1 there
+          (c.find-at.result, host, one, c.find-at.ensures.1, served.there, refl, c.in_ok-told-in-Made.ensures.given),
     )
 
 pub returns-in-Unmade : goal.returns-in-Unmade
@@ -54,6 +58,8 @@ returns-in-Unmade c w f may =
       told-delivered w name c.args.number index found.member Unmade (Plain answer.Nothing) (after_line w) found.there
           at.1 there (refl, refl),
       later old w f,
+      delivered-on w old.hosts.items old.hosts.items c.args.number index name (Plain answer.Nothing) Unmade at.1 there
+          refl,
     )
 
 pub find-at-requires : goal.find-at-requires

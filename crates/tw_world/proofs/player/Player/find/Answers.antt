@@ -1,7 +1,7 @@
 use Rattle.std.proofs.Common.{◌≡◌, ◌<◌, ◌≤◌, ℕ, suc, zero, List, [], ◌∷◌, drop, length, ap, sym, ◌∙◌, subst, arith}
 use Rattle.std.proofs.lemmas.Slice.Eq.{bytes_eq-Decides}
 use Rattle.std.specs.Str.{bytes_eq}
-use Rattle.tw_world.specs.Players.{IsFirst}
+use Rattle.tw_world.specs.OnDisks.{IsFirst}
 use Rattle.tw_world.specs.declared.host.Host.{Host}
 use Rattle.tw_world.proofs.Following.{first-behind, first-here, first-later, first-of}
 use Rattle.tw_world.proofs.player.Player.find.Goals as goal

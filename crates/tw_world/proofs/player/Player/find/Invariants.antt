@@ -1,5 +1,5 @@
 use Rattle.std.proofs.Common.{ℕ, ◌+◌, drop}
-use Rattle.tw_world.specs.Players.{IsFirst}
+use Rattle.tw_world.specs.OnDisks.{IsFirst}
 use Rattle.tw_world.proofs.player.Player.find.Given as goal
 
 -- the first service of the name among those that are left is the first one, and there is one

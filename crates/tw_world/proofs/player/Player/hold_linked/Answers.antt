@@ -12,6 +12,7 @@ returns c =
         read.0,
         read.1,
         subst (λ (t : Thread). PlayerFollows c.hold.new.self (after_line (with_anchor w t))) read.2
-            (c.in_ok-hold.ensures w f),
+            (c.in_ok-hold.ensures w f).0,
+        (c.in_ok-hold.ensures w f).1,
       ),
     )

@@ -1,6 +1,6 @@
 use Rattle.std.proofs.Common.{List, ℕ, subst}
 use Rattle.tw_script.specs.declared.line.Line.TheVariants.{Join}
-use Rattle.tw_world.specs.Players.{FilesJoinTo, PlayerFollows, PlaysLine}
+use Rattle.tw_world.specs.Players.{FilesJoinTo, KeepsHosts, PlayerFollows, PlaysLine}
 use Rattle.tw_world.specs.Runs.{IsFiled, IsNotFiled}
 use Rattle.tw_world.specs.Worlds.{World}
 use Rattle.tw_world.specs.declared.told.Answer.{Answer}
@@ -17,12 +17,12 @@ returns-in-Ok c =
     let bytes : List ℕ = c.in-Ok.bytes in
     if-ok c.add_file.result
     (λ (told : Told). (w : World) → PlayerFollows old w → (next : World) × IsFiled w bytes told next × PlayerFollows new
-    next)
+    next × KeepsHosts old new)
     (PlaysLine old new (Join numbers))
     (λ told made w f may.
     let filed = made w f in
     let join = subst (FilesJoinTo w numbers) c.in-Ok.is (c.in_ok-bytes.ensures w f may.1) in
-    (filed.0, told-filed w numbers bytes told filed.0 may.0 join filed.1, filed.2))
+    (filed.0, told-filed w numbers bytes told filed.0 may.0 join filed.1, filed.2, filed.3))
     c.add_file.ensures
 
 pub returns-in-Err : goal.returns-in-Err
@@ -33,10 +33,10 @@ returns-in-Err c =
     let why : Answer = c.in-Err.why in
     if-ok c.add_none.result
     (λ (told : Told). (w : World) → PlayerFollows old w → (next : World) × IsNotFiled w why told next × PlayerFollows
-    new next)
+    new next × KeepsHosts old new)
     (PlaysLine old new (Join numbers))
     (λ told made w f may.
     let filed = made w f in
     let join = subst (FilesJoinTo w numbers) c.in-Err.is (c.in_ok-bytes.ensures w f may.1) in
-    (filed.0, told-not_filed w numbers why told filed.0 may.0 join filed.1, filed.2))
+    (filed.0, told-not_filed w numbers why told filed.0 may.0 join filed.1, filed.2, filed.3))
     c.add_none.ensures

@@ -1,4 +1,4 @@
-use Rattle.std.proofs.Common.{◌<◌, length, arith}
+use Rattle.std.proofs.Common.{◌<◌, length, arith, refl}
 use Rattle.tw_world.specs.Players.{mail_kept}
 use Rattle.tw_world.specs.Worlds.{after_line, without_message}
 use Rattle.tw_world.proofs.Follows.{message-kept, message-lost, message-there, message-within}
@@ -21,6 +21,7 @@ returns c w f may =
         files = f.files;
         anchors = f.anchors;
       },
+      refl,
     )
 
 pub index_of-index-requires : goal.index_of-index-requires

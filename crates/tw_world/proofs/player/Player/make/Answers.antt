@@ -21,4 +21,5 @@ returns c w f new =
         files = f.files;
         anchors = f.anchors;
       },
+      (c.in_ok-host.host, c.in_ok-push.ensures.items, c.in_ok-host.ensures.holds.named, c.in_ok-host.ensures.waits),
     )

@@ -25,6 +25,7 @@ returns c w f may =
             waits = refl;
           })
           (named w.members name found.member found.there),
+      (c.find-at.result, host, one, c.find-at.ensures.1, served.there, refl, refl),
     )
 
 pub find-at-requires : goal.find-at-requires

@@ -17,7 +17,12 @@ returns-in-Hostile c =
       after_line (with_hostile w c.in-Hostile.name),
       (new, refl, refl),
       record { hosts = f.hosts; messages = f.messages; files = f.files; anchors = f.anchors },
+      refl,
     ))
+
+pub returns-in-Crash : goal.returns-in-Crash
+returns-in-Crash c =
+    subst (λ (l : Line). PlaysLine c.args.self.now c.plan.new.self l c.plan.result) (sym c.in-Crash.is) c.plan.ensures
 
 pub returns-in-Inject : goal.returns-in-Inject
 returns-in-Inject c =

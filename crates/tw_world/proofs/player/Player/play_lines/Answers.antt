@@ -4,12 +4,13 @@ use Rattle.sha2.specs.Sha256.{sha256}
 use Rattle.tw_script.specs.declared.line.Line.{Line}
 use Rattle.tw_script.specs.declared.script.NumberedLine.{NumberedLine}
 use Rattle.tw_world.specs.Hosts.{claims_none}
-use Rattle.tw_world.specs.PlayedLines.{AreLinesRead, HasPlayed}
+use Rattle.tw_world.specs.PlayedLines.{AreLinesRead, HasPlayed, PlaysOn}
 use Rattle.tw_world.specs.Playing.{script_lines}
 use Rattle.tw_world.specs.Runs.{RunsLines}
 use Rattle.tw_world.specs.Worlds.{no_world}
 use Rattle.tw_world.specs.declared.told.Told.{Told}
-use Rattle.tw_world.proofs.PlayedRuns.{asks-next, may-next, runs-more, runs-none}
+use Rattle.tw_world.proofs.GivenOn.{no-hosts}
+use Rattle.tw_world.proofs.PlayedRuns.{asks-next, may-next, plays-more, plays-none, runs-more, runs-none}
 use Rattle.tw_world.proofs.player.Player.play_lines.Goals as goal
 
 pub loop-numbered-init : goal.loop-numbered-init
@@ -18,6 +19,9 @@ loop-numbered-init c = (
   subst (λ (told : List Told). RunsLines sha256 claims_none no_world [] told no_world) (sym c.new-told.ensures)
       (runs-none sha256 claims_none no_world),
   c.requires.nothing,
+  subst (λ (told : List Told). PlaysOn no_world [] [] told no_world c.args.self.now.hosts.items)
+      (sym c.new-told.ensures) (plays-none no_world c.args.self.now.hosts.items
+      (no-hosts c.args.self.now.hosts.items c.requires.nothing.hosts)),
 )
 
 pub play_next-requires-clause-asks : goal.play_next-requires-clause-asks
@@ -60,6 +64,12 @@ loop-numbered-preserved c =
           (sym next.3)
           (runs-more sha256 claims_none before at.told no_world played.0 l.line next.0 next.1 played.1 next.2)),
       next.4,
+      subst (λ (ls : List Line). PlaysOn no_world [] ls c.play_next.new.told next.1 c.play_next.new.self.hosts.items)
+          (sym more)
+          (subst (λ (told : List Told). PlaysOn no_world [] (before ++ l.line ∷ []) told next.1
+          c.play_next.new.self.hosts.items) (sym next.3)
+          (plays-more before at.told no_world played.0 [] at.self.hosts.items l.line next.0 next.1
+          c.play_next.new.self.hosts.items played.3 next.2 next.5)),
     )
 
 pub returns : goal.returns

@@ -19,7 +19,7 @@ returns-in-Plain-Refused c =
     let plain = c.in-Plain-Refused.is in
     let refused = c.in-Plain-Refused.field-0-is in
     let same : told ≡ one = cc in
-    (one, next.0, next.1, subst (λ t. after ≡ before ++ t ∷ []) same is, next.2))
+    (one, next.0, next.1, subst (λ t. after ≡ before ++ t ∷ []) same is, next.2, next.3))
     c.push.ensures.ok
 
 pub returns-in_default : goal.returns-in_default
@@ -30,5 +30,5 @@ returns-in_default c =
     (TellsNext c.args.self.now c.play.new.self c.args.line.now before after)
     (λ is w f may.
     let next = c.in_ok-one.ensures w f may in
-    (c.in_ok-one.one, next.0, next.1, is ∙ ap (λ t. before ++ t ∷ []) (search rules), next.2))
+    (c.in_ok-one.one, next.0, next.1, is ∙ ap (λ t. before ++ t ∷ []) (search rules), next.2, next.3))
     c.push-in_default.ensures.ok

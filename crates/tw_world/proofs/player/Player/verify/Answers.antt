@@ -1,4 +1,4 @@
-use Rattle.std.proofs.Common.{◌<◌, List, length, ap, sym, ◌∙◌, subst, arith}
+use Rattle.std.proofs.Common.{◌<◌, List, length, ap, refl, sym, ◌∙◌, subst, arith}
 use Rattle.std.specs.Prelude.{Some, false}
 use Rattle.sha2.specs.Sha256.{sha256}
 use Rattle.tw_base.specs.declared.history.thread.Thread.{Thread}
@@ -30,7 +30,7 @@ returns c w f may =
     let told : IsLineTold sha256 claims_none w (Verify number) (Plain c.in_ok-answer.answer) (after_line w) =
     subst (λ (a : Answer). IsLineTold sha256 claims_none w (Verify number) (Plain a) (after_line w)) (sym judged.2)
     (told-verified w number index bytes judged.0 at.1 there is) in
-    (after_line w, told, later old w f)
+    (after_line w, told, later old w f, refl)
 
 pub index_of-index-requires : goal.index_of-index-requires
 index_of-index-requires c =
