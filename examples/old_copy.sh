@@ -9,6 +9,7 @@ weft=$(realpath "$(dirname "$0")/../weft/bin")
 . "$(dirname "$0")/shown.sh"
 PATH=$weft:$PATH
 export PATH WEFT_KEPT="$PWD/kept" WEFT_SIGNERS="$PWD/signers"
+touch kept
 
 # The exchange of a night: each makes its turn, and what is put out is carried.
 cat > night << 'END'

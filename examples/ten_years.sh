@@ -10,6 +10,7 @@ here=$(realpath "$(dirname "$0")")
 into=${2-}
 PATH=$here/../weft/bin:$PATH
 export PATH WEFT_KEPT="$PWD/kept" here
+touch kept
 
 # The register and the notary, who received its line before he made his entry.
 run "mkdir deeds entries notary box && timeweave init notary notary"

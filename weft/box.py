@@ -27,12 +27,14 @@ from weft.deciding.silence import Came, Heard, weigh_failure
 from weft.deciding.worst import worst_of
 from weft.lines import NAME, Kept, Line, read_kept, read_line
 from weft.statuses import Status
-from weft.texts import name_of, printable
+from weft.texts import name_of, quoted
 from weft.trouble import Trouble
 
 MOST_SETTINGS = 65_536
 MOST_OWN = 64
 MOST_KEPT = 1 << 32
+# The files of `kept` that grow night by night, or are as long as a peer makes them: they are read anew where they are asked for, so that no turn holds those of all.
+LONG = ("signed", "given", "got", "heard")
 
 
 class Settings(NamedTuple):
@@ -85,7 +87,7 @@ def claim(box: Path, name: str) -> None:
     if is_of_another(noted, name):
         raise Trouble(
             Status.USAGE,
-            f"{name_of(box)} is the box of {printable(noted or '')}, and not of {name}: nothing was made or put out",
+            f"{name_of(box)} is the box of {quoted(noted or '')}, and not of {name}: nothing was made or put out",
             f"Name the box of {name}. If this one is to be its own from now on, take {name_of(path)} out of it.",
         )
     if noted is None:
@@ -273,28 +275,34 @@ class Peer:
     # ---- what is kept
 
     def read(self, name: str) -> bytes:
-        """A file of `kept`, empty where it isn't there. Whoever changes these files has the lock of the box, so each is read once."""
-        if name not in self.known:
-            self.known[name] = files.read_if_there(os.path.join(self.kept, name), MOST_KEPT) or b""
-        return self.known[name]
+        """A file of `kept`, empty where it isn't there. Whoever changes these files has the lock of the box, so each that isn't long is read once."""
+        if name in self.known:
+            return self.known[name]
+        return self.hold(name, files.read_if_there(os.path.join(self.kept, name), MOST_KEPT) or b"")
+
+    def hold(self, name: str, data: bytes) -> bytes:
+        """Holds what a file of `kept` has, where it isn't long."""
+        if name not in LONG:
+            self.known[name] = data
+        return data
 
     def renew(self, name: str, data: bytes) -> None:
         """Makes a file of `kept` anew, where it has other bytes."""
         if self.read(name) != data:
             files.renew(os.path.join(self.kept, name), data)
-            self.known[name] = data
+            self.hold(name, data)
 
     def add(self, name: str, data: bytes, size: int) -> None:
         """Adds a piece of this size behind the whole ones of a file of `kept`."""
         old = self.read(name)
         whole = old[: len(old) - len(old) % size]
         files.extend(os.path.join(self.kept, name), data, len(whole))
-        self.known[name] = whole + data
+        self.hold(name, whole + data)
 
     def remove(self, name: str) -> None:
         """Removes a file of `kept`, if it is there."""
         files.remove(os.path.join(self.kept, name))
-        self.known[name] = b""
+        self.hold(name, b"")
 
     def accepted(self) -> Optional[Kept]:
         """The line by which a person accepted the peer."""
@@ -320,7 +328,6 @@ class Peer:
         whole = cut_torn(old)
         self.renew("signed", whole)
         files.append(os.path.join(self.kept, "signed"), signed.data)
-        self.known["signed"] = whole + signed.data
         lines.append(signed)
         self.steps.setdefault(signed.line.step, []).append(signed)
 

@@ -12,13 +12,13 @@ from collections import Counter
 from concurrent.futures import Executor, ProcessPoolExecutor, as_completed
 from concurrent.futures.process import BrokenProcessPool
 from pathlib import Path
-from typing import Iterator, NamedTuple, Optional
+from typing import Collection, Iterator, NamedTuple, Optional
 
 from weft import choosing, clusters, files, formats, judges, lines, locks, outcomes, packages
 from weft.choosing import Judgement
 from weft.deciding import rows
 from weft.deciding.choosing import Headline
-from weft.deciding.contradicting import Told, find_pairs, find_two_lines, read_told
+from weft.deciding.contradicting import find_pairs, find_two_lines, may_count, read_told
 from weft.deciding.rows import HEAD, NO_DIGEST, Row
 from weft.deciding.worst import worst_of
 from weft.judges import Bench
@@ -26,6 +26,7 @@ from weft.lines import KeptLines, Line
 from weft.outcomes import Named
 from weft.output import say, say_json
 from weft.progress import Progress
+from weft.sentences import fill
 from weft.statuses import Status
 from weft.texts import beside, count_of, name_of, printable
 from weft.trouble import Trouble, of_machine
@@ -33,10 +34,13 @@ from weft.trouble import Trouble, of_machine
 PIECE, PIECES = 500, 64
 MOST_ROUNDS = 4
 MOST_ROWS = 1 << 32
-FORMULA = "=+-@"
 # What may be otherwise at the next run, of the same bytes.
 PASSING = (Status.DIFFER, Status.NO_MEMORY, Status.DISK)
 APART = "CONTRADICTS "
+# In front of a kept line that doesn't count, for a worker.
+UNCOUNTED = "doesn't count: "
+# Behind the lines that the row of a history tells: it has those of its other steps too.
+WHOLE = "; and its history"
 
 
 class Task(NamedTuple):
@@ -61,9 +65,17 @@ class Made(NamedTuple):
 @functools.lru_cache(maxsize=2)
 def kept_of(text: bytes) -> KeptLines:
     """The kept lines of their text, once a process."""
-    kept = KeptLines()
-    kept.add_text("kept lines", text.decode())
+    kept, all_lines = KeptLines(), text.decode().splitlines(True)
+    kept.add_text("kept lines", "".join(it for it in all_lines if not it.startswith(UNCOUNTED)))
+    for it in (lines.read_kept(line.removeprefix(UNCOUNTED).rstrip("\n")) for line in all_lines if line.startswith(UNCOUNTED)):
+        if it is not None:
+            kept.uncounted.setdefault(it.line.service, []).append(it)
     return kept
+
+
+def text_of(kept: KeptLines) -> bytes:
+    """What a worker has to know of the kept lines, as text: those that count, and those that don't."""
+    return (kept.text + "".join(f"{UNCOUNTED}{it.text}\n" for of_service in kept.uncounted.values() for it in sorted(of_service))).encode()
 
 
 @functools.lru_cache(maxsize=2)
@@ -99,24 +111,31 @@ def row_of(task: Task, name: str, kept: KeptLines, judge: Bench) -> Made:
     except Trouble as trouble:
         return Made(row_of_trouble(name, len(data), digest, trouble), False)
     resting = "; ".join(f"{line.service} {line.step}" for line in judgement.lines)
-    reason = printable(reason_of(judgement, outcome))
-    told = "; ".join(line.text for line in outcomes.all_lines(judge, [named], judgement)) if judgement.is_shown else ""
-    return Made(Row(shown_path(name), len(data), digest, outcome.headline.value, int(outcome.status), reason, resting, told), False)
+    reason = shown_reason(reason_of(judgement, outcome))
+    row = Row(shown_path(name), len(data), digest, outcome.headline.value, int(outcome.status), reason, resting)
+    if judgement.is_shown:
+        archive = formats.told_by(data, judgement.lines)
+        told = "" if outcome.is_refuted else "; ".join(line.text for line in outcomes.all_lines(judge, [named], judgement))
+        told += WHOLE if judgement.history is not None else ""
+        row = row._replace(told=told, archive=archive.text if archive is not None else "")
+    return Made(row, False)
 
 
 def row_of_trouble(name: str, size: int, digest: str, trouble: Trouble) -> Row:
     """The row of a file that wasn't judged."""
-    return Row(shown_path(name), size, digest, Headline.NOT_JUDGED.value, int(trouble.status), printable(trouble.sentence), "")
+    return Row(shown_path(name), size, digest, Headline.NOT_JUDGED.value, int(trouble.status), shown_reason(trouble.sentence), "")
 
 
 def reason_of(judgement: Judgement, outcome: outcomes.Outcome) -> str:
     """Why, in short: the kept lines that it contradicts, the lines that are missing, the judge's own words of what is shown, else the
     first sentence."""
+    if outcome.told and outcome.told[0].startswith(outcomes.UNCOUNTED_DIFFERS):
+        return outcome.told[0]
     if outcome.contradicted:
         return "TWO LINES: " + "; ".join(f"{line.service} {line.step}" for line in outcome.contradicted)
     if judgement.missing:
         return "missing: " + "; ".join(f"{needed.service} {needed.step}" for needed in judgement.missing)
-    if judgement.verdict is None:
+    if judgement.verdict is None or outcome.is_refuted:
         return outcome.told[0]
     if judgement.is_shown:
         return " | ".join([*judgement.verdict.text.splitlines()[1:3], *cut_off(judgement)])
@@ -132,9 +151,14 @@ def cut_off(judgement: Judgement) -> list[str]:
 
 
 def shown_path(name: str) -> str:
-    """The path of a file as the table has it, of each file another one: a backslash is escaped, as what isn't printable is. One that begins as a formula does,
-    which a program for tables would work out, begins with ./ there."""
-    return printable((f"./{name}" if name[0] in FORMULA else name).replace("\\", "\\\\"))
+    """The path of a file as the table has it, of each file another one: a backslash is escaped, as what isn't printable is, and as quotes are. One that begins as
+    a formula does begins with ./ there."""
+    return rows.read_as_table(printable(name.replace("\\", "\\\\")), "./")
+
+
+def shown_reason(text: str) -> str:
+    """Why, as the table has it."""
+    return rows.read_as_table(printable(text), "of ")
 
 
 def found_files(folder: Path) -> list[str]:
@@ -236,7 +260,7 @@ def judged(options: argparse.Namespace, kept: KeptLines, judge: Bench, executor:
     workers = len(os.sched_getaffinity(0)) if options.workers is None else options.workers
     if workers < 1:
         raise Trouble(Status.USAGE, "--workers is 1 at least", "Leave it out for one a processor.")
-    text = kept.text.encode()
+    text = text_of(kept)
     title, names = rows.title_of(told_by(judge, options.carried), packages.digest(), text, options.carried), found_files(folder)
     if not names:
         raise Trouble(Status.FEWER, f"{name_of(options.many)} has no files, so nothing was judged", "Is it mounted?")
@@ -245,34 +269,59 @@ def judged(options: argparse.Namespace, kept: KeptLines, judge: Bench, executor:
         made = judge_folder(options, judge, executor, Folder(folder, names, text, title, state_of(table), workers))
         beside_others = held_together([made[name] for name in names], names, folder, kept, judge)
         files.hand_out(table, table_of(title, [it.row for it in beside_others]))
-    return tell(options, table, beside_others, judge)
+    return tell(options, table, beside_others, judge, kept)
 
 
 def held_together(made: list[Made], names: list[str], folder: Path, kept: KeptLines, judge: Bench) -> list[Made]:
     """The rows, in which files that are shown and contradict each other are marked."""
     judge = judges.for_contradictions(judge)
-    told = [(place, found) for place, it in enumerate(made) if (found := told_by_row(it.row)) is not None]
-    marked = list(made)
-    for differing in find_two_lines((place, line) for place, it in enumerate(made) for line in lines_of_row(it.row)):
-        for place, other in ((differing.first, differing.second), (differing.second, differing.first)):
+    archives = [(place, found) for place, it in enumerate(made) if (found := read_told(it.row.archive)) is not None]
+    told = [(place, found) for place, found in archives if made[place].row.told]
+    marked, broken = list(made), {found.service for place, found in archives if not made[place].row.told}
+
+    def mark(first: int, second: int) -> None:
+        for place, other in ((first, second), (second, first)):
             marked[place] = Made(contradicted(marked[place].row, made[other].row.file), made[place].is_taken)
+
     for pair in find_pairs([found for _, found in told]):
         places = [told[it][0] for it in pair]
         parts = [part for place in places for part in file_and_anchors(folder / names[place], made[place].row, kept)]
         if len(parts) == 4 and choosing.judge_contradiction(judge, (parts[0], parts[1], parts[2], parts[3])).is_accepted:
-            for place, other in (places, places[::-1]):
-                marked[place] = Made(contradicted(marked[place].row, made[other].row.file), made[place].is_taken)
+            broken.add(told[pair.first][1].service)
+            mark(*places)
+    for differing in find_two_lines(all_told(made, names, folder, broken)):
+        mark(differing.first, differing.second)
     return marked
 
 
-def lines_of_row(row: Row) -> list[Line]:
-    """The lines that a file tells, as its row has them."""
-    return [line for text in row.told.split("; ") if (line := lines.read_line(text)) is not None]
+def all_told(made: list[Made], names: list[str], folder: Path, broken: Collection[str]) -> Iterator[tuple[int, Line]]:
+    """The lines that files tell, each with the place of its file; of a history behind all others those of the steps that others tell."""
+    steps: dict[str, set[int]] = {}
+    histories = []
+    for place, it in enumerate(made):
+        for line in lines_of_row(it.row, broken):
+            steps.setdefault(line.service, set()).add(line.step)
+            yield place, line
+        if it.row.told.endswith(WHOLE):
+            histories.append(place)
+    for place in histories:
+        service = made[place].row.told.split(" ")[0]
+        wanted = steps[service] - {line.step for line in lines_of_row(made[place].row, broken)}
+        history = formats.timeline_of(bytes_of(folder / names[place], made[place].row)) if wanted else None
+        if history is not None:
+            yield from ((place, Line(service, step, history.authenticators[step])) for step in sorted(wanted) if step <= history.last)
 
 
-def told_by_row(row: Row) -> Optional[Told]:
-    """What an accepted file tells of a line that was received, or wasn't; of others nothing."""
-    return read_told(row.reason.split(" ")) if row.verdict == Headline.SHOWN.value else None
+def bytes_of(path: Path, row: Row) -> bytes:
+    """The bytes that a row is of; none where the file isn't the same any more."""
+    data = formats.read_file(path, follow=False)
+    return data if rows.digest_of(data) == row.sha256 else b""
+
+
+def lines_of_row(row: Row, broken: Collection[str]) -> list[Line]:
+    """The lines that a file tells, as its row has them, but for what services that broke a rule received."""
+    found, told = (lines.read_line(text) for text in row.told.removesuffix(WHOLE).split("; ")), read_told(row.archive)
+    return [line for line in found if line is not None and may_count(line, told, broken)]
 
 
 def contradicted(row: Row, other: str) -> Row:
@@ -284,10 +333,10 @@ def contradicted(row: Row, other: str) -> Row:
 
 def file_and_anchors(path: Path, row: Row, kept: KeptLines) -> list[bytes]:
     """The bytes that the row is of, and those of the lines that it rests on; nothing where the file isn't the same any more."""
-    data = formats.read_file(path, follow=False)
+    data = bytes_of(path, row)
     words = [it.split(" ") for it in row.lines.split("; ")]
     found = [line for service, step in words if (line := kept.one(service, int(step))) is not None]
-    return [data, lines.anchors(found)] if rows.digest_of(data) == row.sha256 and len(found) == len(words) else []
+    return [data, lines.anchors(found)] if data and len(found) == len(words) else []
 
 
 class Folder(NamedTuple):
@@ -330,9 +379,9 @@ def judge_folder(options: argparse.Namespace, judge: Bench, executor: Optional[E
     return made
 
 
-def tell(options: argparse.Namespace, table: Path, made: list[Made], judge: Bench) -> Status:
+def tell(options: argparse.Namespace, table: Path, made: list[Made], judge: Bench, kept: KeptLines) -> Status:
     """Says what came of it; the worst status counts."""
-    status = worst_of([judge.status(True), *(Status(it.row.status) for it in made)])
+    status = worst_of([judge.status(True), kept.status, *(Status(it.row.status) for it in made)])
     counts = Counter(it.row.verdict for it in made)
     lacking = sum(it.row.status == Status.MISSING for it in made)
     apart = sum(it.row.reason.startswith(APART) for it in made)
@@ -341,17 +390,19 @@ def tell(options: argparse.Namespace, table: Path, made: list[Made], judge: Benc
     if options.json:
         found = {verdict.replace(" ", "_"): count for verdict, count in counts.items()}
         told = {"lacking_a_line": lacking, "two_lines": two, "contradicting_each_other": apart, "status": int(status), "judged_by": told_by(judge, options.carried)}
-        say_json({"table": str(table), "files": len(made), "taken": taken, **found, **told})
+        say_json({"table": str(table), "files": len(made), "taken": taken, **found, **told, "not_counting": len(choosing.uncounted(kept, kept.uncounted))})
         return status
     parts = [f"{count:,} {verdict}" for verdict, count in counts.most_common()]
     say(f"{count_of(len(made), 'file')}: {', '.join(parts) or 'nothing'}; the table is {name_of(table)}.")
     if lacking:
-        say(f"{count_of(lacking, 'file')} {'lacks' if lacking == 1 else 'lack'} a line that you don't hold: the table says which. {choosing.ONLY_NOW}")
+        say(f"{count_of(lacking, 'file')} {'lacks' if lacking == 1 else 'lack'} a line that you don't hold: the table says which. {fill('only now')}")
     if two:
         say(f"TWO LINES: {count_of(two, 'file')} {'contradicts' if two == 1 else 'contradict'} a line that you kept: weft judge tells which, of that file.")
     if apart:
         say(f"{count_of(apart, 'file')} CONTRADICT EACH OTHER: the table says which, and weft judge of both what a service did.")
     if taken:
         say(f"{count_of(taken, 'row')} of an earlier run {'was' if taken == 1 else 'were'} taken over, of files with the same SHA-256 digest.")
+    for text in choosing.uncounted_sentences(kept, kept.uncounted):
+        say(text)
     say(told_by(judge, options.carried))
     return status

@@ -10,14 +10,14 @@ from bisect import bisect_left
 from pathlib import Path
 from typing import Callable, Iterable, Iterator, NamedTuple, Optional, Union
 
-from weft import asking, box, formats, program, signatures
+from weft import asking, box, formats, joints, program
 from weft.box import Peer
-from weft.choosing import ONLY_NOW
 from weft.deciding.doubting import find_doubted, list_trusted
 from weft.deciding.keeping import Counting, Mark, list_counting
 from weft.judges import Bench
 from weft.lines import Kept, KeptLines, kept_now
 from weft.own import OwnLines
+from weft.sentences import fill
 from weft.statuses import Status
 from weft.stores import Store
 from weft.texts import listed, name_of
@@ -193,7 +193,7 @@ def lines_of_peer(peer: Peer) -> list[Union[Kept, Mark]]:
     a contradiction with them."""
     found = KeptLines()
     found.add_text(peer.kept / "lines", peer.read("lines").decode("utf-8", "replace"))
-    noted = signatures.fingerprints(peer.folder.parent / "allowed_signers", peer.name)
+    noted = joints.counting_keys(peer.folder.parent / "allowed_signers", peer)
     counting: list[Union[Kept, Mark]] = []
     for service, step in sorted({(it.line.service, it.line.step) for it in found.all()} | found.marks.keys()):
         kept, marks = found.all_at(service, step), found.marks_at(service, step)
@@ -415,7 +415,7 @@ def planned(sources: Sources, hops: list[Hop], first: Event, second: Event) -> P
 def no_lines(missing: list[str]) -> Trouble:
     """That lines are missing, all of them, and from whom each may come."""
     told = f"you hold no line of {listed(missing)}"
-    advice = f"Ask for each somebody who kept it, and not its service alone: a notary, another reader. Then keep it: weft keep. {ONLY_NOW}"
+    advice = f"Ask for each somebody who kept it, and not its service alone: a notary, another reader. Then keep it: weft keep. {fill('only now')}"
     return Trouble(Status.MISSING, told, advice)
 
 
@@ -427,7 +427,7 @@ def expect_held(sources: Sources, second: Event) -> None:
     held = sources.top(given.service, given.step)
     wanted = f"under a line that you hold (weft prove .. --top {'N' if held is None else held})"
     told = f"the later event is proved under step {given.top} of {given.service}, whose line you don't hold"
-    raise Trouble(Status.MISSING, told, f"Ask {given.service} for the proof {wanted}, or somebody else who kept it for that line. {ONLY_NOW}")
+    raise Trouble(Status.MISSING, told, f"Ask {given.service} for the proof {wanted}, or somebody else who kept it for that line. {fill('only now')}")
 
 
 def plan(sources: Sources, first: Event, second: Event, shunned: frozenset[tuple[str, str]]) -> Plan:

@@ -8,17 +8,20 @@ from typing import Iterable, NamedTuple, Optional
 from weft import formats
 from weft.deciding import choosing
 from weft.deciding.choosing import Extent, HeldHistory
+from weft.deciding.signatures import find_signing_key
 from weft.files import AnyPath
 from weft.formats import Needed, ReadHistory
 from weft.judges import Bench, Verdict
-from weft.lines import MOST_ANCHORS, KeptLines, Line, anchors
+from weft.lines import MOST_ANCHORS, Kept, KeptLines, Line, anchors
+from weft.sentences import capital, fill
 from weft.statuses import Status
 from weft.texts import count_of, listed, name_of
 from weft.trouble import Trouble
 
 # Of how many kept lines that differ from a history the program is asked as well.
 MOST_AUDITED = 8
-ONLY_NOW = "A line that you get only now shows nothing about the time before."
+# So many services, steps and keys are told of whose kept lines don't count.
+MOST_UNCOUNTED = 8
 
 
 class BoundHistory(NamedTuple):
@@ -114,6 +117,16 @@ def judge_contradiction(judge: Bench, parts: tuple[bytes, bytes, bytes, bytes], 
     return verdict
 
 
+def judge_receiver(judge: Bench, data: bytes, lines: Iterable[Line]) -> Verdict:
+    """The verdict on whether the receiver of both lines of accepted evidence broke a rule by that."""
+    return judge.judge("receiver", data, anchors(lines), b"")
+
+
+def judge_alone(judge: Bench, data: bytes, lines: Iterable[Line]) -> Verdict:
+    """The verdict on whether an accepted file on what a service received contradicts itself, as a map may that is accepted."""
+    return judge.judge("contradict", data, anchors(lines), data, anchors(lines), b"")
+
+
 # ---- histories
 
 
@@ -181,19 +194,22 @@ def told_kept(paths: Iterable[AnyPath]) -> str:
 def missing_sentences(missing: list[Needed], kept: KeptLines, proof: bytes = b"") -> list[str]:
     """Which lines are missing, all of them, what would do in their place, and who may have them."""
     told = [missing_sentence(needed, kept, proof) for needed in missing]
-    return [*told, ONLY_NOW] if told else []
+    return [*told, fill("only now")] if told else []
 
 
 def missing_sentence(needed: Needed, kept: KeptLines, proof: bytes = b"") -> str:
     """That a line is missing: which ones are held, under which of these the same can be proved, else who may have kept it."""
     steps = [step for step in kept.steps(needed.service) if not kept.is_disputed(needed.service, step)]
-    have = f"The line of step {needed.step} of {needed.service} is missing. {told_held(needed.service, steps)}"
+    is_uncounted = any(it.line.step == needed.step for it in kept.uncounted.get(needed.service, []))
+    doubted = ", and keep one that doesn't count: see below" if is_uncounted else ""
+    have = f"{fill('missing', service=needed.service, step=needed.step)} {told_held(needed.service, steps)}{doubted}"
     older, later = older_ask(needed, steps, proof), choosing.choose_later_step(steps, needed.step)
     if older:
         return f"{have}: {older}."
+    asked = ask_others(needed.service, proof, kept)
     if later is not None:
-        return f"{have}: ask for the proof under its step {later}, which its keeper may make: that line binds him. Or {ask_others(needed.service, proof)}."
-    return f"{have}. {ask_others(needed.service, proof)[0].upper()}{ask_others(needed.service, proof)[1:]}."
+        return f"{have}: ask for the proof under its step {later}, which its keeper may make: that line binds him. Or {asked}."
+    return f"{have}. {capital(asked)}."
 
 
 def told_held(service: str, steps: list[int]) -> str:
@@ -205,11 +221,17 @@ def told_held(service: str, steps: list[int]) -> str:
     return f"You hold its {'line of step' if len(steps) == 1 else 'lines of the steps'} {', '.join(map(str, steps))} alone"
 
 
-def ask_others(service: str, proof: bytes) -> str:
-    """Whom to ask for a line: never the service itself, nor who sent the file."""
-    names = choosing.choose_whom_to_ask(service, formats.recorders_in(proof, service))
+def ask_others(service: str, proof: bytes, kept: KeptLines) -> str:
+    """Whom to ask for a line: never the service itself, nor who sent the file, nor whom that names alone."""
+    recorders, known = formats.recorders_in(proof, service), kept.services()
+    names, unknown = choosing.choose_whom_to_ask(service, recorders, known), choosing.choose_unknown(service, recorders, known)
     named = f"{listed(names)}, which received it by this file; " if names else ""
-    return f"ask somebody who kept it, and is neither {service} nor whoever sent you this file: {named}a notary, another reader of {service}"
+    told = f"{fill('ask others', service=service)}: {named}a notary, another reader of {service}"
+    if not unknown:
+        return told
+    which = "that one" if len(unknown) == 1 else "these"
+    aside = f"you keep no line of {which}, and the file isn't judged: whoever made it may keep {which} too"
+    return f"{told}. (The file names {listed(unknown)}, which received it by this file; {aside})"
 
 
 def older_ask(needed: Needed, steps: list[int], proof: bytes) -> str:
@@ -224,6 +246,27 @@ def older_ask(needed: Needed, steps: list[int], proof: bytes) -> str:
     if isinstance(found, formats.proofs.ExistenceProof):
         command = f"weft prove SERVICE FILE --top {step}"
     return f"ask {needed.service} for the proof under its step {step} ({command}), which you hold"
+
+
+def uncounted(kept: KeptLines, services: Iterable[str]) -> list[Kept]:
+    """The kept lines of these services that don't count, since a key signed them that isn't noted of their service."""
+    return [it for service in dict.fromkeys(services) for it in kept.uncounted.get(service, [])]
+
+
+def uncounted_sentences(kept: KeptLines, services: Iterable[str]) -> list[str]:
+    """That kept lines of these services don't count, by whose keys, and what lets them count."""
+    told = []
+    for service in [it for it in dict.fromkeys(services) if kept.uncounted.get(it)][:MOST_UNCOUNTED]:
+        lines = kept.uncounted[service]
+        steps = [str(step) for step in sorted({it.line.step for it in lines})]
+        of_steps = f"step {steps[0]}" if len(steps) == 1 else f"the steps {', '.join(steps[:MOST_UNCOUNTED])}{', ..' if len(steps) > MOST_UNCOUNTED else ''}"
+        keys = listed(sorted({find_signing_key(it.how) or "" for it in lines})[:MOST_UNCOUNTED])
+        told.append(
+            f"DOESN'T COUNT: {count_of(len(lines), 'line')} of {service} that you kept, of {of_steps}, signed by {keys}, which isn't noted of {service} in the file "
+            f"of signers. Was that key taken out since it was stolen, leave it so. Else note it (weft keep --signer {service} KEY.pub), name the file that has it "
+            "(--signers, or WEFT_SIGNERS), or say how the line came besides (weft keep FILE --by ..)."
+        )
+    return told
 
 
 def resting(judgement: Judgement, kept: KeptLines) -> list[str]:

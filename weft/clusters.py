@@ -15,7 +15,7 @@ from typing import Any, Iterator, Optional, Sequence
 
 from weft import files
 from weft.statuses import Status
-from weft.texts import printable
+from weft.texts import name_of
 from weft.trouble import Trouble
 
 ADDRESS = re.compile(r"(tcp|tls)://(\[[0-9a-fA-F:]+\]|[A-Za-z0-9.-]+):([0-9]{1,5})")
@@ -28,9 +28,9 @@ def checked(address: str, tls: Optional[Sequence[str]]) -> None:
     """Raises Trouble where the address is none, or is to be asked without TLS though it isn't this machine's."""
     found = ADDRESS.fullmatch(address)
     if found is None:
-        raise Trouble(Status.USAGE, f"{printable(address)!r} is no address of a scheduler", "It is as tls://host:8786, or tcp://127.0.0.1:8786.")
+        raise Trouble(Status.USAGE, f"{name_of(address)} is no address of a scheduler", "It is as tls://host:8786, or tcp://127.0.0.1:8786.")
     if found[1] == "tcp" and found[2] not in OWN:
-        told = f"{printable(address)} is another machine's, and without TLS anybody on the way could have the workers run what he likes"
+        told = f"{name_of(address)} is another machine's, and without TLS anybody on the way could have the workers run what he likes"
         raise Trouble(Status.USAGE, told, "Give the scheduler TLS: tls://.., with --tls.")
     if found[1] == "tls" and tls is None:
         raise Trouble(Status.USAGE, "TLS needs three files", "Name them: --tls CA.pem CERTIFICATE.pem KEY.pem.")
@@ -56,7 +56,7 @@ def executor(address: str, tls: Optional[Sequence[str]]) -> Iterator[Executor]:
     try:
         client = distributed.Client(address, security=security, timeout=MOST_SECONDS, set_as_default=False)
     except (OSError, TimeoutError):
-        raise Trouble(Status.DISK, f"no scheduler answers at {printable(address)}", "Is it running, and is the address right?") from None
+        raise Trouble(Status.DISK, f"no scheduler answers at {name_of(address)}", "Is it running, and is the address right?") from None
     try:
         yield client.get_executor(pure=False)
     finally:

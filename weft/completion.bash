@@ -7,13 +7,13 @@ _weft_forms=(
     "line DIR --help --sign=FILE --out=FILE --wait=TEXT --json"
     "keep FILE --help --by=TEXT --signer=TEXT,FILE --beside --choose --kept=FILE --signers=FILE --json"
     "tell FILE .. --help --json"
-    "judge FILE .. --help --kept=FILE --file=FILE --audit=FILE --carried --top=TEXT --svg=FILE --many=DIR --table=FILE --workers=TEXT --dask=TEXT --tls=FILE,FILE,FILE --reference --json"
+    "judge FILE .. --help --kept=FILE --signers=FILE --file=FILE --audit=FILE --carried --top=TEXT --svg=FILE --many=DIR --table=FILE --workers=TEXT --dask=TEXT --tls=FILE,FILE,FILE --reference --json"
     "log DIR DIR TEXT --help --all --no-time --gone --all-read=TEXT --workers=TEXT --adopt-store=FILE --wait=TEXT --unproved --json"
     "prove DIR FILE --help --step=TEXT --top=TEXT --out=FILE --json"
     "exchange DIR DIR --help --despite=TEXT --look --adopt-store=FILE --wait=TEXT --unproved --json"
     "accept DIR TEXT FILE --help --key=FILE --beside --yes=TEXT --json"
-    "chain FILE FILE --help --store=DIR --box=DIR --hand=FILE --kept=FILE --out=FILE --svg=FILE --reference --json"
-    "check DIR --help --all --entries --kept=FILE --workers=TEXT --wait=TEXT --json"
+    "chain FILE FILE --help --store=DIR --box=DIR --hand=FILE --kept=FILE --signers=FILE --out=FILE --svg=FILE --reference --json"
+    "check DIR --help --all --entries --kept=FILE --signers=FILE --workers=TEXT --wait=TEXT --json"
 )
 
 # Offers the folders, files or words that may stand next.

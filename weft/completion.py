@@ -5,9 +5,9 @@
 from __future__ import annotations
 
 import argparse
-import sys
 from typing import Iterator
 
+from weft.output import say_whole
 from weft.words import WORDS, module_of
 
 FOLDERS = ("DIR", "BOX", "SERVICE", "FOLDER")
@@ -106,4 +106,5 @@ def script() -> str:
 
 
 if __name__ == "__main__":
-    sys.stdout.write(script())
+    for line in script().splitlines():
+        say_whole(line)

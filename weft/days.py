@@ -16,6 +16,7 @@ from weft.entries import event_of, read_event
 from weft.lines import Line
 from weft.logs import Log
 from weft.output import complain
+from weft.recorded import expect_near_end
 from weft.records import Records, Writer
 from weft.texts import name_of
 from weft.walking import Look, Seen
@@ -64,6 +65,8 @@ class Day:
         self.is_full = is_full_due(full, self.began, wanted.days)
         if self.is_full or not self.records.ends_with_entries:
             log.expect_all_entries(self.is_full)
+        else:
+            expect_near_end(log.service, log.judge, log.part)
         if self.is_full:
             self.records.forget()
         self.full = self.began if self.is_full or full is None else full

@@ -10,6 +10,7 @@ import hashlib
 import heapq
 import itertools
 import os
+import re
 import tempfile
 from pathlib import Path
 from typing import IO, Iterable, Iterator, NamedTuple, Optional, Sequence
@@ -34,7 +35,7 @@ def event_of(word: bytes, path: bytes) -> bytes:
 
 
 def read_event(event: bytes) -> Optional[Entry]:
-    """The path of an event, and its digest or `gone`; None of one that is no entry of a log."""
+    """The path of an event, and its digest or `gone`; None of one that is no entry of a log: such as another way to write one, which no log makes."""
     word, mark, path = event.partition(b"  ")
     if not mark:
         return None
@@ -42,7 +43,8 @@ def read_event(event: bytes) -> Optional[Entry]:
         pieces = path.split(b"\\\\")
         path = b"\\".join(piece.replace(b"\\n", b"\n").replace(b"\\r", b"\r") for piece in pieces)
         word = word[1:]
-    return Entry(path, word) if word == GONE or is_digest(word) else None
+    is_one = (word == GONE or is_digest(word)) and path.startswith(b"./") and event_of(word, path) == event
+    return Entry(path, word) if is_one else None
 
 
 def is_digest(word: bytes) -> bool:
@@ -63,10 +65,15 @@ class End(NamedTuple):
     strange: Optional[Logged]
 
 
-def read_entry_line(line: bytes) -> Optional[Logged]:
-    """The line, without its end; None of one that isn't whole."""
-    fields = line.split(b" ", 2)
-    return Logged(int(fields[0]), int(fields[1]), fields[2]) if len(fields) == 3 and fields[0].isdigit() and fields[1].isdigit() else None
+ENTRY_LINE = re.compile(rb"([0-9]{1,13}) ([0-9]{1,4}) (.*)", re.DOTALL)
+NO_ENTRY = Logged(-1, 0, b"")
+"""What stands for a whole line that is no entry: it is out of order wherever it stands, and tells nothing of a file."""
+
+
+def read_entry_line(line: bytes) -> Logged:
+    """The entry of a line, without its end."""
+    found = ENTRY_LINE.fullmatch(line)
+    return Logged(int(found[1]), int(found[2]), found[3]) if found else NO_ENTRY
 
 
 class Entries:
@@ -91,9 +98,8 @@ class Entries:
         with os.fdopen(files.opened(self.path), "rb") as file:
             file.seek(at)
             for text in file:
-                found = read_entry_line(text[:-1]) if text.endswith(b"\n") else None
-                if found is not None:
-                    yield found
+                if text.endswith(b"\n"):
+                    yield read_entry_line(text[:-1])
 
     def last_step(self) -> End:
         """Where it ends, and the first line that doesn't stand where its step and place belong, where one doesn't."""
@@ -103,6 +109,13 @@ class Entries:
                 strange = line
             step, count = line.step, count + 1 if line.step == step else 1
         return End(step, count, strange)
+
+    def ends_at(self) -> int:
+        """The step of its last entry, 0 of none, for which its end alone is read."""
+        step = 0
+        for line in self.lines(max(0, self.size() - MOST_TAIL)):
+            step = line.step
+        return step
 
     def put(self, at: int, step: int, events: Sequence[bytes]) -> None:
         """Puts the entries of a step at a place, behind which nothing stands then; they are on the disk before this returns."""

@@ -7,8 +7,9 @@ from __future__ import annotations
 import functools
 import os
 import re
+from itertools import chain
 from pathlib import Path
-from typing import Collection, NamedTuple, Optional, Sequence
+from typing import Collection, Iterator, NamedTuple, Optional, Sequence
 
 from weft import asking, files, formats, hearing, joints, looking, own, parts, signatures
 from weft.box import Peer, Settings, has_incoming, peers_of
@@ -20,7 +21,7 @@ from weft.deciding.lines import can_be
 from weft.deciding.linking import Meaning, is_evidence, read_link_files
 from weft.deciding.recording import choose_other_start, may_note_recorded
 from weft.deciding.restoring import DAY, Begun, Go, Look, Told, Word, judge_turn, must_begin_anew, must_look, when_begun
-from weft.deciding.sharing import choose_handed_back, choose_names, choose_receipts, is_first_hand, move_cursor, order_lines, place_end
+from weft.deciding.sharing import choose_handed_back, choose_names, choose_receipts, is_first_hand, keep_latest, move_cursor, order_lines, place_end
 from weft.deciding.signatures import PublicKey, Signed, read_signed_line, read_signed_lines
 from weft.deciding.silence import Heard, choose_last_heard, weigh_heard
 from weft.deciding.worst import worst_of
@@ -32,6 +33,7 @@ from weft.links import Links
 from weft.looking import Note, Notes
 from weft.own import OwnLines
 from weft.parts import Next, Part
+from weft.shown import Answers
 from weft.statuses import Status
 from weft.texts import beside, name_of, now, printable
 from weft.trouble import Trouble
@@ -67,7 +69,8 @@ class OwnReceipt(NamedTuple):
 
 
 class HeardReceipts(NamedTuple):
-    """Of the receipts that peers told those that were heard of whom they are of, and the names of all services that they are of."""
+    """Of the receipts that peers told the last ones that were heard of whom they are of, and those of the names that they are of which a part of this service
+    could get."""
 
     first_hand: list[bytes]
     names: set[str]
@@ -78,9 +81,9 @@ class Turn:
     being made already, that is made first."""
 
     def __init__(
-        self, found: Sequence[Part], box: Path, settings: Settings, judge: Bench, despite: list[str], named: Optional[Line] = None, new: Optional[Next] = None
+        self, found: Sequence[Part], box: Path, settings: Settings, judge: Bench, despite: list[str], named: Optional[Line], new: Optional[Next], kept: KeptLines
     ):
-        self.box, self.settings, self.judge, self.despite, self.named, self.new = box, settings, judge, despite, named, new
+        self.box, self.settings, self.judge, self.despite, self.named, self.new, self.kept = box, settings, judge, despite, named, new, kept
         self.signers = box / "allowed_signers"
         self.all_peers, self.strange = peers_of(box, [part.last.service for part in found], settings)
         self.notes = Notes(box)
@@ -92,6 +95,7 @@ class Turn:
         self.messages: dict[tuple[str, int], bytes] = {}
         self.own_lines: dict[str, OwnLines] = {}
         self.keys: dict[Signed, Optional[str]] = {}
+        self.handed: dict[Signed, Signed] = {}  # (each line is held once, however many peers hand it on)
         self.own: dict[Signed, bool] = {}
         self.status = Status.DONE
         self.is_made = True
@@ -159,7 +163,8 @@ class Turn:
             peer.make()
         self.follow_peers()
         for peer in self.peers:
-            returned += [] if peer.names & {*self.despite} else [(peer, told) for told in self.told_by(peer)]
+            told_by = self.told_by(peer)
+            returned += self.passed_over(peer, told_by) if peer.names & {*self.despite} else [(peer, told) for told in told_by]
         since = self.begin_look(is_look)
         accepted = [peer for peer in self.peers if peer.accepted() and not peer.names & {*self.despite}]
         words: list[Word] = [] if since is None else [looking.word_of(it, self.has(it), self.returned.get(it.name), self.claims[it.name]) for it in accepted]
@@ -176,6 +181,21 @@ class Turn:
                 self.lines.expect_no_copy(self.store, self.last)
             self.lines.end_look(self.last)
         return answer.go is Go.ON and not is_look
+
+    def passed_over(self, peer: Peer, told: Sequence[Told]) -> list[tuple[Peer, Told]]:
+        """Nothing of what a peer tells of this service counts, which a person has named for that; what the store lacks of it is told, and counts."""
+        claimed = [*(it.line for it in told), *self.claims[peer.name]]
+        self.claims[peer.name] = ()
+        self.returned.pop(peer.name, None)
+        if claimed:
+            peer.need(f"it tells a line of your step {claimed[0].step} that this store lacks: passed over, by --despite {peer.name}")
+        return []
+
+    def tell_despite(self) -> None:
+        """Tells a name that was to be passed over, and that no peer has: it may be mistyped."""
+        for name in {*self.despite}.difference(*(peer.names for peer in self.all_peers)):
+            self.told.append(f"{printable(name)}, named by --despite, is no peer of {name_of(self.box)}.")
+            self.look()
 
     def begin_look(self, is_look: bool) -> Optional[int]:
         """Since when peers' words are waited for; None where they aren't."""
@@ -217,7 +237,7 @@ class Turn:
         """The lines of this service that a peer's folder tells and the store lacks: those signed by its own key, handed back or put out before; in a box that
         takes unsigned messages also what an accepted peer claims. In another one such claims are noted."""
         returned, seen = peer.take("yours", SIGNED_BYTES) or b"", peer.take("seen", SIGNED_BYTES * MOST_SEEN) or b""
-        peer.seen = read_signed_lines(seen, self.known_names)[:MOST_SEEN]
+        peer.seen = [self.handed.setdefault(it, it) for it in read_signed_lines(seen, self.known_names)[:MOST_SEEN]]
         peer.is_seen_read = True
         self.heard_names.update(it.decode() for it in SEEN_NAME.findall(seen))
         put_out = files.read_if_there(peer.out / "line", SIGNED_BYTES) or b""
@@ -327,7 +347,7 @@ class Turn:
             self.told.append(f"{self.last.service} is to go on in a new part, and a run of weft log was stopped amid a step: run weft log, and then this again.")
             self.look()
             return
-        new = self.new or parts.name_next(self.service, self.parts)
+        new = self.new or parts.name_next(self.service, self.parts, self.kept)
         parts.begin_next(self.service, new)
         made = parts.make_next(self.service, self.judge, self.part, new)
         ended = self.part._replace(last=self.store.last().line)
@@ -482,8 +502,26 @@ class Turn:
     def key_of(self, signed: Signed) -> Optional[str]:
         """The key that is noted now for the line's service, and by which it is signed, checked once a turn; None where it isn't so."""
         if signed not in self.keys:
-            self.keys[signed] = signatures.checked(signed, self.signers)
+            key = signatures.checked(signed, self.signers)
+            part = self.further.get(signed.line.service)
+            self.keys[signed] = None if key is None or (part is not None and not self.counts(part, key.split()[-1])) else key
         return self.keys[signed]
+
+    @property
+    def further(self) -> dict[str, Peer]:
+        """The further parts of peers, by name."""
+        return {it.name: it for it in self.all_peers if it.earlier is not None}
+
+    def counts(self, part: Peer, key: str) -> bool:
+        """Whether a key that is noted of a further part of a peer counts; where it was taken out at the part before, that is told."""
+        if key in joints.counting_keys(self.signers, part):
+            return True
+        assert part.earlier is not None
+        part.need(
+            f"{key} was noted of {part.name} by itself, and {name_of(self.signers)} has it no more of {part.earlier.name}: nothing counts that it signs. Take it out of "
+            f"that file here too; or if it isn't stolen: weft accept {name_of(self.box)} {part.name} --key KEY.pub"
+        )
+        return False
 
     def unfit(self, peer: Peer, text: str, count: str = "unfit") -> None:
         """Something of the peer didn't fit; after some turns in a row, which are counted under this name, it needs a look."""
@@ -531,7 +569,7 @@ class Turn:
     def is_disputed(self, peer: Peer, step: int) -> bool:
         """Whether lines of a peer's step contradict that count by the keys that are noted of it now, and none was chosen."""
         known = KeptLines([peer.kept / "lines"])
-        counting = list_counting(known.all_at(peer.name, step), known.marks_at(peer.name, step), signatures.fingerprints(self.signers, peer.name))
+        counting = list_counting(known.all_at(peer.name, step), known.marks_at(peer.name, step), joints.counting_keys(self.signers, peer))
         return standing_of(counting.kept, counting.marks).is_disputed
 
     def weigh(self, peer: Peer, held: Signed, new: Signed) -> Finding:
@@ -774,25 +812,27 @@ class Turn:
 
     @functools.cached_property
     def known_receipts(self) -> list[bytes]:
-        """The last receipts that are handed on, each once: those that were heard of whom they are of, and those that were made here or came here."""
+        """The last receipts that are known, each once: those that were heard of whom they are of, and those that were made here or came here."""
         most = OWN_RECEIPTS * formats.RECEIPT_SIZE
-        heard = self.heard_receipts.first_hand
-        pieces = [peer.read(name)[-most:] for name in ("given", "got") for peer in self.all_peers]
-        joined = [joints.receipt_of(self.judge, part, before.last) for before, part in zip(self.former, self.parts[1:])]
-        return list(dict.fromkeys([*heard, *(it for piece in pieces for it in formats.receipt_pieces(piece)), *joined]))
+        own_ones = (it for name in ("given", "got") for peer in self.all_peers for it in formats.receipt_pieces(peer.read(name)[-most:]))
+        joined = (joints.receipt_of(self.judge, part, before.last) for before, part in zip(self.former, self.parts[1:]))
+        return keep_latest(chain(self.heard_receipts.first_hand, own_ones, joined), 2 * MOST_RECEIPTS)
 
     @functools.cached_property
     def heard_receipts(self) -> HeardReceipts:
         """What the receipts tell that peers told; they are read once."""
-        found = HeardReceipts([], set())
-        for peer in self.all_peers:
-            tellers = peer.names
-            for piece in formats.receipt_pieces(peer.read("heard")):
-                parties = formats.parties_of(piece)
-                found.names.update(parties)
-                if is_first_hand(tellers, parties):
-                    found.first_hand.append(piece)
-        return found
+        names = set[str]()
+        first_hand = chain.from_iterable(self.first_hand(peer, names) for peer in self.all_peers)
+        return HeardReceipts(keep_latest(first_hand, 2 * MOST_RECEIPTS), names)
+
+    def first_hand(self, peer: Peer, names: set[str]) -> Iterator[bytes]:
+        """The receipts that were heard of a peer, and are of it; those of the names of all that it told which a part of this service could get are added."""
+        tellers = peer.names
+        for piece in formats.receipt_pieces(peer.read("heard")):
+            parties = formats.parties_of(piece)
+            names.update(name for name in parties if is_name_of_part(self.first_name, name))
+            if is_first_hand(tellers, parties):
+                yield piece
 
     def receipts_for(self, peer: Peer) -> bytes:
         """The receipts that a peer gets."""
@@ -801,6 +841,7 @@ class Turn:
     def run(self, is_look: bool = False) -> Status:
         """The whole turn, or where somebody only looks, or peers' words are waited for, what is known of the store."""
         self.tell_strange()
+        self.tell_despite()
         if self.begin(is_look):
             self.notes.begin()
             self.make_turn()
@@ -826,8 +867,10 @@ class Turn:
             self.tell_forks(peer)
         self.lines.note(self.last)
         self.settle_links()
+        Answers(self.all_peers, self.judge, self.key_of).hold()
         self.listen()
-        parts.note_others(self.service, self.names_like_parts())
+        self.let_go()
+        parts.note_others(self.service, self.names_like_parts(self.known_names), self.names_like_parts({*self.heard_names, *self.heard_receipts.names}))
         self.go_on()
         self.put_all()
         self.told += self.unsigned()
@@ -843,20 +886,32 @@ class Turn:
             self.recall_links(peer)
             self.tell_end(peer)
 
-    def names_like_parts(self) -> set[str]:
-        """The names of others, as far as peers tell them, that a part of this service could get."""
-        names = {*self.known_names, *self.heard_names, *self.heard_receipts.names}
+    def names_like_parts(self, names: Collection[str]) -> set[str]:
+        """Those of these names that a part of this service could get, and that none has."""
+        names = {*names}
         return {name for name in names - {part.last.service for part in self.parts} if is_name_of_part(self.first_name, name)}
 
     def listen(self) -> None:
         """Notes what was heard of each peer, by its own lines and messages, and by what it hands on of others that were heard too."""
-        keys = hearing.Keys(self.key_of, functools.lru_cache(None)(lambda service: signatures.fingerprints(self.signers, service)))
+        keys = hearing.Keys(self.key_of, functools.lru_cache(None)(self.noted_of))
         names = {peer.name for peer in self.peers if self.has_key(peer)}
         heard = {peer.name for peer in self.peers if peer.line_heard is Heard.NEW}
         for peer in self.peers:
             others = hearing.hear_others(peer, keys, names - {peer.name}, heard - {peer.name})
             own_steps = sum(part.last.step for part in self.parts)
             hearing.listen(peer, not self.settings.is_unsigned and peer.name in names, peer.accepted() is not None, others, own_steps, now()[:10])
+
+    def let_go(self) -> None:
+        """Lets go what peers hand on, which nothing in the rest of a turn asks for."""
+        for peer in self.peers:
+            peer.seen = []
+        for held in ("handed", "handed_on", "handed_on_of"):
+            vars(self).pop(held, None)
+
+    def noted_of(self, service: str) -> set[str]:
+        """The fingerprints of the keys that count for a service now."""
+        part = self.further.get(service)
+        return signatures.fingerprints(self.signers, service) if part is None else joints.counting_keys(self.signers, part)
 
     def next_note(self) -> Note:
         """What this turn leaves to the next one."""
@@ -911,7 +966,7 @@ class Turn:
             is_link = (self.box / name).is_symlink()
             is_meant = may_be_meant(is_link, has_incoming(self.box / name))
             why = "is a link, and no link is followed there" if is_link else f"is no peer's folder{', and nothing of it was read' if is_meant else ''}"
-            self.told.append(f"{printable(name)} in {name_of(self.box)} {why}.")
+            self.told.append(f"{name_of(name)} in {name_of(self.box)} {why}.")
             if is_meant:
                 self.look()
 

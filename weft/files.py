@@ -155,6 +155,10 @@ def target_of(path: AnyPath) -> str:
     raise OSError(errno.ELOOP, os.strerror(errno.ELOOP))
 
 
+MADE: set[bytes] = set()
+"""The names of the new files that this run began."""
+
+
 def new_beside(path: str, mode: int) -> tuple[int, str]:
     """The number and the name of a new file in the folder of another one: that nobody has, and that ends with `.new`."""
     folder, name = os.path.split(path)
@@ -162,7 +166,9 @@ def new_beside(path: str, mode: int) -> tuple[int, str]:
     while True:
         new = os.path.join(folder, f".{name[:MOST_FRONT]}.{secrets.token_hex(8)}.new")
         try:
-            return os.open(new, flags, mode), new
+            number = os.open(new, flags, mode)
+            MADE.add(os.fsencode(os.path.basename(new)))
+            return number, new
         except FileExistsError:
             continue
 

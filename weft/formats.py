@@ -7,6 +7,7 @@ from typing import Iterable, NamedTuple, Optional
 
 from weft import files, packages
 from weft.deciding.choosing import Needed as Needed
+from weft.deciding.contradicting import Lacked, Received, Told
 from weft.files import AnyPath
 from weft.deciding.lines import can_be
 from weft.kinds import kind_of as kind_of
@@ -22,10 +23,12 @@ if not packages.HAS_REFERENCE:
         "Install it. In a checkout of your own that you have changed: python3 -m weft.packages.",
     )
 
-from timeweave_reference import archives, audits, events_files, evidence, map_files, messages, precedence, receipts, verdicts  # noqa: E402
+from timeweave_reference import archive_facts, archives, audits, events_files, evidence, map_files, messages, precedence, receipts, verdicts  # noqa: E402
 from timeweave_reference import fields as fields  # noqa: E402
 from timeweave_reference import histories as histories  # noqa: E402
 from timeweave_reference import proofs as proofs  # noqa: E402
+from timeweave_reference import stores as stores  # noqa: E402
+from timeweave_reference import tree_pages as tree_pages  # noqa: E402
 from timeweave_reference.anchors import Anchor  # noqa: E402
 from timeweave_reference.archives import Entry, TreeProof  # noqa: E402
 from timeweave_reference.fields import Malformed as Malformed  # noqa: E402
@@ -33,7 +36,7 @@ from timeweave_reference.hashed_texts import EMPTY_ARCHIVE as EMPTY_ARCHIVE  # n
 from timeweave_reference.hashed_texts import genesis as genesis  # noqa: E402
 from timeweave_reference.messages import Message as Message  # noqa: E402
 from timeweave_reference.receipts import Receipt as Receipt  # noqa: E402
-from timeweave_reference.timelines import Timeline  # noqa: E402
+from timeweave_reference.timelines import Timeline as Timeline  # noqa: E402
 
 MOST_PROOF = precedence.MOST_BYTES
 MOST_MESSAGE = messages.MOST_BYTES
@@ -104,9 +107,12 @@ def needed_by_proof(data: bytes) -> list[Needed]:
 
 def lines_shown(data: bytes) -> list[Line]:
     """The lines of steps beside those of its tops that a proof, or a map file, shows where it is accepted: of each step that it opens, and of each that was
-    received, as its trees have it. None where the bytes are none."""
+    received, as its trees have it; of evidence those of the steps that it opens. None where the bytes are none."""
     if kind_of(data).endswith("map"):
         return shown_by_map(data)
+    fork = read_evidence(data)
+    if fork is not None:
+        return [Line(it.service, it.step, it.opening.authenticator(it.step).hex()) for it in (fork.first, fork.second)]
     proof = read_proof(data)
     if isinstance(proof, proofs.StepProof):
         own = Line(proof.service, proof.step, proof.opening.authenticator(proof.step).hex())
@@ -116,6 +122,22 @@ def lines_shown(data: bytes) -> list[Line]:
     received = [line for hop in proof.hops for line in [line_received(hop.entry), *received_in(hop.tree)]]
     second = Line(proof.service, proof.step, proof.opening.authenticator(proof.step).hex())
     return [second, *received, Line(proof.first_service, proof.first_step, proof.first_opening.authenticator(proof.first_step).hex())]
+
+
+def told_by(data: bytes, under: Iterable[Line]) -> Optional[Told]:
+    """What an accepted file on what a service received tells of it, under the line of that service among these; None of another file."""
+    file = archive_facts.read_file(data)
+    lines = {line.service: line for line in under}
+    service = None if file is None else file.peer if isinstance(file, map_files.HighFile) else file.service
+    if file is None or service is None or service not in lines:
+        return None
+    line = lines[service]
+    facts = archive_facts.facts_of(file, {service: Anchor(line.step, bytes.fromhex(line.authenticator))})
+    entry, lack, opening = facts.entry, facts.lack, facts.opening
+    return Told(
+        line, facts.shown.step, facts.shown.authenticator.hex(), opening.before.hex(), opening.count, opening.time,
+        None if entry is None else Received(entry.service, entry.step, entry.authenticator.hex(), entry.archived), None if lack is None else Lacked(*lack),
+    )  # fmt: skip
 
 
 def line_received(entry: Entry) -> Line:
@@ -150,13 +172,30 @@ def needed_by_maps(low: bytes, high: bytes) -> list[Needed]:
     return [Needed(first.service, first.top), Needed(second.peer, second.top)]
 
 
+def read_evidence(data: bytes) -> Optional[evidence.Evidence]:
+    """The evidence that the bytes are, or None."""
+    try:
+        return evidence.read_evidence(data)
+    except fields.Malformed:
+        return None
+
+
+def lines_in_evidence(data: bytes, kept: Iterable[Line]) -> list[Line]:
+    """The lines that the receivers of accepted evidence tell: that their trees have besides, and of the accused service the first one where a kept line of that step
+    is neither of the two that it shows. None where the bytes are no evidence."""
+    fork = read_evidence(data)
+    if fork is None:
+        return []
+    accused = line_received(fork.first.entry)
+    held = {it.authenticator for it in kept if (it.service, it.step) == (accused.service, accused.step)}
+    received = [line for it in (fork.first, fork.second) for line in received_in(it.tree) if line.service != accused.service]
+    return [*received, *([accused] if held - {accused.authenticator, fork.bottom.hex()} else [])]
+
+
 def needed_by_evidence(data: bytes) -> list[Needed]:
     """The lines that evidence is judged under; none where the bytes are no evidence."""
-    try:
-        found = evidence.read_evidence(data)
-    except fields.Malformed:
-        return []
-    return [Needed(proof.service, proof.top) for proof in (found.first, found.second)]
+    found = read_evidence(data)
+    return [Needed(proof.service, proof.top) for proof in (found.first, found.second)] if found is not None else []
 
 
 def recorders_in(data: bytes, service: str) -> list[str]:
@@ -270,3 +309,4 @@ def read_file(path: AnyPath, follow: bool = True) -> bytes:
     if len(data) > MOST_PROOF and kind_of(data) != "history":
         raise Trouble(Status.UNREADABLE, f"{name_of(path)} has {len(data):,} bytes, and none that is read here has more than {MOST_PROOF:,}")
     return data
+

@@ -16,7 +16,7 @@ from typing import Callable, Collection, NamedTuple, Optional
 from weft import formats, hearing, own, signatures
 from weft.box import Peer
 from weft.deciding.going_on import Fault, Joint, is_behind_end, is_next, named_in, weigh_name
-from weft.deciding.signatures import PublicKey, Signed, read_noted_key, read_signed_line
+from weft.deciding.signatures import PublicKey, Signed, may_count_for_part, read_noted_key, read_signed_line
 from weft.judges import Bench
 from weft.lines import Line, anchors, kept_now, read_line
 from weft.parts import Part, first_received
@@ -140,6 +140,7 @@ class Follower:
             except Trouble as trouble:
                 peer.need(f"it goes on as {part.name}, and that wasn't taken: {trouble.sentence}")
                 return None
+            part.renew("key", f"{key.fingerprint}\n".encode())
         hearing.go_on(peer, part)
         part.renew("sent", peer.read("sent"))
         part.renew("accepted", f"{kept_now(begun, f'the part in which {peer.name} goes on, as its last step says').text}\n".encode())
@@ -161,6 +162,16 @@ class Follower:
             )
         else:
             self.note(ended, signed, f"signed by {self.key_of(signed)}, by exchange")
+
+
+def counting_keys(signers: Path, peer: Peer) -> set[str]:
+    """The fingerprints of the keys that count for a peer now: those that are noted of it, and of a further part by itself only while they count for the part
+    before."""
+    noted = signatures.fingerprints(signers, peer.name)
+    if peer.earlier is None or not peer.read("key"):
+        return noted
+    by_itself, earlier = peer.read("key").decode("ascii", "replace").strip(), counting_keys(signers, peer.earlier)
+    return {key for key in noted if may_count_for_part(key, by_itself, earlier)}
 
 
 def named_by(judge: Bench, data: bytes, end: Line) -> Optional[str]:

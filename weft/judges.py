@@ -15,10 +15,11 @@ from typing import Any, Iterator, NamedTuple, Optional, Protocol, Union
 
 from weft import packages, program
 from weft.statuses import Status
-from weft.texts import printable
+from weft.texts import printable, quoted
 from weft.trouble import Trouble
 
 ACCEPTED, REJECTED, UNREADABLE = 0, 1, 9
+MOST_WHY = 400
 REFERENCE = "Python reference, tested, not proved"
 LOW, HIGH, HISTORY = "low", "high", "history"
 
@@ -58,11 +59,11 @@ class Judge(Protocol):
     name: str
 
     def has(self, call: str) -> bool:
-        """Whether it judges this: `verify`, `strict`, `checkmap`, `checkfork` or `contradict`."""
+        """Whether it judges this: `verify`, `strict`, `checkmap`, `checkfork`, `contradict` or `receiver`."""
 
     def judge(self, call: str, files: tuple[bytes, ...]) -> Verdict:
         """The verdict on the bytes of files, which stand as the library's function of this name takes them: last an anchors file; of `contradict`
-        the first file with its anchors, the second with its own, and a link, which may be empty."""
+        the first file with its anchors, the second with its own, and a link, which may be empty; of `receiver` evidence, its anchors and such a link."""
 
 
 class LibraryJudge:
@@ -248,9 +249,9 @@ class Bench:
         return Status.DONE if is_shown else Status.NOT_SHOWN
 
 
-def for_contradictions(judge: Bench) -> Bench:
-    """Who judges whether two files contradict each other: the library, and where it isn't there the reference alone, rather than nobody."""
-    return judge if judge.has("contradict") else bench(True)
+def for_contradictions(judge: Bench, call: str = "contradict") -> Bench:
+    """Who judges whether files show a rule broken: the library, and where it isn't there the reference alone, rather than nobody."""
+    return judge if judge.has(call) else bench(True)
 
 
 def nobody(is_by_reference: bool) -> Trouble:
@@ -265,15 +266,23 @@ def nobody(is_by_reference: bool) -> Trouble:
     )
 
 
+class Unloaded:
+    """Why the library couldn't be loaded, where it was tried."""
+
+    why = ""
+
+
 @functools.lru_cache(maxsize=None)
 def library() -> Optional[LibraryJudge]:
     """The library, or None where it can't be loaded."""
     if not packages.ready("timeweave"):
+        Unloaded.why = "the module timeweave isn't there, or isn't the one that this weft was made with"
         return None
     try:
         binding = importlib.import_module("timeweave")
         return LibraryJudge(binding, binding.library())
-    except (OSError, SyntaxError, AttributeError, TypeError, ImportError):
+    except (OSError, SyntaxError, AttributeError, TypeError, ImportError) as failure:
+        Unloaded.why = quoted(str(failure)[:MOST_WHY])
         return None
 
 

@@ -16,6 +16,10 @@ NAMES = {
 }  # fmt: skip
 
 
+# The kinds of files on what a service received.
+ARCHIVE_KINDS = ("thread", "absence", "low map", "high map")
+
+
 def kind_of(data: bytes) -> str:
     """What the bytes begin as: `event`, `precedence`, `thread`, `absence`, `link`, `low map`, `high map`, `message`, `receipts`, `evidence`,
     `history`, `events`; else `text`."""

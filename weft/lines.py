@@ -13,12 +13,12 @@ import os
 import time
 from contextlib import contextmanager
 from pathlib import Path
-from typing import Iterable, Iterator, NamedTuple, Optional, Sequence, Union
+from typing import Callable, Collection, Iterable, Iterator, NamedTuple, Optional, Sequence, Union
 
 from weft import files, locks
 from weft.deciding import keeping
 from weft.deciding import lines as deciding
-from weft.deciding.keeping import Mark, Outcome, Standing, choose_line, find_standing_choice, place_line, standing_of
+from weft.deciding.keeping import Counting, Mark, Outcome, Standing, choose_line, find_standing_choice, list_counting, may_be_mistyped, place_line, standing_of, was_passed_over
 from weft.deciding.lines import LAST_STEP as LAST_STEP
 from weft.deciding.lines import NAME as NAME
 from weft.deciding.lines import NAME_RULE as NAME_RULE
@@ -28,7 +28,7 @@ from weft.deciding.lines import read_line as read_line
 from weft.files import AnyPath
 from weft.output import complain
 from weft.statuses import Status
-from weft.texts import beside, name_of, now, printable
+from weft.texts import MOST_SHOWN, beside, name_of, now, printable, quoted
 from weft.trouble import Trouble
 
 MOST_BYTES = 1 << 32
@@ -39,7 +39,7 @@ ONE_SECOND = 1.0
 def checked_name(name: str) -> str:
     """The name; raises Trouble where none that is made or accepted here can have it."""
     if not deciding.may_take_name(name):
-        raise Trouble(Status.USAGE, f"{printable(name)!r} is no name of a service: {NAME_RULE}")
+        raise Trouble(Status.USAGE, f"{quoted(name[:MOST_SHOWN])} is no name of a service: {NAME_RULE}")
     return name
 
 
@@ -85,12 +85,14 @@ def own_files() -> Path:
 
 
 class KeptLines:
-    """The kept lines of files, by service and step, and what is told of steps of which lines contradict."""
+    """The kept lines of files, by service and step, and what is told of steps of which lines contradict; and the status of how they were found."""
 
     def __init__(self, paths: Iterable[AnyPath] = (), more: Iterable[Kept] = (), named: Iterable[AnyPath] = ()):
         self.found: dict[str, dict[int, list[Kept]]] = {}
+        self.status = Status.DONE
         self.marks: dict[tuple[str, int], list[Mark]] = {}
         self.rising: dict[str, list[int]] = {}
+        self.uncounted: dict[str, list[Kept]] = {}
         for path in paths:
             data = files.read_if_there(path, MOST_BYTES)
             self.add_text(path, (data or b"").decode("utf-8", "replace"))
@@ -116,6 +118,18 @@ class KeptLines:
             return
         self.found.setdefault(found.line.service, {}).setdefault(found.line.step, []).append(found)
         self.rising.pop(found.line.service, None)
+
+    def count_by(self, service: str, noted: Collection[str]) -> None:
+        """Lets no line of a service count that came by the signature of another key than these alone, nor what is told of a contradiction with such lines."""
+        for step in {*self.found.get(service, {}), *(step for name, step in self.marks if name == service)}:
+            kept = self.all_at(service, step)
+            left = list_counting(kept, self.marks_at(service, step), noted)
+            gone = [it for it in kept if it not in left.kept]
+            if gone:
+                self.uncounted.setdefault(service, []).extend(gone)
+                self.found[service][step], self.marks[service, step] = left.kept, left.marks
+        self.found[service] = {step: kept for step, kept in self.found.get(service, {}).items() if kept}
+        self.rising.pop(service, None)
 
     def all_at(self, service: str, step: int) -> list[Kept]:
         """All that were kept of this step."""
@@ -171,6 +185,10 @@ class KeptLines:
             self.rising[service] = sorted(self.found.get(service, {}))
         return self.rising[service]
 
+    def of(self, service: str) -> list[Kept]:
+        """All that were kept of a service, and count."""
+        return [it for same in self.found.get(service, {}).values() for it in same]
+
     def services(self) -> list[str]:
         """The services of which lines were kept."""
         return sorted(self.found)
@@ -186,18 +204,27 @@ class KeptLines:
         return "".join(f"{it}\n" for it in [*(kept.line.text for kept in sorted(self.all())), *marks])
 
 
-def kept_of(named: Optional[Sequence[Path]], more: Iterable[Kept] = ()) -> KeptLines:
-    """The kept lines of the files that were named, each of which has to be there; where none was named those of the user's own file, which the first line that
-    is kept makes. That the variable WEFT_KEPT names none that is there is told: it may be mistyped."""
-    if named:
-        return KeptLines([], more, named)
+def kept_of(named: Optional[Sequence[Path]]) -> KeptLines:
+    """The kept lines of the files that were named, each of which has to be there; where none was named those of the user's own file."""
+    return KeptLines(named=named) if named else own_kept()
+
+
+def own_kept(is_new: bool = False) -> KeptLines:
+    """The kept lines of the user's own file, which the first line that is kept makes. That the variable WEFT_KEPT names none that is there is told, and stands
+    in their status: it may be mistyped, and nothing is held against the lines that were meant. Of a service that is new there are none."""
     own = default_kept()
-    if os.environ.get("WEFT_KEPT") and not files.is_there(own):
-        complain(f"there is no file {name_of(own)}, which WEFT_KEPT names: no line was kept there yet.")
-    return KeptLines([own], more)
+    found = KeptLines([own])
+    if may_be_mistyped(bool(os.environ.get("WEFT_KEPT")) and not is_new, files.is_there(own)):
+        complain(f"there is no file {name_of(own)}, which WEFT_KEPT names: is that its name? The first line that is kept makes it.")
+        found.status = Status.LOOK
+    return found
 
 
 # ---- the file
+
+
+Noted = Callable[[str], Collection[str]]
+"""The fingerprints of the keys that are noted of a service."""
 
 
 class Placed(NamedTuple):
@@ -210,10 +237,11 @@ class Placed(NamedTuple):
     others: tuple[str, ...] = ()
 
 
-def keep(path: Path, new: Iterable[Kept]) -> list[Placed]:
-    """Adds lines to a file of kept lines, and answers what became of each. One that contradicts others is added too, and marked."""
+def keep(path: Path, new: Iterable[Kept], noted: Optional[Noted] = None) -> list[Placed]:
+    """Adds lines to a file of kept lines, and answers what became of each. One that contradicts others is added too, and marked: others that count, by the keys
+    that are noted of their service where these are told."""
     with kept_file(path) as (known, added):
-        return [place(path, known, added, it) for it in new]
+        return [place(path, known, added, it, noted) for it in new]
 
 
 def choose(path: Path, new: Kept) -> Placed:
@@ -246,10 +274,14 @@ def kept_file(path: Path) -> Iterator[tuple[KeptLines, list[Union[Kept, Mark]]]]
             files.renew(path, old + end + b"".join(f"{it.text}\n".encode() for it in added))
 
 
-def place(path: Path, known: KeptLines, added: list[Union[Kept, Mark]], new: Kept) -> Placed:
+def place(path: Path, known: KeptLines, added: list[Union[Kept, Mark]], new: Kept, noted: Optional[Noted] = None) -> Placed:
     """Adds a line to those that are known, and to those that are to be written; answers what became of it."""
     service, step = new.line.service, new.line.step
-    placement = place_line(new, known.all_at(service, step), known.marks_at(service, step))
+    kept, marks = known.all_at(service, step), known.marks_at(service, step)
+    counting = list_counting(kept, marks, noted(service)) if noted is not None else Counting(list(kept), list(marks))
+    standing = standing_of(counting.kept, counting.marks)
+    others = [it for it in kept if it not in counting.kept and it.line != new.line and not was_passed_over(it.line, standing)]
+    placement = place_line(new, counting.kept, counting.marks)
     for it in placement.added:
         known.add(it)
         added.append(it)
@@ -257,7 +289,17 @@ def place(path: Path, known: KeptLines, added: list[Union[Kept, Mark]], new: Kep
         return Placed(new, placement.outcome, known.contradiction(service, step, path))
     if placement.outcome is Outcome.NOT_CHOSEN:
         return Placed(new, placement.outcome, not_chosen(new, known.at(service, step), path))
-    return Placed(new, placement.outcome)
+    return Placed(new, placement.outcome, beside_uncounted(others) if others else None)
+
+
+def beside_uncounted(others: Sequence[Kept]) -> Trouble:
+    """That a line differs from others of its step which don't count, since their keys aren't noted."""
+    line, came = others[0].line, "; ".join(dict.fromkeys(it.told for it in others))
+    return Trouble(
+        Status.LOOK,
+        f"another line of step {line.step} of {line.service} was kept ({came}), and doesn't count, since that key isn't noted of {line.service}",
+        "Was the key stolen, take that line out of your file of kept lines; else note it: then these are two lines of one step.",
+    )
 
 
 def dated_behind(mark: Mark, marks: Sequence[Mark], path: Path) -> Mark:

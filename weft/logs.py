@@ -9,18 +9,19 @@
 
 from __future__ import annotations
 
+import functools
 import os
 import re
 from pathlib import Path
 from typing import Iterable, Iterator, Optional, Sequence
 
-from weft import files, own, parts
+from weft import checks, files, own, parts
 from weft.deciding.going_on import is_name_of_other, must_go_on, next_name
 from weft.deciding.restoring import Beside, Missing, find_missing
 from weft.entries import Entries
 from weft.formats import MOST_EVENTS, MOST_STEP, events_file
 from weft.judges import Bench
-from weft.lines import Line
+from weft.lines import KeptLines, Line
 from weft.output import complain
 from weft.own import OwnLines
 from weft.parts import Next, Part
@@ -72,13 +73,18 @@ class Log:
         self.known, self.anchor = (beside(service, end) for end in (".known", ".anchor"))
         self.former: list[Part] = []
         self.room: Optional[int] = None
-        self.needs_look = False
+        self.status = Status.DONE
         self.enter(service, Line("", 0, ""))
 
     def enter(self, folder: Path, last: Line) -> None:
         """Goes on in a part."""
-        self.store, self.lines, self.last = Store(folder), OwnLines(folder), last
+        self.store, self.lines, self.last, self.is_following = Store(folder), OwnLines(folder), last, False
         self.entries, self.pending = Entries(beside(folder, ".entries")), beside(folder, ".pending")
+
+    @functools.cached_property
+    def kept(self) -> KeptLines:
+        """The lines that its user keeps, which are read once."""
+        return parts.own_kept(is_new=not files.is_there(self.store.file))
 
     @property
     def part(self) -> Part:
@@ -101,7 +107,7 @@ class Log:
         if name is not None and first.service != name:
             raise Trouble(Status.USAGE, f"the service in {name_of(self.service)} is called {first.service}, and not {name}")
         found = parts.whole(self.service, self.judge)
-        parts.expect_kept(self.judge, found)
+        self.status = parts.expect_kept(self.judge, found, self.kept)
         new = parts.being_made(self.service, self.judge, found)
         if new is None:
             parts.forget_next(self.service)
@@ -137,7 +143,7 @@ class Log:
         if self.room is None:
             self.room = max(0, parts.MOST_PART - parts.size_of(self.store))
         if must_go_on(parts.MOST_PART - self.room, added, parts.MOST_PART) and self.last.step > 1:
-            new = parts.name_next(self.service, [*self.former, self.part])
+            new = parts.name_next(self.service, [*self.former, self.part], self.kept)
             parts.begin_next(self.service, new)
             self.go_on_in(new)
             self.room = max(0, parts.MOST_PART - parts.size_of(self.store))
@@ -151,8 +157,10 @@ class Log:
             raise Trouble(Status.DISK, told, "Was it moved? Put it back; an empty one would begin a second history.")
         if name is None:
             raise Trouble(Status.USAGE, f"there is no service in {name_of(service)} yet", "Name it: weft log FOLDER SERVICE NAME.")
-        if is_name_of_other(parts.own_kept().steps(name)):
-            told = f"you keep a line of another service that is called {name}, and none was made under that name"
+        later = parts.find_later([name], self.kept, service)
+        if is_name_of_other(self.kept.steps(name)) or later is not None:
+            called = name if later is None else f"{later.service}, as a further part of {name} would be"
+            told = f"you keep a line of another service that is called {called}, and none was made under that name"
             raise Trouble(Status.USAGE, told, "Choose another name. Was this one your own, whose store is lost, go on under a new name too.")
         files.make_folder(service)
 
@@ -174,7 +182,7 @@ class Log:
         run that reads all files where one of them isn't the store's, or one of the store's isn't among them."""
         for part in [*self.former, self.part]:
             if is_full:
-                expect_true(self.service, part.entries, exported_events(part.store, self.judge, part.last))
+                expect_true(self.service, self.judge, part)
             else:
                 expect_end(self.service, self.judge, part)
 
@@ -189,6 +197,7 @@ class Log:
                 self.entries.put(at, begun, [])
             else:
                 self.entries.put(at, made, events)
+                self.expect_following(made)
                 self.lines.note(own.line_at(self.store, self.judge, made, self.last))
         files.remove(self.pending)
 
@@ -207,7 +216,7 @@ class Log:
         strange = [step for step in others if self.store.count(step, self.last.step)] if others else []
         if strange and held is not None:
             complain(f"{steps_of(strange)} of {self.last.service}: no run of weft log made such a step with events; their entries aren't kept.")
-            self.needs_look = True
+            self.status = Status.LOOK
         if held != self.last:
             self.lines.note(self.last)
 
@@ -219,13 +228,29 @@ class Log:
         files.extend(self.pending, b"%d %d\n" % (step, at), 0)
         self.entries.put(at, step, events)
         self.last = self.appended(events_file(list(events)), time)
+        self.expect_following(self.last.step)
         if self.last.step != step:
             self.entries.put(at, self.last.step, events)
+            self.tell_others_amid(range(step, self.last.step))
         if self.lines.is_there:
             self.lines.add(self.last)
         else:
             self.lines.note(self.last)
         return self.last
+
+    def expect_following(self, step: int) -> None:
+        """Raises Trouble where the first step that a run makes, or that a stopped run made, doesn't follow from the history: as no step of a log it received
+        nothing, so its archive is that of the step before."""
+        if not self.is_following and checks.differing_label(self.store, self.last, step):
+            raise damaged_end(self.store, step)
+        self.is_following = True
+
+    def tell_others_amid(self, steps: range) -> None:
+        """Tells that somebody else made steps while this run was at work; their lines are noted."""
+        complain(f"{steps_of(steps)} of {self.last.service} came while this run was at work: somebody else made them, and their entries aren't kept.")
+        self.status = Status.LOOK
+        for step in steps:
+            self.lines.add(own.line_at(self.store, self.judge, step, self.last))
 
     def close(self) -> None:
         """Ends a run that made steps: the last line is handed out, and of each part its last one; nothing is pending."""
@@ -239,8 +264,15 @@ class Log:
             return self.store.append(events, time)
         except ClockBack as back:
             complain(f"{back.trouble.sentence}: this step claims no time. Is the clock right?")
-            self.needs_look = True
+            self.status = Status.LOOK
             return self.store.append(events, None)
+
+
+def damaged_end(store: Store, step: int) -> Trouble:
+    """That a step which was made doesn't follow from the history: what the store keeps for its next step is damaged."""
+    told = f"the store in {name_of(store.path)} made step {step}, which doesn't follow from its step {step - 1}: what it keeps for its next step is damaged"
+    advice = f"Go back to a backup that has step {step - 1} as its last one, and look at the device."
+    return Trouble(Status.BAD_STORE, f"{told}. The line of that step wasn't noted or handed out", advice)
 
 
 def pieces(events: Iterable[bytes]) -> Iterator[list[bytes]]:

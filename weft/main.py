@@ -15,7 +15,7 @@ from typing import NoReturn, Optional, Sequence
 from weft import __version__, output, packages, program
 from weft.deciding.worst import worst_of
 from weft.statuses import Status
-from weft.texts import printable
+from weft.texts import listed, name_of, printable
 from weft.trouble import Trouble
 from weft.words import WORDS, module_of
 
@@ -37,6 +37,11 @@ class Parser(argparse.ArgumentParser):
         advice = f" {OPTIONS}" if OPTION_MISTAKEN.search(message) else ""
         raise Trouble(Status.USAGE, printable(message), f"See {self.prog} --help.{advice}")
 
+    def _print_message(self, message: str, file: object = None) -> None:
+        """Help is said as all else is."""
+        for line in message.splitlines():
+            output.say(line)
+
 
 class Version(argparse.Action):
     """Tells the versions when they are asked for, and not before."""
@@ -44,7 +49,7 @@ class Version(argparse.Action):
     def __call__(self, parser: argparse.ArgumentParser, *_: object, **__: object) -> None:
         for line in versions():
             output.say(line)
-        parser.exit(max(output.finish(), default=0))
+        parser.exit()
 
 
 def versions() -> list[str]:
@@ -54,16 +59,16 @@ def versions() -> list[str]:
     told = [f"weft {__version__}"]
     path = program.found()
     if path:
-        told.append(f"program {printable(path)}: logic {program.logic_of(path)}, SHA-256 {program.digest_of(path)}")
+        told.append(f"program {name_of(path)}: logic {program.logic_of(path)}, SHA-256 {program.digest_of(path)}")
     else:
         told.append("program: none is on the path")
     library = judges.library()
     if library:
         where = judges.library_path()
         logic = f"logic {program.logic_of(where)}, " if where else ""
-        told.append(f"library {printable(where or '')}: version {library.library.version()}, {logic}SHA-256 {judges.library_digest()}")
+        told.append(f"library {name_of(where or '')}: version {library.library.version()}, {logic}SHA-256 {judges.library_digest()}")
     else:
-        told.append("library: none can be loaded")
+        told.append(f"library: none can be loaded: {judges.Unloaded.why}")
     told.append(f"Python reference: {'there, tested, not proved' if packages.HAS_REFERENCE else 'not there'}")
     return told
 
@@ -95,17 +100,26 @@ def parser(words_given: Sequence[str]) -> Parser:
 @functools.lru_cache(maxsize=None)
 def parser_for(known: Optional[str]) -> Parser:
     """The parser of a word, or of all."""
-    whole = Parser(prog="weft", description=ABOUT, epilog="example:\n  weft line /srv/log --sign ~/.ssh/id_ed25519", formatter_class=Formatter)
+    example = "example:\n  weft line /srv/log --sign ~/.ssh/id_ed25519"
+    whole = Parser(prog="weft", description=ABOUT, epilog=example, formatter_class=Formatter, allow_abbrev=False)
     whole.add_argument("--version", nargs=0, action=Version, help="tells the versions and digests of weft and of what it uses")
     words = whole.add_subparsers(metavar="WORD", required=True, parser_class=Parser)
     for word in [known] if known else WORDS:
         module = module_of(word)
-        parser_of(module, words.add_parser(module.NAME, help=module.SUMMARY))
+        parser_of(module, words.add_parser(module.NAME, help=module.SUMMARY, allow_abbrev=False))
     return whole
+
+
+def meant(words: Sequence[str]) -> Sequence[str]:
+    """The words that are meant: `help` stands for --help, also behind it of a word. Raises Trouble where there is none."""
+    if not words:
+        raise Trouble(Status.USAGE, f"no word is named; they are {listed(list(WORDS))}", "See weft --help, or weft WORD --help.")
+    return [*words[1:2], "--help"] if words[0] == "help" else words
 
 
 def ended(words: Sequence[str]) -> Status:
     """Runs the command; answers its status."""
+    words = meant(words)
     options = parser(words).parse_args(words)
     status: Status = options.run(options)
     return status
@@ -131,8 +145,7 @@ def main(words: Optional[Sequence[str]] = None) -> int:
     try:
         return int(worst_of([run(sys.argv[1:] if words is None else words), *output.finish()]))
     except SystemExit as end:
-        output.finish_quietly()
-        return end.code if isinstance(end.code, int) else int(Status.DONE)
+        return max([end.code if isinstance(end.code, int) else int(Status.DONE), *map(int, output.finish())])
     except MemoryError:
         output.complain("there was no memory.")
         return int(Status.NO_MEMORY)
@@ -140,7 +153,7 @@ def main(words: Optional[Sequence[str]] = None) -> int:
         output.complain("interrupted; the next run goes on.")
         return int(Status.STOPPED)
     except OSError as failure:
-        what = f"{printable(os.fsdecode(failure.filename))}: " if isinstance(failure.filename, (str, bytes)) else ""
+        what = f"{name_of(os.fsdecode(failure.filename))}: " if isinstance(failure.filename, (str, bytes)) else ""
         output.complain(f"{what}{os.strerror(failure.errno or 0)}. What was there before stands; the next run goes on.")
         return int(Status.DISK)
     except Exception:  # noqa: BLE001 - what nobody foresaw is told as a bug, with nothing raw in it

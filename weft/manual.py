@@ -6,12 +6,12 @@ from __future__ import annotations
 
 import argparse
 import os
-import sys
 import textwrap
 from typing import Iterator
 
 from weft import __version__
 from weft.main import ABOUT
+from weft.output import say_whole
 from weft.statuses import MEANINGS
 from weft.words import WORDS, module_of
 
@@ -212,4 +212,5 @@ def page() -> str:
 
 
 if __name__ == "__main__":
-    sys.stdout.write(page())
+    for line in page().splitlines():
+        say_whole(line)

@@ -6,22 +6,27 @@ from __future__ import annotations
 import hashlib
 import os
 from pathlib import Path
-from typing import Callable, NamedTuple, Optional, Sequence
+from typing import Callable, Collection, NamedTuple, Optional, Sequence
 
-from weft import auditing, choosing, files, formats, kinds, reports
+from weft import auditing, choosing, files, formats, judges, kinds, reports
 from weft.auditing import Sent
 from weft.choosing import BoundHistory, Judgement
 from weft.deciding.choosing import Beside, Extent, Headline, choose_headline, choose_headline_unheld, choose_history_headline, hold_history, hold_line
+from weft.deciding.contradicting import may_count
+from weft.deciding.keeping import was_passed_over
 from weft.deciding.matching import Match, match_file, read_logged
 from weft.deciding.worst import worst_of
-from weft.judges import Bench
+from weft.judges import Bench, Verdict
+from weft.kinds import ARCHIVE_KINDS
 from weft.lines import KeptLines, Line, anchors
 from weft.reports import Report
+from weft.sentences import fill
 from weft.statuses import Status
-from weft.texts import count_of, listed, name_of, printable, shown_event, steps_of
+from weft.texts import count_of, listed, name_of, shown_event, steps_of
 from weft.trouble import Trouble
 
 MOST_TOLD = 8
+UNCOUNTED_DIFFERS = "A LINE THAT DOESN'T COUNT IS ANOTHER ONE"
 # The events of a proof of order, as they are called.
 WHICH = ("the earlier event", "the later event")
 
@@ -35,14 +40,15 @@ class Named(NamedTuple):
 
 
 class Outcome(NamedTuple):
-    """What is said first, and what stands behind it there; the status; the sentences; and the kept lines that what was judged
-    contradicts."""
+    """What is said first, and what stands behind it there; the status; the sentences; the kept lines that what was judged contradicts; and whether it
+    contradicts itself."""
 
     headline: Headline
     status: Status
     told: list[str]
     contradicted: list[Line]
     aside: str = ""
+    is_refuted: bool = False
 
     @property
     def title(self) -> str:
@@ -83,6 +89,12 @@ def no_proof(it: Named) -> Trouble:
 
 def outcome_of(judge: Bench, kept: KeptLines, group: list[Named], judgement: Judgement) -> Outcome:
     """What came of a judgement of a file, or of two map files."""
+    found = outcome_by(judge, kept, group, judgement)
+    return beside_uncounted(found, kept, lines_beside(judge, kept, group, judgement)) if kept.uncounted else found
+
+
+def outcome_by(judge: Bench, kept: KeptLines, group: list[Named], judgement: Judgement) -> Outcome:
+    """The same, by the kept lines that count."""
     resting = choosing.resting(judgement, kept)
     if judgement.history is not None:
         return outcome_of_history(judge, kept, judgement, judgement.history)
@@ -91,15 +103,36 @@ def outcome_of(judge: Bench, kept: KeptLines, group: list[Named], judgement: Jud
         told = choosing.missing_sentences(judgement.missing, kept, group[0].data) or [hindrance]
         return Outcome(choose_headline(False, 0, True, False, False), Status.MISSING, told, [])
     report = report_of(judge, group, judgement)
-    others, compared = beside_kept(lines_told(report, group, judgement), kept) if report else ([], [])
+    refuted = refutation(judge, group, judgement)
+    if refuted:
+        return Outcome(Headline.NOT_SHOWN, Status.CONTRADICTION, [*refuted, *resting], [], ": it contradicts itself", True)
+    others, compared = beside_kept([*lines_told(report, group, judgement), *lines_of_evidence(group, kept)], kept) if report else ([], [])
     if judgement.is_shown and report is not None:
-        told = map_sentences(report, group) or reports.sentences(report)
+        told = map_sentences(report, group) or [*reports.sentences(report, receiver_of(judge, report, group, judgement))]
     else:
-        sentence, advice = reports.reason_sentence(judgement.verdict)
-        told = [f"{sentence[0].upper()}{sentence[1:]}. {advice}".strip()]
+        told = [" ".join(reports.reason_sentence(judgement.verdict)).strip()]
     carried = len(report.carried) if report else 0
     status = Status.CONTRADICTION if others else judge.status(judgement.is_shown)
     return Outcome(choose_headline(judgement.is_shown, carried, False, bool(others), False), status, [*told, *compared, *resting], others)
+
+
+def refutation(judge: Bench, group: list[Named], judgement: Judgement) -> list[str]:
+    """What is said of an accepted file on what a service received that contradicts itself; nothing of another one. Nothing that it says is told as shown."""
+    if not judgement.is_shown:
+        return []
+    seat = judges.for_contradictions(judge)
+    for it in group:
+        verdict = choosing.judge_alone(seat, it.data, judgement.lines) if it.kind in ARCHIVE_KINDS else None
+        if verdict is not None and verdict.is_accepted:
+            return [*reports.refuted_sentences(verdict), seat.told("contradict")]
+    return []
+
+
+def receiver_of(judge: Bench, report: Report, group: list[Named], judgement: Judgement) -> Optional[Verdict]:
+    """What the judge says of the one service that received both lines of accepted evidence; None of another file, and where two received them."""
+    if report.kind != "fork" or report.other("first")[3] != report.other("second")[3]:
+        return None
+    return choosing.judge_receiver(judges.for_contradictions(judge, "receiver"), group[0].data, judgement.lines)
 
 
 def sentences(judge: Bench, judgement: Judgement, outcome: Outcome) -> list[str]:
@@ -136,10 +169,21 @@ def lines_told(report: Report, group: list[Named], judgement: Judgement) -> list
     return [line for line in dict.fromkeys([*reports.told_lines(report), *shown]) if line not in judgement.lines]
 
 
+def lines_of_evidence(group: list[Named], kept: KeptLines) -> list[Line]:
+    """The lines besides that accepted evidence tells by the words of its receivers; of another file none."""
+    return [line for it in group if it.kind == "evidence" for line in formats.lines_in_evidence(it.data, (held.line for held in kept.all()))]
+
+
 def all_lines(judge: Bench, group: list[Named], judgement: Judgement) -> list[Line]:
     """The lines that accepted files rest on, and those that they tell."""
     report = report_of(judge, group, judgement) if judgement.history is None else None
     return [*judgement.lines, *(lines_told(report, group, judgement) if report is not None else [])]
+
+
+def lines_that_count(judge: Bench, group: list[Named], judgement: Judgement, broken: Collection[str]) -> list[Line]:
+    """The same, but what services that broke a rule received."""
+    told = [formats.told_by(it.data, judgement.lines) for it in group]
+    return [line for line in all_lines(judge, group, judgement) if may_count(line, next((it for it in told if it is not None), None), broken)]
 
 
 def beside_kept(lines: list[Line], kept: KeptLines) -> tuple[list[Line], list[str]]:
@@ -150,16 +194,41 @@ def beside_kept(lines: list[Line], kept: KeptLines) -> tuple[list[Line], list[st
         held = kept.at(line.service, line.step)
         beside = hold_line(line, (it.line for it in held))
         if beside is Beside.SAME:
-            told.append(f"That is the line of step {line.step} of {line.service} that you kept: one history.")
+            told.append(fill("same line", service=line.service, step=line.step))
         elif beside is Beside.OTHER:
             others += dict.fromkeys(it.line for it in held if it.line != line)
-            came = "; ".join(it.told for it in held if it.line != line)
-            told.append(
-                f"TWO LINES: the line of step {line.step} of {line.service} that you kept ({came}) is another one than {line.authenticator[:16]}.. of this "
-                f"file: {line.service} has shown two histories, or one of both isn't {line.service}'s. Keep this file and both lines, and show them to "
-                f"others who hold lines of {line.service}: which of both do they have? Ask {line.service} too."
-            )
+            came = f" ({'; '.join(it.told for it in held if it.line != line)})"
+            differing = fill("other line", service=line.service, step=line.step, came=came, told=line.authenticator[:16])
+            told.append(f"TWO LINES: {differing} {fill('keep both', service=line.service)}")
     return others, told
+
+
+def lines_beside(judge: Bench, kept: KeptLines, group: list[Named], judgement: Judgement) -> list[Line]:
+    """The lines that accepted files rest on, and those that they tell; of a history those of the steps of which lines are kept that don't count."""
+    if judgement.history is None:
+        return all_lines(judge, group, judgement)
+    return lines_of_history(kept, group[0].data, judgement.history.service)
+
+
+def lines_of_history(kept: KeptLines, data: bytes, service: str) -> list[Line]:
+    """The lines of a history's steps of which lines are kept that don't count."""
+    history, steps = formats.timeline_of(data), {it.line.step for it in kept.uncounted.get(service, [])}
+    return [Line(service, step, history.authenticators[step]) for step in sorted(steps) if step <= history.last] if history is not None else []
+
+
+def beside_uncounted(outcome: Outcome, kept: KeptLines, lines: list[Line]) -> Outcome:
+    """The outcome beside kept lines that don't count: these bind nothing and accuse nobody, and where one of them is another one than a line of what would be
+    shown, that isn't judged before a person has said what it is, as by choosing over it."""
+    differing = [it for line in lines for it in kept.uncounted.get(line.service, []) if hold_line(line, [it.line]) is Beside.OTHER]
+    others = [it for it in differing if not was_passed_over(it.line, kept.standing(it.line.service, it.line.step))]
+    if not others:
+        return outcome
+    first = others[0]
+    told = (
+        f"{UNCOUNTED_DIFFERS}: that of step {first.line.step} of {first.line.service} that you kept ({first.told}), than this file has. Was "
+        "its key stolen, take that line out of your file of kept lines; else note its key, and look at both."
+    )
+    return outcome._replace(headline=choose_headline_unheld(outcome.headline), status=worst_of([outcome.status, Status.LOOK]), told=[told, *outcome.told])
 
 
 # ---- histories
@@ -263,7 +332,7 @@ def with_file(judge: Bench, outcome: Outcome, judgement: Judgement, path: str) -
         return other_file(judge, outcome, text, ": recorded, but not this file")
     which = f" as {listed([WHICH[place] for place in places])}" if len(events) > 1 else ""
     if match is Match.RENAMED:
-        names = listed([printable(os.fsdecode(it.name)) for it in dict.fromkeys(logged[place] for place in places) if it is not None])
+        names = listed([name_of(os.fsdecode(it.name)) for it in dict.fromkeys(logged[place] for place in places) if it is not None])
         text = f"{name_of(path)} has the digest that was logged{which}, under the name {names}."
         return outcome._replace(status=worst_of([outcome.status, Status.LOOK]), told=[*outcome.told, text])
     return outcome._replace(told=[*outcome.told, f"{name_of(path)} is {'the file that was logged' + which if which else 'that file'}, by its digest and name."])
@@ -321,6 +390,8 @@ def with_histories(judge: Bench, kept: KeptLines, outcome: Outcome, judgement: J
             unsound.append(name_of(path))
         elif history.held.differing:
             outcome = contradicted_by(kept, outcome, history)
+        if history is not None:
+            outcome = beside_uncounted(outcome, kept, lines_of_history(kept, sent[-1].data, history.service))
     if len(sent) < len(paths):
         return outcome
     return unless_troubled(outcome, lambda it: with_audit(judge, it, auditing.audited(judge, proof, judgement.lines, sent), unsound))

@@ -21,7 +21,7 @@ from weft.lines import MOST_BYTES, Line, anchors, lines_of, read_line
 from weft.reports import read_report
 from weft.statuses import Status
 from weft.stores import Store
-from weft.texts import beside, count_of, date_of, name_of, printable
+from weft.texts import beside, count_of, date_of, name_of
 from weft.trouble import Trouble
 
 MOST_SEAL = 200
@@ -53,12 +53,15 @@ def event_at(store: Store, judge: Bench, step: int, index: int, top: Line) -> by
     return report.events[0].data
 
 
-def old_store(path: str, line: Line, found: str, whence: str) -> Trouble:
+NO_STEP = "No step was made"
+
+
+def old_store(path: str, line: Line, found: str, whence: str, unmade: str = NO_STEP) -> Trouble:
     """The store isn't the one whose line is held."""
     return Trouble(
         Status.OLD_STORE,
         f"{name_of(path)} isn't the store of {line.service}'s line of step {line.step} ({whence}): {found}. "
-        "Is it an old one that was put back? No step was made",
+        f"Is it an old one that was put back? {unmade}",
         "Put the right one back; if there is none, go on under a new name: a step made here would be a second history.",
     )
 
@@ -68,10 +71,10 @@ def proved_lines(store: Store, judge: Bench, last: Line, told: Sequence[Told]) -
     return {step: line_at(store, judge, step, last) for step in list_steps_to_prove(last, told)}
 
 
-def lacking(path: str, last: Line, told: Told) -> Trouble:
+def lacking(path: str, last: Line, told: Told, unmade: str = NO_STEP) -> Trouble:
     """The store lacks a line that is told of it."""
     found = f"its last step is {last.step}" if last.step < told.line.step else "it has another step of that number"
-    return old_store(path, told.line, found, told.whence)
+    return old_store(path, told.line, found, told.whence, unmade)
 
 
 def lacks_all(store: Store, judge: Bench, last: Line, held: Sequence[Line]) -> bool:
@@ -81,13 +84,13 @@ def lacks_all(store: Store, judge: Bench, last: Line, held: Sequence[Line]) -> b
     return all(find_lacking(last, proved, [it]) is not None for it in told)
 
 
-def held_against(store: Store, judge: Bench, last: Line, held: Line, whence: str) -> None:
+def held_against(store: Store, judge: Bench, last: Line, held: Line, whence: str, unmade: str = NO_STEP) -> None:
     """Raises Trouble where the store, whose last line this is, hasn't the step of a line of its own that is held."""
     if held.service != last.service:
         raise Trouble(Status.USAGE, f"the service in {name_of(store.path)} is called {last.service}, and not {held.service}")
     told = [Told(held, whence)]
     if find_lacking(last, proved_lines(store, judge, last, told), told):
-        raise lacking(store.path, last, told[0])
+        raise lacking(store.path, last, told[0], unmade)
 
 
 def add_adopt(parser: argparse.ArgumentParser) -> None:
@@ -105,7 +108,7 @@ def named_line(word: str) -> Line:
     if line is not None:
         return line
     if not files.is_there(word):
-        told = f"{printable(word)} is no line, and there is no such file"
+        told = f"{name_of(word)} is no line, and there is no such file"
         raise Trouble(Status.USAGE, told, "A line is a name, a step and 64 hexadecimal digits, in one word: 'shop 2 5585fc74..'.")
     found = lines_of(files.read(word, MOST_NAMED), name_of(word))
     if len(found) > 1:
@@ -219,6 +222,13 @@ class OwnLines:
                 f"{adopting(store)}.",
             )
 
+    def why_doubted(self, store: Store, last: Line) -> Optional[str]:
+        """Why the store may be an old one, as far as what stands beside it tells; None where it tells nothing of the kind."""
+        begun = self.begun_look()
+        if begun is not None:
+            return f"Since {date_of(begun.since)} the words of peers on the store in {name_of(store.path)} are waited for: it may be an old one"
+        return f"The store in {name_of(store.path)} and the files beside it {self.why_copied()}: it may be an old one" if self.is_copy(last) else None
+
     def why_copied(self) -> str:
         """Why the store counts as a copy."""
         seal = self.sealed()
@@ -293,9 +303,11 @@ class OwnLines:
             raise Trouble(Status.OLD_STORE, told, advice)
 
     def note(self, line: Line) -> None:
-        """Keeps a line of one's own among the others, and as the one to hand out where it is the last."""
+        """Keeps a line of one's own among the others, and as the one to hand out where it is the last. That doesn't say that the files are where they were
+        written: the seal of a copy stays as it is, until a person or peers have said so."""
         if line not in self.known:
-            self.put_seal(max(line, self.last() or line, key=step_of))
+            if not self.is_copy(line):
+                self.put_seal(max(line, self.last() or line, key=step_of))
             self.add(line)
         if all(line.step >= it.step for it in self.known):
             self.put_anchor(f"{line.text}\n".encode())

@@ -10,12 +10,13 @@ import re
 from pathlib import Path
 from typing import Collection, NamedTuple, Optional, Sequence
 
-from weft import files, formats, lines, own
-from weft.deciding.going_on import Joint, Making, find_missing_part, is_being_made, is_folder_of_part, is_next, named_in, naming_event, next_name
+from weft import choosing, files, formats, lines, own, signatures
+from weft.deciding.going_on import Joint, Making, choose_names_to_note, find_later_part, find_missing_part, is_being_made, is_folder_of_part, is_next, named_in, naming_event, next_name
 from weft.entries import Entries
 from weft.formats import MOST_HISTORY, events_file
 from weft.judges import Bench
-from weft.lines import KeptLines, Line, default_kept
+from weft.lines import KeptLines, Line
+from weft.output import complain
 from weft.own import OwnLines
 from weft.statuses import Status
 from weft.stores import Store
@@ -25,7 +26,7 @@ from weft.trouble import Trouble
 # A part ends there: what is left to the limit of an exported history is for a last exchange, and for the step that names the next part.
 MOST_PART = MOST_HISTORY * 3 // 4
 MOST_NEXT = 64
-MOST_OTHERS = 1 << 24
+MOST_OTHERS, MOST_NAMES = 1 << 24, 1_000
 NEXT = re.compile(rb"([1-9][0-9]{0,5}) ([a-z0-9-]{1,16})\n")
 
 
@@ -96,7 +97,7 @@ def whole(service: Path, judge: Bench) -> list[Part]:
 def expect_none_missing(service: Path, judge: Bench, found: Sequence[Part]) -> None:
     """Raises Trouble where the last part names a further one that isn't being made, or a part isn't there of which a line was handed out."""
     if being_made(service, judge, found) is None:
-        expect_open(judge, found[-1])
+        expect_open(service, judge, found[-1])
     beside_it = OwnLines(service)
     handed_out = beside_it.read(beside_it.anchor)
     line = find_missing_part([part.last.service for part in found], [*handed_out, *beside_it.noted_parts()])
@@ -114,35 +115,62 @@ def names_of_others(service: Path) -> set[str]:
     return set((files.read_if_there(beside(service, ".others"), MOST_OTHERS) or b"").decode("ascii", "replace").split())
 
 
-def note_others(service: Path, names: Collection[str]) -> None:
-    """Notes these names, and forgets none."""
-    found = sorted(names_of_others(service) | set(names))
+def note_others(service: Path, peers: Collection[str], heard: Collection[str]) -> None:
+    """Notes these names, those of peers and such as were heard, and forgets none."""
+    found = choose_names_to_note(names_of_others(service), peers, heard, MOST_NAMES)
     if found:
         files.renew_if_other(beside(service, ".others"), "".join(f"{name}\n" for name in found).encode(), files.PRIVATE)
 
 
-def name_next(service: Path, found: Sequence[Part]) -> Next:
+def name_next(service: Path, found: Sequence[Part], kept: KeptLines) -> Next:
     """The number and the name of the part behind these: none that another service has, of those that are known, or that a part of its own has."""
-    taken = {*own_kept().services(), *names_of_others(service), *(part.last.service for part in found)}
+    taken = {*kept.services(), *names_of_others(service), *(part.last.service for part in found)}
     return Next(len(found) + 1, next_name(found[0].last.service, len(found) + 1, taken))
 
 
-def own_kept() -> KeptLines:
-    """The user's own kept lines; none where the system knows of no folder of this user's own."""
+def own_kept(is_new: bool = False) -> KeptLines:
+    """The user's own kept lines, those of them that count, for a service that may be new; none where the system knows of no folder of this user's own."""
     try:
-        path = default_kept()
+        lines.default_kept()
     except Trouble:
         return KeptLines()
-    return KeptLines([path])
+    return signatures.counted(lines.own_kept(is_new), None)
 
 
-def expect_kept(judge: Bench, found: Sequence[Part]) -> None:
-    """Raises Trouble where a part isn't that of the last line of its service that the user keeps; of several lines of that step one has to be its own."""
-    kept = own_kept()
+def expect_kept(judge: Bench, found: Sequence[Part], kept: KeptLines, unmade: str = own.NO_STEP) -> Status:
+    """Raises Trouble where a part isn't that of the last line of its service that the user keeps; of several lines of that step one has to be its own. The
+    answer is how the kept lines were found, where there are steps that could have been held against them."""
+    for text in choosing.uncounted_sentences(kept, [part.last.service for part in found]):
+        complain(text)
+        kept.status = Status.LOOK
     for part in found:
         last = kept.at(part.last.service, max(kept.steps(part.last.service), default=0))
         if last and own.lacks_all(part.store, judge, part.last, [it.line for it in last]):
-            own.held_against(part.store, judge, part.last, last[0].line, f"among the lines that you keep, {last[0].told}")
+            own.held_against(part.store, judge, part.last, last[0].line, f"among the lines that you keep, {last[0].told}; if it isn't its own, take it out there", unmade)
+    later = later_part(found[0].folder, [part.last.service for part in found], kept, f". {unmade}")
+    if later is not None:
+        raise later
+    return kept.status if found[-1].last.step else Status.DONE
+
+
+def find_later(names: Sequence[str], kept: KeptLines, service: Path) -> Optional[Line]:
+    """The first line that the user keeps of a part behind those of these names; None where there is none."""
+    return find_later_part(names, (it.line for it in kept.all()), names_of_others(service))
+
+
+def later_part(service: Path, names: Sequence[str], kept: KeptLines, unmade: str = "") -> Optional[Trouble]:
+    """That a line which the user keeps tells of a part behind those of these names: they may be old ones. None where no line does."""
+    line = find_later(names, kept, service)
+    if line is None:
+        return None
+    came = kept.all_at(line.service, line.step)[0].told
+    told = f"you keep a line of step {line.step} of {line.service} ({came}), as a further part of {names[0]} would be called, and no part in {name_of(service)} is"
+    others = name_of(beside(service, ".others"))
+    advice = (
+        f"Is that a part of it? Then what stands in {name_of(service)} is old, or that part was lost: put the right one back; a step made here would begin a second "
+        f"history. Is {line.service} another's service? Then note that: echo {line.service} >> {others}"
+    )
+    return Trouble(Status.OLD_STORE, f"{told}{unmade}", advice)
 
 
 def expect_next(judge: Bench, old: Part, new: Part) -> None:
@@ -270,13 +298,13 @@ def hand_out(service: Path, found: Sequence[Part]) -> None:
         own.put_lines(own.anchor, lines.anchors([part.last for part in found]))
 
 
-def expect_open(judge: Bench, part: Part) -> None:
+def expect_open(service: Path, judge: Bench, part: Part) -> None:
     """Raises Trouble where the part in which a log would go on is at its end, and no further one stands there."""
-    named = named_by(judge, part)
+    named, folder = named_by(judge, part), folder_of(service, part.number + 1)
     if named is not None:
         raise Trouble(
             Status.OLD_STORE,
             f"{part.last.service} has ended, and goes on as {named}: no step is made here",
-            f"Put that part back, which lay in {name_of(part.folder)}, with what stood beside it; or name the folder of the whole log. If it is lost, go on "
-            "under a new name.",
+            f"Put that part back, which lay in {name_of(folder)}, with what stood beside it; or name the folder of the whole log. If it is lost, go on under a new "
+            f"name. Was the event `goes on as {named}` appended by hand: {named}, once its first step received that line, belongs into {name_of(folder)}.",
         )

@@ -11,7 +11,7 @@ import subprocess
 from typing import NamedTuple, Optional, Sequence
 
 from weft.statuses import Status
-from weft.texts import printable
+from weft.texts import name_of, printable
 from weft.trouble import Trouble
 
 ILLEGAL_INSTRUCTION = -4
@@ -67,7 +67,7 @@ def refuse_second(is_wanted: bool) -> None:
     if is_second(found()) and not is_wanted:
         raise Trouble(
             Status.NO_JUDGE,
-            f"{printable(found() or '')} is the second implementation, which isn't proved: no step is made by it",
+            f"{name_of(found() or '')} is the second implementation, which isn't proved: no step is made by it",
             "Name the proved program by TIMEWEAVE_PROGRAM; to try the second one all the same: --unproved.",
         )
 
@@ -92,23 +92,30 @@ def run(*words: str, handles: Sequence[int] = ()) -> Answer:
         raise Trouble(Status.NO_JUDGE, f"timeweave can't be started: {os.strerror(failure.errno or 0)}") from None
     except ValueError:
         raise Trouble(Status.USAGE, "a word has a zero byte, and no command takes one") from None
-    if done.returncode == ILLEGAL_INSTRUCTION:
-        raise Trouble(Status.NO_JUDGE, "this processor lacks an instruction that timeweave was built with", "Take a build for x86-64.")
-    if done.returncode in STOPPING:
-        raise Trouble(Status.STOPPED, f"timeweave was stopped by signal {-done.returncode}", "The next run goes on.")
-    if done.returncode < 0 or done.returncode > 10:
-        raise Trouble(Status.BUG, f"timeweave ended with status {done.returncode}: {printable(done.stderr.decode('utf-8', 'replace'))}")
+    expect_answer(done.returncode, done.stderr)
     return Answer(done.returncode, done.stdout)
 
 
+def expect_answer(status: int, errors: bytes = b"") -> None:
+    """Raises Trouble where the program ended otherwise than with an answer."""
+    if status == ILLEGAL_INSTRUCTION:
+        raise Trouble(Status.NO_JUDGE, "this processor lacks an instruction that timeweave was built with", "Take a build for x86-64.")
+    if status in STOPPING:
+        raise Trouble(Status.STOPPED, f"timeweave was stopped by signal {-status}", "The next run goes on.")
+    if status < 0 or status > 10:
+        raise Trouble(Status.BUG, f"timeweave ended with status {status}: {printable(errors.decode('utf-8', 'replace'))}")
+
+
 def counted(*words: str) -> tuple[Answer, int]:
-    """Runs the program, and counts the bytes of its output, of which only the first ones are kept: a history isn't held in memory."""
+    """Runs the program, and counts the bytes of its output, of which only the first ones are kept: a history isn't held in memory. Raises Trouble where it ended
+    by a signal."""
     size, first = 0, b""
     with subprocess.Popen([needed(), *words], stdin=subprocess.DEVNULL, stdout=subprocess.PIPE, stderr=subprocess.DEVNULL, umask=PRIVATE_UMASK) as running:
         assert running.stdout is not None
         for piece in iter(functools.partial(running.stdout.read, PIECE), b""):
             first = first or piece[:PIECE]
             size += len(piece)
+    expect_answer(running.returncode)
     return Answer(running.returncode, first), size
 
 

@@ -2,9 +2,10 @@
 
 from __future__ import annotations
 
-import sys
 import time
 from typing import Iterable, Iterator, Optional, TypeVar
+
+from weft import output
 
 Item = TypeVar("Item")
 
@@ -16,7 +17,7 @@ class Progress:
 
     def __init__(self, what: str, total: Optional[int]):
         self.what, self.total, self.done = what, total, 0
-        self.is_shown = sys.stderr is not None and sys.stderr.isatty()
+        self.is_shown = output.is_terminal(output.Stream.ERR)
         self.next = time.monotonic() + FIRST
         self.is_drawn = False
 
@@ -34,15 +35,13 @@ class Progress:
             bar = f"[{'#' * filled}{'.' * (WIDTH - filled)}] {self.done:,} of {self.total:,}"
         else:
             bar = f"{self.done:,}"
-        sys.stderr.write(f"\r{self.what} {bar}\x1b[K")
-        sys.stderr.flush()
+        output.draw(f"{self.what} {bar}")
         self.is_drawn = True
 
     def end(self) -> None:
         """Takes the bar away."""
         if self.is_drawn:
-            sys.stderr.write("\r\x1b[K")
-            sys.stderr.flush()
+            output.draw("")
 
 
 def with_progress(items: Iterable[Item], what: str, total: Optional[int] = None) -> Iterator[Item]:

@@ -10,6 +10,7 @@ from weft.deciding.checking import Differing, Logged, find_differing
 from weft.entries import Entries, entry_lines, read_event
 from weft.judges import Bench
 from weft.lines import Line
+from weft.own import NO_STEP
 from weft.parts import Part
 from weft.progress import with_progress
 from weft.statuses import Status
@@ -17,8 +18,8 @@ from weft.stores import Store
 from weft.texts import name_of, shown_event
 from weft.trouble import Trouble
 
-NO_STEP = "No step was made"
-
+# So many steps behind the last entry are looked at in each run: that takes less than a second.
+MOST_BEHIND = 256
 
 def events_of(store: Store, judge: Bench, last: Line, first: int = 1) -> Iterator[tuple[int, list[bytes]]]:
     """Each step from one on with its events, each of them proved under the last line."""
@@ -26,7 +27,7 @@ def events_of(store: Store, judge: Bench, last: Line, first: int = 1) -> Iterato
         yield step, [own.event_at(store, judge, step, index, last) for index in range(store.count(step, last.step))]
 
 
-def exported_events(store: Store, judge: Bench, last: Line) -> Iterator[tuple[int, list[bytes]]]:
+def exported_events(store: Store, judge: Bench, last: Line, unmade: str = NO_STEP) -> Iterator[tuple[int, list[bytes]]]:
     """The same of the export, or where that is too long, of the proofs. Raises Trouble where the export isn't a history of the last line: its pages are read as
     they stand."""
     answer = store.ask("export")
@@ -36,7 +37,7 @@ def exported_events(store: Store, judge: Bench, last: Line) -> Iterator[tuple[in
     history = formats.timeline_of(answer.output)
     if history is None or history.authenticators[last.step : last.step + 1] != [last.authenticator]:
         told = f"the store in {name_of(store.path)} has events that aren't those of its own last line"
-        raise Trouble(Status.BAD_STORE, told, "It is damaged, or was written over: go back to a backup, and look at the device. No step was made.")
+        raise Trouble(Status.BAD_STORE, told, f"It is damaged, or was written over: go back to a backup, and look at the device. {unmade}.")
     for step, it in enumerate(formats.read_history(answer.output), 1):
         yield step, it.events
 
@@ -57,21 +58,23 @@ def make_entries(entries: Entries, steps: Iterable[tuple[int, Sequence[bytes]]])
     return count
 
 
-def expect_true(service: Path, entries: Entries, steps: Iterable[tuple[int, Sequence[bytes]]]) -> None:
-    """Raises Trouble where an entry isn't the event that the store has in its place, or one is missing."""
-    differing = find_differing(entries.lines(), steps, is_of_log)
+def expect_true(service: Path, judge: Bench, part: Part, unmade: str = NO_STEP) -> None:
+    """Raises Trouble where an entry of a part isn't the event that its store has in its place, or one is missing."""
+    steps = exported_events(part.store, judge, part.last, unmade)
+    differing = find_differing(part.entries.lines(), steps, is_of_log)
     if differing is not None:
-        raise differing_entry(service, entries, differing)
+        raise differing_entry(service, part.entries, differing, unmade)
 
 
-def differing_entry(service: Path, entries: Entries, it: Differing) -> Trouble:
+def differing_entry(service: Path, entries: Entries, it: Differing, unmade: str = NO_STEP) -> Trouble:
     """That entries of a log aren't what the store recorded."""
-    return false_entry(entries, it.false) if it.false is not None else missing_entries(service, entries, it.step)
+    return false_entry(entries, it.false, unmade) if it.false is not None else missing_entries(service, entries, it.step, unmade)
 
 
 def false_entry(entries: Entries, it: Logged, unmade: str = NO_STEP) -> Trouble:
     """That an entry isn't what the store recorded, and what wasn't made."""
-    told = f"{name_of(entries.path)} was changed: of step {it.step}, index {it.index}, it has {shown_event(it.event)}, and the store hasn't"
+    what = f"of step {it.step}, index {it.index}, it has {shown_event(it.event)}, and the store hasn't" if it.step >= 0 else "it has a line that is no entry"
+    told = f"{name_of(entries.path)} was changed: {what}"
     advice = f"What weft log said since rests on it. Keep a copy of it, then let weft check --entries make it anew of the store. {unmade}."
     return Trouble(Status.OLD_STORE, told, advice)
 
@@ -97,6 +100,20 @@ def find_unkept(store: Store, judge: Bench, last: Line, kept: int, count: int) -
     """The first step of a log of which not all entries are kept: the last one of which some are, so many, or one behind it; None where there is none."""
     if 0 < kept <= last.step and store.count(kept, last.step) != count:
         return kept
+    return find_behind(store, judge, last, kept)
+
+
+def expect_near_end(service: Path, judge: Bench, part: Part) -> None:
+    """Raises Trouble where entries of a part were lost at their end, though what is known of files ends with those that are left: both may have been put back.
+    More steps behind them than are soon looked at are left to a run that reads all files."""
+    kept = part.entries.ends_at()
+    step = find_behind(part.store, judge, part.last, kept) if part.last.step - kept <= MOST_BEHIND else None
+    if step is not None:
+        raise missing_entries(service, part.entries, step)
+
+
+def find_behind(store: Store, judge: Bench, last: Line, kept: int) -> Optional[int]:
+    """The first step of a log behind this one; None where there is none."""
     for step in range(kept + 1, last.step + 1):
         if store.count(step, last.step) and read_event(own.event_at(store, judge, step, 0, last)) is not None:
             return step

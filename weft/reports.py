@@ -8,6 +8,7 @@ from typing import NamedTuple, Optional
 
 from weft.judges import Verdict
 from weft.lines import Line
+from weft.sentences import REASONS, RULES, Reason, fill
 from weft.texts import date_of, shown_event
 
 
@@ -101,130 +102,129 @@ def told_lines(report: Report) -> list[Line]:
     return found
 
 
-def event_sentence(event: Event) -> str:
+def event_sentences(event: Event) -> list[str]:
     """What the report says of an event."""
-    claimed = "" if event.time is None else f"; it claims the time {date_of(event.time)}"
-    return f"{event.service} recorded in its step {event.step}, as event {event.index}: {shown_event(event.data)}{claimed}"
+    told = [fill("event", service=event.service, step=event.step, index=event.index, event=shown_event(event.data))]
+    return told if event.time is None else [*told, fill("time", service=event.service, step=event.step, time=date_of(event.time))]
 
 
 def hop_sentences(report: Report) -> list[str]:
     """The way from the first event to the second, and what is carried on it."""
     first, second = report.events
     if not report.hops:
-        return [f"The first came before the second: step {first.step} is before step {second.step} in one history."]
-    told = ["The first came before the second, by this way:"]
-    for hop in report.hops:
-        carried = f"; CARRIED: that {hop.service} has that step so, only {hop.by} says" if hop.is_carried else ""
-        told.append(f"  {hop.by} received step {hop.step} of {hop.service} at its step {hop.archived}{carried}")
-    count = sum(hop.is_carried for hop in report.hops)
-    told.append(
-        f"{count} of {len(report.hops)} hops {'is' if count == 1 else 'are'} carried: who received such a step could have made it up. "
-        "Ask for a proof that is bound there by links."
-        if count
-        else "Every hop is bound by a line that you hold."
-    )
-    return told
+        return [fill("order in one history", first=first.step, second=second.step)]
+    told = [f"{fill('order')}, by this way:"]
+    told += [f"  {fill('hop', **hop._asdict())}{'; CARRIED' if hop.is_carried else ''}" for hop in report.hops]
+    carried = [hop for hop in report.hops if hop.is_carried]
+    told += [fill("carried", **hop._asdict()) for hop in carried]
+    return [*told, carried_sentence(len(carried), len(report.hops))]
 
 
-def other_sentence(words: list[str]) -> str:
+def carried_sentence(count: int, hops: int) -> str:
+    """How many of the hops are carried."""
+    return fill("carried hops" if count > 1 else "one carried" if count else "bound", count=count, all=hops)
+
+
+def thread_sentences(words: list[str]) -> list[str]:
+    """What it says that a line was received."""
+    _, service, step, peer, received, authenticator, archived = words
+    told = fill("thread", service=service, step=step, peer=peer, received=received, authenticator=authenticator, archived=archived)
+    return [told, fill("maker", peer=peer)]
+
+
+def other_sentences(words: list[str]) -> list[str]:
     """What another line of a report says."""
     if words[0] == "thread":
-        _, service, step, peer, number, auth, archived = words
-        return f"{service} had received step {number} of {peer}, authenticator {auth}, by its step {step}, at its step {archived}"
+        return thread_sentences(words)
     if words[0] == "absent":
-        _, service, step, peer, number = words
-        return f"{service} had received no step {number} of {peer} up to its step {step}, if it kept the rules; an audit of its history shows that"
+        return [fill("absent", service=words[1], step=words[2], peer=words[3], absent=words[4])]
     if words[0] == "link":
-        _, service, step, top, auth = words
-        return f"step {step} of {service}, seen from its step {top}, has the authenticator {auth}"
-    _, service, step, auth, by, archived = words
-    return f"{by} received step {step} of {service}, authenticator {auth}, at its step {archived}"
+        return [fill("link", service=words[1], step=words[2], top=words[3], authenticator=words[4])]
+    if words[0] in ("first", "second"):
+        return [fill("received", service=words[1], step=words[2], authenticator=words[3], by=words[4], archived=words[5])]
+    return [" ".join(words)]
 
 
 def map_sentences(report: Report, service: str, step: str, peer: str) -> list[str]:
     """What two accepted map files say of a step of a service among those of its peer."""
     low, high, upto = report.other("low")[0], report.other("high")[0], report.other("upto")[0]
-    before = f"had received no step of {peer}" if low == "0" else f"had received step {low} of {peer}, and no later one"
-    after = (
-        f"no step of {peer} up to {upto} had received step {step} of {service} or a later one"
-        if high == "none"
-        else f"step {high} of {peer} is the first that received step {step} of {service} or a later one"
-    )
-    return [f"Before its step {step} {service} {before}.", f"{after[0].upper()}{after[1:]}."]
+    of = {"service": service, "step": step, "peer": peer, "low": low, "high": high, "upto": upto}
+    before, after = "none before" if low == "0" else "last before", "none after" if high == "none" else "first after"
+    return [fill("map", before=fill(before, **of), after=fill(after, **of), **of), fill("behind", **of)]
 
 
-def fork_sentences(report: Report) -> list[str]:
-    """What accepted evidence says."""
+def fork_sentences(report: Report, broken: Optional[Verdict] = None) -> list[str]:
+    """What accepted evidence says, and who may have broken a rule. Of a receiver of both the judge has said which rule it broke by that, where it broke one."""
     first, second = report.other("first"), report.other("second")
-    told = [f"{other_sentence(['first', *first])}.", f"{other_sentence(['second', *second])}."]
-    told.append(f"No history of {first[0]} has both: somebody made two histories in its name.")
-    if first[3] == second[3]:
-        told.append(f"Both were received by {first[3]} alone, who could have made up both: ask for evidence of two receivers.")
-    else:
-        told.append(f"Whose lines {first[3]} and {second[3]} were given, and by whom, isn't in it: ask both.")
-    return told
+    told = [*other_sentences(["first", *first]), *other_sentences(["second", *second]), fill("no history", service=first[0])]
+    if first[3] != second[3]:
+        return [*told, fill("two receivers", service=first[0], first=first[3], second=second[3])]
+    if broken is None or not broken.is_accepted:
+        return [*told, fill("one receiver", service=first[0], by=first[3])]
+    rule = broken_rule(broken)
+    return [*told, fill("broken receiver", service=first[0], by=first[3], rule=rule.meaning)]
 
 
-def denial(verdict: Verdict) -> tuple[str, str]:
-    """Whose archives two files show of which the one has a step received, and the other denies it; and what each says."""
-    report = read_report(verdict)
-    service, _, peer, number, _, archived = report.other("thread")
-    upto = report.other("absent")[1]
-    return service, (
-        f"by one {service} received step {number} of {peer} at its step {archived}, by the other it had received no such step up to its step {upto}."
-    )
+class BrokenRule(NamedTuple):
+    """A rule of histories that two files show broken: whose, its number and name as the judge has them, and the judge's lines of what each file says."""
+
+    service: str
+    number: str
+    name: str
+    said: list[list[str]]
+
+    @property
+    def meaning(self) -> str:
+        """What it means that it is broken; of a rule that isn't known here its name."""
+        return RULES[self.name].format(service=self.service) if self.name in RULES else f"rule {self.number}, {self.name}"
 
 
-def broken_rule(verdict: Verdict) -> tuple[str, str]:
-    """Which service's rule two files show broken, by its number and name as the judge has them, and the judge's lines of what each says; raises ValueError where a
-    line of it is none."""
-    _, rule, *lines = verdict.lines
-    if len(rule) != 3 or not lines or not all(len(words) > 1 and all(re.fullmatch(WORD, word) for word in words) for words in (rule, *lines)):
+# The rule of files of which the one denies what the other shows has no line of its own.
+DENIED = ["rule", "1", "Denied"]
+
+
+def broken_rule(verdict: Verdict) -> BrokenRule:
+    """Which service's rule two files show broken; raises ValueError where a line of it is none."""
+    _, *lines = verdict.lines
+    rule, said = (lines[0], lines[1:]) if lines[:1] and lines[0][:1] == ["rule"] else (DENIED, lines)
+    if len(rule) != 3 or not said or not all(len(words) > 1 and all(re.fullmatch(WORD, word) for word in words) for words in (rule, *said)):
         raise ValueError("a line of the broken rule is none")
-    said = "; ".join(" ".join(words) for words in lines)
-    return lines[0][1], f"between them they show rule {rule[1]} of histories, {rule[2]}, broken: {said}."
+    return BrokenRule(said[0][1], rule[1], rule[2], said)
+
+
+def broken_sentence(rule: BrokenRule) -> str:
+    """What two files show of a broken rule."""
+    if rule.name == "Denied":
+        _, service, _, peer, step, _, archived = rule.said[0]
+        return fill("denied", service=service, peer=peer, step=step, archived=archived, upto=rule.said[1][2])
+    said = "; ".join(" ".join(words) for words in rule.said)
+    known = f"{rule.meaning} (" if rule.name in RULES else ""
+    return fill("broken rule", number=rule.number, name=rule.name, said=f"{known}{said}{')' if known else ''}")
+
+
+def refuted_sentences(verdict: Verdict) -> list[str]:
+    """What it says that an accepted file contradicts itself."""
+    rule = broken_rule(verdict)
+    said = f"{rule.meaning} ({'; '.join(dict.fromkeys(' '.join(words) for words in rule.said))})"
+    return [fill("broken by itself", number=rule.number, name=rule.name, said=said), fill("one file", service=rule.service)]
 
 
 def contradiction_sentences(verdict: Verdict, first: str, second: str) -> list[str]:
-    """What it says that two files, told by these names, contradict each other."""
-    service, what = broken_rule(verdict) if verdict.lines[1][:1] == ["rule"] else denial(verdict)
-    told = [f"{first} and {second} CONTRADICT EACH OTHER: {what}"]
-    if verdict.lines[0][-1] == "broken-rule":
-        told.append(f"Both are under one line of {service}, or the link joins their lines: whoever kept {service} broke its rules.")
-    else:
-        told.append(
-            f"They are under two lines of {service}: it broke its rules, or it has two histories, or one of both lines isn't its own. Ask it for the link "
-            "between these lines, and name that beside them."
-        )
-    return [*told, "Keep both files and the lines: they are the evidence for whoever holds these lines to be its own."]
+    """What it says that two files, told by these names, contradict each other: whose rule is broken, whether that is shown, and that nobody else is meant."""
+    rule = broken_rule(verdict)
+    is_shown = verdict.lines[0][-1] == "broken-rule"
+    whose = fill("one line" if is_shown else "two lines", service=rule.service)
+    return [f"{first} and {second} CONTRADICT EACH OTHER: {broken_sentence(rule)}", whose, fill("nobody else"), fill("keep files")]
 
 
-def sentences(report: Report) -> list[str]:
-    """What an accepted proof says."""
+def sentences(report: Report, broken: Optional[Verdict] = None) -> list[str]:
+    """What an accepted proof says; of evidence, with what the judge says of who received both."""
     if report.kind == "fork":
-        return fork_sentences(report)
+        return fork_sentences(report, broken)
+    told = [sentence for event in report.events for sentence in event_sentences(event)]
     if report.kind == "precedes":
-        return [f"{event_sentence(event)}." for event in report.events] + hop_sentences(report)
-    return [f"{event_sentence(event)}." for event in report.events] + [f"{other_sentence(words)}." for words in report.others]
-
-
-REASONS = {
-    "Malformed": ("the file is no proof: it is cut short or was changed at byte {0}", "Ask for it again."),
-    "BadOrder": ("its steps aren't in order", "Ask for it again."),
-    "NotHeld": ("you hold no line of {0} at step {1}", "Ask for the proof under a step of which you do, or for that line somebody who is neither {0} nor the sender."),
-    "BadPath": (
-        "it isn't of the history of your lines (part {0}): it was changed, or a line isn't its service's, or the service has two histories",
-        "Ask others who hold lines of that service which line of that step they have, and ask for the proof again.",
-    ),
-    "BadOpening": ("it was changed, or its store is damaged (part {0})", "Ask for it again."),
-    "BadEvent": ("the event isn't the one of that step (part {0}): it was changed, or its store is damaged", "Ask for it again."),
-    "BadTree": ("what it tells of received lines isn't so (part {0}): it was changed, or its store is damaged", "Ask for it again."),
-    "Carried": ("{0} of its hops are carried: in this proof only the receiver says that the step is the other service's", "Ask for links, or judge with --carried."),
-    "Part": ("the proof of thread {0} in it isn't accepted (reason {1})", "Ask for the evidence again."),
-    "NoConflict": ("both threads may lie on one history, so nothing is shown", ""),
-    "BadLink": ("its link isn't of the history with the later thread", "Ask for another link."),
-    "Gap": ("the files aren't of one step, one service and one peer", "Ask for the other file of the same step."),
-}
+        return told + hop_sentences(report)
+    return told + [sentence for words in report.others for sentence in other_sentences(words)]
 
 
 def reason_sentence(verdict: Verdict) -> tuple[str, str]:
@@ -232,10 +232,10 @@ def reason_sentence(verdict: Verdict) -> tuple[str, str]:
     words = verdict.reason
     if verdict.text.startswith("unsound"):
         _, _, _, step, _, rule = verdict.text.split()
-        return f"the history breaks rule {rule} at its step {step}: no service that keeps the rules has it", "Ask its service for another."
+        return f"The history breaks rule {rule} at its step {step}: no service that keeps the rules has it.", "Ask its service for another."
     if not words:
-        return f"the judge can't read it ({' '.join(verdict.text.split())})", "Is it the right file?"
+        return f"The judge can't read it ({' '.join(verdict.text.split())}).", "Is it the right file?"
     name, fields = (words[0], words[1:]) if words[0] == "Gap" else (words[1], words[2:])
-    sentence, advice = REASONS.get(name, ("{0}", ""))
+    reason = REASONS.get(name, Reason(f"The judge doesn't accept it ({' '.join(words)}).", ""))
     filled = [*fields, "?", "?", "?", "?"]
-    return sentence.format(*filled), advice.format(*filled)
+    return reason.sentence.format(*filled), reason.todo.format(*filled)

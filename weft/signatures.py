@@ -18,13 +18,15 @@ from typing import Iterator, NamedTuple, Optional
 
 from weft import files, locks
 from weft.deciding import signatures as deciding
+from weft.deciding.keeping import may_be_mistyped
 from weft.deciding.signatures import MOST_BYTES as MOST_BYTES
 from weft.deciding.signatures import NAMESPACE as NAMESPACE
 from weft.deciding.signatures import Addition, KeyFault, PublicKey, read_armour, read_check, read_public_key
 from weft.deciding.signatures import Signed as Signed
 from weft.deciding.signatures import read_signed_line as read_signed_line
 from weft.files import AnyPath
-from weft.lines import Line
+from weft.lines import KeptLines, Line
+from weft.output import complain
 from weft.statuses import Status
 from weft.texts import beside, name_of, printable
 from weft.trouble import Trouble
@@ -183,6 +185,34 @@ def read_principals(data: bytes) -> Principals:
 def fingerprints(signers: AnyPath, service: str) -> set[str]:
     """The fingerprints of the keys that the file of signers has for the service's name."""
     return {key.fingerprint for key in map(deciding.read_noted_key, key_lines(signers, service)) if key is not None}
+
+
+def counting_fingerprints(signers: AnyPath, service: str) -> set[str]:
+    """The fingerprints of the keys by which kept lines of a service count: those that are noted of it, with whatever options."""
+    return {key.fingerprint for key in map(deciding.read_any_key, key_lines(signers, service)) if key is not None}
+
+
+def counted(kept: KeptLines, named: Optional[Path]) -> KeptLines:
+    """The kept lines, of which one that came by a signature counts while its key is noted of its service, with whatever options it was noted: in the file of
+    signers that was named, which has to be there, or else in the user's own. That WEFT_SIGNERS names none that is there is told, and stands in their status."""
+    if named is not None:
+        files.read(named, MOST_SIGNERS)
+    signed = [service for service in kept.services() if any(deciding.find_signing_key(it.how) is not None for it in kept.of(service))]
+    if not signed:
+        return kept
+    signers = named or default_signers()
+    if may_be_mistyped(bool(os.environ.get("WEFT_SIGNERS")) and named is None, files.is_there(signers)):
+        complain(f"there is no file {name_of(signers)}, which WEFT_SIGNERS names: is that its name? No signed line counts without it.")
+        kept.status = Status.LOOK
+    for service in signed:
+        kept.count_by(service, counting_fingerprints(signers, service))
+    return kept
+
+
+def add_signers(parser: argparse.ArgumentParser) -> None:
+    """The word by which a person names the file of signers."""
+    text = "the file of signers, by whose keys signed lines count (else WEFT_SIGNERS, ..)"
+    parser.add_argument("--signers", metavar="FILE", type=Path, help=text)
 
 
 def is_noted(signers: AnyPath, service: str, key: PublicKey, is_beside: bool = False) -> bool:

@@ -123,9 +123,14 @@ class Store:
         return self.hand("receive", message)
 
     def history_size(self) -> Optional[int]:
-        """How many bytes the file of its history has; None where it can't be exported."""
+        """How many bytes the file of its history has; None where it would be longer than one may be. Raises Trouble where that couldn't be told: a damaged store,
+        or want of memory, makes no history long."""
         answer, size = program.counted("export", self.path)
-        return size if answer.status == 0 else None
+        if answer.words[:2] == ["refused", "TooLong"]:
+            return None
+        if answer.status:
+            raise self.trouble(answer)
+        return size
 
     def count(self, step: int, top: int) -> int:
         """How many events a step has."""

@@ -226,7 +226,7 @@ class Look:
             place = place_of(os.fstat(number))
             names = [] if place == self.store else sorted(os.fsencode(it) for it in os.listdir(number))
             self.open += 1
-            return Entered(number, path, iter([it for it in names if place != self.parent or not self.is_own(it)]))
+            return Entered(number, path, iter([it for it in names if place != self.parent or not self.is_own(it, path + b"/" + it)]))
         except OSError as failure:
             if number is not None:
                 os.close(number)
@@ -234,11 +234,11 @@ class Look:
                 self.leave_out(path, f"it can't be read: {os.strerror(failure.errno or 0)}")
             return None
 
-    def is_own(self, name: bytes) -> bool:
-        """Whether it is a file of the log itself, or one that a run that was killed left of it. The latter is told: somebody else may have put it there."""
-        if not gone.is_left_over(name, self.own_names):
-            return name in self.own_names
-        complain(f"{name_of(os.fsdecode(name))} isn't logged: a run of weft log that was killed leaves such a file. Remove it if no run is at work.")
+    def is_own(self, name: bytes, path: bytes) -> bool:
+        """Whether it is a file of the log itself, or one that a run that was killed left of it. The latter is left out: somebody else may have put it there."""
+        if not gone.is_left_over(name, self.own_names) or name in files.MADE:
+            return name in self.own_names or name in files.MADE
+        self.leave_out(path, "it is called as a file is that a run of weft log leaves where it is killed: remove it, or give it another name")
         return True
 
     def kind(self, folder: Entered, name: bytes, path: bytes) -> tuple[Kind, Optional[State]]:

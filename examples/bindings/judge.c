@@ -75,6 +75,10 @@ int main(int count, char **words) {
     case TIMEWEAVE_UNREADABLE: fprintf(stderr, "a file is unreadable\n"); break;
     default: fprintf(stderr, "nothing was judged\n");
     }
-    fwrite(text, 1, size, stdout);
+    /* (a report that isn't written is no answer) */
+    if (fwrite(text, 1, size, stdout) != size || fflush(stdout)) {
+        perror("standard output");
+        return 4;
+    }
     return (int)status;
 }

@@ -90,6 +90,13 @@ func end(status int, why any) {
 	os.Exit(status)
 }
 
+// put writes a text; one that isn't written is no answer.
+func put(text string) {
+	if _, err := fmt.Print(text); err != nil {
+		end(4, err)
+	}
+}
+
 func main() {
 	files := map[string]int{"verify": 2, "strict": 2, "checkmap": 3, "checkfork": 2, "contradict": 5, "receiver": 3}
 	if len(os.Args) < 2 || files[os.Args[1]] == 0 || len(os.Args) != 2+files[os.Args[1]] {
@@ -121,8 +128,8 @@ func main() {
 	}
 	var refusal *Refusal
 	if errors.As(err, &refusal) {
-		fmt.Print(refusal.Text)
+		put(refusal.Text)
 		os.Exit(int(refusal.Status))
 	}
-	fmt.Print(report)
+	put(report)
 }

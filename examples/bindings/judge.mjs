@@ -17,6 +17,11 @@ const files = await Promise.all(names.map((name) => readFile(name))).catch((why)
     process.exit(3);
 });
 const timeweave = await load();
+// (a report that isn't written is no answer)
+process.stdout.on("error", (why) => {
+    console.error(why.message);
+    process.exitCode = 4;
+});
 
 try {
     process.stdout.write(timeweave[form](...files).text);

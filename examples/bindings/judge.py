@@ -3,6 +3,7 @@
     python3 examples/bindings/judge.py strict PROOF ANCHORS
 """
 
+import os
 import sys
 from pathlib import Path
 
@@ -49,5 +50,17 @@ def main() -> int:
     return timeweave.ACCEPTED
 
 
+def ended() -> int:
+    """The status to end with: that of the judgement, or 4 where its report couldn't be written, which is no answer."""
+    try:
+        status = main()
+        sys.stdout.flush()
+    except OSError as why:
+        print(why, file=sys.stderr)
+        sys.stderr.flush()
+        os._exit(4)  # (what is left of the output can't be written either)
+    return status
+
+
 if __name__ == "__main__":
-    sys.exit(main())
+    sys.exit(ended())

@@ -2,7 +2,7 @@
 //!
 //!     rustc -L lib -l static=timeweave -o judge examples/bindings/judge.rs
 //!     ./judge strict PROOF ANCHORS
-use std::{env, error, fmt, fs, process::ExitCode};
+use std::{env, error, fmt, fs, io, io::Write, process::ExitCode};
 
 /// Bytes that the library reads: a slice's pointer, which is never null, also where it is empty, and its length.
 type At = *const u8;
@@ -187,8 +187,12 @@ fn main() -> ExitCode {
             return ExitCode::from(2);
         }
     };
-    match &found {
-        Ok(text) | Err(Refusal::Rejected(text) | Refusal::Unreadable(text) | Refusal::NoMemory(text)) => print!("{text}"),
+    let (Ok(text) | Err(Refusal::Rejected(text) | Refusal::Unreadable(text) | Refusal::NoMemory(text))) = &found;
+    let mut out = io::stdout();
+    if let Err(why) = out.write_all(text.as_bytes()).and_then(|()| out.flush()) {
+        // (a report that isn't written is no answer)
+        eprintln!("{why}");
+        return ExitCode::from(4);
     }
     ExitCode::from(match found {
         Ok(_) => 0,

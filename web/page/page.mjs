@@ -2,7 +2,7 @@
 
 import { Timeweave } from "../timeweave.mjs";
 import { OWN, SENT, Session, readFile, takeFile } from "./session.mjs";
-import { conflictArticle, contradictionAlerts, digestRows, element, heldFiles, summaryWords, verdictArticle } from "./view.mjs";
+import { conflictArticle, contradictionAlerts, digestRows, element, heldFiles, summaryWords, uncomparedArticles, verdictArticle } from "./view.mjs";
 import { hexOf } from "./words.mjs";
 
 const at = (id) => document.getElementById(id);
@@ -68,7 +68,8 @@ function showVerdicts() {
         at("verdicts").focus();
         show();
     };
-    const articles = [...conflicts.map(conflictArticle), ...judgements.map((judged) => verdictArticle(judged, { room: room(), onCount }))];
+    const alone = uncomparedArticles(session.uncompared(judgements));
+    const articles = [...conflicts.map(conflictArticle), ...alone, ...judgements.map((judged) => verdictArticle(judged, { room: room(), onCount }))];
     const lacks = session.files.length ? "add a proof to what you were sent" : "add what you were sent, and the lines that you got another way";
     at("judged").replaceChildren(...(articles.length ? articles : [element("p", { className: "none" }, `None yet: ${lacks}.`)]));
 }
@@ -103,7 +104,7 @@ async function show() {
     at("progress").textContent = "";
     showVerdicts();
     performance.mark("judged");
-    at("summary").textContent = summaryWords(found, conflicts);
+    at("summary").textContent = summaryWords(found, conflicts, held.uncompared(found));
     digestAll(held.files);
 }
 

@@ -1,8 +1,9 @@
 /** The files and lines that are held, what the user chose, and what the verifier says of each proof. */
 
-import { ACCEPTED, MOST_BYTES, readBounds, readContradiction, readFork, readReport } from "../timeweave.mjs";
+import { ACCEPTED, MOST_BYTES, REJECTED, readBounds, readContradiction, readFork, readReport } from "../timeweave.mjs";
 import { isLink, kindOf, mapOf } from "./files.mjs";
 import { anchorsText, askedFor, chooseLines, contradicted, contradictions, linesThatCount, pickBy, readLines, twoLines } from "./lines.mjs";
+import { linkTo, openedStep } from "./opened.mjs";
 import { toldLines } from "./words.mjs";
 
 /** Where a file was put: among what was sent, or among the lines got another way. */
@@ -63,6 +64,45 @@ function judgeEvidence(timeweave, evidence) {
     return (anchors) => proofs.map((proof) => timeweave.judge(proof, anchors)).find(({ text }) => askedFor(text)) ?? timeweave.ask("timeweave_checkfork", evidence, anchors);
 }
 
+/** The kinds of reports on what a service received. */
+const ON_RECEIVING = ["thread", "absent", "map"];
+
+/** The report of evidence both of whose lines one service received, with the rule that this broke by it, as the verifier says; another one as it is. */
+function withReceiver(timeweave, report, evidence, anchors) {
+    if (!report.fork || report.fork.first.by !== report.fork.second.by || !timeweave.has("timeweave_receiver")) return report;
+    const { status, text } = timeweave.ask("timeweave_receiver", evidence, anchors, new Uint8Array());
+    return status === ACCEPTED ? { ...report, broken: readContradiction(text) } : report;
+}
+
+const areOfOneStep = (one, other) => one.service === other.service && one.step === other.step;
+
+/** The steps that accepted files open: one of each proof or low map file, and of evidence that of each of its proofs. */
+const openedSteps = (timeweave, call, files) => (call === "timeweave_checkfork" ? proofsIn(timeweave, files[0].bytes) : files.map(({ bytes }) => bytes))
+    .map(openedStep).filter((it) => it !== null);
+
+/** Whether a line is of a step that a map may show as received: that of the peer at its lower bound; its own, and at an upper bound each later one. */
+function isOfMap({ service, step, peer, low, high }, line) {
+    return line.service === peer ? line.step === low : line.service === service && (line.step === step || (high !== undefined && line.step > step));
+}
+
+/** Whether a line is a third one of the step of which evidence shows two: neither thread, as the page sees them. */
+const isThird = ({ first, second }, line) => areOfOneStep(first.thread, line) && ![first, second].some(({ thread }) => thread.authenticator === line.authenticator);
+
+/**
+ * The lines of yours of a step of which accepted files tell no authenticator: `others`, of which the verifier says that they aren't of the history of a step that
+ * is opened, and `unheld`, of which that isn't known.
+ */
+function linesBeside(timeweave, report, opened, { own, anchors }) {
+    const known = [...anchors, ...toldLines(report)], text = anchorsText(anchors), shown = [...opened, ...report.events, ...report.hops];
+    const isTold = (line) => (report.map !== undefined && isOfMap(report.map, line)) || (report.fork !== undefined && isThird(report.fork, line));
+    const isShown = (line) => isTold(line) || shown.some((it) => areOfOneStep(it, line));
+    const beside = own.filter((line) => isShown(line) && !known.some((it) => areOfOneStep(it, line)));
+    const answersTo = (line) => opened.filter((it) => areOfOneStep(it, line)).map((it) => timeweave.judge(linkTo(it, line), text).status);
+    const answers = beside.map(answersTo), isOther = (_, at) => answers[at].includes(REJECTED);
+    const isHeld = (_, at) => answers[at].length > 0 && answers[at].every((status) => status === ACCEPTED);
+    return { others: beside.filter(isOther), unheld: beside.filter((line, at) => !isOther(line, at) && !isHeld(line, at)) };
+}
+
 /** What is held at one time. An example is one of its own, so that its files never mix with a user's. */
 export class Session {
     files = [];
@@ -115,7 +155,7 @@ export class Session {
 
     /**
      * What the verifier says of a subject: {answer, anchors}, `report` where it is accepted and `strict` of a proof, `missing` where a line is,
-     * `lacks` where the module has no such function, or the `fault` of a trap.
+     * `lacks` where the module has no such function, or the `fault` of a trap. Where a file contradicts itself, `refuted` in the place of a report.
      */
     judge(timeweave, subject) {
         const { call, files } = subject, own = this.linesAt(OWN), judged = { ...subject, file: files[0], own: linesThatCount(own, this.chosen), anchors: [] };
@@ -128,25 +168,45 @@ export class Session {
             if (found.missing) found.answer = timeweave.ask(call, ...bytes, text);
             if (found.answer.status !== ACCEPTED) return { ...judged, ...found };
             const strict = call === "timeweave_verify" ? { strict: timeweave.ask("timeweave_strict", ...bytes, text) } : {};
-            return { ...judged, ...found, ...strict, report: READ[call](found.answer.text, files) };
+            const report = READ[call](found.answer.text, files), refuted = this.refuted(timeweave, report, files, found.anchors);
+            if (refuted) return { ...judged, ...found, ...strict, refuted };
+            const beside = linesBeside(timeweave, report, openedSteps(timeweave, call, files), { ...judged, ...found });
+            return { ...judged, ...found, ...strict, ...beside, report: withReceiver(timeweave, report, bytes[0], text) };
         } catch (fault) {
             return { ...judged, fault };
         }
     }
 
-    /** Accepted files that contradict each other: that tell two lines of one step, {first, second, two}, and those of which the verifier says so. */
+    /**
+     * Accepted files that contradict each other: that tell two lines of one step, {first, second, two}, and those of which the verifier says so. What a service
+     * that broke a rule received shows nothing of others.
+     */
     conflicts(timeweave, judgements) {
-        const accepted = judgements.filter(({ report }) => report);
-        const told = accepted.flatMap(({ report, anchors }, place) => [...anchors, ...toldLines(report)].map((line) => [place, line]));
+        const accepted = judgements.filter(({ report }) => report), brokenRules = this.brokenRules(timeweave, judgements);
+        const broken = new Set([...brokenRules.map(({ told }) => told.service), ...judgements.filter(({ refuted }) => refuted).map(({ refuted }) => refuted.service)]);
+        const counts = ({ received }, line) => !received || !broken.has(received.service) || line.service === received.service;
+        const told = accepted.flatMap(({ report, anchors }, place) => [...anchors, ...toldLines(report).filter((line) => counts(report, line))].map((line) => [place, line]));
         const found = twoLines(told).map((two) => ({ first: accepted[two.first].file, second: accepted[two.second].file, two, anchors: [] }));
-        return [...found, ...this.brokenRules(timeweave, judgements)];
+        return [...found, ...brokenRules];
     }
+
+    /** What the verifier says that an accepted file on what a service received contradicts itself; else nothing. */
+    refuted(timeweave, report, files, anchors) {
+        if (!ON_RECEIVING.includes(report.kind) || !timeweave.has("timeweave_contradict")) return null;
+        return files.map((file) => this.contradiction(timeweave, { file, anchors }, { file, anchors }, [])).find((told) => told);
+    }
+
+    /** The accepted files on what a service received, each with its anchors. */
+    onReceiving = (judgements) => judgements.filter(({ report }) => report && ON_RECEIVING.includes(report.kind))
+        .flatMap(({ files, anchors }) => files.map((file) => ({ file, anchors })));
+
+    /** How many of these aren't held against the others, since they are too many. */
+    uncompared = (judgements) => Math.max(0, this.onReceiving(judgements).length - MOST_COMPARED);
 
     /** Accepted files that contradict each other on what a service received, as the verifier says of each two: {first, second, told, anchors}. */
     brokenRules(timeweave, judgements) {
         if (!timeweave.has("timeweave_contradict")) return [];
-        const shows = ({ report }) => report && ["thread", "absent", "map"].includes(report.kind), found = [];
-        const each = judgements.filter(shows).flatMap(({ files, anchors }) => files.map((file) => ({ file, anchors }))).slice(0, MOST_COMPARED);
+        const found = [], each = this.onReceiving(judgements).slice(0, MOST_COMPARED);
         const links = this.ofKind("proof").map(({ bytes }) => bytes).filter(isLink);
         for (const [at, first] of each.entries()) {
             for (const second of each.slice(at + 1)) {

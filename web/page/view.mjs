@@ -6,8 +6,8 @@ import { heldAs } from "./lines.mjs";
 import { asLines, asList, drawing, isShownAsLines, legendOf, pointWords } from "./picture.mjs";
 import { OWN, SENT } from "./session.mjs";
 import {
-    Foreign, Sentence, TOO_MANY_LINES, WITHOUT_MEMORY, aloneWords, carriedNotes, conflictWords, escaped, eventWords, faultWords, forkNotes, hexOf, lacksWords, mapNotes, mapReasonWords, missingWords, reasonWords,
-    otherLineWords, said, shownLineNotes, shownSentence, shownText, strictSentence, timeNote, toldLines, twoLinesWords,
+    Foreign, Sentence, TOO_MANY_LINES, WITHOUT_MEMORY, aloneWords, carriedNotes, conflictWords, escaped, eventWords, faultWords, forkNotes, headline, hexOf, hopsSentence, lacksWords, mapNotes,
+    mapReasonWords, missingWords, otherHistoryWords, otherLineWords, reasonWords, refutedWords, said, shownLineNotes, shownSentence, shownText, timeNote, toldLines, twoLinesWords, uncomparedWords, unheldWords,
 } from "./words.mjs";
 
 const MOST_LISTED = 20;
@@ -112,7 +112,7 @@ const MARKS = { yes: "✔", partly: "◐", no: "✘", open: "?" };
 
 /** What is told of a judgement first: the look, the title, the sentence, and what to do. */
 export function headOf(judged) {
-    const { call, answer, missing, report, anchors, file, own, fault } = judged, open = { look: "open", title: "Not judged" };
+    const { call, answer, missing, report, anchors, file, own, fault, refuted } = judged, open = { look: "open", title: headline("NOT_JUDGED") };
     if (judged.lacks) return { ...open, ...lacksWords(call) };
     if (judged.isAlone) return { ...open, ...aloneWords(mapOf(file.bytes)) };
     if (fault) return { ...open, ...faultWords(fault) };
@@ -120,23 +120,27 @@ export function headOf(judged) {
     if (answer.status === NO_MEMORY) return { ...open, ...WITHOUT_MEMORY };
     if (answer.status === BAD_ANCHORS && answer.text.startsWith("unreadable anchors")) return { ...open, ...TOO_MANY_LINES };
     const why = call === "timeweave_checkmap" ? mapReasonWords : reasonWords;
-    if (answer.status !== ACCEPTED) return { look: "no", title: "Rejected", ...why(answer.text, file.size) };
+    if (answer.status !== ACCEPTED) return { look: "no", title: headline("NOT_SHOWN"), ...why(answer.text) };
+    if (refuted) return { look: "no", title: headline("NOT_SHOWN", "it contradicts itself"), ...refutedWords(refuted) };
     const other = toldLines(report).find((line) => heldAs(line, own) === "another one");
-    if (other) return { look: "no", title: "Two lines", ...otherLineWords(other) };
-    const sentence = shownSentence(report, anchors), isSenders = anchors.some(({ from }) => from.isSender);
-    if (isSenders) return { look: "partly", title: "Accepted, by the sender's own lines", sentence };
-    if (report.carried.length) return { look: "partly", title: "Accepted, but in part on somebody's word", sentence };
-    return { look: "yes", title: "Accepted", sentence };
+    if (other) return { look: "no", title: headline("NOT_SHOWN", "two lines"), ...otherLineWords(other) };
+    if (judged.others?.length) return { look: "no", title: headline("NOT_SHOWN", "two lines"), ...otherHistoryWords(judged.others[0]) };
+    const sentence = shownSentence(report), isSenders = anchors.some(({ from }) => from.isSender);
+    if (isSenders) return { look: "partly", title: headline("IN_PART", "by the sender's own lines"), sentence };
+    if (report.carried.length) return { look: "partly", title: headline("IN_PART", "on somebody's word"), sentence };
+    if (judged.unheld?.length) return { look: "partly", title: headline("IN_PART", "a line of yours isn't held against it"), sentence, todo: unheldWords(judged.unheld) };
+    return { look: "yes", title: headline("SHOWN"), sentence };
 }
 
 const section = (title, ...inside) => (inside.length ? [element("h4", {}, title), ...inside] : []);
 const notes = (texts) => (texts.length ? [element("ul", { className: "notes" }, ...texts.map((text) => element("li", {}, text)))] : []);
 
-function notesOf({ report, anchors, own, strict }) {
+function notesOf({ report, anchors, own }) {
     const senders = anchors.filter(({ from }) => from.isSender).length;
     const sender = senders ? [`${senders === 1 ? "A line" : `${senders} lines`} that counted came from the sender: against him this proves nothing.`] : [];
     const times = report.events.filter((event) => event.time !== undefined).map(timeNote);
-    return [...sender, ...shownLineNotes(report, own), ...forkNotes(report), ...mapNotes(report), ...times, ...(report.hops.length ? [strictSentence(report, strict)] : [])];
+    const hops = report.hops.length && (report.carried.length || !senders) ? [hopsSentence(report)] : [];
+    return [...sender, ...shownLineNotes(report, own), ...forkNotes(report), ...mapNotes(report), ...times, ...hops];
 }
 
 /** The events whole, where the sentence doesn't show them so. */
@@ -200,6 +204,13 @@ export function conflictArticle({ first, second, two, told, anchors }) {
         ...exactTexts({ answer: told }));
 }
 
+/** The article that tells of accepted files that weren't held against all others; none where each was. */
+export function uncomparedArticles(count) {
+    if (!count) return [];
+    const title = element("h3", {}, element("span", { ariaHidden: "true" }, `${MARKS.open} `), "Not all files were compared");
+    return [element("article", { className: "verdict open" }, element("header", {}, title), element("p", { className: "sentence" }, uncomparedWords(count)))];
+}
+
 /** The article of a judgement. */
 export function verdictArticle(judged, { room, onCount }) {
     const { report, own } = judged, { look, title, sentence, todo } = headOf(judged);
@@ -221,10 +232,10 @@ export function verdictArticle(judged, { room, onCount }) {
 }
 
 /** What is said of all verdicts to those who don't see them. */
-export function summaryWords(judgements, conflicts = []) {
+export function summaryWords(judgements, conflicts = [], uncompared = 0) {
     const told = judgements.map((judged) => said`${headOf(judged).title}: ${headOf(judged).sentence} (File ${new Foreign(judged.file.name)}.)`);
     const both = ({ first, second, ...it }) => said`Two files contradict each other: ${bothWords(it).sentence} (Files ${new Foreign(first.name)} and ${new Foreign(second.name)}.)`;
-    return [...told, ...conflicts.map(both)].join(" ");
+    return [...told, ...conflicts.map(both), ...(uncompared ? [uncomparedWords(uncompared)] : [])].join(" ");
 }
 
 // ---- the digests of all files

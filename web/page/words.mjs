@@ -1,6 +1,7 @@
-/** What the page says: sentences, made of the proved text and of the lines that count alone. */
+/** What the page says: sentences, made of the proved text and of the lines that count alone. Those on answers are weft's own, of one source. */
 
 import { heldAs } from "./lines.mjs";
+import { HEADLINES, REASONS, RULES, SENTENCES } from "./sentences.mjs";
 
 const LAST_DATE = 253402300799;
 
@@ -67,170 +68,171 @@ export function eventWords(data, most = 80) {
 
 /** A time in seconds, as a date where it is one. */
 export function timeWords(seconds) {
-    return seconds <= LAST_DATE ? `${new Date(seconds * 1000).toISOString().slice(0, 19).replace("T", " ")} UTC` : `second ${seconds}`;
+    return seconds <= LAST_DATE ? `${new Date(seconds * 1000).toISOString().slice(0, 19).replace("T", " ")} UTC` : `second ${seconds} since 1970`;
 }
 
 const listed = (words) => (words.length < 2 ? words.join("") : `${words.slice(0, -1).join(", ")} and ${words.at(-1)}`);
-const whichEvent = (event) => said`the event ${eventWords(event.data)}`;
+export const capital = (text) => text.slice(0, 1).toUpperCase() + text.slice(1);
 
-/** What is said of a claimed time. */
-export function timeNote(event) {
-    return `${event.service} claims the time ${timeWords(event.time)} for its step ${event.step}. Whether that is right isn't shown.`;
+/** A text whose words in braces are filled, in pieces: a foreign text stays one of its own. */
+function filled(template, values) {
+    const parts = template.split(/\{(\w+)\}/), missing = parts.find((name, at) => at % 2 && !Object.hasOwn(values, name));
+    if (missing !== undefined) throw new Error(`nothing is given for ${missing} of: ${template}`);
+    return said(parts.filter((_, at) => at % 2 === 0), ...parts.filter((_, at) => at % 2).map((name) => values[name]));
 }
 
-/** What an accepted proof shows, in a sentence for each kind. */
+/** A sentence that weft says too, filled. */
+export const fill = (key, values = {}) => filled(SENTENCES[key], values);
+
+/** What is said first, and what stands behind it there. */
+export const headline = (key, aside = "") => `${capital(HEADLINES[key])}${aside && `: ${aside}`}`;
+
+const eventSentence = ({ service, step, index, data }) => fill("event", { service, step, index, event: eventWords(data) });
+
+/** What is said of a claimed time. */
+export const timeNote = ({ service, step, time }) => `${fill("time", { service, step, time: timeWords(time) })}`;
+
+/** What is said of the order of two events. */
+const orderSentence = ({ hops, events: [first, second] }) => (hops.length ? `${fill("order")}.` : fill("order in one history", { first: first.step, second: second.step }));
+
+/** What an accepted proof shows, for each kind. */
 const SHOWN = {
-    exists: ({ events: [event] }, top) =>
-        said`${event.service} recorded ${whichEvent(event)} in its step ${event.step}, at index ${event.index} there. It stood there when the line of step ${top} was made.`,
-    precedes: ({ events: [first, second] }) =>
-        said`${first.service} recorded ${whichEvent(first)} in its step ${first.step} before ${second.service} recorded ${whichEvent(second)} in its step ${second.step}.`,
-    thread: ({ received: { service, thread, archived } }) =>
-        `${service} received a line of step ${thread.step} of ${thread.service}; it did so in its own step ${archived}.`,
-    absent: ({ absent: { service, step, ofService, ofStep } }) =>
-        `Up to its step ${step}, ${service} received no line of step ${ofStep} of ${ofService}, if it kept the rules; an audit of its history shows whether it did.`,
-    link: ({ link: { thread, top } }) =>
-        `The line of step ${thread.step} of ${thread.service} and the line of its step ${top} that counts here are of one history.`,
+    exists: ({ events: [event] }) => eventSentence(event),
+    precedes: (report) => said`${eventSentence(report.events[0])} ${eventSentence(report.events[1])} ${orderSentence(report)}`,
+    thread: ({ received: { service, step, thread, archived } }) =>
+        `${fill("thread", { service, step, received: thread.step, peer: thread.service, authenticator: thread.authenticator, archived })}`,
+    absent: ({ absent: { service, step, ofService, ofStep } }) => `${fill("absent", { service, step, peer: ofService, absent: ofStep })}`,
+    link: ({ link: { thread, top } }) => `${fill("link", { ...thread, top })}`,
 };
 
 /** What an accepted map shows of a service's step among those of a peer. */
-SHOWN.map = ({ map: { service, step, peer, low, high, upto } }) => {
-    const before = low === 0 ? `had received no step of ${peer}` : `had received step ${low} of ${peer}, and no later one`;
-    const after = high === undefined
-        ? `Up to its step ${upto}, ${peer} received neither step ${step} of ${service} nor a later one.`
-        : `Step ${high} of ${peer} is the first that received step ${step} of ${service} or a later one.`;
-    return `If ${service} and ${peer} kept the rules: before its step ${step}, ${service} ${before}. ${after} An audit of their histories shows whether they did.`;
+SHOWN.map = ({ map }) => {
+    const before = fill(map.low === 0 ? "none before" : "last before", map), after = fill(map.high === undefined ? "none after" : "first after", map);
+    return `${fill("map", { ...map, before, after })}`;
 };
 
-/** What accepted evidence shows of the service that is accused. */
-SHOWN.fork = ({ fork: { first, second } }) =>
-    `${first.by} received a line of step ${first.thread.step} of ${first.thread.service} at its step ${first.archived}, and ${second.by} one of step `
-    + `${second.thread.step} at its step ${second.archived}. No history has both: somebody made two histories in the name of ${first.thread.service}.`;
+const receivedSentence = ({ thread, by, archived }) => `${fill("received", { ...thread, by, archived })}`;
 
-/** What is said of evidence besides: whose word it is. */
-export function forkNotes({ fork }) {
+/** What accepted evidence shows of the service in whose name it is. */
+SHOWN.fork = ({ fork: { first, second } }) => `${receivedSentence(first)} ${receivedSentence(second)} ${fill("no history", first.thread)}`;
+
+/** What is said of evidence besides: who may have broken a rule, and of a receiver of both which one it broke, as the verifier says. */
+export function forkNotes({ fork, broken }) {
     if (!fork) return [];
-    const { first, second } = fork, lines = [first, second].map(({ thread }) => `${thread.service} ${thread.step} ${thread.authenticator}`);
-    const whose = first.by === second.by
-        ? `Both lines were received by ${first.by} alone, who could have made up both: ask for evidence of two receivers.`
-        : `Who gave ${first.by} and ${second.by} these lines isn't shown: ask both.`;
-    return [`The two lines are ${listed(lines)}.`, whose];
+    const { first, second } = fork, { service } = first.thread;
+    if (first.by !== second.by) return [`${fill("two receivers", { service, first: first.by, second: second.by })}`];
+    return [`${broken ? fill("broken receiver", { service, by: first.by, rule: ruleWords(broken) }) : fill("one receiver", { service, by: first.by })}`];
 }
 
 /** What is said of a map besides. */
-export const mapNotes = ({ map }) => (map ? [`Of steps of ${map.peer} behind ${map.upto} nothing is shown.`] : []);
+export const mapNotes = ({ map }) => (map ? [`${fill("behind", map)}`] : []);
 
-/** What two files say of which the one has a line received, and the other denies it. */
-function deniedWords(service, { thread, archived }, absent) {
-    return `By the one, ${service} received step ${thread.step} of ${thread.service} at its step ${archived}; by the other it had received no such line up to its step ${absent.step}.`;
+/** What it means that a rule is broken; of one that isn't known here its name. */
+const ruleWords = ({ service, rule, name }) => (Object.hasOwn(RULES, name) ? `${filled(RULES[name], { service })}` : `rule ${rule}, ${name}`);
+
+/** What two files show of a broken rule, or one file by itself. */
+function brokenWords({ service, rule, name, lines, received, absent }, key) {
+    if (received && key === "broken rule") {
+        const { thread, archived } = received;
+        return `${fill("denied", { service, step: thread.step, peer: thread.service, archived, upto: absent.step })}`;
+    }
+    const whole = lines.join("; "), isKnown = Object.hasOwn(RULES, name);
+    return `${fill(key, { number: rule, name, said: isKnown ? `${ruleWords({ service, rule, name })} (${whole})` : whole })}`;
 }
 
-/** What is said of two accepted files that contradict each other. */
-export function conflictWords({ received, absent, isJoined, service = received.service, rule, name }) {
-    const why = isJoined
-        ? `Both stand under one line of ${service}, or under two that are joined: whoever keeps ${service} broke its rules.`
-        : `They stand under two lines of ${service}: it broke its rules, or has shown two histories, or one of the lines isn't its own. A proof of the line of the one step under the other's shows which.`;
+/** What is said of two accepted files that contradict each other: whose rule is broken, whether that is shown, and that nobody else is meant. */
+export function conflictWords(told) {
+    const { service } = told;
     return {
-        sentence: `${received ? deniedWords(service, received, absent) : `Between them they show rule ${rule} of histories, ${name}, broken; the exact text has what each says.`} ${why}`,
-        todo: `Keep both files and the lines: they are evidence for whoever holds the lines to be those of ${service}.`,
+        sentence: `${brokenWords(told, "broken rule")} ${fill(told.isJoined ? "one line" : "two lines", { service })} ${fill("nobody else")}`,
+        todo: `${fill("keep files")}`,
     };
 }
 
-/** The sentence of a report, under the anchors that counted. */
-export function shownSentence(report, anchors) {
-    return SHOWN[report.kind](report, anchors.at(0)?.step);
+/** What is said of a file that contradicts itself. */
+export const refutedWords = (told) => ({ sentence: brokenWords(told, "broken by itself"), todo: `${fill("one file", told)}` });
+
+/** The sentence of a report. */
+export function shownSentence(report) {
+    return SHOWN[report.kind](report);
 }
 
 /** The lines of other steps that an accepted report tells: that of a received thread or of a link, and those that are carried. */
 export const toldLines = (report) => [report.received?.thread ?? report.link?.thread, ...report.carried].filter((it) => it !== undefined);
 
-const KEEP_BOTH = ({ service }) => `Keep what you were sent and both lines, and show them to others who hold lines of ${service}: which of both do they have? Ask ${service} too.`;
+const FRONT = 16;
+const keepBoth = ({ service }) => `${fill("keep both", { service })}`;
+const otherLine = (line) => capital(`${fill("other line", { ...line, came: "", told: line.authenticator.slice(0, FRONT) })}`);
 
 /** What is said of an accepted file that tells another line of a step than one of yours. */
-export const otherLineWords = (line) => ({
-    sentence: `The line of step ${line.step} of ${line.service} that you hold is another one than ${line.authenticator.slice(0, 16)}… of this file: `
-        + `${line.service} has shown two histories, or one of both isn't its own.`,
-    todo: KEEP_BOTH(line),
+export const otherLineWords = (line) => ({ sentence: otherLine(line), todo: keepBoth(line) });
+
+/** What is said of an accepted file that isn't of the history of a line of yours, of a step of which it tells no line. */
+export const otherHistoryWords = (line) => ({
+    sentence: `The line of step ${line.step} of ${line.service} that you hold isn't of the history of this file: ${line.service} has shown two histories, or one of both isn't its own.`,
+    todo: keepBoth(line),
 });
 
+/** What to do where a line of yours couldn't be held against an accepted file. */
+export const unheldWords = (lines) => `You hold ${listed(lines.map(({ service, step }) => `the line of step ${step} of ${service}`))}, and whether this file is of that history isn't seen here: `
+    + "weft judge sees it. Or ask for the link between that line and the one that counted.";
+
+/** What is said where some accepted files weren't held against all others. */
+export const uncomparedWords = (count) => `${count.toLocaleString("en")} of the accepted files on what services received weren't held against the others: they are too many for a page. weft judge does that.`;
+
 /** What is said of accepted files that tell two lines of one step, or of one file that does. */
-export const twoLinesWords = ({ one, other }) => ({
-    sentence: `Of step ${one.step} of ${one.service} the one tells ${one.authenticator.slice(0, 16)}…, and the other ${other.authenticator.slice(0, 16)}…: `
-        + `${one.service} has shown two histories, or one of both isn't its own.`,
-    todo: KEEP_BOTH(one),
-});
+export function twoLinesWords({ one, other }) {
+    const told = { ...one, first: "The first file", one: one.authenticator.slice(0, FRONT), second: "the second file", other: other.authenticator.slice(0, FRONT) };
+    return { sentence: `${fill("told twice", told)}`, todo: keepBoth(one) };
+}
 
 /** Who alone says that a carried thread is right: the service that received it. */
 const receiverOf = ({ hops }, { service, step }) => hops.find((hop) => hop.service === service && hop.step === step).by;
 
 /** What is said of each thread that is carried: its receiver's word, held against the lines of yours. */
 export function carriedNotes(report, own) {
-    return report.carried.map((thread) => {
-        const by = receiverOf(report, thread), step = `step ${thread.step} of ${thread.service}`, held = heldAs(thread, own);
-        if (held === "none") return `Only ${by} says that ${step} was so. It could have made that up.`;
-        if (held === "the same") return `${by} received the very line of ${step} that you hold.`;
-        return `${by} received another line of ${step} than you hold: one of both is false, or ${thread.service} has shown two histories.`;
-    });
+    return report.carried.map((thread) => ({
+        none: () => `${fill("carried", { ...thread, by: receiverOf(report, thread) })}`,
+        "the same": () => `${fill("same line", thread)}`,
+        "another one": () => otherLine(thread),
+    })[heldAs(thread, own)]());
 }
 
-/** What `strict` says, in a sentence. */
-export function strictSentence(report, strict) {
-    const carried = report.carried.length;
-    if (strict.status === 0) return "The strict form accepts it too: lines that count here bind every step on the way.";
-    const hops = carried === 1 ? "a hop of the way isn't" : `${carried} hops of the way aren't`;
-    return `The strict form refuses it (${strict.text.trim()}): ${hops} bound by a line that counts here.`;
+/** What is said of the hops, where all lines that counted are yours: whether they are bound. */
+export function hopsSentence({ hops, carried }) {
+    return `${fill(carried.length > 1 ? "carried hops" : carried.length ? "one carried" : "bound", { count: carried.length, all: hops.length })}`;
 }
 
 /** What a line that the report shows is to the lines of yours: the same, another one of that step, or neither. */
 export function shownLineNotes(report, own) {
     const thread = report.received?.thread ?? report.link?.thread;
     if (!thread) return [];
-    const told = `The line is ${thread.service} ${thread.step} ${thread.authenticator}.`;
-    const held = heldAs(thread, own);
-    if (held === "none") return [report.received ? `${told} Whether ${thread.service} made it isn't shown.` : told];
-    if (held === "the same") return [`${told} It is the one that you hold.`];
-    return [`${told} You hold another one of that step: one of both is false, or ${thread.service} has shown two histories. Keep both.`];
+    const maker = report.received ? [`${fill("maker", { peer: thread.service })}`] : [], held = heldAs(thread, own);
+    return held === "none" ? maker : held === "the same" ? [`${fill("same line", thread)}`] : [otherLine(thread)];
 }
 
-const CHANGED = "Ask for the proof again. If it comes the same, whoever made it has a damaged or another history.";
-
-/** What is said of each reason by its number, and what to do: of its fields and of the file's size. */
-const REASONS = {
-    1: ([place], size) => ({
-        sentence: Number(place) >= size
-            ? `The file is no whole proof: it ends after ${size} bytes, where more has to follow.`
-            : `The file is no proof: at its byte ${place}, counted from 0, no proof goes on so.`,
-        todo: "It may have been cut, changed, or sent as text. Ask for the file again, packed or attached as it is.",
-    }),
-    2: () => ({ sentence: "The steps in the proof are out of order: what it claims to come first doesn't.", todo: CHANGED }),
-    4: ([part]) => ({
-        sentence: `The proof doesn't lead to the line that you hold${partWords(part)}: it is of another history, or it was changed.`,
-        todo: "Compare your line with whoever else has one of that step, and ask for the proof again.",
-    }),
-    5: ([part]) => ({ sentence: `A step in the proof isn't the one that it has to be${partWords(part)}: the proof was changed.`, todo: CHANGED }),
-    6: ([part]) => ({ sentence: `The event in the proof isn't the one that was recorded${partWords(part)}: the proof was changed.`, todo: CHANGED }),
-    7: ([part]) => ({ sentence: `The lines that a service received aren't as the proof says${partWords(part)}: the proof was changed.`, todo: CHANGED }),
-    10: ([part, number]) => ({ sentence: `The ${part === "1" ? "first" : "second"} proof in the evidence isn't accepted, for the reason ${number}.`, todo: CHANGED }),
-    11: () => ({ sentence: "The two lines in the evidence don't contradict each other: one history may have both.", todo: "Nothing is shown against the service." }),
-    12: () => ({ sentence: "What is to join the two lines in the evidence doesn't: the evidence was changed.", todo: CHANGED }),
-};
-
-const partWords = (part) => (part === "0" ? "" : ` (part ${part} of the proof, counted from the later event, which is 0)`);
-
-/** What is said of a rejected proof, or of evidence, of so many bytes, by the text. */
-export function reasonWords(text, size) {
-    const [, number, , ...fields] = text.trim().split(" ");
-    return REASONS[number]?.(fields, size) ?? { sentence: "The proof isn't accepted, for the reason below.", todo: CHANGED };
+/** What is said of a reason by its name, with the fields behind it. */
+function reasonOf(name, fields) {
+    const { sentence, todo } = REASONS[name] ?? { sentence: "It isn't accepted, for the reason below.", todo: "" }, values = { 0: "?", 1: "?", ...fields };
+    return { sentence: `${filled(sentence, values)}`, todo: `${filled(todo, values)}` };
 }
 
-/** What is said of two map files that aren't accepted, by the text. */
+/** What is said of a rejected proof, or of evidence, by the text. */
+export function reasonWords(text) {
+    const [, , name, ...fields] = text.trim().split(" ");
+    return reasonOf(name, fields);
+}
+
+/** What is said of two map files that aren't accepted, by the text: which one, and why. */
 export function mapReasonWords(text) {
-    const [, which, word, place] = text.trim().split(" "), part = text.trim().split(" ").at(-1);
-    if (text.startsWith("unreadable")) return { sentence: `The ${which} file is no whole map file: at its ${word} ${place}, counted from 0, none goes on so.`, todo: REASONS[1]([], 0).todo };
-    if (which === "4" || which === "5" || which === "7") {
-        return { sentence: `The ${part === "0" ? "low" : "high"} file doesn't lead to the line that you hold: it is of another history, or it was changed.`, todo: CHANGED };
-    }
-    return { sentence: "The map isn't accepted, for the reason below.", todo: CHANGED };
+    const [, which, name, place] = text.trim().split(" "), part = text.trim().split(" ").at(-1);
+    if (text.startsWith("unreadable")) return ofFile(which, reasonOf("Malformed", [place]));
+    if (which === "Gap") return reasonOf("Gap", []);
+    return ["0", "1"].includes(part) ? ofFile(part === "0" ? "low" : "high", reasonOf(name, [part])) : reasonOf(name, []);
 }
+
+/** A reason of one of two files. */
+const ofFile = (which, { sentence, todo }) => ({ sentence: `The ${which} file isn't accepted. ${sentence}`, todo });
 
 /** What is said of a map file without the other one. */
 export function aloneWords({ isLow, service, step, peer }) {
@@ -260,11 +262,11 @@ export function missingWords({ service, step, two, offered = [], other }, own) {
         };
     }
     const held = [...new Set(own.filter((it) => it.service === service).map((it) => it.step))].sort((a, b) => a - b);
-    const steps = listed(held.slice(0, 20).map(String)), lacks = offered.length ? "which only the sender gave you" : "which you don't hold";
-    const ask = held.length ? `, or ask for the proof under a step of ${service} that you hold a line of: ${steps}` : "";
+    const steps = listed(held.slice(0, 20).map(String)), lacks = offered.length ? " Only the sender gave you one." : "";
+    const ask = held.length ? ` Or ask for the proof under a step of ${service} that you hold a line of: ${steps}.` : "";
     return {
-        sentence: `It isn't judged yet: it needs the line of step ${step} of ${service}, ${lacks}.`,
-        todo: `Get that line from somebody other than the sender${ask}.`,
+        sentence: `${fill("missing", { service, step })}${lacks}`,
+        todo: `${capital(`${fill("ask others", { service })}`)}.${ask} ${fill("only now")}`,
     };
 }
 

@@ -121,13 +121,13 @@ function judgedUnder(lines, kinds, chosen = []) {
     return { judged, heads: judged.map(headOf), conflicts: session.conflicts(telling, judged) };
 }
 
-test("an accepted file that tells another line of a step than yours isn't called accepted", () => {
-    for (const [lines, look, title] of [[[], "yes", "Accepted"], [[`shop 1 ${X}`], "yes", "Accepted"], [[`shop 1 ${Y}`], "no", "Two lines"], [[`shop 1 ${X}`, `shop 1 ${Y}`], "no", "Two lines"]]) {
+test("an accepted file that tells another line of a step than yours isn't called shown", () => {
+    for (const [lines, look, title] of [[[], "yes", "Shown"], [[`shop 1 ${X}`], "yes", "Shown"], [[`shop 1 ${Y}`], "no", "Not shown: two lines"], [[`shop 1 ${X}`, `shop 1 ${Y}`], "no", "Not shown: two lines"]]) {
         const [head] = judgedUnder(lines, [3]).heads;
         assert.deepEqual([head.look, head.title], [look, title]);
     }
     const [head] = judgedUnder([`shop 1 ${Y}`], [3]).heads;
-    assert.match(head.sentence, /line of step 1 of shop that you hold is another one than aaaaaaaaaaaaaaaa… of this file/);
+    assert.match(head.sentence, /^The line of step 1 of shop that you kept is another one than aaaaaaaaaaaaaaaa\.\. of this file/);
 });
 
 test("a line over which you chose another isn't called the one that you hold", () => {
@@ -140,6 +140,79 @@ test("two accepted files that tell two lines of one step contradict each other, 
     const { heads, judged, conflicts } = judgedUnder([], [3, 5]);
     assert.deepEqual(heads.map(({ look }) => look), ["yes", "yes"]);
     assert.deepEqual(conflicts.map(({ first, second, two }) => [first.name, second.name, two.one.authenticator, two.other.authenticator]), [["sent 3", "sent 5", X, Y]]);
-    assert.match(summaryWords(judged, conflicts), /Two files contradict each other: Of step 1 of shop the one tells a{16}…, and the other b{16}…/);
+    assert.match(summaryWords(judged, conflicts), /Two files contradict each other: The first file tells a{16}\.\. of step 1 of shop, and the second file b{16}\.\./);
     assert.deepEqual(judgedUnder([], [3]).conflicts, []);
+});
+
+test("an accepted file that contradicts itself is never told as shown, nor is anything that it says", () => {
+    const session = new Session(), rule = `accepted broken-rule\nrule 2 OwnThread\nthread bank 9 bank 4 ${Y} 3\n`;
+    session.add(held("mine", text(`bank 9 ${X}\n`), OWN));
+    session.add(held("own", text("TWP1\u0003"), SENT));
+    const verify = (file, anchors) => (anchors ? `accepted thread\nthread bank 9 bank 4 ${Y} 3\n` : "rejected 3 NotHeld bank 9\n");
+    const of = (contradict) => session.judge(verifier({ verify, strict: verify, contradict }), session.subjects[0]);
+    const judged = of((first, lines, second) => (first.join() === second.join() ? rule : "rejected 11 NoConflict\n")), head = headOf(judged);
+    assert.deepEqual([head.look, head.title, judged.report], ["no", "Not shown: it contradicts itself", undefined]);
+    assert.match(head.sentence, /^It CONTRADICTS ITSELF, as it shows rule 2 of histories, OwnThread, broken: bank received a line of its own/);
+    assert.doesNotMatch(summaryWords([judged]), /had received/);
+    assert.equal(headOf(of(() => "rejected 11 NoConflict\n")).title, "Shown");
+});
+
+test("evidence both of whose lines one service received is put to that service", () => {
+    const evidence = (by) => {
+        const session = new Session(), verify = (proof, anchors) => (anchors ? "accepted thread\n" : "rejected 3 NotHeld bank 9\n");
+        session.add(held("mine", text(`bank 9 ${X}\nport 9 ${X}\n`), OWN));
+        session.add(held("evidence", text("TWV1 and more"), SENT));
+        const checkfork = () => `accepted fork\nfirst shop 3 ${X} bank 2\nsecond shop 3 ${Y} ${by} 3\n`;
+        const receiver = () => `accepted broken-rule\nrule 4 TwoEntries\nthread bank 9 shop 3 ${X} 2\nthread bank 9 shop 3 ${Y} 3\n`;
+        return session.judge(verifier({ verify, checkfork, receiver }), session.subjects[0]).report.broken;
+    };
+    assert.deepEqual([evidence("bank").name, evidence("port")], ["TwoEntries", undefined]);
+});
+
+test("that too many files on what was received came to be held against each other is told", () => {
+    const judged = (count) => Array.from({ length: count }, () => ({ files: [held("a", text("TWP1\u0003"), SENT)], anchors: [], report: { kind: "thread", carried: [] } }));
+    assert.deepEqual([60, 61, 200].map((count) => new Session().uncompared(judged(count))), [0, 1, 140]);
+    assert.match(summaryWords([], [], 140), /^140 of the accepted files .* weren't held against the others/);
+});
+
+test("a line of yours of a step that a proof tells and doesn't open isn't passed over", () => {
+    const session = new Session(), report = `accepted precedes\nevent shop 1 0 61\nevent bank 9 0 62\nhop shop 2 bank 3\n`;
+    session.add(held("mine", text([`bank 9 ${X}`, `shop 2 ${X}`].join("\n")), OWN));
+    session.add(held("sent", text("TWP1\u0002"), SENT));
+    const verify = askingFor("bank 9", report), judged = session.judge(verifier({ verify, strict: verify }), session.subjects[0]);
+    assert.deepEqual([judged.unheld.map(({ service, step: at }) => `${service} ${at}`), headOf(judged).look], [["shop 2"], "partly"]);
+});
+
+test("a line of yours of a step that map files tell of, and don't open, isn't passed over", () => {
+    const found = (lines, bound = "none") => {
+        const session = new Session(), checkmap = () => `accepted map\nlow 1\nhigh ${bound}\nupto 9\n`;
+        session.add(held("mine", text(lines.map((it) => `${it} ${X}`).join("\n")), OWN));
+        for (const file of [low(1), high(1)]) session.add(file);
+        const judged = session.judge(verifier({ checkmap }), session.subjects[0]);
+        return [judged.unheld.map(({ service, step: at }) => `${service} ${at}`).join(), headOf(judged).look];
+    };
+    assert.deepEqual(found(["bank 2", "shop 2", "mill 1"]), ["", "yes"]);
+    assert.deepEqual(found(["bank 1"]), ["bank 1", "partly"]);
+    assert.deepEqual(found(["shop 1"]), ["shop 1", "partly"]);
+    assert.deepEqual(found(["shop 2", "bank 7"], "7"), ["shop 2", "partly"]);
+});
+
+test("a line of yours of a step that evidence opens is held against it by the path of its proof", () => {
+    const front = `${name("shop")}${step(2)}${step(2)}`, proof = `TWP1\u0003${front}`, fork = `first x 1 ${X} shop 2\nsecond x 1 ${Y} bank 1\n`;
+    const found = (answer, ...more) => {
+        const session = new Session(), asked = [];
+        const verify = (given, anchors) => {
+            if (given[4] === 5) return asked.push(given.length), answer;
+            if (given.length > 37) return "rejected 1 Malformed 37\n";
+            return anchors.includes("bank 1") ? "accepted thread\n" : "rejected 3 NotHeld bank 1\n";
+        };
+        session.add(held("evidence", text(`TWV1${proof}${proof}`), SENT));
+        session.add(held("mine", text([`bank 1 ${X}`, `shop 2 ${X}`, ...more].join("\n")), OWN));
+        const judged = session.judge(verifier({ verify, checkfork: () => `accepted fork\n${fork}` }), session.subjects[0]);
+        return [asked.length, headOf(judged).title];
+    };
+    assert.deepEqual(found("rejected 3 NotBound 0\n"), [2, "Not shown: two lines"]);
+    assert.deepEqual(found("accepted link\n"), [2, "Shown"]);
+    assert.deepEqual([X, Y].map((it) => found("accepted link\n", `x 1 ${it}`)), [[2, "Shown"], [2, "Shown"]]);
+    assert.deepEqual(found("accepted link\n", `x 1 ${"c".repeat(64)}`), [2, "Shown in part: a line of yours isn't held against it"]);
 });

@@ -89,7 +89,7 @@ def accepted_record(page):
     """a record is accepted, told in a sentence and by the program's text, with the line that counted and where it is from"""
     page.fresh().give("sent", "record.proof").give("own", "shop.lines")
     page.is_as_told("record.proof", page.made.lines["shop"])
-    page.says("Accepted", "shop recorded the event “milk” in its step 1", "claims the time 2023-11-14 22:13:20 UTC", page.made.lines["shop"].strip(), "got another way: shop.lines, line 1")
+    page.says("Shown", "shop recorded in its step 1, as event 0: milk.", "claims the time 2023-11-14 22:13:20 UTC", page.made.lines["shop"].strip(), "got another way: shop.lines, line 1")
 
 
 def files_dropped(page):
@@ -110,27 +110,27 @@ def files_dropped(page):
 def one_by_one(page):
     """files come one by one; until a line is there, it is told which is needed, and what to do"""
     page.fresh().give("sent", "bound.proof")
-    page.says("Not judged", "needs the line of step 2 of registry, which you don't hold", "from somebody other than the sender")
+    page.says("Not judged", "The line of step 2 of registry is missing", "is neither registry nor whoever sent you this file", "shows nothing about the time before")
     page.give("own", "shop.lines")
     page.says("Not judged", "step 2 of registry")
     page.made.put("registry.lines", page.made.lines["registry"])
     page.give("own", "registry.lines")
-    check(page.titles() == ["✔ Accepted"], str(page.titles()))
+    check(page.titles() == ["✔ Shown"], str(page.titles()))
     page.browser.click("[aria-label='Remove registry.lines']")
     page.browser.wait("document.querySelector('.verdict h3').textContent.includes('Not judged')")
     page.give("sent", "old-record.proof")
-    page.says("or ask for the proof under a step of shop that you hold a line of: 3")
+    page.says("Or ask for the proof under a step of shop that you hold a line of: 3")
 
 
 def all_kinds(page):
     """each kind of proof has its sentence, its exact text and its picture"""
     both = page.made.lines["registry"], page.made.lines["shop"]
     for file, lines, sentence in (
-        ("record.proof", both[1], "shop recorded the event “milk” in its step 1"),
-        ("bound.proof", "".join(both), "in its step 1 before registry recorded the event “entry of the registry” in its step 2"),
-        ("thread.proof", both[0], "registry received a line of step 2 of shop; it did so in its own step 1"),
-        ("absent.proof", both[0], "Up to its step 1, registry received no line of step 1 of shop"),
-        ("link.proof", both[1], "The line of step 2 of shop and the line of its step 3 that counts here are of one history"),
+        ("record.proof", both[1], "shop recorded in its step 1, as event 0: milk."),
+        ("bound.proof", "".join(both), "registry recorded in its step 2, as event 0: entry of the registry. The first came before the second."),
+        ("thread.proof", both[0], "registry had received step 2 of shop, authenticator"),
+        ("absent.proof", both[0], "registry had received no step 1 of shop up to its step 1, if it kept the rules"),
+        ("link.proof", both[1], "Step 2 of shop, seen from its step 3, has the authenticator"),
     ):
         page.fresh().give("sent", file).give("own", "both.lines")
         page.is_as_told(file, lines)
@@ -142,7 +142,7 @@ def on_a_word(page):
     """a thread that no line binds is told as its receiver's word, and the strict form's refusal with it"""
     page.fresh().give("sent", "word.proof").give("own", "both.lines")
     page.is_as_told("word.proof", page.made.lines["registry"])
-    page.says("Accepted, but in part on somebody's word", "Only registry says that step 2 of shop was so", "The strict form refuses it (rejected 8 Carried 1)", "not bound")
+    page.says("Shown in part: on somebody's word", "Only registry says that step 2 of shop was so", "1 of 1 hops is carried", "rejected 8 Carried 1", "not bound")
 
 
 def senders_lines(page):
@@ -150,15 +150,15 @@ def senders_lines(page):
     page.made.put("sent.lines", page.made.lines["shop"] + page.made.lines["registry"])
     page.fresh().give("sent", "bound.proof", "sent.lines")
     page.says("From the sender: they prove nothing against him", selector="#sent-held")
-    page.says("Not judged", "which only the sender gave you", "It proves nothing against him")
+    page.says("Not judged", "Only the sender gave you one", "It proves nothing against him")
     for _ in range(2):
         page.browser.click(".verdict .sender button")
         page.browser.wait("document.querySelector('#progress').textContent === ''")
-    check(page.titles() == ["◐ Accepted, by the sender's own lines"], str(page.titles()))
+    check(page.titles() == ["◐ Shown in part: by the sender's own lines"], str(page.titles()))
     page.says("from the sender, in sent.lines, line 1; it counts since you said so", "2 lines that counted came from the sender: against him this proves nothing")
     page.is_as_told("bound.proof", "".join(page.made.lines[name] for name in ("registry", "shop")))
     page.give("own", "both.lines")
-    check(page.titles() == ["✔ Accepted"], str(page.titles()))
+    check(page.titles() == ["✔ Shown"], str(page.titles()))
 
 
 def contradicting_lines(page):
@@ -168,38 +168,38 @@ def contradicting_lines(page):
     page.says("Not judged", "you hold 2 different ones")
     page.browser.value("document.querySelector('#alerts label:nth-of-type(1) input').focus()")
     page.browser.click("#alerts label:nth-of-type(1) input")
-    page.browser.wait("document.querySelector('.verdict h3').textContent.includes('Accepted')")
+    page.browser.wait("document.querySelector('.verdict h3').textContent.includes('Shown')")
     check(page.browser.value("document.activeElement.type") == "radio", "who chose a line isn't at the choice any more")
     page.browser.click("#alerts label:nth-of-type(2) input")
-    page.browser.wait("document.querySelector('.verdict h3').textContent.includes('Rejected')")
+    page.browser.wait("document.querySelector('.verdict h3').textContent.includes('Not shown')")
     page.is_as_told("record.proof", other_line(page.made.lines["shop"]))
-    page.says("The proof doesn't lead to the line that you hold", "Compare your line with whoever else has one")
+    page.says("It isn't of the history of your lines", "Ask others who hold lines of that service")
     page.fresh().give("own", "shop.lines").give("sent", "record.proof", "other.lines")
     page.says("The sender's line of step 3 of shop contradicts yours", selector="#alerts")
-    check(page.titles() == ["✔ Accepted"], str(page.titles()))
+    check(page.titles() == ["✔ Shown"], str(page.titles()))
 
 
 def shown_line_differs(page):
     """a line that a proof shows is held against yours of that step"""
     page.made.put("false.lines", page.made.lines["registry"] + other_line(page.made.lines["shop 2"]))
     page.fresh().give("sent", "thread.proof").give("own", "false.lines")
-    page.says("You hold another one of that step", "two histories")
-    check(page.titles() == ["✘ Two lines"], str(page.titles()))
+    page.says("The line of step 2 of shop that you kept is another one", "two histories")
+    check(page.titles() == ["✘ Not shown: two lines"], str(page.titles()))
     page.made.put("true.lines", page.made.lines["registry"] + page.made.lines["shop 2"])
     page.fresh().give("sent", "thread.proof").give("own", "true.lines")
-    page.says("It is the one that you hold")
+    page.says("That is the line of step 2 of shop that you kept")
 
 
 def changed_files(page):
     """changed and cut proofs and junk are rejected with the program's text and what to do"""
     for file, lines, wanted in (
-        ("changed.proof", page.made.lines["shop"], "The event in the proof isn't the one that was recorded"),
-        ("cut.proof", "", "it ends after 100 bytes"),
-        ("junk", "", "The file is no proof: at its byte 0"),
+        ("changed.proof", page.made.lines["shop"], "The event isn't the one of that step"),
+        ("cut.proof", "", "it is cut short or was changed at byte 100"),
+        ("junk", "", "The file is no proof: it is cut short or was changed at byte 0"),
     ):
         page.fresh().give("own", "shop.lines").give("sent", file)
         page.is_as_told(file, lines)
-        page.says("Rejected", wanted, "What to do:")
+        page.says("Not shown", wanted, "What to do:")
 
 
 def what_is_no_proof(page):
@@ -209,7 +209,7 @@ def what_is_no_proof(page):
     page.says("Line 1 doesn't count", "Line 3 doesn't count: the line of step 0", selector="#own-held")
     page.give("own", "record.proof")
     page.says("it was put among what you were sent", selector="#sent-held")
-    check(page.titles() == ["✔ Accepted"], str(page.titles()))
+    check(page.titles() == ["✔ Shown"], str(page.titles()))
 
 
 def judges(page, call):
@@ -224,15 +224,15 @@ def maps_judged(page):
         return page.says("Not judged", "`timeweave checkmap LOW HIGH ANCHORS` does")
     page.says("it is the low file of a map of step 2 of registry among the steps of shop", "Ask the sender for the high file")
     page.give("sent", "high.map")
-    page.says("Not judged", "needs the line of step 2 of registry")
+    page.says("Not judged", "The line of step 2 of registry is missing")
     page.give("own", "both.lines")
     told = page.made.judged(["low.map", "high.map"], page.made.lines["registry"] + page.made.lines["shop"], "checkmap")
-    check(page.exact() == [told] and page.titles() == ["✔ Accepted"], f"{page.exact()}, the program {told!r}")
+    check(page.exact() == [told] and page.titles() == ["✔ Shown"], f"{page.exact()}, the program {told!r}")
     page.says("If registry and shop kept the rules: before its step 2, registry had received step 2 of shop, and no later one", "Up to its step 3, shop received neither step 2 of registry")
     check(page.browser.value("document.querySelectorAll('figure svg').length") > 0, "a map has no picture")
     page.made.put("changed.map", page.made.path("low.map").read_bytes()[:-1] + b"?")
     page.fresh().give("sent", "changed.map", "high.map").give("own", "both.lines")
-    check(page.titles() == ["✘ Rejected"], str(page.titles()))
+    check(page.titles() == ["✘ Not shown"], str(page.titles()))
 
 
 def evidence_judged(page):
@@ -240,22 +240,22 @@ def evidence_judged(page):
     page.fresh().give("sent", "fork.evidence")
     if not judges(page, "checkfork"):
         return page.says("Not judged", "`timeweave checkfork FILE ANCHORS` does")
-    page.says("Not judged", "needs the line of step 2 of bank")
+    page.says("Not judged", "The line of step 2 of bank is missing")
     page.give("own", "receivers.lines")
     told = page.made.judged("fork.evidence", page.made.path("receivers.lines").read_text(), "checkfork")
-    check(page.exact() == [told] and page.titles() == ["✔ Accepted"], f"{page.exact()}, the program {told!r}")
-    page.says("bank received a line of step 1 of liar at its step 1, and gazette one of step 1", "somebody made two histories in the name of liar", "ask both")
+    check(page.exact() == [told] and page.titles() == ["✔ Shown"], f"{page.exact()}, the program {told!r}")
+    page.says("bank received step 1 of liar", "gazette received step 1 of liar", "No history of liar has both", "Who broke a rule isn't shown: liar may have", "Ask both")
     page.fresh().give("sent", "changed.evidence").give("own", "receivers.lines")
-    check(page.titles() != ["✔ Accepted"], "changed evidence is accepted")
+    check(page.titles() != ["✔ Shown"], "changed evidence is accepted")
 
 
 def conflicts_told(page):
     """two accepted files that contradict each other on what a service received are told before their verdicts"""
     page.fresh().give("sent", "has.proof", "lacks.proof").give("own", "keeper.lines")
     told = ["✘ Two accepted files contradict each other"] if judges(page, "contradict") else []
-    check(page.titles() == [*told, "✔ Accepted", "✔ Accepted"], str(page.titles()))
+    check(page.titles() == [*told, "✔ Shown", "✔ Shown"], str(page.titles()))
     if told:
-        page.says("By the one, keeper received step 3 of shop at its step 1; by the other it had received no such line up to its step 3", "broke its rules, or has shown two histories", "Keep both files")
+        page.says("By one keeper received step 3 of shop at its step 1, by the other it had received no such step up to its step 3", "it broke its rules, or it has two histories", "Against the others that they name nothing is shown", "Keep both files")
 
 
 def is_idle():
@@ -283,7 +283,7 @@ def large_files(page):
     page.fresh()
     timed(page, "own", "huge.lines", "document.querySelector('#own-held').textContent.includes('longer than any file of lines')")
     page.fresh().give("sent", "bound.proof")
-    timed(page, "own", "many.lines", "document.querySelector('.verdict h3').textContent.includes('Accepted')")
+    timed(page, "own", "many.lines", "document.querySelector('.verdict h3').textContent.includes('Shown')")
     page.says("10,000 lines", selector="#own-held")
     check(page.browser.value("document.querySelectorAll('.lines-that-count li').length") == 2, "other lines count than are needed")
 
@@ -331,7 +331,7 @@ def narrow_and_wide(page):
 def examples_stay_apart(page):
     """an example is shown by itself, and the user's files are there again behind it"""
     page.fresh().give("sent", "record.proof").give("own", "shop.lines")
-    for title, verdict in (("a record", "Accepted"), ("what came first", "Accepted"), ("on somebody's word", "Accepted, but"), ("a changed proof", "Rejected")):
+    for title, verdict in (("a record", "Shown"), ("what came first", "Shown"), ("on somebody's word", "Shown in part"), ("a changed proof", "Not shown")):
         number = [it.strip() for it in page.browser.value("[...document.querySelectorAll('#examples button')].map(it => it.textContent)")].index(title) + 1
         page.browser.click(f"#examples button:nth-of-type({number})")
         page.browser.wait(f"document.querySelector('.verdict h3')?.textContent.includes('{verdict}') && document.querySelectorAll('.verdict').length === 1")
@@ -351,7 +351,7 @@ def typed_lines(page):
     line = page.made.lines["shop"].strip()
     page.browser.value(f"(() => {{ document.querySelector('#typing').open = true; document.querySelector('#typed').value = '{line}'; document.querySelector('#typed-from').value = 'the gazette'; return 1; }})()")
     page.browser.click("#add-typed")
-    page.browser.wait("document.querySelector('.verdict h3').textContent.includes('Accepted')")
+    page.browser.wait("document.querySelector('.verdict h3').textContent.includes('Shown')")
     page.says("got another way: typed, the gazette, line 1")
 
 
@@ -375,7 +375,7 @@ def keyboard_alone(page):
         check(order == ["sent-files", "Remove record.proof", "own-files", "Remove shop.lines", "print", "clear"], f"the keyboard reaches {reached}")
     nameless = page.browser.value("[...document.querySelectorAll('button, input, textarea, select, svg[role=img]')].filter(it => !(it.getAttribute('aria-label') || it.labels?.length || it.textContent.trim())).map(it => it.outerHTML)")
     check(nameless == [], f"without a name: {nameless}")
-    check(page.browser.value("document.querySelector('#summary').getAttribute('aria-live') === 'polite' && document.querySelector('#summary').textContent.includes('Accepted')"), "the verdict isn't told to a screen reader")
+    check(page.browser.value("document.querySelector('#summary').getAttribute('aria-live') === 'polite' && document.querySelector('#summary').textContent.includes('Shown')"), "the verdict isn't told to a screen reader")
 
 
 def contrast(page):
@@ -407,7 +407,7 @@ def printed(page):
         page.browser.print(f"{folder}/sheet.pdf")
         text = subprocess.run(["pdftotext", "-layout", f"{folder}/sheet.pdf", "-"], capture_output=True, text=True, check=True).stdout
     joined = re.sub(r"\s+", " ", text)
-    for wanted in ("Accepted, but in part on somebody's word", "Only registry says", "got another way: both.lines", authenticator_of(page.made.lines["registry"])[:40], "carried shop 2", "Not the day by a clock"):
+    for wanted in ("Shown in part: on somebody's word", "Only registry says", "got another way: both.lines", authenticator_of(page.made.lines["registry"])[:40], "carried shop 2", "Not the day by a clock"):
         check(wanted in joined, f"not in the sheet: {wanted!r}\n{text}")
     for left in ("Choose files", "See an example", "Remove all files"):
         check(left not in joined, f"in the sheet: {left!r}")

@@ -4,7 +4,7 @@ judged."""
 from __future__ import annotations
 
 from enum import Enum
-from typing import Iterable, Mapping, NamedTuple, Optional, Sequence
+from typing import Collection, Iterable, Mapping, NamedTuple, Optional, Sequence
 
 from weft.deciding.lines import Line
 
@@ -121,10 +121,15 @@ def choose_lines(needed: Iterable[Needed], kept: Mapping[Needed, Line]) -> Chose
     return Chosen(list(lines.values()), missing, clashing)
 
 
-def choose_whom_to_ask(keeper: str, recorders: Iterable[str]) -> list[str]:
-    """A missing line is to come from services that recorded lines of its keeper, three at most, and never from the keeper: what he shows
-    today may be made today."""
-    return [name for name in dict.fromkeys(recorders) if name != keeper][:MOST_ASKED]
+def choose_whom_to_ask(keeper: str, recorders: Iterable[str], known: Collection[str]) -> list[str]:
+    """A missing line is to come from services that recorded lines of its keeper and of which lines are kept already, three at most, and never from the keeper:
+    what he shows today may be made today. Of others a file that isn't judged may tell anything: its keeper may have made them up."""
+    return [name for name in dict.fromkeys(recorders) if name != keeper and name in known][:MOST_ASKED]
+
+
+def choose_unknown(keeper: str, recorders: Iterable[str], known: Collection[str]) -> list[str]:
+    """The others that a file names so, three at most: nobody is sent to them."""
+    return [name for name in dict.fromkeys(recorders) if name != keeper and name not in known][:MOST_ASKED]
 
 
 def choose_older_step(steps: Iterable[int], proved: int, needed: int) -> Optional[int]:

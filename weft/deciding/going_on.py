@@ -4,12 +4,14 @@ from __future__ import annotations
 
 import re
 from enum import Enum
-from typing import Collection, NamedTuple, Optional, Sequence
+from typing import Collection, Iterable, NamedTuple, Optional, Sequence
 
 from weft.deciding.lines import Line, may_take_name
 
 GOES_ON = b"goes on as "
 MOST_NAME = 16
+# So many numbers behind the last part's a name is still taken for a later part's: a year isn't one.
+MOST_AHEAD = 99
 END = re.compile("-[1-9][0-9]{0,5}")
 FOLDER = re.compile("part-[1-9][0-9]{0,5}")
 
@@ -78,6 +80,29 @@ def is_name_of_other(steps: Collection[int]) -> bool:
 def find_missing_part(names: Collection[str], handed_out: Sequence[Line]) -> Optional[Line]:
     """Of the lines of a log that were handed out the first one that is of none of its parts, of which these are the names: that part is missing."""
     return next((line for line in handed_out if line.service not in names), None)
+
+
+def find_later_part(names: Sequence[str], kept: Iterable[Line], others: Collection[str]) -> Optional[Line]:
+    """Of the lines that a log's user keeps the first one that tells of a part behind the last one of these: a further part can have its name, of a later number
+    that isn't far ahead, and nobody else is known to have it (names of others are passed over). So an old store isn't gone on with that ended since, and the log
+    of another year is none. The line of step 0 follows from the name, and says nothing."""
+    last = number_of_part(names[0], names[-1])
+    ahead = range(last + 1, last + 1 + MOST_AHEAD + len(others))
+    return next((line for line in kept if line.step > 0 and line.service not in others and number_of_part(names[0], line.service) in ahead), None)
+
+
+def number_of_part(first: str, name: str) -> int:
+    """The number of the part of a log, whose first one is called so, that a name is of: 1 of the first one, 0 of what no part can be called."""
+    if name == first:
+        return 1
+    return int(name[name.rfind("-") + 1 :]) if is_name_of_part(first, name) else 0
+
+
+def choose_names_to_note(noted: Collection[str], peers: Collection[str], heard: Collection[str], most: int) -> list[str]:
+    """Names of others are noted for good: those of a box's own peers each, and of such as were only heard, which anybody can make up, no more than so many in
+    all."""
+    kept = sorted({*noted, *peers})
+    return sorted([*kept, *sorted({*heard} - {*kept})[: max(0, most - len(kept))]])
 
 
 def next_name(first: str, number: int, taken: Collection[str]) -> str:

@@ -53,6 +53,12 @@ def read_mark(text: str) -> Optional[Mark]:
     return Mark(found[1] == "chosen", found[2], int(found[3]), authenticators, found[5] or "", found[6] or "")
 
 
+def may_be_mistyped(is_named: bool, is_there: bool) -> bool:
+    """The name of a file of kept lines that somebody named, and that isn't there, may be mistyped: that is told, and counts wherever something would have been
+    held against its lines. The user's own file, which nobody named, is made by the first line that is kept."""
+    return is_named and not is_there
+
+
 # ---- which line counts
 
 
@@ -81,6 +87,12 @@ def standing_of(kept: Sequence[Kept], marks: Sequence[Mark]) -> Standing:
     last = [mark for mark in choices if mark.date == max(it.date for it in choices)]
     choice = last[-1] if len({mark.chosen for mark in last}) == 1 else None
     return Standing(lines.get(choice.chosen.authenticator) if choice else None, tuple(seen), choice)
+
+
+def was_passed_over(line: Line, standing: Standing) -> bool:
+    """A line over which a standing choice of its step took another one needs no further word of a person, whether or not its key is still noted."""
+    choice = standing.choice
+    return choice is not None and line.authenticator in choice.authenticators and line != choice.chosen
 
 
 class Counting(NamedTuple):

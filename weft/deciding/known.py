@@ -82,9 +82,10 @@ def mark_of(state: State) -> bytes:
 
 
 def mark_read(state: State, now: int) -> bytes:
-    """The mark of a file that was read at a moment, in nanoseconds since 1970: none where it was changed less than a minute before, so that it is read once
-    more by the next run: what is written through a mapping meanwhile may leave its times as they are. A time that lies ahead tells nothing of that."""
-    return NO_MARK if 0 <= now - state.changed < AT_REST else mark_of(state)
+    """The mark of a file that was read at a moment, in nanoseconds since 1970: none where it was changed less than a minute before, or at a time that lies ahead,
+    as by a clock that was set back or by another machine's: so it is read once more by the next run. What is written through a mapping meanwhile may leave its
+    times as they are."""
+    return mark_of(state) if now - state.changed >= AT_REST else NO_MARK
 
 
 def may_skip(known: Optional[Known], state: State, is_full: bool) -> bool:

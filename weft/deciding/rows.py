@@ -12,13 +12,20 @@ from typing import Collection, NamedTuple, Optional
 SIZE, DIGEST, STATUS = re.compile(r"[0-9]{1,12}"), re.compile(r"[0-9a-f]{64}"), re.compile(r"[0-9]{1,3}")
 NO_DIGEST = "-"
 KIND, REGULAR, WRITABLE_BY_OTHERS = 0o170000, 0o100000, 0o022
-HEAD = "file\tbytes\tsha256\tverdict\tstatus\treason\tlines\ttold"
+FORMULA, QUOTE = ("=", "+", "-", "@"), "\\x22"
+HEAD = "file\tbytes\tsha256\tverdict\tstatus\treason\tlines\ttold\tarchive"
+
+
+def read_as_table(text: str, front: str) -> str:
+    """A text as each program reads it that reads tables: no quotes stand in it, between which many take tabs and line ends for text, and so one row for many;
+    and one that begins as a formula does, which a program for tables would work out, has something else in front of it."""
+    return (front if text.startswith(FORMULA) else "") + text.replace('"', QUOTE)
 
 
 class Row(NamedTuple):
     """A row of a table: the path within the folder, how many bytes were read and their SHA-256 digest (- where none could be read), the
-    verdict, the status of this file by itself, why, the lines that it rests on, and where it is shown all lines that it tells. Its texts are printable, so none
-    has a tab."""
+    verdict, the status of this file by itself, why, the lines that it rests on, and where it is shown all lines that it tells, and what it tells of an archive.
+    Its texts are printable, so none has a tab."""
 
     file: str
     bytes: int
@@ -28,6 +35,7 @@ class Row(NamedTuple):
     reason: str
     lines: str
     told: str = ""
+    archive: str = ""
 
     @property
     def text(self) -> str:
@@ -59,10 +67,10 @@ def is_own_state(owner: int, mode: int, user: int) -> bool:
 
 
 def read_row(text: str) -> Optional[Row]:
-    """A row has eight fields, whose second and fifth are numbers and whose third is a digest; of another text, and of a row without
+    """A row has nine fields, whose second and fifth are numbers and whose third is a digest; of another text, and of a row without
     digest, the answer is None."""
     fields = text.split("\t")
-    if len(fields) != 8 or not SIZE.fullmatch(fields[1]) or not DIGEST.fullmatch(fields[2]) or not STATUS.fullmatch(fields[4]):
+    if len(fields) != 9 or not SIZE.fullmatch(fields[1]) or not DIGEST.fullmatch(fields[2]) or not STATUS.fullmatch(fields[4]):
         return None
     return Row(fields[0], int(fields[1]), fields[2], fields[3], int(fields[4]), *fields[5:])
 

@@ -4,12 +4,14 @@ which receipts."""
 from __future__ import annotations
 
 import hashlib
+from collections import OrderedDict
 from itertools import chain, islice, zip_longest
-from typing import Collection, Optional, Sequence, TypeVar
+from typing import Collection, Hashable, Iterable, Optional, Sequence, TypeVar
 
 from weft.deciding.lines import Line
 
 Handed = TypeVar("Handed")
+Piece = TypeVar("Piece", bound=Hashable)
 
 
 def count_nights(count: int, room: int) -> int:
@@ -64,6 +66,18 @@ def is_first_hand(tellers: Collection[str], parties: Collection[str]) -> bool:
     """A receipt that was heard is handed on where one of both whom it is of told it, the recorder or the service that was recorded, each by all names of its
     parts. So each goes round once, to the peers of their peers, and one that somebody has made up for others ends where it was heard."""
     return any(teller in parties for teller in tellers)
+
+
+def keep_latest(pieces: Iterable[Piece], room: int) -> list[Piece]:
+    """Of receipts that are told one after another the last so many different ones, each where it was told last: no more than these are held, however many are
+    told. Where a peer gets so many, and told no more than so many itself, twice as many are enough for all."""
+    found: OrderedDict[Piece, None] = OrderedDict()
+    for piece in pieces:
+        found[piece] = None
+        found.move_to_end(piece)
+        if len(found) > room:
+            found.popitem(last=False)
+    return list(found)
 
 
 def choose_receipts(known: Sequence[Handed], told: Collection[Handed], room: int) -> list[Handed]:

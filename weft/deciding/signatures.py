@@ -193,16 +193,31 @@ def place_key(key: PublicKey, noted: Iterable[bytes], is_beside: bool = False) -
 
 def read_noted_key(line: bytes) -> Optional[PublicKey]:
     """The public key of a line of a file of signers, where it may sign lines; else None."""
-    if not may_sign_lines(line):
-        return None
+    return read_any_key(line) if may_sign_lines(line) else None
+
+
+def read_any_key(line: bytes) -> Optional[PublicKey]:
+    """The public key of a line of a file of signers, whatever its options; None where it has none."""
     words = line.split()
     kind = next((place for place, word in enumerate(words) if word in KEY_KINDS), len(words))
     found = read_public_key(b" ".join(words[kind : kind + 2]))
     return found if isinstance(found, PublicKey) else None
 
 
+def may_count_for_part(key: str, by_itself: str, earlier: Collection[str]) -> bool:
+    """A key that was noted of a further part by itself, since it was that of the part before, counts while it counts for that one too: who takes a stolen key out
+    there has taken it out. One that a person noted counts by itself."""
+    return key != by_itself or key in earlier
+
+
+def find_signing_key(how: str) -> Optional[str]:
+    """The fingerprint of the key by whose signature a kept line came; None of one that came in another way."""
+    found = SIGNED_BY.match(how)
+    return found[1] if found is not None else None
+
+
 def may_rest_on(how: str, fingerprints: Collection[str]) -> bool:
     """A kept line of which is told that a key signed it counts while that key is noted of its service; one that came in another way counts by the word of
     whoever kept it."""
-    found = SIGNED_BY.match(how)
-    return found is None or found[1] in fingerprints
+    key = find_signing_key(how)
+    return key is None or key in fingerprints

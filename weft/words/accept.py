@@ -12,9 +12,10 @@ from weft import box as boxes
 from weft import files, formats, hearing, lines, locks, signatures
 from weft.box import Peer, Settings
 from weft.deciding.forks import contradicts
+from weft.deciding.going_on import is_name_of_part
 from weft.deciding.signatures import Signed, read_signed_line
 from weft.lines import Line
-from weft.output import collect, say
+from weft.output import collect, finish_quietly, say
 from weft.statuses import Status
 from weft.texts import name_of
 from weft.trouble import Trouble
@@ -54,13 +55,18 @@ def run(options: argparse.Namespace) -> Status:
         raise Trouble(Status.USAGE, "--yes takes the 64 hexadecimal digits of the line that was compared", "Run weft accept without it: it shows the line.")
     own = signatures.public_key(options.key) if options.key else None
     given = one_line(options.line, name) if options.line else None
+    is_new = not files.is_there(options.box)
     files.make_folder(options.box)
     settings = boxes.read_settings(options.box)
     with locks.held(options.box / ".lock", 30, options.box):
         peer = boxes.find_peer(options.box, name, settings)
+        if is_new:
+            say(f"{name_of(options.box)} wasn't there: it is a new box now.")
         peer.make()
         if own is not None:
             signatures.add_signer(signers_of(options.box), name, own, options.beside)
+            if peer.read("key").decode("ascii", "replace").strip() == own.fingerprint:
+                peer.remove("key")
             say(f"{own.fingerprint} is noted as the key of {name}.")
         if own is not None and peer.earlier is not None:
             return Status.DONE
@@ -79,6 +85,13 @@ def run(options: argparse.Namespace) -> Status:
         good = signed_by(options.box, peer, settings, line, given.signed if given is not None else None)
         accept(options, peer, line, good, data)
     return Status.DONE
+
+
+def tell_name(box: Path, name: str) -> None:
+    """Tells that a peer is called as a further part of the box's own service would be, which the next turn notes."""
+    own = (files.read_if_there(box / ".own", boxes.MOST_OWN) or b"").decode("ascii", "replace").strip()
+    if own and is_name_of_part(own, name):
+        say(f"{name} is called as a further part of {own} would be: run weft exchange before weft log, so that no part takes that name.")
 
 
 def signers_of(box: Path) -> Path:
@@ -166,5 +179,5 @@ def is_confirmed(name: str) -> bool:
     if not sys.stdin or not sys.stdin.isatty():
         return False
     say(f"Is that the line that {name} gave you by another way? Type yes:")
-    sys.stdout.flush()
+    finish_quietly()
     return sys.stdin.readline().strip() == "yes"

@@ -9,15 +9,16 @@ from contextlib import ExitStack, contextmanager
 from pathlib import Path
 from typing import Iterator, Optional, Sequence
 
-from weft import chains, choosing, files, formats, judges, lines, locks, outcomes, pictures, reports
+from weft import chains, choosing, files, formats, judges, lines, locks, outcomes, pictures, reports, signatures
 from weft.chains import Event, Misfit, Part, Plan, Sources
 from weft.deciding.choosing import Headline
+from weft.deciding.worst import worst_of
 from weft.lines import LAST_STEP
 from weft.outcomes import Named, Outcome
 from weft.output import collect, complain, say
 from weft.parts import whole
 from weft.statuses import Status
-from weft.texts import count_of, listed, name_of, printable
+from weft.texts import count_of, listed, name_of
 from weft.trouble import Trouble
 
 NAME = "chain"
@@ -42,6 +43,7 @@ def add(parser: argparse.ArgumentParser) -> None:
     parser.add_argument("--box", metavar="BOX", action="append", default=[], type=Path, help="a box with what peers handed out; may be repeated")
     parser.add_argument("--hand", metavar="FILE", action="append", default=[], type=Path, help="receipts or proofs, a file or a folder; may be repeated")
     parser.add_argument("--kept", metavar="FILE", type=Path, action="append", help="a file of kept lines; may be repeated (else WEFT_KEPT, ..)")
+    signatures.add_signers(parser)
     parser.add_argument("--out", metavar="FILE", help="where the proof is written (else chain, where that is free)")
     parser.add_argument("--svg", metavar="OUT", help="draws it")
     parser.add_argument("--reference", action="store_true", help="judges by the Python reference alone, which is tested and not proved")
@@ -54,7 +56,7 @@ def event_of(word: str) -> Event:
     if fields and int(fields[2]) <= LAST_STEP:
         return Event(fields[1], int(fields[2]), int(fields[3]))
     if not os.path.lexists(word):
-        raise Trouble(Status.USAGE, f"{printable(word)} names no event, and there is no such file", "An event is NAME:STEP:INDEX, as bank:31:2.")
+        raise Trouble(Status.USAGE, f"{name_of(word)} names no event, and there is no such file", "An event is NAME:STEP:INDEX, as bank:31:2.")
     data = files.read(word, formats.MOST_PROOF)
     proof = formats.read_proof(data)
     if not isinstance(proof, formats.proofs.ExistenceProof):
@@ -86,9 +88,11 @@ def run(options: argparse.Namespace) -> Status:
     if options.json:
         collect()
     first, second = event_of(options.earlier), event_of(options.later)
-    kept, judge = lines.kept_of(options.kept), judges.bench(options.reference)
+    kept, judge = signatures.counted(lines.kept_of(options.kept), options.signers), judges.bench(options.reference)
     if options.kept:
         say(choosing.told_kept(options.kept))
+    for text in choosing.uncounted_sentences(kept, kept.uncounted):
+        say(text)
     hand = at_hand(options.hand) + [event.proof for event in (first, second) if event.proof is not None]
     stores = [part.store for folder in options.store for part in whole(folder, judge)]
     sources = Sources(stores, options.box, hand, kept, judge)
@@ -112,7 +116,7 @@ def run(options: argparse.Namespace) -> Status:
         say(f"  {line}")
     if options.svg:
         files.hand_out(options.svg, pictures.verdict(reports.read_report(judgement.verdict), judgement.lines, None).encode())
-    return outcome.status
+    return worst_of([outcome.status, kept.status])
 
 
 def tell_missing(sources: Sources, plan: Plan, parts: list[bytes | None], further: list[Part]) -> Status:
@@ -150,7 +154,7 @@ def asked_again(boxes: Sequence[Path], sources: Sources, trouble: Trouble, parts
 def tell_refused(boxes: Sequence[Path], sources: Sources, judgement: choosing.Judgement, outcome: Outcome, plan: Plan) -> Status:
     """Why what was joined isn't handed out, as weft judge says it."""
     if judgement.verdict is not None and not judgement.is_shown:
-        told = f"what was joined isn't accepted: {reports.reason_sentence(judgement.verdict)[0]}"
+        told = f"what was joined isn't accepted: {reports.reason_sentence(judgement.verdict)[0].removesuffix('.')}"
         refused = Trouble(outcome.status, told, "A part may be of another history than your lines: ask for it again.")
         raise asked_again(boxes, sources, refused, plan.parts)
     say(f"What was joined, and isn't written: {outcome.title}")

@@ -6,7 +6,7 @@ import argparse
 from pathlib import Path
 from typing import Iterator, NamedTuple, Optional, Sequence
 
-from weft import checks, files, judges, lines, locks, parts, recorded
+from weft import checks, choosing, files, judges, lines, locks, pages, parts, recorded, signatures
 from weft.checks import Bad, Exported, History, Result, Task
 from weft.deciding.checking import EntryState, Found, Looked, choose_places, find_differing, judge_check, judge_entries, list_unseen, may_make_entries
 from weft.deciding.restoring import Beside, Missing, find_missing
@@ -26,7 +26,8 @@ NAME = "check"
 SUMMARY = "checks a store: each step, and each line that was kept of it"
 DETAILS = (
     "The history is exported once and each authenticator computed anew; each is held against the link that the program proves, and against the lines "
-    "that were kept. Of the events 200 are proved, or with --all each. Where the history is longer than a file may be, its events are counted and proved "
+    "that were kept. Each received line is proved; of the events 200 are, or with --all each. The pages are held against one another. A step is made on a copy of "
+    "the store, and held against what follows from the history. Where the history is longer than a file may be, its events are counted and proved "
     "without the export; what wasn't looked at is told then, and the status is 10. Of a log all parts are checked, and that one "
     "follows the other. Do it each month, and after each restart that was none of your doing."
 )
@@ -41,6 +42,7 @@ def add(parser: argparse.ArgumentParser) -> None:
     parser.add_argument("--all", action="store_true", help="proves each event")
     parser.add_argument("--entries", action="store_true", help="makes DIR.entries of a log anew where it was lost, of what the store has")
     parser.add_argument("--kept", metavar="FILE", type=Path, action="append", default=[], help="a file of kept lines, beside DIR.lines; may be repeated")
+    signatures.add_signers(parser)
     parser.add_argument("--workers", metavar="N", type=int, help="how many processes (else one a processor)")
     add_wait(parser)
     parser.add_argument("--json", action="store_true", help="writes JSON")
@@ -55,31 +57,61 @@ def run(options: argparse.Namespace) -> Status:
         raise Trouble(Status.USAGE, "--workers is 1 at least", "Leave it out for one a processor.")
     with locks.held(beside(folder, ".lock"), options.wait, folder):
         found, handed_out = parts.parts_of(folder, judges.bench()), OwnLines(folder).read(OwnLines(folder).anchor)
-        status = worst_of([checked(options, part.store, handed_out) for part in found])
-        parts.expect_none_missing(folder, judges.bench(), found)
+        kept = signatures.counted(lines.kept_of(options.kept), options.signers)
+        for text in choosing.uncounted_sentences(kept, [part.last.service for part in found]):
+            complain(text)
+            kept.status = Status.LOOK
+        doubt = OwnLines(found[-1].folder).why_doubted(found[-1].store, found[-1].last)
+        whole = [checked(options, part.store, kept, handed_out, doubt if part is found[-1] else None) for part in found]
+        beside_them = missing_parts(folder, found, kept)
+        status = worst_of([*(it.status for it in whole), *(it.status for it in beside_them)])
+        for trouble in beside_them:
+            complain(trouble.told())
+        for it in whole if options.json else ():
+            say_json({**it.found, "told": [trouble.told() for trouble in beside_them], "status": int(status)})
         return status
 
 
+class Checked(NamedTuple):
+    """What was found of a part, as JSON has it, and its status. JSON has that of the whole run, which is known once all parts were checked."""
+
+    found: dict[str, object]
+    status: Status
+
+
+def missing_parts(folder: Path, found: Sequence[parts.Part], kept: KeptLines) -> list[Trouble]:
+    """What shows that a part of the log is missing; that a kept line tells of a later one asks for a look, since it may be another's."""
+    try:
+        parts.expect_none_missing(folder, judges.bench(), found)
+        missing = []
+    except Trouble as trouble:
+        missing = [trouble]
+    later = parts.later_part(folder, [part.last.service for part in found], kept)
+    return missing if later is None else [*missing, Trouble(Status.LOOK, later.sentence, later.advice)]
+
+
 class Outcome(NamedTuple):
-    """What came of a check: what was looked at, the steps that aren't good, the kept lines that aren't of the store in sentences, and
-    how many agree."""
+    """What came of a check: what was looked at, the steps that aren't good, the kept lines that aren't of the store in sentences, how many agree, and why a next
+    step couldn't be tried."""
 
     looked: Looked
     exported: Exported
     bad: list[Bad]
     wrong: list[str]
     agreeing: int
+    untried: Optional[Trouble] = None
 
     def found(self, disputed: int = 0) -> Found:
         """What was found, where so many steps have kept lines that contradict."""
         return Found(len({it.step for it in self.bad}), len(self.wrong), disputed)
 
 
-def checked(options: argparse.Namespace, store: Store, handed_out: Sequence[Line]) -> Status:
-    """Checks a part, and says what came of it; its lines that the log handed out count too."""
+def checked(options: argparse.Namespace, store: Store, kept: KeptLines, handed_out: Sequence[Line], doubt: Optional[str]) -> Checked:
+    """Checks a part, and says what came of it, and why it may be an old one all the same; its lines beside it and those that the log handed out count too."""
     top = store.last().line
-    kept = kept_lines(options, store, handed_out)
-    exported = checks.exported(store)
+    for line in dict.fromkeys([*OwnLines(store.folder).all(), *(it for it in handed_out if it.service == top.service)]):
+        kept.add(Kept(line, "", ""))
+    exported = checks.exported(store, top)
     outcome = looked_at(options, store, top, exported, *held_lines(store, kept, exported.history, top))
     if not options.json:
         tell(options, store, top, outcome)
@@ -90,10 +122,13 @@ def checked(options: argparse.Namespace, store: Store, handed_out: Sequence[Line
         complain(whose(store))
     status = judge_check(outcome.found(len(disputed)), outcome.looked)
     entries = looked_at_entries(options, store, top, exported.history) if may_make_entries(status) else EntryState.UNSEEN
-    status = worst_of([status, judge_entries(entries)])
-    if options.json:
-        say_json({**as_json(top, outcome), "disputed": disputed, "entries": entries.value, "status": int(status)})
-    return status
+    if doubt is not None:
+        complain(f"{doubt}: nothing here shows whether steps were made behind its last one. Compare that with what others hold of it.")
+    if outcome.untried is not None:
+        complain(f"Not looked at: whether a next step follows. {outcome.untried.told()}")
+    is_open = doubt is not None or outcome.untried is not None
+    status = worst_of([status, judge_entries(entries), kept.status, Status.LOOK if is_open else Status.DONE])
+    return Checked({**as_json(top, outcome), "disputed": disputed, "entries": entries.value, "doubt": doubt}, status)
 
 
 def looked_at_entries(options: argparse.Namespace, store: Store, top: Line, history: Optional[History]) -> EntryState:
@@ -146,29 +181,29 @@ def whose(store: Store) -> str:
     )
 
 
-def kept_lines(options: argparse.Namespace, store: Store, handed_out: Sequence[Line]) -> KeptLines:
-    """The lines beside the store, those that the log handed out, and those of the named files or else of the user's own."""
-    beside_it = [Kept(line, "", "") for line in dict.fromkeys([*OwnLines(store.folder).all(), *handed_out])]
-    return lines.kept_of(options.kept, beside_it)
-
-
 def looked_at(options: argparse.Namespace, store: Store, top: Line, exported: Exported, wrong: list[str], agreeing: int) -> Outcome:
     """Looks at all steps, and at the events that are chosen."""
-    history = exported.history
-    bad: list[Bad] = []
+    history, bad = exported.history, checks.bad_pages(store)
     counts: list[Optional[int]] = [len(events) for events in history.events] if history is not None else []
     proved = 0
     for result in with_bar(options, "checking steps:", list(checks.link_tasks(store, top, history))):
         bad += result.bad
         counts += result.counts
+    for result in with_bar(options, "checking received lines:", list(checks.received_tasks(store, top, history))):
+        bad += result.bad
     places = choose_places([count or 0 for count in counts], None if options.all else SAMPLE)
     for result in with_bar(options, "checking events:", list(checks.event_tasks(store, top, history, places))):
         bad += result.bad
         proved += result.proved
+    try:
+        ahead, untried = checks.tried_ahead(store, top, history.ahead if history is not None else None) if top.step and not bad else None, None
+    except Trouble as trouble:
+        ahead, untried = None, trouble
+    bad += [Bad(top.step, f"{pages.NEXT_STEP}: {ahead}")] if ahead is not None else []
     known = [count for count in counts if count is not None]
     events = sum(known) if len(known) == len(counts) else None
     no_threads = history is not None or top.step == 0 or checks.has_no_threads(store, top)
-    return Outcome(Looked(exported.export, events, proved, no_threads), exported, bad, wrong, agreeing)
+    return Outcome(Looked(exported.export, events, proved, no_threads), exported, bad, wrong, agreeing, untried)
 
 
 def with_bar(options: argparse.Namespace, what: str, work: list[Task]) -> Iterator[Result]:
@@ -230,7 +265,9 @@ def tell(options: argparse.Namespace, store: Store, top: Line, outcome: Outcome)
     judge = judges.bench()
     if top.step:
         events = f"{looked.proved:,} of {count_of(looked.events, 'event')}" if looked.events is not None else count_of(looked.proved, "event")
-        say(f"links and {events} proved by the program, {judge.told('strict')}")
+        history = outcome.exported.history
+        received = f", {count_of(len(history.received), 'received line')}" if history is not None and history.received else ""
+        say(f"links{received} and {events} proved by the program, {judge.told('strict')}")
         why = outcome.exported.why
         say(f"authenticators computed anew by: {judges.REFERENCE}, from the export" if not why else f"{why[0].upper()}{why[1:]}.")
     if unseen:

@@ -24,7 +24,7 @@ DETAILS = (
     "signed by the key kept for the peer are received; receipts, refusals, the next message and the signed line are put out; requests of peers for "
     "threads and links are answered. A new peer waits for weft accept. Unsigned messages are taken where BOX/box.conf says `unsigned = yes`, which "
     "is told each time. What can't be read, a peer of which nothing new came for three turns, and lines of a service that no link joins, are told, with "
-    "status 10. Two signed lines that no one history has end each turn with 11, until they are moved out of the box. Before its history outgrows its file the "
+    "status 10. Two signed lines that no one history has, and proofs that break a rule, end each turn with 11, until they are moved out of the box. Before its history outgrows its file the "
     "service goes on in a new part; a peer's next part is taken where it is proved to be that. Run it each night, before the backup, "
     "and that before the carrier; after a restore with --look."
 )
@@ -92,8 +92,9 @@ def say_all(options: argparse.Namespace, turn: Turn, status: Optional[Status]) -
 def open_turn(folder: Path, box: Path, settings: boxes.Settings, options: argparse.Namespace, named: Optional[Line]) -> Turn:
     """The turn of a service, in the part in which it goes on; the next one may be being made already. Raises Trouble where it has ended, and where a run of
     weft log that makes the next part has to be brought to its end first."""
-    judge = judges.bench()
+    judge, kept = judges.bench(), parts.own_kept()
     found = parts.whole(folder, judge)
+    status = parts.expect_kept(judge, found, kept)
     new = parts.being_made(folder, judge, found)
     if new is None:
         parts.forget_next(folder)
@@ -103,4 +104,6 @@ def open_turn(folder: Path, box: Path, settings: boxes.Settings, options: argpar
     if new is not None and files.is_there(beside(found[-1].folder, ".pending")):
         told = f"{name_of(folder)} is to go on as {new.name}, and the run of weft log that makes that part was stopped"
         raise Trouble(Status.LOOK, told, "Run weft log first.")
-    return Turn(found, box, settings, judge, options.despite, named, new)
+    turn = Turn(found, box, settings, judge, options.despite, named, new, kept)
+    turn.look(status)
+    return turn

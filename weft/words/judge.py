@@ -5,18 +5,20 @@ from __future__ import annotations
 import argparse
 import itertools
 from pathlib import Path
-from typing import Iterator, NamedTuple, Optional, Union
+from typing import Collection, Iterator, NamedTuple, Optional, Union
 
-from weft import bulk, choosing, files, formats, judges, lines, outcomes, pictures, reports
+from weft import bulk, choosing, files, formats, judges, lines, outcomes, pictures, reports, signatures
 from weft.choosing import Judgement
 from weft.deciding.choosing import Headline
-from weft.deciding.contradicting import Differing, Told, find_pairs, find_two_lines, read_told
+from weft.deciding.contradicting import Differing, Told, find_pairs, find_two_lines
 from weft.deciding.rows import digest_of
 from weft.deciding.worst import worst_of
 from weft.judges import Bench, Verdict
+from weft.kinds import ARCHIVE_KINDS
 from weft.lines import KeptLines, Line
 from weft.outcomes import Named, Outcome, map_name
 from weft.output import complain, say, say_json
+from weft.sentences import fill
 from weft.statuses import Status
 from weft.texts import count_of, name_of
 from weft.trouble import Trouble, of_machine
@@ -25,10 +27,10 @@ NAME = "judge"
 SUMMARY = "judges proofs, map files, evidence and histories under the lines that you kept"
 DETAILS = (
     "It picks the lines that each needs, has it judged, and says what is shown, on whose lines that rests and how each came; or which lines are "
-    "missing, all of them, and who may have kept them. First stands shown, shown in part (a line is carried, or kept lines bind a history up to an earlier "
+    "missing, and who may have kept them. First stands shown, shown in part (a line is carried, or kept lines bind a history up to an earlier "
     "step), not shown or not judged. A low and a high map file of one step are judged together. Proofs that carry a line aren't accepted but with --carried. A "
     "history is judged by the rules that it has to keep, and held against every kept line of its service. What tells another line than a kept one of that step "
-    "isn't shown: TWO LINES. Files that are accepted, and contradict each other on what a service received, are told where the library judges that; name the "
+    "(TWO LINES), or contradicts itself, isn't shown. Accepted files that contradict each other on what a service received are told; name the "
     "link between their lines beside them. With --many all files of a folder are judged into a table."
 )
 STATUSES = (
@@ -40,18 +42,15 @@ EXAMPLE = (
 )
 
 
-# What says something of the lines that a service received.
-ARCHIVE_KINDS = ("thread", "absence", "low map", "high map")
 # So many of these are compared each with each.
 MOST_COMPARED = 32
-# And so many pairs of which one is a map file, beyond that.
-MOST_PAIRS = 4_096
 
 
 def add(parser: argparse.ArgumentParser) -> None:
     """The words."""
     parser.add_argument("proofs", metavar="PROOF", nargs="*", help="proofs, map files, evidence, histories")
     parser.add_argument("--kept", metavar="FILE", type=Path, action="append", help="a file of kept lines; several may be named (else WEFT_KEPT, ..)")
+    signatures.add_signers(parser)
     parser.add_argument("--file", metavar="F", help="holds the event against the digest and the name of this file")
     parser.add_argument("--audit", metavar="HISTORY", type=Path, action="append", default=[], help="holds what is shown against this history; may be repeated")
     parser.add_argument("--carried", action="store_true", help="accepts proofs that carry lines, and says which")
@@ -67,21 +66,23 @@ def add(parser: argparse.ArgumentParser) -> None:
 
 
 class Judged(NamedTuple):
-    """A group of files that was judged, its judgement where there is one, and the status of it by itself."""
+    """A group of files that was judged, its judgement where there is one, the status of it by itself, and whether it contradicts itself."""
 
     group: list[Named]
     judgement: Optional[Judgement]
     status: Status
+    is_refuted: bool = False
 
 
 def run(options: argparse.Namespace) -> Status:
     """Judges what was named."""
-    kept = lines.kept_of(options.kept)
+    kept = signatures.counted(lines.kept_of(options.kept), options.signers)
     judge = judges.bench(options.reference)
     expect_words(options)
     if options.kept and not options.json:
         say(choosing.told_kept(options.kept))
-    return bulk.run(options, kept, judge) if options.many else judge_named(options, kept, judge)
+    status = bulk.run(options, kept, judge) if options.many else judge_named(options, kept, judge)
+    return worst_of([status, kept.status])
 
 
 def expect_words(options: argparse.Namespace) -> None:
@@ -103,17 +104,22 @@ def judge_named(options: argparse.Namespace, kept: KeptLines, judge: Bench) -> S
     if (options.svg or options.file or options.audit or options.top is not None) and (len(groups) != 1 or len(read) != sum(map(len, groups))):
         raise Trouble(Status.USAGE, "--svg, --file, --audit and --top are of one proof", "Name one proof.")
     statuses = [it for it in read if isinstance(it, Status)]
-    shown = []
+    shown, broken = [], set[str]()
     try:
         for group in groups:
             found = judge_or_tell(options, kept, judge, group)
             statuses.append(found.status)
-            if found.judgement is not None and found.judgement.is_shown:
+            if found.judgement is not None and found.judgement.is_shown and found.is_refuted:
+                broken |= {told.service for it in group if (told := formats.told_by(it.data, found.judgement.lines)) is not None}
+            elif found.judgement is not None and found.judgement.is_shown:
                 shown.append((group, found.judgement))
-        statuses += [contradicted(options, judge, shown), told_apart(options, judge, shown)]
+        broken |= contradicted(options, judge, shown)
+        statuses += [Status.CONTRADICTION if broken else Status.DONE, told_apart(options, judge, shown, broken)]
     except Trouble as trouble:
         complain(trouble.told())
         statuses.append(trouble.status)
+        if options.json:
+            say_json({"status": int(trouble.status), "says": [trouble.told()]})
     return worst_of(statuses)
 
 
@@ -176,14 +182,16 @@ def judge_group(options: argparse.Namespace, kept: KeptLines, judge: Bench, grou
     try:
         judgement = outcomes.judgement_of(judge, kept, group, options.carried, options.top)
         outcome = outcomes.outcome_of(judge, kept, group, judgement)
+        outcome = outcome._replace(told=[*outcome.told, *choosing.uncounted_sentences(kept, services_of(judgement))])
     except Trouble as trouble:
         if trouble.status in (Status.MISSING, Status.UNREADABLE, Status.CONTRADICTION, Status.DIFFER):
             tell_trouble(options, [it.path for it in group], trouble)
             return Judged(group, None, trouble.status)
         raise
-    if judgement.is_shown and options.file:
+    is_told = judgement.is_shown and not outcome.is_refuted
+    if is_told and options.file:
         outcome = outcomes.unless_troubled(outcome, lambda it: outcomes.with_file(judge, it, judgement, options.file))
-    if judgement.is_shown and options.audit:
+    if is_told and options.audit:
         outcome = outcomes.unless_troubled(outcome, lambda it: outcomes.with_histories(judge, kept, it, judgement, group[0].data, options.audit))
     if options.json:
         say_json(as_json(options, judge, kept, group, judgement, outcome))
@@ -191,7 +199,13 @@ def judge_group(options: argparse.Namespace, kept: KeptLines, judge: Bench, grou
         tell(judge, group, judgement, outcome)
     if options.svg and judgement.verdict is not None and outcome.headline in (Headline.SHOWN, Headline.IN_PART):
         files.hand_out(options.svg, pictures.verdict(reports.read_report(judgement.verdict), judgement.lines, map_name(group)).encode())
-    return Judged(group, judgement, outcome.status)
+    return Judged(group, judgement, outcome.status, outcome.is_refuted)
+
+
+def services_of(judgement: Judgement) -> list[str]:
+    """The services of whose lines a judgement is."""
+    of_history = [judgement.history.service] if judgement.history is not None else []
+    return [*of_history, *(line.service for line in judgement.lines), *(needed.service for needed in judgement.missing)]
 
 
 def tell(judge: Bench, group: list[Named], judgement: Judgement, outcome: Outcome) -> None:
@@ -211,7 +225,7 @@ def as_json(
         "kind": group[0].kind,
         "headline": outcome.title,
         "shown": outcome.headline is Headline.SHOWN,
-        "status": int(outcome.status),
+        "status": int(worst_of([outcome.status, kept.status])),
         "text": judgement.verdict.text if judgement.verdict is not None else None,
         "says": outcome.told,
         "lines": [
@@ -219,6 +233,7 @@ def as_json(
         ],
         "kept": [str(path) for path in options.kept or [lines.default_kept()]],
         "missing": [needed._asdict() for needed in judgement.missing],
+        "not_counting": [{**it.line._asdict(), "date": it.date, "how": it.how} for it in choosing.uncounted(kept, services_of(judgement))],
         "contradicts": [line._asdict() for line in outcome.contradicted],
         "bound": bound_step(judgement),
         "beyond": judgement.history.held.beyond if judgement.history is not None else None,
@@ -234,9 +249,10 @@ def bound_step(judgement: Judgement) -> Optional[int]:
     return line.step if line is not None and not judgement.history.held.differing else 0
 
 
-def told_apart(options: argparse.Namespace, judge: Bench, shown: list[tuple[list[Named], Judgement]]) -> Status:
-    """Whether two of the accepted files tell two lines of one step; a history is asked for the steps that others tell."""
-    told = [(place, line) for place, (group, judgement) in enumerate(shown) for line in outcomes.all_lines(judge, group, judgement)]
+def told_apart(options: argparse.Namespace, judge: Bench, shown: list[tuple[list[Named], Judgement]], broken: Collection[str]) -> Status:
+    """Whether two of the accepted files tell two lines of one step; a history is asked for the steps that others tell. What services that broke a rule received
+    shows nothing of others."""
+    told = [(place, line) for place, (group, judgement) in enumerate(shown) for line in outcomes.lines_that_count(judge, group, judgement, broken)]
     for place, (group, judgement) in enumerate(shown):
         history = formats.timeline_of(group[0].data) if judgement.history is not None else None
         if history is not None:
@@ -250,11 +266,8 @@ def told_apart(options: argparse.Namespace, judge: Bench, shown: list[tuple[list
 
 def tell_two_lines(options: argparse.Namespace, it: Differing, first: str, second: str) -> None:
     """Says that two files tell two lines of one step."""
-    told = (
-        f"TWO LINES: {name_of(first)} tells {it.one.authenticator[:16]}.. of step {it.one.step} of {it.one.service}, and {name_of(second)} "
-        f"{it.other.authenticator[:16]}..: {it.one.service} has shown two histories, or one of both isn't its own. Keep both files, and show them to others who hold "
-        f"lines of {it.one.service}."
-    )
+    said = {"first": name_of(first), "second": name_of(second), "one": it.one.authenticator[:16], "other": it.other.authenticator[:16]}
+    told = f"TWO LINES: {fill('told twice', service=it.one.service, step=it.one.step, **said)} {fill('keep both', service=it.one.service)}"
     if options.json:
         say_json({"two_lines": [first, second], **it.one._asdict(), "other": it.other.authenticator, "status": int(Status.CONTRADICTION), "says": [told]})
     else:
@@ -262,50 +275,39 @@ def tell_two_lines(options: argparse.Namespace, it: Differing, first: str, secon
 
 
 class Held(NamedTuple):
-    """An accepted file that tells what a service received: the file, the bytes of the lines that it is under, and what the judge's words tell of it."""
+    """An accepted file that tells what a service received: the file, the bytes of the lines that it is under, and what it tells."""
 
     it: Named
     lines: bytes
-    told: Optional[Told]
+    told: Told
 
 
-def contradicted(options: argparse.Namespace, judge: Bench, shown: list[tuple[list[Named], Judgement]]) -> Status:
-    """Whether two of the accepted files contradict each other; a file that was named twice, or by two names, is one."""
+def contradicted(options: argparse.Namespace, judge: Bench, shown: list[tuple[list[Named], Judgement]]) -> set[str]:
+    """Says which of the accepted files contradict each other; the services of these. A file that was named twice, or by two names, is one."""
     judge = judges.for_contradictions(judge)
-    held = [Held(it, lines.anchors(judgement.lines), told_of(judgement)) for group, judgement in shown for it in group if it.kind in ARCHIVE_KINDS]
+    held = [
+        Held(it, lines.anchors(judgement.lines), told) for group, judgement in shown for it in group
+        if it.kind in ARCHIVE_KINDS and (told := formats.told_by(it.data, judgement.lines)) is not None
+    ]  # fmt: skip
     held = list({(one.it.data, one.lines): one for one in reversed(held)}.values())[::-1]
     links = [it.data for group, _ in shown for it in group if it.kind == "link"]
-    maps = sum(one.told is None for one in held)
-    status = Status.DONE if maps * len(held) <= MOST_PAIRS else Status.LOOK
+    broken = set()
     for first, second in pairs_of(options, held):
         verdict = choosing.judge_contradiction(judge, (first.it.data, first.lines, second.it.data, second.lines), links)
         if verdict.is_accepted:
-            status = Status.CONTRADICTION
+            broken.add(first.told.service)
             tell_contradiction(options, judge, verdict, first.it.path, second.it.path)
-    return status
-
-
-def told_of(judgement: Judgement) -> Optional[Told]:
-    """What a judge's words tell of a line that was received, or wasn't."""
-    words = judgement.verdict.lines[1:2] if judgement.verdict is not None else []
-    return read_told(words[0]) if words else None
+    return broken
 
 
 def pairs_of(options: argparse.Namespace, held: list[Held]) -> Iterator[tuple[Held, Held]]:
-    """The files that are compared: each with each where they are few; of many those whose steps meet."""
+    """The files that are compared: each with each where they are few; of many those of which two break a rule, if any two do."""
     if len(held) <= MOST_COMPARED:
         yield from itertools.combinations(held, 2)
         return
     if not options.json:
-        say(f"{count_of(len(held), 'file')} tell what services received: those whose steps meet are compared, and not each with each.")
-    told = [(place, one.told) for place, one in enumerate(held) if one.told is not None]
-    for pair in find_pairs([found for _, found in told]):
-        yield held[told[pair.first][0]], held[told[pair.second][0]]
-    maps = [one for one in held if one.told is None]
-    with_maps = itertools.chain(itertools.combinations(maps, 2), ((one, other) for one in maps for other in held if other.told is not None))
-    yield from itertools.islice(with_maps, MOST_PAIRS)
-    if next(with_maps, None) is not None and not options.json:
-        say("Not all map files among them were compared: name fewer at a time.")
+        say(f"{count_of(len(held), 'file')} tell what services received: of those that break a rule together each is told with the first, and not each with each.")
+    yield from ((held[first], held[second]) for first, second in find_pairs([one.told for one in held]))
 
 
 def tell_contradiction(options: argparse.Namespace, judge: Bench, verdict: Verdict, first: str, second: str) -> None:

@@ -3,6 +3,7 @@
 from __future__ import annotations
 
 import argparse
+import functools
 import os
 import sys
 from pathlib import Path
@@ -11,6 +12,7 @@ from typing import NamedTuple, Optional
 from weft import files, kinds, lines, signatures
 from weft.deciding.keeping import Outcome
 from weft.deciding.signatures import BEGIN, PublicKey, Signed, read_armour, read_signed_line
+from weft.deciding.worst import worst_of
 from weft.files import AnyPath
 from weft.lines import Kept, Line, Placed
 from weft.output import complain, say, say_json
@@ -129,11 +131,18 @@ def run(options: argparse.Namespace) -> Status:
     new = named_lines(options, given(options.file), signers, signer)
     for it in new:
         expect_possible(it.line)
-    placed = [choose(options.file, kept, new)] if options.choose else lines.keep(kept, new)
+    noted = functools.partial(counting_keys, signers, signer)
+    placed = [choose(options.file, kept, new)] if options.choose else lines.keep(kept, new, noted)
     if signer is not None:
         note_signer(signers, signer, options.beside)
     tell(options, kept, placed)
     return status_of(options.choose, placed)
+
+
+def counting_keys(signers: AnyPath, signer: Optional[Signer], service: str) -> set[str]:
+    """The fingerprints of the keys by which kept lines of a service count, once the key that --signer names is noted."""
+    named = {signer.key.fingerprint} if signer is not None and signer.service == service else set()
+    return {*signatures.counting_fingerprints(signers, service), *named}
 
 
 def named_signer(name: str, path: str) -> Signer:
@@ -184,8 +193,9 @@ def note_signer(signers: Path, signer: Signer, is_beside: bool) -> None:
 
 def status_of(is_choice: bool, placed: list[Placed]) -> Status:
     """How a run ends that kept these lines."""
-    if any(it.trouble is not None for it in placed):
-        return Status.CONTRADICTION
+    troubles = [it.trouble.status for it in placed if it.trouble is not None]
+    if troubles:
+        return worst_of(troubles)
     return Status.LOOK if is_choice and not placed[0].others else Status.DONE
 
 
@@ -207,5 +217,5 @@ def tell(options: argparse.Namespace, path: Path, placed: list[Placed]) -> None:
 def as_json(placed: Placed) -> dict[str, object]:
     """What became of a line, as JSON has it."""
     kept, outcome = placed.kept, placed.outcome
-    contradicts = outcome in (Outcome.CONTRADICTING, Outcome.NOT_CHOSEN)
+    contradicts = outcome in (Outcome.CONTRADICTING, Outcome.NOT_CHOSEN) or placed.trouble is not None
     return {**kept.line._asdict(), "date": kept.date, "how": kept.how, "new": outcome is not Outcome.KNOWN, "contradicts": contradicts, "over": list(placed.others)}

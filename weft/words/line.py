@@ -4,10 +4,11 @@ from __future__ import annotations
 
 import argparse
 from pathlib import Path
+from typing import NamedTuple, Optional
 
 from weft import files, judges, locks, parts, signatures
 from weft.lines import Line
-from weft.output import say, say_json
+from weft.output import complain, say, say_json
 from weft.own import OwnLines
 from weft.statuses import Status
 from weft.stores import Store
@@ -21,7 +22,7 @@ DETAILS = (
     "of step 0. With --sign the line stands in a file, and beside it in a file .sig its signature by ssh-keygen: hand out both. What is printed is noted "
     "in DIR.lines, where that stands, as weft log and weft exchange note theirs, so that an old store that is put back is found."
 )
-STATUSES = (Status.BUSY, Status.OLD_STORE)
+STATUSES = (Status.LOOK, Status.BUSY, Status.OLD_STORE)
 EXAMPLE = "weft line /srv/log > line\nweft line /srv/log --sign ~/.ssh/id_ed25519 --out log.line"
 
 
@@ -40,7 +41,7 @@ def run(options: argparse.Namespace) -> Status:
     files.expect_folder(folder, "the folder of the service")
     parts.expect_whole(folder)
     with locks.held(beside(folder, ".lock"), options.wait, folder):
-        line = noted_line(folder)
+        line, doubt, status = noted_line(folder)
     text = f"{line.text}\n".encode()
     out = options.out or (files.unchosen(f"{line.service}-{line.step}.line", text) if options.sign else None)
     written = []
@@ -52,22 +53,36 @@ def run(options: argparse.Namespace) -> Status:
         files.hand_out(Path(out), text)
         written.insert(0, out)
     if options.json:
-        say_json({**line._asdict(), "files": [str(path) for path in written]})
-        return Status.DONE
-    say(line.text)
-    if len(written) == 2:
-        say(f"Hand out {name_of(written[0])} and {name_of(written[1])}; who has your key for {line.service} keeps it by: weft keep {name_of(written[0])}")
-    return Status.DONE
+        say_json({**line._asdict(), "files": [str(path) for path in written], "doubt": doubt})
+    else:
+        say(line.text)
+        if len(written) == 2:
+            say(f"Hand out {name_of(written[0])} and {name_of(written[1])}; who has your key for {line.service} keeps it by: weft keep {name_of(written[0])}")
+    if doubt is None:
+        return status
+    complain(f"{doubt}. Hand out nothing of it before you know that it is the right one.")
+    return Status.LOOK
 
 
-def noted_line(folder: Path) -> Line:
-    """The last line of a service, noted among those that stand beside it as one that may have gone out; raises Trouble where the store isn't the one of
-    these. Where none stands there, none is noted: a store that was copied alone stays one that nobody has named. That of step 0, which the name alone
-    makes, isn't noted either."""
-    folder = parts.whole(folder, judges.bench())[-1].folder
+class Noted(NamedTuple):
+    """The last line of a service, why its store may be an old one, and how its user's kept lines were found."""
+
+    line: Line
+    doubt: Optional[str]
+    status: Status
+
+
+def noted_line(folder: Path) -> Noted:
+    """The last line of a service, noted among those that stand beside it as one that may have gone out; raises Trouble where the store isn't the one of these
+    lines, or of those that its user keeps. Where none stands there, none is noted: a store that was copied alone stays one that nobody has named. That of step 0, which
+    the name alone makes, isn't noted either."""
+    found = parts.whole(folder, judges.bench())
+    status = parts.expect_kept(judges.bench(), found, parts.own_kept(), "No line was printed")
+    folder = found[-1].folder
     store, own = Store(folder), OwnLines(folder)
     line = store.last().line
     own.compare(store, judges.bench(), line)
+    doubt = own.why_doubted(store, line)
     if line.step and own.is_there:
         own.note(line)
-    return line
+    return Noted(line, doubt, status)

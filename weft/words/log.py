@@ -95,7 +95,7 @@ def logged(options: argparse.Namespace, log: Log, look: Look, day: Day) -> Statu
     if day.is_fewer and not options.gone:
         complain(fewer(options.folder, day.counts))
         return Status.FEWER
-    return Status.LOOK if look.left_out or log.needs_look or (day.counts.replaced and not options.gone) else Status.DONE
+    return Status.LOOK if look.left_out or (day.counts.replaced and not options.gone) else log.status
 
 
 def fewer(folder: Path, counts: Counts) -> str:

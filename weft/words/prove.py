@@ -17,9 +17,9 @@ from weft.lines import KeptLines, Line, kept_now
 from weft.output import collect, complain, say
 from weft.own import OwnLines
 from weft.parts import Part
-from weft.recorded import expect_end
+from weft.recorded import expect_end, expect_true
 from weft.statuses import Status
-from weft.texts import beside, listed, name_of, printable, shown_event
+from weft.texts import beside, listed, name_of, shown_event
 from weft.trouble import Trouble
 
 NAME = "prove"
@@ -41,6 +41,9 @@ def add(parser: argparse.ArgumentParser) -> None:
     parser.add_argument("--top", metavar="STEP", type=int, help="the step whose line the reader holds (else the last one)")
     parser.add_argument("--out", metavar="PROOF", help="where the proof is written (else the file's name with .proof behind, in this folder, where no other file has it)")
     parser.add_argument("--json", action="store_true", help="writes JSON")
+
+
+NO_PROOF = "No proof was made"
 
 
 class Place(NamedTuple):
@@ -75,11 +78,11 @@ def run(options: argparse.Namespace) -> Status:
     service = files.folder_named(options.service)
     judge = judges.bench()
     all_parts = parts.whole(service, judge)
-    found = entry(all_parts, os.fsencode(options.file), options.step)
+    found = entry_of(service, judge, all_parts, options)
     OwnLines(found.part.folder).compare(found.part.store, judge, found.part.last)
     made = chained(judge, all_parts, found) if options.top is None and found.part is not all_parts[-1] else under(judge, found, options)
     check(found.part.folder, made.judgement, found.event)
-    is_amid = options.step is None and not expect_kept(service, judge, all_parts)
+    unseen = why_older(service, judge, all_parts, found) if options.step is None else None
     out = options.out or files.unchosen(f"{os.path.basename(options.file)}.proof", made.proof)
     files.hand_out(out, made.proof)
     where = f"in step {found.step} of {found.part.last.service}"
@@ -93,8 +96,8 @@ def run(options: argparse.Namespace) -> Status:
     if found.gone is not None:
         complain(f"step {found.gone.step} of {found.gone.service} logged later that {name_of(options.file)} is gone: this is the entry before that.")
         return Status.LOOK
-    if is_amid:
-        complain("a run of weft log was stopped amid a step: this is the last entry that is there. Run it again, and then this.")
+    if unseen is not None:
+        complain(unseen)
         return Status.LOOK
     return Status.DONE
 
@@ -136,14 +139,40 @@ def check(service: Path, judgement: choosing.Judgement, event: bytes) -> None:
         raise Trouble(Status.BAD_STORE, told, "Were the entries changed, or another store put there? weft check.")
 
 
-def expect_kept(service: Path, judge: Bench, all_parts: Sequence[Part]) -> bool:
-    """Raises Trouble where entries of a part were lost: the last one that is kept of a file may be an older one then. Answers whether that could be seen: a run
-    of weft log that was stopped amid a step leaves entries of which it isn't known whether the store has them."""
-    if files.is_there(beside(all_parts[-1].folder, ".pending")):
-        return False
-    for part in all_parts:
-        expect_end(service, judge, part, "No proof was made")
-    return True
+def why_older(service: Path, judge: Bench, all_parts: Sequence[Part], found: Found) -> Optional[str]:
+    """Why the entry that was found needn't be the last one of its file, as far as that isn't seen; raises Trouble where it isn't, or the store isn't that of the
+    lines that its user keeps."""
+    kept = parts.own_kept()
+    status = parts.expect_kept(judge, all_parts, kept, NO_PROOF)
+    unseen = expect_last(service, judge, all_parts[found.part.number - 1 :])
+    doubt = OwnLines(all_parts[-1].folder).why_doubted(all_parts[-1].store, all_parts[-1].last)
+    if doubt is not None:
+        return f"{doubt}. Then this needn't be the file's last entry: with --step it is proved without a word of that."
+    return unseen if unseen is not None or status is Status.DONE else "The proof was made all the same, and the store wasn't held against lines of that file."
+
+
+def entry_of(service: Path, judge: Bench, all_parts: Sequence[Part], options: argparse.Namespace) -> Found:
+    """The entry that is to be proved. That there is none isn't said where entries were taken away or changed: then that is told."""
+    try:
+        return entry(all_parts, os.fsencode(options.file), options.step)
+    except Trouble:
+        expect_last(service, judge, all_parts)
+        raise
+
+
+def expect_last(service: Path, judge: Bench, later: Sequence[Part]) -> Optional[str]:
+    """Raises Trouble where an entry of these parts isn't what the store recorded, or was taken away: then the last one that is there of a file needn't be its
+    last one. The answer is why that couldn't be seen, where it couldn't."""
+    if files.is_there(beside(later[-1].folder, ".pending")):
+        return "a run of weft log was stopped amid a step: this is the last entry that is there. Run it again, and then this."
+    unseen = None
+    for part in later:
+        if part.store.history_size() is not None:
+            expect_true(service, judge, part, NO_PROOF)
+            continue
+        expect_end(service, judge, part, NO_PROOF)
+        unseen = f"the history of {part.last.service} is longer than a file may be: whether this is the last entry of its file"
+    return f"{unseen} wasn't looked at; weft check --all {name_of(service)} does that." if unseen is not None else None
 
 
 def note(found: dict[bytes, Found], read: Entry, it: Found) -> None:
@@ -168,7 +197,7 @@ def entry(all_parts: Sequence[Part], name: bytes, step: Optional[int]) -> Found:
                 note(found, read, Found(part, line.step, line.index, line.event))
     exact = found.get(b"./" + wanted)
     if exact is None and len(found) != 1:
-        several = ", ".join(printable(os.fsdecode(it)) for it in sorted(found)[:5])
+        several = ", ".join(name_of(os.fsdecode(it)) for it in sorted(found)[:5])
         told = f"{name_of(all_parts[0].entries.path)} has {'no' if not found else 'several'} entries of {name_of(os.fsdecode(name))}"
         raise Trouble(Status.REFUSED, told, f"Name one: {several}." if found else "Is it a path from the logged folder on? weft log logs it.")
     return exact or next(iter(found.values()))

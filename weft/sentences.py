@@ -1,0 +1,141 @@
+"""What weft and the page say of an answer: each sentence stands here once, and tests/acceptance/cases/said.py has the claim that each stands for.
+
+    python3 -m weft.sentences > web/page/sentences.mjs    hands them to the page
+
+What stands in braces is filled with names, numbers and digits of the answer; an event is set apart where it is shown. No sentence says more than the clause of
+its answer: what hangs on a service that keeps the rules says so, and what its receiver alone vouches for does."""
+
+from __future__ import annotations
+
+import json
+from typing import NamedTuple
+
+from weft.deciding.choosing import Headline
+from weft.output import say_whole
+
+# What is said first. Of what isn't shown, and of what isn't judged, nothing is shown.
+HEADLINES = {it.name: it.value for it in Headline}
+
+SENTENCES = {
+    # what an accepted file shows
+    "event": "{service} recorded in its step {step}, as event {index}: {event}.",
+    "time": "{service} claims the time {time} for its step {step}; whether that is right isn't shown.",
+    "order": "The first came before the second",
+    "order in one history": "The first came before the second: step {first} is before step {second} in one history.",
+    "hop": "{by} received step {step} of {service} at its step {archived}",
+    "bound": "Every hop is bound by a line that you hold.",
+    "carried": "Only {by} says that step {step} of {service} was so, and could have made it up.",
+    "one carried": "1 of {all} hops is carried: who received such a step could have made it up. Ask for a proof that is bound there by links.",
+    "carried hops": "{count} of {all} hops are carried: who received such a step could have made it up. Ask for a proof that is bound there by links.",
+    "thread": "{service} had received step {received} of {peer}, authenticator {authenticator}, by its step {step}, at its step {archived}.",
+    "maker": "Whether {peer} made that line isn't shown.",
+    "absent": "{service} had received no step {absent} of {peer} up to its step {step}, if it kept the rules; an audit of its history shows whether it did.",
+    "link": "Step {step} of {service}, seen from its step {top}, has the authenticator {authenticator}: both lines are of one history.",
+    "map": "If {service} and {peer} kept the rules: before its step {step}, {service} {before}. {after} An audit of their histories shows whether they did.",
+    "none before": "had received no step of {peer}",
+    "last before": "had received step {low} of {peer}, and no later one",
+    "first after": "Step {high} of {peer} is the first that received step {step} of {service} or a later one.",
+    "none after": "Up to its step {upto}, {peer} received neither step {step} of {service} nor a later one.",
+    "behind": "Of steps of {peer} behind {upto} nothing is shown.",
+    # evidence of two histories
+    "received": "{by} received step {step} of {service}, authenticator {authenticator}, at its step {archived}.",
+    "no history": "No history of {service} has both: two were shown in its name, or a receiver made one up.",
+    "two receivers": "Who broke a rule isn't shown: {service} may have, or whoever gave {first} and {second} these lines, or one of both. Ask both.",
+    "one receiver": "Both were received by {by} alone, who could have made up both: against {service} nothing is shown. Ask for evidence of two receivers.",
+    "broken receiver": "{by}, which received both, broke a rule by that, whoever made them: {rule}. Against {service} nothing is shown.",
+    # files that contradict each other
+    "denied": "By one {service} received step {step} of {peer} at its step {archived}, by the other it had received no such step up to its step {upto}.",
+    "broken rule": "Between them they show rule {number} of histories, {name}, broken: {said}.",
+    "one line": "Both are under one line of {service}, or a link joins their lines: whoever keeps {service} broke its rules.",
+    "two lines": "They are under two lines of {service}: it broke its rules, or it has two histories, or one of both lines isn't its own. Ask it for the link between "
+    "these lines, and name that beside them.",
+    "nobody else": "Against the others that they name nothing is shown.",
+    "keep files": "Keep both files and the lines: they are the evidence for whoever holds these lines to be its own.",
+    # a file that contradicts itself
+    "broken by itself": "It CONTRADICTS ITSELF, as it shows rule {number} of histories, {name}, broken: {said}.",
+    "one file": "Whoever keeps {service} broke its rules, so nothing is shown. Keep the file and the lines: they are the evidence.",
+    # lines beside those that were kept
+    "same line": "That is the line of step {step} of {service} that you kept: one history.",
+    "other line": "the line of step {step} of {service} that you kept{came} is another one than {told}.. of this file: {service} has shown two histories, or one of both "
+    "isn't {service}'s.",
+    "keep both": "Keep what you were sent and both lines, and show them to others who hold lines of {service}: which of both do they have? Ask {service} too.",
+    "told twice": "{first} tells {one}.. of step {step} of {service}, and {second} {other}..: {service} has shown two histories, or one of both isn't its own.",
+    # lines that are missing
+    "missing": "The line of step {step} of {service} is missing.",
+    "ask others": "ask somebody who kept it, and is neither {service} nor whoever sent you this file",
+    "only now": "A line that you get only now shows nothing about the time before.",
+}
+
+
+class Reason(NamedTuple):
+    """Why something isn't accepted, and what to do."""
+
+    sentence: str
+    todo: str
+
+
+# By the names of the judge's reasons; a number in braces stands for a field behind the name.
+REASONS = {
+    "Malformed": Reason("The file is no proof: it is cut short or was changed at byte {0}.", "Ask for it again, packed or attached as it is."),
+    "BadOrder": Reason("Its steps aren't in order: what it claims to come first doesn't.", "Ask for it again."),
+    "NotHeld": Reason(
+        "You hold no line of {0} at step {1}.",
+        "Ask for the proof under a step of which you do, or for that line somebody who is neither {0} nor the sender.",
+    ),
+    "BadPath": Reason(
+        "It isn't of the history of your lines (part {0}): it was changed, or a line isn't its service's, or the service has two histories.",
+        "Ask others who hold lines of that service which line of that step they have, and ask for the proof again.",
+    ),
+    "BadOpening": Reason("It was changed, or its store is damaged (part {0}).", "Ask for it again."),
+    "BadEvent": Reason("The event isn't the one of that step (part {0}): it was changed, or its store is damaged.", "Ask for it again."),
+    "BadTree": Reason("What it tells of received lines isn't so (part {0}): it was changed, or its store is damaged.", "Ask for it again."),
+    "Carried": Reason(
+        "{0} of its hops are carried: in this proof only the receiver says that the step is the other service's.",
+        "Ask for links, or judge with --carried.",
+    ),
+    "Part": Reason("The proof of thread {0} in it isn't accepted (reason {1}).", "Ask for the evidence again."),
+    "NoConflict": Reason("The two lines in it aren't shown to contradict each other: nothing is shown against anybody.", ""),
+    "BadLink": Reason("Its link isn't of the history with the later thread.", "Ask for another link."),
+    "Gap": Reason("The files aren't of one step, one service and one peer.", "Ask for the other file of the same step."),
+}
+
+# What it means that a rule of histories is broken, by the names of the judge's rules.
+RULES = {
+    "Denied": "{service} received a step by the one file, and by the other it hadn't by then",
+    "OwnThread": "{service} received a line of its own",
+    "ReceivedLater": "the archive of a step of {service} has what a later step received",
+    "TwoEntries": "{service} received one step of a peer twice, or with two authenticators",
+    "TwoAtOneStep": "one step of {service} received two lines",
+    "StepsFall": "{service} received a lower step of a peer behind a higher one",
+    "EventsToo": "a step of {service} that received a line has events",
+    "ClockBack": "a later step of {service} claims an earlier time",
+    "TwoAuthenticators": "one step of {service} has two authenticators",
+    "OtherThanLine": "a step of {service} has another authenticator than its line",
+    "TwoLines": "there are two lines of one step of {service}",
+    "OtherBefore": "a step of {service} doesn't go on from the step before it",
+    "OtherBeforeLine": "a step of {service} doesn't go on from the line of the step before it",
+    "OtherGenesis": "the first step of {service} doesn't go on from its name",
+    "OtherEmptyRoot": "a step of {service} has a root of events that doesn't fit their number",
+}
+
+
+def fill(key: str, **values: object) -> str:
+    """A sentence with what is filled in."""
+    return SENTENCES[key].format(**values)
+
+
+def capital(text: str) -> str:
+    """A text that begins with a capital letter."""
+    return text[:1].upper() + text[1:]
+
+
+def module() -> str:
+    """The module of JavaScript that hands all of them to the page."""
+    tables = {"HEADLINES": HEADLINES, "SENTENCES": SENTENCES, "REASONS": {name: it._asdict() for name, it in REASONS.items()}, "RULES": RULES}
+    head = "/** What weft and the page say of an answer, made by `python3 -m weft.sentences` of the one source, weft/sentences.py. */\n"
+    return head + "".join(f"\nexport const {name} = {json.dumps(table, indent=4, ensure_ascii=False)};\n" for name, table in tables.items())
+
+
+if __name__ == "__main__":
+    for line in module().splitlines():
+        say_whole(line)
