@@ -29,7 +29,7 @@ from harness.running import difference
 MODULES = (
     "data", "generated", "archives", "precedence", "forks", "atlases", "audits", "adoptions", "maps", "reaching", "steps", "worked", "pages", "failing", "messages",
     "exported", "mapped", "played", "stacks", "followers", "damaged", "receiving", "tree_runs", "edges", "beside", "guarded", "power", "faults", "fuzz", "found", "tables", "refused",
-    "documents", "prose", "cited", "reference", "small_worlds", "vectors", "installed", "released", "shown", "unproved", "entries", "operated", "weft", "progress", "sources",
+    "documents", "prose", "cited", "promised", "reference", "small_worlds", "vectors", "installed", "released", "shown", "unproved", "entries", "operated", "weft", "said", "progress", "sources",
 )
 LATER = ("contradictions", "library", "web", "bindings")
 
@@ -74,7 +74,7 @@ def texts():
     """The cases of documents and sources that need no program."""
     for module in ("documents", "vectors"):
         yield from ((f"{module}/{case['name']}", case) for case in import_module(f"cases.{module}").without_program())
-    for module in ("prose", "cited", "reference", "small_worlds", "progress", "sources"):
+    for module in ("prose", "cited", "promised", "reference", "small_worlds", "said", "progress", "sources"):
         yield from ((f"{module}/{case['name']}", case) for case in import_module(f"cases.{module}").cases())
 
 

@@ -32,7 +32,7 @@ PLANT = "--plant"
 if sys.argv[1:2] == [PLANT]:  # (before weft is loaded)
     weft_planted.plant(int(sys.argv[2]))
 
-from harness import weft_machine  # noqa: E402
+from harness import weft_machine, weft_scenes  # noqa: E402
 from harness.shrinking import without_parts  # noqa: E402
 from harness.weft_inside import Inside  # noqa: E402
 from harness.weft_machine import Machine  # noqa: E402
@@ -49,6 +49,8 @@ WEIGHTS = {
 # What befalls somebody in about half of the scripts: so the others show what stands without it.
 SOMETIMES = ("lie", "steal", "restore", "damage", "fault", "swap", "replay", "hinder")
 STEPS = 100
+# One draw of so many is a whole scene.
+SCENE = 10
 # A planted fault is to be found in so many turns.
 MOST_PLANTED = 5_000
 SHRINKING = 120
@@ -59,8 +61,11 @@ def drawn(seed, number):
     rand = random.Random(f"{seed} {number}")
     left_out = {name for name in SOMETIMES if rand.randrange(2)}
     names = [name for name in WEIGHTS if name not in left_out]
-    steps = rand.choices(names, [WEIGHTS[name] for name in names], k=STEPS)
-    return [(name, rand.randrange(1000), rand.randrange(1000), rand.randrange(1000)) for name in steps]
+    weights, script = [WEIGHTS[name] for name in names], []
+    while len(script) < STEPS:
+        drawn_now = [weft_scenes.free(rand, *rand.choices(names, weights))] if rand.randrange(SCENE) else rand.choice(weft_scenes.SCENES)(rand)
+        script += [] if left_out & {name for name, *_ in drawn_now} else drawn_now
+    return script[:STEPS]
 
 
 class Search:

@@ -4,7 +4,7 @@ import unittest
 
 from weft.deciding.choosing import (
     Beside, Chosen, Extent, Headline, HeldHistory, Needed, choose_headline, choose_headline_unheld, choose_history_headline, choose_later_step, choose_lines,
-    choose_older_step, choose_whom_to_ask, hold_history, hold_line, measure_extent,
+    choose_older_step, choose_unknown, choose_whom_to_ask, hold_history, hold_line, measure_extent,
 )  # fmt: skip
 from weft.deciding.lines import Line
 
@@ -107,11 +107,20 @@ class ChooseWhomToAsk(unittest.TestCase):
     """Who may have a missing line."""
 
     def test_the_keeper_in_dispute_is_never_asked_for_a_fresh_line(self) -> None:
-        self.assertEqual(choose_whom_to_ask("shop", ["shop", "bank", "shop"]), ["bank"])
-        self.assertEqual(choose_whom_to_ask("shop", ["shop"]), [])
+        self.assertEqual(choose_whom_to_ask("shop", ["shop", "bank", "shop"], {"shop", "bank"}), ["bank"])
+        self.assertEqual(choose_whom_to_ask("shop", ["shop"], {"shop"}), [])
+        self.assertEqual(choose_unknown("shop", ["shop"], set()), [])
+
+    def test_nobody_is_sent_to_whom_an_unjudged_file_names_alone(self) -> None:
+        recorders = ["evil", "bank", "evil"]
+        self.assertEqual(choose_whom_to_ask("shop", recorders, {"bank"}), ["bank"])
+        self.assertEqual(choose_whom_to_ask("shop", recorders, set()), [])
+        self.assertEqual(choose_unknown("shop", recorders, {"bank"}), ["evil"])
+        self.assertEqual(choose_unknown("shop", recorders, {"bank", "evil"}), [])
 
     def test_each_recorder_is_named_once_and_three_at_most(self) -> None:
-        self.assertEqual(choose_whom_to_ask("shop", ["e", "a", "e", "c", "d"]), ["e", "a", "c"])
+        self.assertEqual(choose_whom_to_ask("shop", ["e", "a", "e", "c", "d"], set("acde")), ["e", "a", "c"])
+        self.assertEqual(choose_unknown("shop", ["e", "a", "e", "c", "d"], set()), ["e", "a", "c"])
 
 
 class ChooseSteps(unittest.TestCase):

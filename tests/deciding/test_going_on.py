@@ -6,6 +6,8 @@ from weft.deciding.going_on import (
     Fault,
     Joint,
     Making,
+    choose_names_to_note,
+    find_later_part,
     find_missing_part,
     is_behind_end,
     is_being_made,
@@ -17,6 +19,7 @@ from weft.deciding.going_on import (
     named_in,
     naming_event,
     next_name,
+    number_of_part,
     weigh_name,
 )
 from weft.deciding.lines import Line
@@ -47,6 +50,62 @@ class Next(unittest.TestCase):
             self.assertIsNone(named_in([event]), event)
         self.assertIsNone(named_in([]))
         self.assertIsNone(named_in([naming_event("shop-2"), b""]))
+
+
+class Later(unittest.TestCase):
+    """Which kept line tells of a part behind those that are there."""
+
+    @staticmethod
+    def found(names: list[str], kept: str, others: str = "", step: int = 3) -> str:
+        """The name of the service whose line tells of one, - for none."""
+        line = find_later_part(names, [Line(name, step, "a" * 64) for name in kept.split()], others.split())
+        return line.service if line else "-"
+
+    def test_it_has_the_name_of_a_later_part(self) -> None:
+        self.assertEqual(self.found(["shop"], "bank shop shop-2"), "shop-2")
+        self.assertEqual(self.found(["shop", "shop-3"], "shop-2 shop shop-3 shop-10 shop-4"), "shop-10")
+        for kept in ("bank", "shop", "shop-1", "shop-02", "shop-a", "ashop-2", "bank-2", "shops-2", "-2", ""):
+            self.assertEqual(self.found(["shop"], kept), "-", kept)
+
+    def test_of_an_earlier_number_it_tells_nothing(self) -> None:
+        for kept in ("shop-2", "shop-3", "shop"):
+            self.assertEqual(self.found(["shop", "shop-3"], kept), "-", kept)
+
+    def test_a_number_far_ahead_is_none(self) -> None:
+        self.assertEqual(self.found(["shop"], "shop-2026 shop-101"), "-")
+        self.assertEqual(self.found(["shop"], "shop-2026 shop-100"), "shop-100")
+        self.assertEqual(self.found(["shop", "shop-3"], "shop-103"), "-")
+        self.assertEqual(self.found(["shop", "shop-3"], "shop-102"), "shop-102")
+        self.assertEqual(self.found(["shop"], "shop-101 shop-102", "shop-2"), "shop-101")
+        self.assertEqual(self.found(["shop"], "shop-102", "shop-2"), "-")
+        self.assertEqual(self.found(["finance-log-2025"], "finance-log-2026"), "-")
+
+    def test_another_service_is_none(self) -> None:
+        self.assertEqual(self.found(["shop"], "shop-2", "shop-2"), "-")
+        self.assertEqual(self.found(["shop"], "shop-2 shop-3", "shop-2"), "shop-3")
+
+    def test_the_line_of_step_0_says_nothing(self) -> None:
+        self.assertEqual(self.found(["shop"], "shop-2", step=0), "-")
+        self.assertEqual(self.found(["shop"], "shop-2", step=1), "shop-2")
+
+    def test_numbers_of_parts(self) -> None:
+        for name, number in (("shop", 1), ("shop-2", 2), ("shop-31", 31), ("shop-1", 0), ("bank", 0), ("bank-2", 0)):
+            self.assertEqual(number_of_part("shop", name), number, name)
+        self.assertEqual(number_of_part("a-name-of-16-abc", "a-name-of-16-a-2"), 2)
+
+
+class Noted(unittest.TestCase):
+    """Which names of others are noted."""
+
+    def test_of_peers_each_and_of_heard_ones_so_many(self) -> None:
+        self.assertEqual(choose_names_to_note(["a-9"], ["a-8"], ["a-2", "a-3", "a-4"], 4), ["a-2", "a-3", "a-8", "a-9"])
+        self.assertEqual(choose_names_to_note(["a-5", "a-6"], ["a-7"], ["a-2"], 2), ["a-5", "a-6", "a-7"])
+        self.assertEqual(choose_names_to_note(["a-5"], ["a-5"], ["a-5", "a-2"], 2), ["a-2", "a-5"])
+        self.assertEqual(choose_names_to_note([], [], [], 2), [])
+
+    def test_none_that_was_noted_is_forgotten(self) -> None:
+        noted = [f"a-{number}" for number in range(2, 9)]
+        self.assertEqual(choose_names_to_note(noted, [], ["a-1000"], 3), sorted(noted))
 
 
 class Made(unittest.TestCase):

@@ -3,7 +3,8 @@
 import unittest
 
 from weft.deciding.keeping import (
-    Counting, Mark, Outcome, Placement, Standing, choose_line, find_standing_choice, list_counting, place_line, read_mark, standing_of,
+    Counting, Mark, Outcome, Placement, Standing, choose_line, find_standing_choice, list_counting, may_be_mistyped, place_line, read_mark, standing_of,
+    was_passed_over,
 )  # fmt: skip
 from weft.deciding.lines import LAST_STEP, Kept, Line
 
@@ -51,6 +52,15 @@ class Marks(unittest.TestCase):
         ):  # fmt: skip
             self.assertIsNone(read_mark(text), text)
         self.assertIsNotNone(read_mark(f"chosen: shop {LAST_STEP} {A} {B}"))
+
+
+class Files(unittest.TestCase):
+    """A file of kept lines that isn't there."""
+
+    def test_one_that_somebody_named_may_be_mistyped(self) -> None:
+        self.assertTrue(may_be_mistyped(True, False))
+        for is_named, is_there in ((True, True), (False, True), (False, False)):
+            self.assertFalse(may_be_mistyped(is_named, is_there))
 
 
 class CountingLines(unittest.TestCase):
@@ -134,6 +144,20 @@ class Standings(unittest.TestCase):
 
     def test_a_later_mark_of_the_same_lines_undoes_no_choice(self) -> None:
         self.assertEqual(standing_of([kept(A), kept(B)], [chosen(A, B), seen(B, A, date=LAST)]).line, kept(A).line)
+
+
+class PassedOver(unittest.TestCase):
+    """Whether a person has said what a line that doesn't count is."""
+
+    def test_it_is_where_a_standing_choice_took_another_one(self) -> None:
+        standing = standing_of([kept(B)], [chosen(B, A)])
+        self.assertTrue(was_passed_over(kept(A).line, standing))
+        self.assertFalse(was_passed_over(kept(B).line, standing))
+        self.assertFalse(was_passed_over(kept(C).line, standing))
+
+    def test_without_a_standing_choice_it_isnt(self) -> None:
+        for standing in (standing_of([kept(B)], []), standing_of([kept(B)], [seen(A, B)]), standing_of([kept(B), kept(C)], [chosen(B, A)])):
+            self.assertFalse(was_passed_over(kept(A).line, standing))
 
 
 class Placing(unittest.TestCase):

@@ -61,8 +61,8 @@ class Skipping(unittest.TestCase):
     def test_a_time_before_1970_has_a_mark(self) -> None:
         self.assertNotEqual(mark_of(STATE._replace(modified=-1)), mark_of(STATE._replace(modified=1)))
 
-    def test_a_file_that_was_changed_within_a_minute_is_read_once_more(self) -> None:
-        for age, is_marked in ((0, False), (1, False), (AT_REST - 1, False), (AT_REST, True), (9 * AT_REST, True), (-1, True)):
+    def test_a_file_that_was_changed_within_a_minute_or_ahead_is_read_once_more(self) -> None:
+        for age, is_marked in ((0, False), (1, False), (AT_REST - 1, False), (AT_REST, True), (9 * AT_REST, True), (-1, False), (-9 * AT_REST, False)):
             self.assertEqual(mark_read(STATE, STATE.changed + age), mark_of(STATE) if is_marked else NO_MARK, age)
 
     def test_a_full_read_is_due_after_some_days(self) -> None:

@@ -4,7 +4,7 @@ import hashlib
 import stat
 import unittest
 
-from weft.deciding.rows import HEAD, NO_DIGEST, Row, digest_of, is_own_state, may_take_row, name_state, read_row, read_rows, title_of
+from weft.deciding.rows import HEAD, NO_DIGEST, Row, digest_of, is_own_state, may_take_row, name_state, read_as_table, read_row, read_rows, title_of
 from weft.statuses import Status
 
 PASSING = (Status.DIFFER, Status.NO_MEMORY, Status.DISK)
@@ -13,6 +13,20 @@ GOOD, FORGED = b"bread", b"bribe"
 DIGEST = hashlib.sha256(GOOD).hexdigest()
 ROW = Row("proof", 5, DIGEST, "shown", 0, "event maker 1 0 00", "maker 3")
 TITLE = "# judged by: X"
+
+
+class ReadAsTable(unittest.TestCase):
+    """Texts of a table are read so by every program that reads tables."""
+
+    def test_no_quotes_take_rows_together(self) -> None:
+        self.assertEqual(read_as_table('"a', "./"), "\\x22a")
+        self.assertEqual(read_as_table('a "b" c"', "./"), "a \\x22b\\x22 c\\x22")
+
+    def test_none_begins_as_a_formula(self) -> None:
+        for letter in "=+-@":
+            self.assertEqual(read_as_table(f"{letter}1+1", "./"), f"./{letter}1+1")
+        for text in ("", "a=1", " =1", "./-x", "1-1"):
+            self.assertEqual(read_as_table(text, "./"), text)
 
 
 class MayTakeRow(unittest.TestCase):

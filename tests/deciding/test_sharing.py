@@ -3,7 +3,9 @@
 import unittest
 
 from weft.deciding.lines import Line
-from weft.deciding.sharing import choose_handed_back, choose_names, choose_receipts, count_nights, is_first_hand, move_cursor, order_lines, place_end
+from weft.deciding.sharing import (
+    choose_handed_back, choose_names, choose_receipts, count_nights, is_first_hand, keep_latest, move_cursor, order_lines, place_end,
+)  # fmt: skip
 
 ROOM = 128
 
@@ -85,6 +87,21 @@ class Receipts(unittest.TestCase):
     def test_what_there_is_no_room_for_are_the_first_of_those_that_it_gets(self) -> None:
         self.assertEqual(choose_receipts("abcde", {"e"}, 2), ["c", "d"])
         self.assertEqual(choose_receipts("abcde", set(), 0), [])
+
+
+class Latest(unittest.TestCase):
+    """No more receipts are held than any peer could get."""
+
+    def test_the_last_ones_are_held_each_once_where_it_was_told_last(self) -> None:
+        self.assertEqual(keep_latest("abcabd", 9), ["c", "a", "b", "d"])
+        self.assertEqual(keep_latest("abcabd", 3), ["a", "b", "d"])
+        self.assertEqual(keep_latest(iter("abca"), 1), ["a"])
+        self.assertEqual(keep_latest("", 3), [])
+
+    def test_each_peer_gets_what_it_would_get_of_all(self) -> None:
+        known = [number % 50 for number in range(0, 400, 7)]
+        for told in ({48, 49, 0}, {7, 14}, set[int]()):
+            self.assertEqual(choose_receipts(keep_latest(known, 6), told, 3), choose_receipts(keep_latest(known, 99), told, 3))
 
 
 class Ends(unittest.TestCase):

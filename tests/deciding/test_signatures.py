@@ -7,7 +7,7 @@ import unittest
 
 from weft.deciding.lines import Line
 from weft.deciding.signatures import (
-    BEGIN, END, MOST_BYTES, Addition, Check, KeyFault, PublicKey, Signed, cut_torn, decode_base64, may_rest_on, may_sign_lines, place_key, read_armour,
+    BEGIN, END, MOST_BYTES, Addition, Check, KeyFault, PublicKey, Signed, cut_torn, decode_base64, find_signing_key, may_count_for_part, may_rest_on, may_sign_lines, place_key, read_armour,
     read_check, read_noted_key, read_public_key, read_signed_line, read_signed_lines,
 )  # fmt: skip
 
@@ -202,6 +202,24 @@ class Keys(unittest.TestCase):
         self.assertEqual(decode_base64(b"AA=="), b"\0")
         for text in (b"AB==", b"AAA", b"AA=", b"AA\nAA", b"AA-_", b"AAAA====", b"\xff"):
             self.assertIsNone(decode_base64(text), text)
+
+
+class Counting(unittest.TestCase):
+    """Which noted keys count, and by which a kept line came."""
+
+    def test_a_key_that_was_noted_of_a_part_by_itself_counts_while_it_counts_for_the_one_before(self) -> None:
+        self.assertTrue(may_count_for_part("SHA256:a", "SHA256:a", {"SHA256:a"}))
+        self.assertFalse(may_count_for_part("SHA256:a", "SHA256:a", {"SHA256:b"}))
+
+    def test_one_that_a_person_noted_counts_by_itself(self) -> None:
+        self.assertTrue(may_count_for_part("SHA256:b", "SHA256:a", set()))
+        self.assertTrue(may_count_for_part("SHA256:a", "", set()))
+
+    def test_the_key_of_a_kept_line(self) -> None:
+        key = f"SHA256:{'a' * 43}"
+        self.assertEqual(find_signing_key(f"signed by ED25519 {key}, by exchange"), key)
+        for how in ("by letter", "", f"by mail, signed by ED25519 {key}", "signed by Ann", f"signed by ED25519 {key}a"):
+            self.assertIsNone(find_signing_key(how), how)
 
 
 class Signers(unittest.TestCase):

@@ -1,5 +1,5 @@
 """The library in C, Rust, Go, JavaScript and Python, by the examples of examples/bindings/: each is built here and judges all vectors that ask for a verdict on a
-proof, and answers each as it stands there. Where a compiler is missing, or the library or the module isn't built, that is told as skipped."""
+proof, and answers each as it stands there; a report that can't be written ends each with 4. Where a compiler is missing, or the library or the module isn't built, that is told as skipped."""
 
 import os
 import subprocess
@@ -51,13 +51,20 @@ def judge_all(room, run, rows):
         status, output, errors = run(words)
         if status != wanted or output or not errors:
             raise Wrong(f"  {' '.join(words)}: wanted status {wanted}, got {status} {output!r} {errors!r}")
+    accepted = next(vector for _, vector in reversed(rows) if vector["status"] == 0)
+    for file, digits in accepted["files"].items():
+        room.put(file, bytes.fromhex(digits))
+    with open("/dev/full", "wb") as full:
+        status, _, errors = run(accepted["words"], full)
+    if status != 4 or not errors:
+        raise Wrong(f"  a full output: wanted status 4, got {status} {errors!r}")
 
 
 def by(room, *command):
     """The call that runs a command in the room's folder."""
 
-    def run(words):
-        done = subprocess.run([*command, *words], cwd=room.folder, capture_output=True, text=True, timeout=LONGEST)
+    def run(words, out=subprocess.PIPE):
+        done = subprocess.run([*command, *words], cwd=room.folder, stdout=out, stderr=subprocess.PIPE, text=True, timeout=LONGEST)
         return done.returncode, done.stdout, done.stderr
 
     return run

@@ -73,9 +73,9 @@ def manual(program):
 
 
 def make_install(prefix, *words):
-    """What `make install` ends with, and the files that are there then."""
+    """What `make install` ends with, under a umask that gives others nothing, and the files that are there then."""
     environment = {name: value for name, value in os.environ.items() if not name.startswith(("MAKE", "MFLAGS", "DESTDIR"))}
-    done = subprocess.run(["make", "-s", "install", f"PREFIX={prefix}", *words], cwd=TOP, env=environment, capture_output=True, text=True, timeout=LONGEST)
+    done = subprocess.run(["make", "-s", "install", f"PREFIX={prefix}", *words], cwd=TOP, env=environment, capture_output=True, text=True, timeout=LONGEST, umask=0o077)
     return done, sorted(str(path.relative_to(prefix)) for path in Path(prefix).rglob("*") if not path.is_dir() or path.is_symlink())
 
 
@@ -91,6 +91,9 @@ def install(room):
     told = [command for part in placed.parts() for _, command in placed.missing(part, files) if f"`{command}`" not in done.stderr]
     if done.returncode or found != listed or told or not {"program", "weft", "reference", "documents"} <= set(built):
         raise Wrong(f"  {done}\n  more {set(found) - set(listed)}, less {set(listed) - set(found)}, not told {told}")
+    closed = [path for path in prefix.rglob("*") if path.is_dir() and path.stat().st_mode & 0o777 != 0o755]
+    if closed:
+        raise Wrong(f"  {closed[:3]} aren't open to everybody")
     ran = subprocess.run([prefix / "bin/timeweave", "frob"], capture_output=True, timeout=LONGEST)
     if (ran.returncode, ran.stdout, ran.stderr) != (2, b"usage 1\n", b""):
         raise Wrong(f"  bin/timeweave frob\n  wanted 2 b'usage 1\\n'\n  got    {ran}")

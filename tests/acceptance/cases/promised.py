@@ -5,7 +5,7 @@ import re
 from functools import lru_cache
 from typing import NamedTuple
 
-from pictures import crates
+from pictures import below_all, crates
 
 from harness.places import TOP
 from harness.rooms import checked
@@ -180,6 +180,18 @@ def kept(program):
     return "\n".join(wrong) or None
 
 
+def offered(program):
+    """The promised names that stand in their own form in a crate below the one that was to have them: it could hand them out."""
+    could = [it for it in promises() if it.has == it.form and it.stands in below_all(it.crate, crates())]
+    return "\n".join(f"  {it.crate} could hand out {it.form} of {it.stands}" for it in could) or None
+
+
+def named(program):
+    """The promised names that nothing has: where another form stands in a name's place, one of the two crates hands out that name too."""
+    gone = [it for it in promises() if head_of(it.form) not in {**handed_out(it.crate), **handed_out(it.stands)}]
+    return "\n".join(f"  neither {it.crate} nor {it.stands} hands out {head_of(it.form)}" for it in gone) or None
+
+
 def told(program):
     """The names that stand otherwise without a row in DECISIONS, and whether there are more than there may be."""
     text = (TOP / "docs/DECISIONS.md").read_text().partition(f"## {TOLD}")[2].partition("\n## ")[0]
@@ -191,4 +203,4 @@ def told(program):
 
 
 def cases():
-    yield from checked("promised", {"names": kept, "what stands otherwise is told": told})
+    yield from checked("promised", {"names": kept, "names of other forms": named, "what could be handed out": offered, "what stands otherwise is told": told})

@@ -374,9 +374,12 @@ def untried_is_told(room):
         found = judge_release.untried({**files, judge_release.TRIED: text})
         if found != wanted:
             raise Wrong(f"  {found}")
-    found = judge_release.untried({path: data for path, data in files.items() if path != "tools/body_trials.py"})
-    if len(found) != 1 or not found[0].endswith("; take the judge of the commit that BUILD names"):
-        raise Wrong(f"  {found}")
+    trials = "tools/body_trials.py"
+    lying = b"READ = ()\ndigests = dict\ndef unfit_trials(text, digests):\n    return []\n"
+    for others in ({path: data for path, data in files.items() if path != trials}, {**files, trials: lying, judge_release.TRIED: other}):
+        found = judge_release.untried(others)
+        if len(found) != 1 or not found[0].endswith("; take the judge of the commit that BUILD names"):
+            raise Wrong(f"  {found}")
 
 
 # ---- what was asked for
@@ -451,6 +454,35 @@ def recorded_by_another(room):
         raise Wrong("  a log that did record them is bad")
 
 
+def by_the_judges_own(room):
+    """the log's proof is judged by the second implementation beside the judge, and never by that of the release, which accepts what it likes"""
+    folder, sources = room.folder / "release", room.folder / "sources"
+    folder.mkdir()
+    (folder / "SHA256SUMS").write_bytes(b"f" * 64 + b"  forged.deb\n")
+    (folder / "SHA256SUMS.proof").write_bytes(b"no proof at all")
+    line = room.folder / "line"
+    line.write_text(f"log 3 {'a' * 64}\n")
+    event = f"{judge_release.digest((folder / 'SHA256SUMS').read_bytes())}  SHA256SUMS".encode().hex()
+    lying = sources / "reference/timeweave_reference"
+    lying.mkdir(parents=True)
+    (lying / "__main__.py").write_text(f"print('accepted exists\\nevent log 1 0 {event}')\n")
+    for asked in (line, None):
+        release = judge_release.Release(folder, argparse.Namespace(signers=None, line=asked), sources)
+        shutil.copyfile(line, folder / "SHA256SUMS.line")
+        try:
+            release.record()
+        except judge_release.Bad as bad:
+            hold_bad(str(bad), "isn't accepted")
+        else:
+            raise Wrong(f"  {release.said}")
+    with mock.patch.object(judge_release, "OWN", room.folder / "alone"):
+        hold_bad(raised(lambda _: judge_release.Release(folder, argparse.Namespace(signers=None, line=line), sources).record(), b""), "isn't beside this judge")
+        release = judge_release.Release(folder, argparse.Namespace(signers=None, line=None), sources)
+        release.record()
+        if not release.said[0].startswith("not checked: the log's proof"):
+            raise Wrong(f"  {release.said}")
+
+
 def part_of_deb(name, body, size=None):
     """A part of a package, with this size told or its own."""
     return b"%-16s%-12d%-6d%-6d%-8s%-10s`\n" % (name, 0, 0, 0, b"100644", size or b"%d" % len(body)) + body + b"\n" * (len(body) % 2)
@@ -515,5 +547,5 @@ def same_archive(room):
 
 
 def cases():
-    works = (judge_alone, asked_for_is_checked, recorded_by_another, hostile_packages, same_archive, untried_is_told, judged_by_faults, trial_is_told)
+    works = (judge_alone, asked_for_is_checked, recorded_by_another, by_the_judges_own, hostile_packages, same_archive, untried_is_told, judged_by_faults, trial_is_told)
     return [case(work, "released") for work in works]

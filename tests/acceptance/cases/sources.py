@@ -24,6 +24,7 @@ from pictures import crates, height
 from cases.worked import ROWS
 from harness.places import ACCEPTANCE, TOP
 from harness.rooms import checked
+from harness.ways_out import other_ways, unfound
 
 LONGEST = 40
 
@@ -233,8 +234,7 @@ def bodies_twice(program):
 # are more than one, by what it comes from. Status 6 comes from nothing else. No type holds that: neither `NoMemory` nor the variants of faults that hand it on have a field.
 WANTS = {
     "an allocation that was refused": """
-        timeweave/src/store_path.rt: path_of_store, timeweave/src/words.rt: read_argument (2), timeweave/src/words.rt: read_arguments,
-        timeweave_c/src/exports.rt: tell_no_memory, tw_app/src/ending.rt: end_without_memory, tw_base/src/kinds/label_list.rt: push,
+        timeweave/src/words.rt: read_argument, timeweave_c/src/exports.rt: tell_no_memory, tw_app/src/ending.rt: end_without_memory, tw_base/src/kinds/label_list.rt: push,
         tw_base/src/kinds/label_list.rt: with_capacity, tw_rbtree/src/listing.rt: child_on_heap, tw_follow/src/follower.rt: move_to,
         tw_script/src/word_values.rt: bytes_of""",
     "one that was refused in an earlier call on the same value": """
@@ -247,8 +247,7 @@ WANTS = {
         tw_generate/src/telling.rt: given, tw_generate/src/telling.rt: service_made, tw_world/src/serving.rt: end_line,
         tw_world/src/serving.rt: given, tw_world/src/serving.rt: see_stopped, tw_world/src/serving.rt: service_of""",
     "such a fault, or that a history's file would be too long": "tw_generate/src/judging.rt: file_given",
-    "what can't come, as a reader of the code sees, and no clause says": """
-        tw_audit/src/finder.rt: into_pair, tw_audit/src/holding.rt: hold_bytes, tw_world/src/player.rt: proofs""",
+    "what can't come, as a reader of the code sees, and no clause says": "tw_world/src/player.rt: proofs",
 }
 
 # In code: a line that makes want of memory, which is no pattern, type, declaration or clause.
@@ -541,7 +540,7 @@ def heights(program):
 RUN_BODIES = {
     "run_to_the_end": [
         "let Followed { outcome, disk } = work(alloc, words, disk, inputs);", "let status = tell(alloc, &outcome, out);", "Ran { status, disk }"],
-    "run": ["plain_laws::<Sha>();", "run_to_the_end(alloc, words, disk, inputs, out)"],
+    "run": ["plain_laws::<Sha>();", "plain_map_laws::<Sha>();", "same_laws::<Sha>();", "first_steps_laws::<Sha>();", "run_to_the_end(alloc, words, disk, inputs, out)"],
 }
 
 
@@ -567,6 +566,11 @@ def known_to_weft(program):
     return None if is_same else f"  weft/known.py has other digests: `python3 -m weft.packages` notes them anew {done.stderr}"
 
 
+def one_way_out(program):
+    """What of weft could write to a terminal by another way than its one function, and planted ways that aren't found."""
+    return "\n".join([*other_ways(), *unfound()]) or None
+
+
 def one_page(program):
     """The clauses of docs/theorem.md that mean more than may stand there, and the pages that aren't what the sources say."""
     return "\n".join([*theorem.too_long(), *theorem.stale()]) or None
@@ -585,10 +589,22 @@ def modules_to_skip(program):
     return "\n".join(wrong) or None
 
 
+# What tells which modules of cases run.
+RUNNING = ("run.py", "cases/weft.py")
+
+
+def modules_that_run(program):
+    """The modules of cases that nothing runs."""
+    lists = [names for path in RUNNING for names in re.findall(r"^(?:MODULES|LATER) = \((.*?)\)", (ACCEPTANCE / path).read_text(), re.M | re.S)]
+    there = {path.stem for path in (ACCEPTANCE / "cases").glob("*.py")} - {"__init__"}
+    return "\n".join(f"  {name}" for name in sorted(there.difference(*(re.findall(r"\w+", names) for names in lists)))) or None
+
+
 def cases():
     checks = {
         "the theorem on one page": one_page,
         "modules that needn't be read": modules_to_skip,
+        "modules of cases": modules_that_run,
         "long functions": long_functions,
         "attributes": wide_attributes,
         "files of lemmas": lemma_files,
@@ -610,5 +626,6 @@ def cases():
         "bodies with two names": bodies_twice,
         "what stands twice": what_stands_twice,
         "packages that weft knows": known_to_weft,
+        "the one way out of weft": one_way_out,
     }
     yield from checked("sources", checks)

@@ -11,13 +11,20 @@ import tempfile
 from itertools import islice
 
 import timeweave
+from example_files import low_of
 
 from cases import forks, maps
 from cases.library import try_some
 from harness import library
 from harness.rooms import Skipped, Wrong, case, needs
 from harness.running import difference
+from harness.samples import exchange
 from harness.web import ASKED, FUNCTIONS, MODULE, PAGE, WEB, asked, built, has
+from timeweave_reference.histories import existence_proof
+from timeweave_reference.map_files import read_low
+from timeweave_reference.proofs import LinkProof
+from timeweave_reference.timelines import Timeline
+from timeweave_reference.verdicts import read_proof
 
 sys.path.append(str(WEB / "tests"))
 
@@ -107,6 +114,77 @@ def page_parts(room):
     run_tests(sorted(path for path in (WEB / "tests").glob("*.test.mjs") if path.name != OF_MODULE))
 
 
+# Of each proof with an authenticator, in hexadecimal, the link that the page would ask for; and what the page says first of a proof under lines of the reader's.
+LINKS = """
+import { readFileSync } from "node:fs";
+import { linkTo, openedStep } from "OPENED";
+for (const [proof, authenticator] of readFileSync(0, "utf8").trim().split("\\n").map((line) => line.split(" "))) {
+    const opened = openedStep(Uint8Array.from(Buffer.from(proof, "hex")));
+    console.log(opened ? Buffer.from(linkTo(opened, { authenticator })).toString("hex") : "none");
+}
+"""
+HEADS = """
+import { spawnSync } from "node:child_process";
+import { readFileSync, writeFileSync } from "node:fs";
+import { OWN, SENT, Session, readFile } from "SESSION";
+import { headOf } from "VIEW";
+const [program, lines, ...proofs] = process.argv.slice(2);
+const ask = (name, proof, anchors) => {
+    writeFileSync("asked", proof);
+    writeFileSync("anchors", anchors);
+    const done = spawnSync(program, [name.replace("timeweave_", ""), "asked", "anchors"]);
+    return { status: done.status, text: done.stdout.toString() };
+};
+const verifier = { has: (name) => ["timeweave_verify", "timeweave_strict"].includes(name), ask, judge: (proof, anchors) => ask("verify", proof, anchors) };
+for (const path of proofs) {
+    const session = new Session(), file = (name, place) => readFile({ name, place, bytes: new Uint8Array(readFileSync(name)), size: readFileSync(name).length });
+    session.add(file(lines, OWN));
+    session.add(file(path, SENT));
+    const head = headOf(session.judge(verifier, session.subjects[0]));
+    console.log([head.look, head.title, head.sentence].join(" | "));
+}
+"""
+
+
+def by_node(room, script, *words, given=""):
+    """What a script of Node says, whose names in capitals are modules of the page."""
+    for name in ("opened", "session", "view"):
+        script = script.replace(f'"{name.upper()}"', f'"{(WEB / "page" / name).as_uri()}.mjs"')
+    room.put("script.mjs", script.encode())
+    done = subprocess.run([needs("node", "nodejs"), "script.mjs", *words], cwd=room.folder, input=given, capture_output=True, text=True, timeout=300)
+    if done.returncode:
+        raise Wrong(done.stdout[-2000:] + done.stderr[-2000:])
+    return done.stdout.splitlines()
+
+
+def opened_steps(room):
+    """the page finds the step that a proof of any kind opens, or a low map file, with its path, as the reference does; and a proof that isn't of the history of a line that the reader
+    holds of that step isn't called shown, though no report tells its authenticator"""
+    line = Timeline("shop", [[b"event"]] * 70)
+    proofs = [existence_proof(line, step, 0, top) for top in (1, 2, 3, 8, 31, 32, 33, 64, 70) for step in range(1, top + 1)]
+    proofs += [read_proof((WEB / "examples" / name).read_bytes()) for name in ("record.proof", "bound.proof", "word.proof")]
+    opened = [(it, it.step, it.path, it.opening) for it in proofs]
+    own, peer = exchange()
+    lows = [read_low(low_of(own, step, peer.name, top)) for step in (1, 2, 5, 8, 9) for top in {step, 9}]
+    opened += [(it, it.step - 1, it.before.path, it.before.opening) for it in lows if it.before is not None]
+    asked = [(it, step, path, opening.authenticator(step)) for it, step, path, opening in opened]
+    asked += [(it, None, None, bytes(32)) for it in lows if it.before is None]
+    wanted = ["none" if step is None else LinkProof(it.service, step, it.top, auth, path).to_bytes().hex() for it, step, path, auth in asked]
+    found = by_node(room, LINKS, given="".join(f"{it.to_bytes().hex()} {auth.hex()}\n" for it, _, _, auth in asked))
+    if found != wanted:
+        raise Wrong(f"  {next((it for it, one, other in zip(asked, found, wanted) if one != other), len(found))}")
+    other = Timeline("shop", [[b"event"]] * 20 + [[b"forged"]] + [[b"event"]] * 49)
+    room.put("true", existence_proof(line, 31, 0, 70).to_bytes())
+    room.put("anew", existence_proof(other, 31, 0, 70).to_bytes())
+    for top, opened in ((line, line), (other, other), (other, line), (line, other)):
+        room.put("lines", f"shop 70 {top.auths[70].hex()}\nshop 31 {opened.auths[31].hex()}\n".encode())
+        name = "true" if top is line else "anew"
+        [head] = by_node(room, HEADS, room.program, "lines", name)
+        is_one = top is opened
+        if not head.startswith("yes | Shown | " if is_one else "no | Not shown: two lines | The line of step 31 of shop that you hold isn't of the history of this file"):
+            raise Wrong(f"  {name}: {head}")
+
+
 def run_tests(paths):
     """Runs tests of Node's runner; raises Wrong where one fails."""
     done = subprocess.run([needs("node", "nodejs"), "--test", *paths], capture_output=True, text=True, timeout=300)
@@ -175,5 +253,5 @@ def in_browser(name):
 
 
 def cases():
-    for work in (each_proof, changed_proofs, node_tests, page_parts, of_these_sources, build_stops, in_browser("chromium"), in_browser("firefox")):
+    for work in (each_proof, changed_proofs, node_tests, page_parts, opened_steps, of_these_sources, build_stops, in_browser("chromium"), in_browser("firefox")):
         yield case(work, "page")

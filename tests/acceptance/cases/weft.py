@@ -1,4 +1,4 @@
-"""Cases of weft, the companion of the program; those of each subject stand in the modules weft_deciding, weft_lines, weft_judging, weft_misled,
+"""Cases of weft, the companion of the program; those of each subject stand in the modules weft_deciding, weft_lines, weft_judging, weft_liars, weft_misled,
 weft_logs, weft_parts, weft_exchange, weft_signed, weft_peers, weft_files, weft_network, weft_search, weft_stores, weft_texts and weft_words.
 
 Each run of weft is forked from the process that has loaded it, with faults put in where a case wants them. So the acceptance run, which has threads,
@@ -8,14 +8,14 @@ import subprocess
 import sys
 
 from cases import (
-    weft_deciding, weft_exchange, weft_files, weft_judging, weft_lines, weft_logs, weft_misled, weft_network, weft_parts, weft_peers, weft_search, weft_signed,
+    weft_deciding, weft_exchange, weft_files, weft_judging, weft_liars, weft_lines, weft_logs, weft_misled, weft_network, weft_parts, weft_peers, weft_search, weft_signed,
     weft_stores, weft_texts, weft_words,
 )  # fmt: skip
 from harness.places import ACCEPTANCE
 from harness.rooms import SKIPPED
 
 MODULES = (
-    weft_deciding, weft_lines, weft_judging, weft_misled, weft_logs, weft_parts, weft_exchange, weft_signed, weft_peers, weft_files, weft_network, weft_search,
+    weft_deciding, weft_lines, weft_judging, weft_liars, weft_misled, weft_logs, weft_parts, weft_exchange, weft_signed, weft_peers, weft_files, weft_network, weft_search,
     weft_stores, weft_texts, weft_words,
 )  # fmt: skip
 MOST_SECONDS = 1800

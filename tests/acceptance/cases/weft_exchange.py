@@ -179,7 +179,8 @@ def first_contact(room):
         raise Wrong("  it was received")
     line = loom.run("line", "shop").out
     loom.put("other", line[:-2] + ("0" if line[-2] != "0" else "1") + "\n")
-    loom.expect("accept box-bank shop other", 11, "nothing was accepted")
+    loom.expect("accept mistyped shop --key shop.key.pub", 10, "mistyped wasn't there: it is a new box now")
+    loom.expect("accept box-bank shop other", 11, "nothing was accepted", absent=("new box",))
     loom.expect("accept box-bank shop", 10, "wasn't accepted")
     loom.put("mine", line)
     loom.expect("accept box-bank shop mine", 0, "shop is accepted")
@@ -299,7 +300,7 @@ def unsigned_old_store(room):
     net.turn("shop", 17, "as bank says, unsigned", "--despite bank")
     if net.last("shop") != before:
         raise Wrong("  a step was made")
-    loom.expect("exchange shop box-shop --despite bank", 0)
+    loom.expect("exchange shop box-shop --despite bank", 10, "bank: it tells a line of your step", "passed over, by --despite bank")
 
 
 def fork_shown(room):
@@ -322,6 +323,7 @@ def fork_shown(room):
     for name in ("one", "two"):
         net.turn(name, 0)
     net.carry("one", "two")
+    loom.expect("exchange two box-two --despite oen --despite one", 11, "EVIDENCE", "oen, named by --despite, is no peer of box-two")
     net.turn("two", 11, "EVIDENCE", "liar: ", "both signed by its key", "kept/forks")
     forks = sorted((loom.folder / "box-two/liar/kept/forks").iterdir())
     if len(forks) != 2:

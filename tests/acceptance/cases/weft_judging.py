@@ -53,11 +53,11 @@ def sentences(room):
     loom.expect("judge bread3", 0, "bread3: shown", 'maker recorded in its step 1, as event 0: "bread"', "maker, step 3, ", "by mail", judged)
     loom.expect("judge thread", 0, "bank had received step 1 of maker", "at its step 2", judged)
     loom.expect("judge absent", 0, "no step 2 of maker up to its step 3", "if it kept the rules")
-    loom.expect("judge link", 0, "step 1 of maker, seen from its step 3, has the authenticator")
+    loom.expect("judge link", 0, "Step 1 of maker, seen from its step 3, has the authenticator")
     loom.expect("judge chain", 0, "bank received step 1 of maker at its step 2", "Every hop is bound", "bank, step 3", "maker, step 3")
     loom.expect("judge loose", 1, "loose: shown in part", "only the receiver says", "--carried")
     loom.expect("judge loose --carried", 0, "loose: shown in part", "CARRIED", "1 of 1 hops is carried")
-    loom.expect("judge low2 high2", 0, "had received step 2 of bank", "o step of bank up to 3")
+    loom.expect("judge low2 high2", 0, "If maker and bank kept the rules: before its step 3, maker had received step 2 of bank", "Up to its step 3, bank received neither")
     loom.expect("judge high2 low2 bread3", 0)
     loom.expect("judge low", 12, "one of two map files", "Name the high one")
     loom.expect("judge low high2", 12)
@@ -249,8 +249,11 @@ def missing_lines(room):
     loom.put("empty", b"")
     loom.expect(
         "judge chain --kept empty", 12, "chain: not judged", "line of step 3 of bank is missing. You hold none of bank", "line of step 3 of maker is missing",
-        "neither bank nor whoever sent", "bank, which received it by this file", "shows nothing about the time before", absent=("ask bank for that line",),
+        "neither bank nor whoever sent", "(The file names bank, which received it by this file; you keep no line of that one, and the file isn't judged",
+        "shows nothing about the time before", absent=("ask bank for that line", "sent you this file: bank"),
     )  # fmt: skip
+    loom.put("of bank", "".join(it for it in loom.read("kept").decode().splitlines(True) if it.startswith("bank ")))
+    loom.expect(["judge", "chain", "--kept", "of bank"], 12, "sent you this file: bank, which received it by this file; a notary", absent=("(The file names",))
     loom.append("bank", b"later")
     loom.put("late", loom.run("line", "bank").out)
     loom.expect(["keep", "late", "--by", "mail", "--kept", "other"], 0)
@@ -330,7 +333,7 @@ def forked(room):
     loom.expect("judge evidence", 12, "step 3 of one is missing", "step 3 of two is missing")
     loom.put("lines", lines)
     loom.expect(["keep", "lines", "--by", "mail"], 0)
-    loom.expect("judge evidence --svg e.svg", 0, "No history of bad has both", "somebody made two histories in its name", "ask both")
+    loom.expect("judge evidence --svg e.svg", 0, "No history of bad has both", "Who broke a rule isn't shown: bad may have", "Ask both")
     loom.expect("judge evidence --reference", 20, "judged by: Python reference, tested, not proved")
 
 
@@ -400,7 +403,7 @@ def contradictions(room):
 
     words = ["judge", "--reference", "thread", "absent"]
     loom.expect(words, 11, "thread and absent CONTRADICT EACH OTHER", "received step 1 of maker at its step 2", "or it has two histories", patch=patch)
-    loom.expect([*words, "link"], 11, "whoever kept bank broke its rules", "judged by: Python reference", patch=patch)
+    loom.expect([*words, "link"], 11, "whoever keeps bank broke its rules", "judged by: Python reference", patch=patch)
     loom.expect("judge --reference thread bread3", 20, absent=("CONTRADICT",), patch=patch)
     loom.expect("judge thread absent", 0, absent=("CONTRADICT",))
 
@@ -425,9 +428,9 @@ def dropped(room):
     loom.put("lines", "".join(f"notary {step} {line.auths[step].hex()}\n" for step in (1, 3)))
     loom.expect("keep lines --by mail", 0)
     told = ("CONTRADICT EACH OTHER", "notary received step 5 of shop at its step 1", "up to its step 2")
-    loom.expect("judge --reference has3 not", 11, *told, "whoever kept notary broke its rules")
+    loom.expect("judge --reference has3 not", 11, *told, "whoever keeps notary broke its rules")
     loom.expect("judge --reference has not", 11, *told, "or it has two histories")
-    loom.expect("judge --reference has not link", 11, *told, "whoever kept notary broke its rules")
+    loom.expect("judge --reference has not link", 11, *told, "whoever keeps notary broke its rules")
     loom.expect("judge --reference has has3", 20, absent=("CONTRADICT",))
     loom.expect("judge has3 not", 11, *told)  # (with a library or without one)
     for number in range(40):
@@ -451,14 +454,15 @@ def broken_rules(room):
     for name, entry in zip(("one", "other"), threads):
         loom.put(name, notary.thread(1, 1, entry).to_bytes())
     loom.put("kept", f"notary 1 {notary.auths[1].hex()}\n")
-    told = "CONTRADICT EACH OTHER: between them they show rule"
-    loom.expect("judge --reference one other --kept kept", 11, f"{told} 5 of histories, TwoAtOneStep, broken", "thread notary 1 bank 3", "whoever kept notary broke its rules")
+    told = "CONTRADICT EACH OTHER: Between them they show rule"
+    loom.expect("judge --reference one other --kept kept", 11, f"{told} 5 of histories, TwoAtOneStep, broken", "thread notary 1 bank 3", "whoever keeps notary broke its rules")
 
     def patch():
         import timeweave_reference
 
         later = timeweave_reference.Answer(0, b"accepted broken-rule-or-fork\nrule 99 Later\nnovel notary 7\n")
-        timeweave_reference.contradict = lambda *files: later
+        none = timeweave_reference.Answer(1, b"rejected 11 NoConflict\n")
+        timeweave_reference.contradict = lambda first, _, second, *more: none if first == second else later
 
     loom.expect("judge --reference one other --kept kept", 11, f"{told} 99 of histories, Later, broken: novel notary 7.", "or it has two histories", patch=patch)
 

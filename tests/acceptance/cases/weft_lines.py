@@ -89,7 +89,7 @@ def wrong_key(room):
     loom.expect("keep shop.line --by mail --signer shop shop.key.pub", 2, "--by")
     loom.put("plain", loom.read("shop.line"))
     loom.expect("keep plain --signer shop bank.key.pub", 2, "no signature")
-    if (loom.folder / "signers").exists() or (loom.folder / "kept").exists():
+    if (loom.folder / "signers").exists() or loom.read("kept"):
         raise Wrong("  a key was noted, or a line kept")
     loom.expect("keep shop.line --signer shop shop.key.pub", 0, "is noted as the key of shop", "signed by ED25519")
     before = loom.read("signers")
@@ -149,7 +149,7 @@ def no_lines(room):
         loom.expect(["keep", "line", "--by", "mail"], 9, f"line {number} of line", "64 hexadecimal digits")
     loom.put("line", f"shop {2**40} " + "a" * 64)
     loom.expect(["keep", "line", "--by", "mail"], 9, "line 1 of line")
-    if (loom.folder / "kept").exists():
+    if loom.read("kept"):
         raise Wrong("  something was kept")
 
 
@@ -223,7 +223,8 @@ def told(room):
 
 
 def versions(room):
-    """weft tells its version, and digests of what it uses; each word has help with an example; wrong words end with 2"""
+    """weft tells its version, and digests of what it uses; each word has help with an example; wrong words end with 2, and none with the list of words;
+    why the library can't be loaded is told"""
     loom = Loom(room)
     loom.expect("--version", 0, "weft 1.", "SHA-256")
     from weft.words import WORDS
@@ -233,6 +234,11 @@ def versions(room):
         loom.expect([word, "--help"], 0, "example:", f"weft {word}")
         if f" {word} " not in whole.out:
             raise Wrong(f"  --help doesn't name {word}")
+    if loom.expect("help judge", 0).out != loom.expect("judge --help", 0).out or loom.expect("help", 0).out != whole.out:
+        raise Wrong("  help isn't --help")
+    loom.expect([], 2, "no word is named", *WORDS)
+    loom.put("junk.so", b"no library")
+    loom.expect("--version", 0, "library: none can be loaded: ", "junk.so", TIMEWEAVE_LIBRARY="./junk.so")
     for words in ([], ["nothing"], ["line"], ["line", "a", "b"], ["\x1b[31m"], ["judge"], ["log", "a"], ["tell"], ["line", "--\x1b"]):
         loom.expect(words, 2)
 

@@ -10,7 +10,7 @@ import subprocess
 from harness.limits import without_rights
 from harness.places import LONGEST, TOP
 from harness.rooms import Skipped, Wrong, case
-from harness.weft_room import SHARE, Loom, each_fault, events_file
+from harness.weft_room import SHARE, Loom, copied, each_fault, events_file
 
 
 def small_steps(patch=None):
@@ -150,6 +150,46 @@ def left_out(room):
     os.chmod(loom.folder / "src/sub", 0o755)
     loom.expect("log src log", 0, "0 gone, 3 as they were", absent=("left out",))
     expect_log(loom)
+
+
+def made_amid(room):
+    """a step that somebody else makes while weft log is at work is told, counts, and its line is noted; entries with a line that is none are told as changed"""
+    loom = Loom(room)
+    folder_of(loom, "a")
+    loom.expect("log src log data", 0)
+    loom.put("event", events_file(b"somebody else's"))
+    wrapped = loom.put("wrapped", f'#!/bin/sh\n[ "$1" = append ] && {loom.program} append log {loom.folder}/event > made\nexec {loom.program} "$@"\n')
+    wrapped.chmod(0o755)
+    folder_of(loom, "b")
+    loom.expect("log src log", 10, "step 3: 1 file new", "step 2 of data came while this run was at work", TIMEWEAVE_PROGRAM=str(wrapped))
+    if loom.read("made").strip() not in loom.read("log.lines").splitlines():
+        raise Wrong(f"  {loom.read('log.lines')}")
+    loom.expect("log src log", 0, "2 as they were")
+    whole = loom.read("log.entries")
+    for line in (b"9" * 5000 + b" 0 x\n", b"junk\n", digest(b"a") + b"  ./a\n"):
+        loom.put("log.entries", whole + line)
+        for words, status in (("log src log --all-read 0", 17), ("prove log a --out p", 17), ("check log", 8), ("check log --entries", 0)):
+            loom.expect(words, status, *(["was changed: it has a line that is no entry"] if status else []), absent=("bug",))
+        if loom.read("log.entries") != whole:
+            raise Wrong(f"  {loom.read('log.entries')}")
+
+
+def no_entries_by_hand(room):
+    """an event that somebody appended by hand and that reads like an entry of a log, and isn't written as a log writes one, is none: entries that are made anew
+    don't have it, nothing is logged as gone by it, and all runs go on"""
+    loom = Loom(room)
+    folder_of(loom, "a")
+    loom.expect("log src log data", 0)
+    entries = loom.read("log.entries")
+    loom.service("register", [b"%b  f/a" % digest(b"a"), b"%b  b" % digest(b"b")])
+    loom.expect("check register --all", 0, absent=("entries of a log",))
+    for event in (b"%b  x" % digest(b"x"), b"%b  ./x\ny" % digest(b"x"), b"\\%b  ./x" % digest(b"x"), b"%b  ./x\\y" % digest(b"x"), b"gone  ./a\r"):
+        loom.append("log", event)
+    loom.expect("log src log", 10, "no run of weft log made such a step")
+    for words in ("check log --entries", "log src log", "log src log --all-read 0", "check log --all"):
+        loom.expect(words, 0, absent=("was changed", "1 gone"))
+    if loom.read("log.entries") != entries:
+        raise Wrong(f"  {loom.read('log.entries')}")
 
 
 def entries_written_over(room):
@@ -388,14 +428,67 @@ def own_store(room):
     loom.expect("log link src/log data", 0, "1 file new")
     for words in ("log link link/log", "log src service", "log link service", "log ./src/../link src/log/.", f"log {loom.folder}/link {loom.folder}/src/log/"):
         loom.expect(words, 0, "0 files new, 0 changed, 0 gone, 1 as they were")
-    loom.put("src/.log.entries.0123456789abcdef.new", b"left by a run that was killed")
-    loom.expect("log src src/log", 0, "0 files new, 0 changed, 0 gone, 1 as they were")
+    left = loom.put("src/.log.entries.0123456789abcdef.new", b"left by a run that was killed, or put there by somebody")
+    for _ in range(2):
+        loom.expect("log src src/log", 10, "0 files new, 0 changed, 0 gone, 1 as they were", "left out: ./.log.entries.0123456789abcdef.new: it is called as")
+    left.unlink()
+    loom.expect("log src src/log", 0, absent=("left out",))
     loom.put("src/log.txt", b"x")
     loom.expect("log src src/log", 0, "1 file new")
     loom.expect("log src src", 2, "is the logged folder itself")
-    left = {it.name for it in loom.folder.iterdir()} - {"tmp"}
+    left = {it.name for it in loom.folder.iterdir()} - {"tmp", "kept"}
     if left != {"src", "link", "service"}:
         raise Wrong(f"  {left}")
+
+
+def kept_nowhere(room):
+    """a file of kept lines that WEFT_KEPT names is told, and counts, where it isn't there, in a log and in a turn, once there are steps; one that can't be read
+    ends both; and an old store, put back with all that stood beside it, makes no step in either while its user keeps a later line"""
+    loom = Loom(room)
+    folder_of(loom, "a", "b")
+    loom.put("box/box.conf", "unsigned = yes\n")
+    loom.expect("log src log data", 0, absent=("mistyped",), WEFT_KEPT="mistyped")
+    words, put_back = ("log src log", "exchange log box"), copied(loom)
+    for word in words:
+        loom.expect(word, 10, "there is no file mistyped, which WEFT_KEPT names", WEFT_KEPT="mistyped")
+        loom.expect(word, 0, absent=("WEFT_KEPT",))
+    before = loom.read("log/timeline.tw")
+    for word in words:
+        loom.expect(word, 3, "src is a folder", WEFT_KEPT="src")
+    if loom.read("log/timeline.tw") != before:
+        raise Wrong("  a step was made")
+    later = loom.read("log.anchor")
+    put_back()
+    kept = loom.put("later", later)
+    for word, unmade in (("prove log a --out p", "No proof was made"), ("line log", "No line was printed"), *((word, "No step was made") for word in words)):
+        loom.expect(word, 17, "among the lines that you keep", unmade, WEFT_KEPT=kept)
+        loom.expect(word, 0)
+
+
+def looked_at_after_a_restore(room):
+    """a log that was put back with all that stood beside it, behind a step that somebody made by hand, isn't called good by weft check, nor does weft line, which
+    tells that it may be old, let it count as the right one: the log makes no step until a person names its last line"""
+    loom = Loom(room)
+    folder_of(loom, "a")
+    (loom.folder / "srv").mkdir()
+    loom.expect("log src srv/shop shop", 0)
+    loom.append("srv/shop", b"by hand")
+    shutil.copytree(loom.folder / "srv", loom.folder / "backup")
+    folder_of(loom, "b")
+    loom.expect("log src srv/shop", 10, "no run of weft log made such a step")
+    shutil.rmtree(loom.folder / "srv")
+    shutil.copytree(loom.folder / "backup", loom.folder / "srv")
+    for _ in range(2):
+        loom.expect("log src srv/shop", 17, "copy", "it may be an old one")
+        loom.expect("line srv/shop", 10, "shop 2 ", "copy", "it may be an old one", "Hand out nothing")
+        loom.expect("prove srv/shop a --out p", 10, "copy", "it may be an old one", "needn't be the file's last entry")
+        loom.expect("prove srv/shop a --step 1 --out p", 0, absent=("copy",))
+        if json.loads(loom.expect("check srv/shop --all --json", 10, "copy").out)["doubt"] is None:
+            raise Wrong("  JSON says nothing of it")
+        loom.expect("check srv/shop --all", 10, "2 of 2 steps good", "copy", "it may be an old one")
+    loom.expect(["log", "src", "srv/shop", "--adopt-store", loom.run("line", "srv/shop").out.strip()], 0)
+    for words in ("line srv/shop", "check srv/shop --all", "log src srv/shop"):
+        loom.expect(words, 0, absent=("copy",))
 
 
 def copied_alone(room):
@@ -458,7 +551,7 @@ def fewer_files(room):
     loom.expect("log src other other --gone", 0, "0 files new")
     loom.put("file", b"")
     loom.expect("log other file data", 5, "file is a file. Name a folder for the service.")
-    if {it.name for it in loom.folder.iterdir()} - {"tmp", "src", "file", *(f"other{end}" for end in ("", ".lock", ".lines", ".anchor", ".entries", ".seal", ".known"))}:
+    if {it.name for it in loom.folder.iterdir()} - {"tmp", "kept", "src", "file", *(f"other{end}" for end in ("", ".lock", ".lines", ".anchor", ".entries", ".seal", ".known"))}:
         raise Wrong(f"  left behind: {sorted(it.name for it in loom.folder.iterdir())}")
     folder_of(loom, "a", "b", "c", "d", "e")
     loom.expect("log src log data", 0, "5 files new")
@@ -662,8 +755,8 @@ def proof_of_a_file(room):
 
 def cases():
     works = (
-        each_day, names_of_files, many_files, left_out, there_and_not_gone, unreadable_whole, replaced, changed_while_read, own_store, copied_alone,
+        each_day, names_of_files, many_files, left_out, there_and_not_gone, unreadable_whole, replaced, changed_while_read, own_store, kept_nowhere, looked_at_after_a_restore, copied_alone,
         waiting_for_peers, fewer_files, claimed_times, refused, with_others, with_faults, first_run_with_faults, two_at_once,
-        proof_of_a_file, entries_written_over, written_over_alike, all_closed, without_proc, endless, proved_and_gone, deep_and_alone,
+        proof_of_a_file, made_amid, no_entries_by_hand, entries_written_over, written_over_alike, all_closed, without_proc, endless, proved_and_gone, deep_and_alone,
     )  # fmt: skip
     return [case(work, "weft log") for work in works]

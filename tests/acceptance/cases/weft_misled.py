@@ -1,5 +1,6 @@
 """Acceptance cases of who wants `weft judge` to mislead: whoever sends files, keeps a history, or puts a file in front of another one."""
 
+import csv
 import json
 import os
 
@@ -71,6 +72,72 @@ def believed(room):
     state.unlink()
     state.symlink_to(loom.put("elsewhere", table))
     loom.expect("judge --many many --workers 1", 3, "no link is followed")
+
+
+def each_reader(room):
+    """no name of a file, and no reason, takes rows of a table together for a program that reads quotes, or begins as a formula does: each such program reads a
+    row for each file, with its own verdict"""
+    loom = two_services(room)
+    good, forged = loom.read("bread3"), forged_of(loom, "bread3")
+    sent = {'"a': good, "b": forged, 'c"': good, "=1+1": b"", 'd"\\': b"", '"': b"junk", "e'": good, '-"f"': good}
+    for name, data in sent.items():
+        loom.put(f"sent/{name}", data)
+    loom.expect("judge --many sent --workers 1", 1, "4 shown", "1 not shown", "3 not judged")
+    text = loom.read("sent.verdicts.tsv").decode()
+    rows = text.splitlines()[2:]
+    for quoting in (csv.QUOTE_MINIMAL, csv.QUOTE_NONE):
+        found = list(csv.reader(rows, delimiter="\t", quoting=quoting))
+        if [fields[2:5] for fields in found] != [line.split("\t")[2:5] for line in rows] or len(found) != len(sent):
+            raise Wrong(f"  {found}")
+    if '"' in text.split("\n", 2)[2] or any(field[:1] in tuple("=+-@") for line in rows for field in line.split("\t") if field != "-"):
+        raise Wrong(f"  {text}")
+    loom.expect("judge --many sent --workers 1", 1, "rows of an earlier run were taken over")
+
+
+def history_beside(room):
+    """a history and a proof that tell two lines of one step are no more both shown in a table than by name: both rows tell it, and the run ends with 11"""
+    loom = Loom(room)
+    loom.service("shop", [b"a"], [b"b"], [b"c"])
+    loom.service("shop", [b"a"], [b"x"], folder="anew")
+    loom.service("bank", [b"open"])
+    loom.put("message", loom.timeweave("thread", "anew", "0"))
+    loom.timeweave("receive", "bank", "message")
+    loom.make({"sent/history": "export shop", "sent/thread": "prove bank thread 2 shop 2", "alone/history": "export shop", "alone/thread": "prove shop event 2 0"})
+    for name in ("shop", "bank"):
+        loom.put("line", loom.run("line", name).out)
+        loom.expect(["keep", "line", "--by", "by mail"], 0)
+    for name in ("history", "thread"):
+        loom.expect(f"judge sent/{name}", 0, f"sent/{name}: shown")
+    loom.expect("judge sent/history sent/thread", 11, "TWO LINES")
+    for _ in range(2):
+        loom.expect("judge --many sent --workers 1", 11, "2 files CONTRADICT EACH OTHER")
+        if [row[2] for row in verdicts(loom, "sent.verdicts.tsv").values()] != ["11", "11"]:
+            raise Wrong(f"  {loom.read('sent.verdicts.tsv')}")
+    loom.expect("judge --many alone --workers 1", 0, "2 files: 2 shown")
+
+
+def evidence_beside(room):
+    """evidence that tells another line of a receiver than the reader keeps, or of whom it accuses a third one, isn't called shown, by name and in a table; it is
+    beside each of the two lines that it shows"""
+    loom = Loom(room)
+    for folder, name in (("shop", "shop"), ("anew", "shop"), ("bank", "bank"), ("port", "port")):
+        loom.service(name, *([[folder.encode()]] if name == "shop" else []), folder=folder)
+    for receiver, folder in (("bank", "shop"), ("port", "anew")):
+        loom.put("message", loom.timeweave("thread", folder, "0"))
+        loom.timeweave("receive", receiver, "message")
+        loom.append(receiver, b"more")
+        loom.put(receiver[0], loom.timeweave("prove", receiver, "thread", "1", "shop", "1"))
+    loom.put("sent/evidence", loom.timeweave("accuse", "b", "p"))
+    tops = "".join(loom.run("line", name).out for name in ("bank", "port"))
+    lines = [loom.run("line", name).out for name in ("shop", "anew")]
+    for more in ("", *lines):
+        loom.put("held", (tops + more).encode())
+        loom.expect("judge sent/evidence --kept held", 0, "sent/evidence: shown")
+    for name in ("bank 1", "port 1", "shop 1"):
+        loom.put("held", f"{tops}{name} {OTHER}\n".encode())
+        told = f"TWO LINES: the line of step 1 of {name.split()[0]} that you kept"
+        loom.expect("judge sent/evidence --kept held", 11, "sent/evidence: not shown", told)
+        loom.expect("judge --many sent --workers 1 --kept held", 11, "1 not shown")
 
 
 def read_once(room):
@@ -173,7 +240,8 @@ def whose_lines(room):
     loom = two_services(room)
     loom.service("maker", [b"bribe"], folder="sender")
     loom.put("bribed", loom.timeweave("prove", "sender", "event", "1", "0"))
-    loom.put(".lines", loom.run("line", "sender").out)
+    loom.put("none", b"")  # (the sender holds no line of the reader's)
+    loom.put(".lines", loom.run("line", "sender", WEFT_KEPT=loom.folder / "none").out)
     loom.put("--kept=.lines", b"")
     loom.expect("judge --kept=.lines bribed", 0, "Under the lines of .lines (--kept), and not under those of your own file:")
     loom.expect("judge --kept=.lines --many sender", 9, "Under the lines of .lines (--kept)")
@@ -422,12 +490,14 @@ def named_and_missing(room):
     """a file of kept lines that was named and isn't there, as one whose name was mistyped, ends the run before anything is called shown or good"""
     loom = received_amid(room)
     loom.put("ann", f"shop 2 {OTHER} 2026-01-01T00:00:00Z by letter\n")
+    if json.loads(loom.expect("check shop --json", 10, WEFT_KEPT="anm").out)["status"] != 10:
+        raise Wrong("  JSON tells another status")
     chain = "chain shop:1:0 bank:3:0 --store shop --store bank --out c"
     for words, status in (("judge good", 11), ("check shop", 17), (chain, 11)):
         loom.expect(f"{words} --kept ann --kept kept", status, absent=(": shown",))
         for kept in ("--kept anm --kept kept", "--kept kept --kept anm"):
             loom.expect(f"{words} {kept}", 3, "there is no file anm", absent=(": shown", " good"))
-        loom.expect(words, 12 if words == "judge good" else 0, "there is no file anm, which WEFT_KEPT names", WEFT_KEPT="anm")
+        loom.expect(words, 12 if words == "judge good" else 10, "there is no file anm, which WEFT_KEPT names", WEFT_KEPT="anm")
         loom.expect(words, 0, absent=("there is no file",), WEFT_KEPT="kept")
 
 
@@ -464,7 +534,7 @@ def nothing_to_judge(room):
 
 def cases():
     works = (
-        swapped, believed, read_once, hidden, made_anew, judges_of_histories_differ, whose_lines, carried_lines, wrong_file, json_says_the_same, cut_short,
+        swapped, believed, each_reader, history_beside, evidence_beside, read_once, hidden, made_anew, judges_of_histories_differ, whose_lines, carried_lines, wrong_file, json_says_the_same, cut_short,
         passed_over, without_a_home, speaking_names, held_against_nothing, audited_once, either_file, chain_of_two_lines, named_and_missing, unchosen_names, nothing_to_judge,
     )  # fmt: skip
     return [case(work, "weft judge misled") for work in works]

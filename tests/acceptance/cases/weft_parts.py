@@ -298,6 +298,75 @@ def entries_taken_out(room):
     loom.expect("log src log", 0, "0 files new", "1 gone, 2 as they were")
 
 
+def older_content(room):
+    """where entries behind that of an older content were taken away or changed, amid the file, no proof is made of that content as the last one, nor is a file
+    called one that never was logged, or one that isn't gone: weft prove tells what is missing; with --step it proves the entry that was named"""
+    loom = Loom(room)
+    for name, data in (("sold", "one"), ("sold", "two"), ("more", "of more")):
+        loom.put(f"src/{name}", data)
+        loom.expect(f"log src log{' data' * (data == 'one')}", 0)
+    (loom.folder / "src/more").unlink()
+    loom.expect("log src log --gone", 0)
+    loom.put("src/end", "of end")
+    loom.expect("log src log", 0)
+    whole = loom.read("log.entries")
+    lines = whole.splitlines(True)
+    faults = {
+        "sold": [b"".join(it for it in lines if not it.startswith(b"2 ")), whole.replace(lines[1], lines[1].replace(b"sold", b"told"))],
+        "more": [b"".join(it for it in lines if not it.startswith(b"4 ")), b"".join(it for it in lines if b"./more" not in it)],
+    }
+    for name, changes in faults.items():
+        for number, data in enumerate(changes):
+            loom.put("log.entries", data)
+            loom.expect(f"prove log {name} --out p{number}", 17, "log.entries", "No proof was made", absent=("no entries of", "No step was made"))
+            if (loom.folder / f"p{number}").exists():
+                raise Wrong(f"  a proof of {name} was made")
+    loom.put("log.entries", faults["sold"][0])
+    loom.expect("prove log sold --step 1 --out older", 0, "in step 1 of data")
+    loom.put("log.entries", whole)
+    loom.expect("prove log sold", 0, "in step 2 of data")
+    loom.expect("prove log more", 10, "step 4 of data logged later that more is gone")
+    loom.expect("prove log nothing", 7, "no entries of nothing")
+
+
+def older_part(room):
+    """the same where the entry that was taken away is in a later part than the older content"""
+    loom = Loom(room)
+    loom.put("src/sold", "one")
+    in_parts(loom, 2)
+    loom.put("src/sold", "two")
+    loom.expect("log src log", 0, patch=at_rest(small_parts()))
+    loom.put("src/more", "three")
+    loom.expect("log src log", 0, patch=at_rest(small_parts()))
+    whole = loom.read("log/part-2.entries")
+    loom.expect("prove log sold --out last", 0, "of data-2")
+    loom.put("log/part-2.entries", b"".join(it for it in whole.splitlines(True) if b"./sold" not in it))
+    loom.expect("prove log sold --out older", 17, "part-2.entries", "No proof was made")
+    if (loom.folder / "older").exists():
+        raise Wrong("  a proof of the older content was made")
+
+
+def put_back_together(room):
+    """entries and what is known of files, both put back as they were before, let nothing be logged twice: the log makes no step and ends with 17"""
+    loom = Loom(room)
+    folder_of(loom, "a", "b")
+    counts_of(loom, "data")
+    older = {name: loom.read(f"log.{name}") for name in ("entries", "known")}
+    (loom.folder / "src/a").unlink()
+    counts_of(loom)
+    whole = loom.read("log.entries")
+    counts_of(loom)
+    for name, data in older.items():
+        loom.put(f"log.{name}", data)
+    before = loom.read("log/timeline.tw")
+    loom.expect("log src log", 17, "weft check --entries log", "No step was made", patch=at_rest())
+    loom.expect("check log --entries", 0, "log.entries was made anew")
+    if loom.read("log/timeline.tw") != before or loom.read("log.entries") != whole:
+        raise Wrong(f"  {loom.read('log.entries')}")
+    if counts_of(loom)["gone"]:
+        raise Wrong("  it is logged as gone twice")
+
+
 def checked_amid_a_step(room):
     """entries of a step that a stopped run hadn't made yet aren't told as changed: weft check says that weft log has to be run again, and ends with 10"""
     loom = Loom(room)
@@ -467,6 +536,7 @@ def five_parts(room):
         raise Wrong("  strict refuses it")
     loom.expect("judge c --file src/0000", 0, "0000 is the file that was logged", "data-2 received step", "data-5 received step")
     loom.expect("judge c --file src/0001", 1, "NOT SO")
+    loom.expect("tell c", 0, "0000", "data-5")
     loom.expect("prove log last --out p", 0, "of data-5")
     loom.expect("judge p --file src/last", 0, "last is that file")
     loom.expect("prove log 0000 --top 1 --out q", 0, "in step 1 of data, for whoever holds its line of step 1")
@@ -488,13 +558,15 @@ def five_parts(room):
 
 
 def strangers(room):
-    """a stranger who calls himself as the next part is never taken for it: neither where his store is put into its place, nor where his lines are kept, whose
-    name is passed over; a long name is cut; and an event of a file can't name a part"""
+    """a stranger who calls himself as the next part is never taken for it: neither where his store is put into its place, nor where his lines are kept: whether
+    it is a stranger is asked, and then his name is passed over; a long name is cut; and an event of a file can't name a part"""
     loom = Loom(room)
     loom.service("data-2", [b"a stranger"])
     loom.put("line", loom.run("line", "data-2").out)
     loom.expect(["keep", "line", "--by", "mail"], 0)
     loom.put("src/goes on as evil", "x")
+    loom.expect("log src log data", 2, "you keep a line of another service that is called data-2", "Choose another name")
+    loom.put("log.others", "data-2\n")
     names = in_parts(loom, 3)
     if names != ["data", "data-3", "data-4"]:
         raise Wrong(f"  {names}")
@@ -565,6 +637,49 @@ def part_destroyed(room):
     (loom.folder / "log.anchor").unlink()
     loom.expect("check log --all", 17, "data has ended, and goes on as data-2")
     loom.expect("log src log", 17, "data has ended, and goes on as data-2", patch=small_parts())
+
+
+def not_full_by_a_fault(room):
+    """where the export of a service, by which weft sees how large its history is, is killed, has no memory or finds a damaged page, no part is made, in a log or a
+    turn: that is told with a status of its own, and a sound run goes on in the same part"""
+    loom = Loom(room)
+    loom.put("box/box.conf", "unsigned = yes\n")
+    for number in range(4):
+        loom.put(f"src/{number}", str(number))
+        loom.expect("log src log data", 0)
+    small = small_parts(30_000)
+    for end, status in (("kill -9 $$", 130), ('echo "no memory"; exit 6', 6), ('echo "store BadPage 4"; exit 8', 8), ('echo "fault disk"; exit 5', 5)):
+        wrapped = loom.put("wrapped", f'#!/bin/sh\n[ "$1" = export ] && {{ {end}; }}\nexec {loom.program} "$@"\n')
+        wrapped.chmod(0o755)
+        loom.put("src/more", end)
+        for words in ("log src log", "exchange log box"):
+            loom.expect(words, status, absent=("goes on as",), patch=small, TIMEWEAVE_PROGRAM=str(wrapped))
+            loom.expect(words, 0, absent=("goes on as",), patch=small)
+    if (loom.folder / "log/part-2").exists() or (loom.folder / "log.next").exists():
+        raise Wrong("  a part was made, or begun")
+
+
+def ended_by_hand(room):
+    """a service that somebody ended by hand, as the documents say, is read with the next one in its folder; where that lies elsewhere, each word says where it
+    belongs"""
+    loom = Loom(room)
+    loom.put("src/a", "a")
+    loom.expect("log src shop shop", 0)
+    loom.append("shop", b"goes on as shop-2")
+    (loom.folder / "elsewhere").mkdir()
+    loom.timeweave("init", "elsewhere", "shop-2")
+    loom.put("last", loom.timeweave("thread", "shop", "0"))
+    loom.timeweave("receive", "elsewhere", "last")
+    words = ("check shop", "line shop", "prove shop a", "log src shop")
+    for word in words:
+        loom.expect(word, 17, "shop has ended, and goes on as shop-2", "appended by hand", "belongs into shop/part-2")
+    shutil.move(loom.folder / "elsewhere", loom.folder / "shop/part-2")
+    for word in words[:2]:
+        loom.expect(word, 0)
+    loom.expect(words[3], 17, "--adopt-store")
+    loom.expect([*words[3].split(), "--adopt-store", loom.run("line", "shop").out.strip()], 0)
+    for word in words:
+        loom.expect(word, 0)
 
 
 def next_made_up(room):
@@ -647,6 +762,56 @@ def name_of_anothers_line(room):
     if (loom.folder / "mine").exists():
         raise Wrong("  its folder was made")
     loom.expect("log src mine data2", 0, "1 file new")
+
+
+def expect_one_status(loom, words, status, told):
+    """Each value of JSON that weft check writes has the status with which the run ends, and what is told of the whole log."""
+    found = [json.loads(line) for line in loom.expect(words, status).out.splitlines()]
+    if not found or any(it["status"] != status or told not in " ".join(it["told"]) for it in found):
+        raise Wrong(f"  {found}")
+
+
+def logs_of_years(room):
+    """a log whose name ends in a year, or has that of another one before its year, isn't called old, and is made, while a line of another year's log is kept; a part
+    that was handed out and isn't there is told in one JSON of each part, with the status of the run"""
+    loom = Loom(room)
+    loom.put("src/a", "a")
+    for place, name in enumerate(("finance-log-2026", "finance-log-2025", "data-2026", "data")):
+        loom.expect(f"log src y{place} {name}", 0)
+        loom.expect(["keep", f"y{place}.anchor", "--by", "my own"], 0)
+    for words in ("log src y1", "check y1", "log src y3", "check y3", "log src y4 finance-log-2024"):
+        loom.expect(words, 0, absent=("as a further part",))
+    in_parts(loom, 2, "shop")
+    loom.put("log.anchor", loom.read("log.anchor") + f"shop-3 5 {'a' * 64}\n".encode())
+    loom.expect("check log", 17, "shop-3, and no part of log is called so", "good")
+    expect_one_status(loom, "check log --json", 17, "shop-3, and no part of log is called so")
+
+
+def old_whole_log_put_back(room):
+    """an old log, put back whole from before it went on in a next part, makes no step, in a log or a turn, while its user keeps a line of that part, also where he
+    names its last line; weft check tells it; once he says that the part is another's service, it goes on"""
+    loom = Loom(room)
+    loom.put("src/a", "a")
+    loom.put("box/box.conf", "unsigned = yes\n")
+    loom.expect("log src log data", 0)
+    put_back = copied(loom)
+    in_parts(loom, 2)
+    loom.put("src/b", "b")
+    loom.expect("log src log", 0)
+    later = loom.read("log.anchor").splitlines(True)[-1]
+    put_back()
+    loom.put("letter", later)
+    loom.expect(["keep", "letter", "--by", "my own"], 0)
+    old, told = loom.read("log/timeline.tw"), ("you keep a line of step", "of data-2", "as a further part of data would be called", "echo data-2 >> log.others")
+    for words in (["log", "src", "log"], ["exchange", "log", "box"], ["log", "src", "log", "--adopt-store", loom.read("log.anchor").decode().strip()]):
+        loom.expect(words, 17, *told, "No step was made")
+    loom.expect("check log --all", 10, *told, "1 of 1 step good")
+    expect_one_status(loom, "check log --json", 10, "of data-2")
+    if loom.read("log/timeline.tw") != old:
+        raise Wrong("  a step was made")
+    loom.put("log.others", "data-2\n")
+    for words in ("log src log", "check log --all", "exchange log box"):
+        loom.expect(words, 0, absent=told)
 
 
 def parts_with_faults(room):
@@ -952,6 +1117,31 @@ def stolen_after_the_end(room):
         raise Wrong(f"  {part_of(net, 'bank', 'shop')}")
 
 
+def revoked_at_the_part_before(room):
+    """a key that was noted of a peer's next part by itself counts no more once a person takes it out at the part before: nothing that it signs is taken, which is
+    told, and weft chain rests on none of it; it counts again once it is noted there by a person, or at the part before"""
+    net = pair(room)
+    loom = net.loom
+    gone_on(net, "shop", "bank")
+    take_part(net, "bank", "shop", "shop-2")
+    whole = loom.read("box-bank/allowed_signers")
+    left = b"".join(line for line in whole.splitlines(True) if not line.startswith(b"shop "))
+    told = ("was noted of shop-2 by itself", "has it no more of shop: nothing counts that it signs", "weft accept box-bank shop-2 --key")
+    for again in (lambda: loom.put("box-bank/allowed_signers", whole), lambda: loom.expect("accept box-bank shop-2 --key shop.key.pub", 0)):
+        loom.put("box-bank/allowed_signers", left)
+        loom.append("shop/part-2", b"by the thief")
+        net.turn("shop", 0)
+        net.carry("shop", "bank")
+        before = loom.read("bank/timeline.tw")
+        for _ in range(2):
+            net.turn("bank", 10, *told, absent=("is recorded", "EVIDENCE"))
+        if loom.read("bank/timeline.tw") != before:
+            raise Wrong("  what a key signed that was taken out was received")
+        again()
+        net.turn("bank", 0, "shop-2: its step", absent=told)
+        net.carry("bank", "shop")
+
+
 def away_for_parts(room):
     """a peer that made no turn while a service went on three times catches up in one, and a new peer does, which accepts the first part alone"""
     net = Net(room, {"shop": ["bank", "port"], "bank": ["shop"], "port": ["shop"]})
@@ -1095,9 +1285,11 @@ def audited(room):
 
 def cases():
     works = (
-        unread, changed_through_a_mapping, read_each_week, known_lost, added, by_many, entries_lost, entries_taken_out, checked_amid_a_step, five_parts,
-        strangers, true_stranger, part_destroyed, next_made_up, part_made_again, part_alone, name_of_anothers_line, parts_with_faults, with_peers,
-        exchanged_in_parts, chained_over_peers_parts, exchange_with_faults, strangers_at_peers, carried_wrongly, stolen_after_the_end, away_for_parts,
+        unread, changed_through_a_mapping, read_each_week, known_lost, added, by_many, entries_lost, entries_taken_out, older_content, older_part,
+        put_back_together, checked_amid_a_step, five_parts,
+        strangers, true_stranger, part_destroyed, ended_by_hand, not_full_by_a_fault, next_made_up, part_made_again, part_alone, name_of_anothers_line, old_whole_log_put_back, logs_of_years,
+        parts_with_faults, with_peers,
+        exchanged_in_parts, chained_over_peers_parts, exchange_with_faults, strangers_at_peers, carried_wrongly, stolen_after_the_end, revoked_at_the_part_before, away_for_parts,
         old_part_put_back, other_history_for_a_new_part, chained_over, many_receipts, many_kept_lines,
         audited,
     )  # fmt: skip

@@ -13,7 +13,7 @@ from pathlib import Path
 from cases.weft_exchange import Net, pair, shipped_later
 from cases.weft_signed import NO_SIGNATURE, signed
 from harness.rooms import Room, Skipped, Wrong, case
-from harness.weft_room import SHARE, reseal
+from harness.weft_room import SHARE, Loom, reseal
 from timeweave_reference.receipts import Receipt
 from weft import files
 from weft.asking import id_of
@@ -530,6 +530,23 @@ def bring_back(loom, saved):
     reseal(loom.folder)
 
 
+def made_up_names(room):
+    """names that somebody on the way makes up, as others' that a part of the service would get, fill no file without end, and end no turn: so many are noted, and
+    those of peers each"""
+    loom = Loom(room)
+    loom.service("shop")
+    loom.key("shop")
+    loom.put("box/box.conf", "key = ../shop.key\nsilent = 0\n")
+    (loom.folder / "box/shop-999/in").mkdir(parents=True)
+    for turn in range(3):
+        names = (f"shop-{number}" for number in range(2 + turn * 900, 2 + turn * 900 + 900))
+        loom.put("box/shop-999/in/seen", "".join(f"{name} 1 {'a' * 64}\n" for name in names))
+        loom.expect("exchange shop box", 10)
+    names = loom.read("shop.others").decode().split()
+    if len(names) != 1000 or "shop-999" not in names or len({*names}) != 1000:
+        raise Wrong(f"  {len(names)} names")
+
+
 def look(room):
     """weft exchange --look makes no step and puts nothing out, tells what each peer hands back, and lets weft log make none; turns wait for each peer's word of
     a day later, and then go on; a store that lacks what a peer tells ends with 17"""
@@ -701,7 +718,7 @@ def box_of_another(room):
     loom = net.loom
     before = {path: path.read_bytes() for path in loom.folder.rglob("*") if path.is_file() and path.suffix != ".lock" and path.name != ".lock"}
     for words in ("exchange port box-shop", "exchange port box-shop --look", "exchange bank box-shop"):
-        loom.expect(words, 2, "box-shop is the box of shop, and not of", "nothing was made or put out")
+        loom.expect(words, 2, 'box-shop is the box of "shop", and not of', "nothing was made or put out")
     changed = [path for path in loom.folder.rglob("*") if path.is_file() and path.suffix != ".lock" and path.name != ".lock" and before.get(path) != path.read_bytes()]
     if changed:
         raise Wrong(f"  {changed}")
@@ -847,7 +864,7 @@ def told_by_a_receipt(room):
     loom.put("shop.look", saved)
     loom.put("box-shop/bank/in/receipt", false["receipt"](net.last("shop") + 7))
     net.turn("shop", 10, "keeps a look after a restore open", patch=settled)
-    loom.expect("exchange shop box-shop --despite bank", 0, absent=("No step was made",))
+    loom.expect("exchange shop box-shop --despite bank", 10, "bank: it tells a line of your step", "passed over, by --despite bank", absent=("No step was made",))
     loom.put("box-shop/bank/in/receipt", Receipt("bank", 9, b"b" * 32, "shop", net.last("shop"), b"a" * 32).to_bytes())
     net.turn("shop", 0, "nothing is concluded from that")
 
@@ -969,7 +986,7 @@ def cases():
     works = (
         two_handed_on, joined_and_other, seen_held_back, seen_in_its_place, without_public_half, unreadable_in, of_another_user, cut_off, quiet_days,
         even_and_odd, without_links, a_line_that_was_lost, many_peers, made_up_receipts, put_back, look, a_copied_box, clock_set, clock_ahead,
-        other_rights, box_of_another, no_peers_folders,
+        other_rights, box_of_another, no_peers_folders, made_up_names,
         told_by_a_receipt, made_up_receipt, made_up_refusals, made_up_answers, chain_and_turn,
     )  # fmt: skip
     return [case(work, "weft peers") for work in works]

@@ -13,6 +13,7 @@ from cases.weft_network import network
 from harness.places import TOP
 from harness.rooms import Wrong, case
 from harness.weft_room import Loom
+from weft import formats
 
 BEGIN, END = b"-----BEGIN SSH SIGNATURE-----\n", b"-----END SSH SIGNATURE-----\n"
 NO_SIGNATURE = BEGIN + b"AAAA\n" + END
@@ -208,7 +209,7 @@ def three_lines(room):
             done = loom.expect(words, 9, "no public key")
             if "SHA256:" in done.out + done.err:
                 raise Wrong(f"  file {number}: a fingerprint is told: {done}")
-    if (loom.folder / "signers").exists() or (loom.folder / "box/allowed_signers").exists() or (loom.folder / "kept").exists():
+    if (loom.folder / "signers").exists() or (loom.folder / "box/allowed_signers").exists() or loom.read("kept"):
         raise Wrong("  a key was noted, or a line kept")
 
 
@@ -308,7 +309,7 @@ def behind_the_end(room):
         loom.expect("keep line", 9, "no signature by ssh-keygen")
     loom.put("bad", loom.read("true") + NO_SIGNATURE)
     loom.expect("keep bad", 1, "isn't good by a key")
-    if (loom.folder / "kept").exists():
+    if loom.read("kept"):
         raise Wrong("  something was kept")
     loom.put("good", good.replace(b"\n", b"\r\n")[:-2])
     loom.expect("keep good", 0, "signed by ED25519")
@@ -755,10 +756,101 @@ def appending_carrier(room):
         raise Wrong(f"  {wrong[:5]}\n  {figures}")
 
 
+def revoked_and_judged(room):
+    """what a key signed that was taken out of the file of signers counts no more with weft judge, for one file and for many, nor with weft chain, and contradicts no
+    other line: that is told, in JSON too; it counts again once the key is noted, in another file of signers too, or where its line came otherwise besides"""
+    loom = Loom(room)
+    for folder, event in (("shop", b"true"), ("anew", b"forged")):
+        loom.service("shop", [b"a"], [event], folder=folder)
+        loom.put(f"many/{folder}", loom.timeweave("prove", folder, "event", "2", "0"))
+    for name in ("old", "new"):
+        loom.key(name)
+    loom.expect("line anew --sign old.key --out forged", 0)
+    loom.expect("keep forged --signer shop old.key.pub", 0)
+    loom.expect("judge many/anew", 0, "many/anew: shown", absent=("DOESN'T COUNT",))
+    signers = loom.put("before", loom.read("signers"))
+    loom.put("src/a", "a")
+    loom.put("signers", "")
+    told = ("DOESN'T COUNT: 1 line of shop", "of step 2, signed by SHA256:", "isn't noted of shop")
+    loom.expect("judge many/anew", 12, "many/anew: not judged", "line of step 2 of shop is missing", *told)
+    for words in ("check shop --all", "line shop", "log src shop"):
+        loom.expect(words, 17 if words == "log src shop" else 10, *told, absent=("among the lines",))
+    loom.expect("judge many/anew", 12, "You hold none of shop, and keep one that doesn't count: see below")
+    loom.expect("judge many/anew --signers nowhere", 3, "there is no file nowhere")
+    loom.expect("judge many/anew", 12, "there is no file nowhere, which WEFT_SIGNERS names", *told, WEFT_SIGNERS="nowhere")
+    loom.put("limited", loom.read("before").replace(b"namespaces=", b'valid-after="20200101",namespaces='))
+    loom.expect("judge many/anew --signers limited", 0, "many/anew: shown", absent=told)
+    found = json.loads(loom.expect("judge many/anew --json", 12).out)
+    if found["shown"] or [it["step"] for it in found["not_counting"]] != [2]:
+        raise Wrong(f"  {found}")
+    loom.expect("judge --many many --workers 1", 12, "2 files: 2 not judged", *told)
+    loom.expect("chain shop:1:0 many/anew --store anew --out c", 0, *told)
+    for words in ("judge many/anew --signers before", "judge many/anew"):
+        loom.expect(words, 0, "many/anew: shown", absent=told, WEFT_SIGNERS=signers)
+    loom.expect("line shop --sign new.key --out true", 0, WEFT_KEPT=loom.put("of the shop", ""))
+    uncounted = ("another line of step 2 of shop was kept", "and doesn't count, since that key isn't noted of shop")
+    loom.expect("keep true --signer shop new.key.pub", 10, *uncounted, absent=("two lines of step",))
+    if not json.loads(loom.expect("keep true --json", 10).out)["kept"][0]["contradicts"]:
+        raise Wrong("  JSON doesn't say that it contradicts")
+    another = "A LINE THAT DOESN'T COUNT IS ANOTHER ONE: that of step 2 of shop"
+    loom.put("history", loom.timeweave("export", "shop"))
+    for words in ("judge many/shop", "judge history", "chain shop:1:0 many/shop --store shop --out d"):
+        loom.expect(words, 10, "not judged", another, *told, absent=(": shown", "TWO LINES"))
+    loom.put("p1", loom.timeweave("prove", "shop", "event", "1", "0", "1"))
+    loom.put("first", f"shop 1 {formats.timeline_of(loom.read('history')).authenticators[1]}\n")
+    loom.expect(["keep", "first", "--by", "letter"], 0)
+    loom.expect("judge p1", 0, "p1: shown")
+    loom.expect("judge p1 --audit history", 10, "p1: not judged", another)
+    loom.put("with history/one", loom.read("history"))
+    loom.expect(["judge", "--many", "with history", "--workers", "1"], 12 if b"shop 2" not in loom.read("kept") else 10)
+    if another.encode() not in loom.read("with history.verdicts.tsv"):
+        raise Wrong("  the row doesn't say it")
+    loom.expect("judge many/anew", 1, "many/anew: not shown", *told)
+    loom.expect("judge --many many --workers 1", 1, "1 not judged", "1 not shown")
+    loom.put("without", "".join(it for it in loom.read("kept").decode().splitlines(True) if "old" not in it and loom.read("forged").decode().strip() not in it))
+    for words in ("judge many/shop --kept without", "judge history --kept without"):
+        loom.expect(words, 0, ": shown", absent=told)
+    loom.expect("keep --signer shop old.key.pub --beside", 0)
+    loom.expect("judge many/shop", 11, "two lines of step 2", absent=told)
+    loom.put("signers", b"".join(it for it in loom.read("signers").splitlines(True) if it not in loom.read("before")))
+    loom.expect("judge many/shop", 10, another, *told)
+    loom.expect(["keep", "forged", "--by", "letter from the shop"], 11, "two lines of step 2")
+    loom.expect("judge many/shop", 11, "two lines of step 2")
+
+
+def chosen_and_lost(room):
+    """a line that was chosen over another one counts on once the other one's key is taken out, with nothing more to be said; and two lines by one key that is noted
+    contradict each other as they are kept, whatever options it is noted with, and where it is noted with the second one"""
+    loom = Loom(room)
+    for folder, event in (("shop", b"true"), ("anew", b"forged")):
+        loom.service("shop", [event], folder=folder)
+        loom.put(f"many/{folder}", loom.timeweave("prove", folder, "event", "1", "0"))
+    loom.key("shop")
+    for folder in ("shop", "anew"):
+        loom.expect(f"line {folder} --sign shop.key --out {folder}.line", 0, WEFT_KEPT=loom.put("of the shop", ""))
+    loom.expect("keep anew.line --signer shop shop.key.pub", 0)
+    noted, kept = loom.read("signers"), loom.read("kept")
+    loom.expect(["keep", "shop.line", "--by", "letter"], 11, "two lines of step 1")
+    loom.expect(["keep", "--choose", "shop.line", "--by", "asked"], 0, "It counts")
+    loom.put("signers", "")
+    loom.expect("judge many/shop", 0, "many/shop: shown", absent=("ANOTHER ONE",))
+    loom.expect(["keep", "shop.line", "--by", "a second letter"], 0)
+    loom.expect("judge many/anew", 1, "many/anew: not shown")
+    two = ("there are two lines of step 1 of shop",)
+    loom.put("kept", kept)
+    loom.expect("keep shop.line --signer shop shop.key.pub", 11, *two)
+    for options in (b'valid-after="20200101",namespaces=', b"namespaces="):
+        loom.put("kept", kept)
+        loom.put("signers", noted.replace(b"namespaces=", options))
+        loom.expect("keep shop.line", 11, *two)
+        if b"contradiction: shop 1 " not in loom.read("kept"):
+            raise Wrong(f"  no mark: {loom.read('kept')!r}")
+
+
 def cases():
     works = (
         second_letter, choices, clock_set_back, checked_store, handed_out, three_lines, changed_amid, noted_with_options, many_keys, dashes, behind_the_end,
-        appended, false_record, unchecked, second_key, revoked,
+        appended, false_record, unchecked, second_key, revoked, revoked_and_judged, chosen_and_lost,
         revoked_first, revoked_links, revoked_chain, far_ahead, full_of_lines, resigned, long_ago, told_though_ended, liars_own, confirmed, appending_carrier,
     )  # fmt: skip
     return [case(work, "weft signed") for work in works]

@@ -1,6 +1,8 @@
 """Acceptance cases of weft and what lies on the disk: who may read it, what a file that is made anew keeps, folders that are named in odd ways, and stores
 that are checked whole, also those whose history is longer than a file may be."""
 
+import errno
+import itertools
 import json
 import os
 import shutil
@@ -9,7 +11,7 @@ import threading
 
 from harness.limits import without_rights
 from harness.rooms import Skipped, Wrong, case
-from harness.weft_room import Loom, expect_plain, reseal
+from harness.weft_room import Loom, events_file, expect_plain, reseal
 from timeweave_reference.tree_pages import PAGE
 
 # The program, but that its export is refused as that of a long history is; with a line behind that it answers otherwise.
@@ -109,6 +111,7 @@ def links_kept(room):
     loom.put("l", loom.run("line", "shop").out)
     loom.put("disk/kept", b"# mine\n")
     os.chmod(loom.folder / "disk/kept", 0o640)
+    (loom.folder / "kept").unlink()
     os.symlink("disk/kept", loom.folder / "kept")
     loom.put("kept.new", b"my own")
     loom.put("out.new", b"my own too")
@@ -173,7 +176,7 @@ def many_writers(room):
         it.start()
     for it in threads:
         it.join()
-    if wrong or [it.name for it in loom.folder.iterdir() if it.name != "tmp"] != ["file"]:
+    if wrong or [it.name for it in loom.folder.iterdir() if it.name not in ("tmp", "kept")] != ["file"]:
         raise Wrong(f"  {wrong[:3]} {sorted(it.name for it in loom.folder.iterdir())}")
 
 
@@ -334,6 +337,133 @@ def flipped_anywhere(room):
     loom.expect("check shop --all", 0, **whole)
 
 
+def flipped_page(room):
+    """one flipped byte in any page behind the first four, of events, of a step or of the archive of what was received, ends weft check --all with 8; one in the two
+    that the record doesn't reach changes nothing"""
+    loom = Loom(room)
+    loom.service("town", [b"x"])
+    loom.service("shop", [b"bread"])
+    for number in range(4):
+        loom.append("town", b"more")
+        loom.put("message", loom.timeweave("thread", "town", str(number and number + 1)))
+        loom.timeweave("receive", "shop", "message")
+        loom.append("shop", *[b"event %d %d" % (number, index) + b"." * 300 for index in range(20 if number == 1 else 1)])
+    good = loom.read("shop/timeline.tw")
+    if len(good) % PAGE or good[4 * PAGE : 4 * PAGE + 1] != b"\x02":
+        raise Skipped("the program that is tried keeps no pages")
+    kinds = [good[page * PAGE] for page in range(4, len(good) // PAGE)]
+    if min(kinds.count(kind) for kind in (1, 2, 3)) < 4:
+        raise Wrong(f"  kinds of pages: {kinds}")
+    for page, place in [*((page, place) for page in range(4, len(good) // PAGE) for place in (60, 7 * page)), (0, 60), (1, 60)]:
+        at = page * PAGE + place
+        loom.put("shop/timeline.tw", good[:at] + bytes([good[at] ^ 1]) + good[at + 1 :])
+        loom.expect("check shop --all --workers 1", 8 if page > 3 else 0)
+
+
+def flipped_for_the_next_step(room):
+    """one flipped bit in what a store keeps for its next step alone, its archive's label or the greatest claimed time, is found by weft check, though each step that
+    is there is good"""
+    loom = Loom(room)
+    loom.service("shop")
+    loom.put("event", events_file(b"bread"))
+    for time in (1000, 1001, 1002):
+        loom.timeweave("append", "shop", "event", str(time))
+    good = loom.read("shop/timeline.tw")
+    slot = max((2, 3), key=lambda page: good[page * PAGE + 8 : page * PAGE + 24]) * PAGE
+    at = good.find((1002).to_bytes(8, "big"), slot, slot + PAGE)
+    if len(good) % PAGE or at < 0:
+        raise Skipped("the program that is tried keeps no pages")
+    loom.expect("check shop", 0, "3 of 3 steps good")
+    whole = long_history(loom)
+    for place, bit in ((slot + 98, 1), (slot + 113, 8), (slot + 129, 128), (at + 6, 2), (at + 7, 1)):
+        loom.put("shop/timeline.tw", good[:place] + bytes([good[place] ^ bit]) + good[place + 1 :])
+        loom.expect("check shop --workers 1", 8, "what the store keeps for its next step isn't right", "Append nothing")
+        if place < at:
+            loom.expect("check shop --all --workers 1", 8, "what the store keeps for its next step isn't right", **whole)
+        if list((loom.folder / "tmp").glob("weft-*")):
+            raise Wrong("  the copy was left")
+    loom.put("shop/timeline.tw", good)
+    loom.expect("check shop --all", 0)
+
+
+def damaged_and_logged(room):
+    """a log whose store keeps a damaged label for its next step tells that behind the first step that it makes, and neither notes nor hands out its line"""
+    loom = Loom(room)
+    loom.put("src/a", "a")
+    loom.expect("log src log data", 0)
+    good, anchor = loom.read("log/timeline.tw"), loom.read("log.anchor")
+    slot = max((2, 3), key=lambda page: good[page * PAGE + 8 : page * PAGE + 24]) * PAGE
+    if len(good) % PAGE:
+        raise Skipped("the program that is tried keeps no pages")
+    loom.put("log/timeline.tw", good[: slot + 98] + bytes([good[slot + 98] ^ 1]) + good[slot + 99 :])
+    loom.put("src/b", "b")
+    for _ in range(3):
+        loom.expect("log src log", 8, "made step 2, which doesn't follow from its step 1", "Go back to a backup")
+        if loom.read("log.anchor") != anchor or b" 2 " in loom.read("log.lines"):
+            raise Wrong("  the line of that step was noted")
+    loom.put("log/timeline.tw", good)
+    loom.expect("log src log", 0, "step 2: 1 file new")
+
+
+def failing_amid(room):
+    """a fault of a call, want of room for a copy, and a step that somebody makes meanwhile let no good store be called damaged: what couldn't be looked at is told"""
+    loom = Loom(room)
+    loom.put("src/a", "a")
+    loom.expect("log src log data", 0)
+    faulty = loom.put("faulty", f'#!/bin/sh\n[ "$1 $3" = "prove absent" ] && {{ echo "no memory"; exit 6; }}\nexec {loom.program} "$@"\n')
+    loom.put("event", events_file(b"somebody else's"))
+    busy = loom.put("busy", f'#!/bin/sh\n[ "$1" = export ] && {loom.program} append "$2" {loom.folder}/event > made\nexec {loom.program} "$@"\n')
+    for path in (faulty, busy):
+        path.chmod(0o755)
+    loom.put("src/b", "b")
+    loom.expect("log src log", 6, absent=("damaged",), TIMEWEAVE_PROGRAM=str(faulty))
+    loom.expect("log src log", 0)
+
+    def full():
+        def copy(*words):
+            raise OSError(errno.ENOSPC, os.strerror(errno.ENOSPC))
+
+        shutil.copyfileobj = copy
+
+    loom.put("other", f"data 1 {'f' * 64} 2026-01-01T00:00:00Z letter\n")
+    loom.expect("check log", 10, "steps good", "Not looked at: whether a next step follows", "No space left", patch=full)
+    loom.expect("check log --kept other", 17, "two lines of step 1 of data", "Not looked at: whether a next step follows", patch=full)
+    for _ in range(2):
+        loom.expect("check log --workers 1", 0, absent=("isn't proved", "Append nothing"), TIMEWEAVE_PROGRAM=str(busy))
+    loom.expect("check log", 0)
+
+
+def flipped_archive(room):
+    """one flipped byte in a page of the archive by which a received line can't be proved any more ends weft check with 8, with --all and without"""
+    loom = Loom(room)
+    for name in ("shop", "bank"):
+        loom.service(name)
+    for step in range(12):
+        loom.append("shop", b"%d" % step)
+        loom.put("message", loom.timeweave("thread", "shop", str(step)))
+        loom.timeweave("receive", "bank", "message")
+    good = loom.read("bank/timeline.tw")
+    pages = [page for page in range(4, len(good) // PAGE) if good[page * PAGE] == 3]
+    if len(good) % PAGE or not pages:
+        raise Skipped("the program that is tried keeps no pages")
+    loom.expect("check bank", 0, "12 of 12 steps good", "links, 12 received lines")
+
+    def proofs():
+        return [loom.timeweave("prove", "bank", "thread", "12", "shop", str(step), status=None) for step in range(1, 13)]
+
+    whole, found = proofs(), 0
+    for page, place in itertools.product(pages[-4:], (1, 30, 64, 300)):
+        at = page * PAGE + place
+        loom.put("bank/timeline.tw", good[:at] + bytes([good[at] ^ 1]) + good[at + 1 :])
+        if proofs() != whole:
+            found += 1
+            loom.expect(f"check bank --workers 1{' --all' * (found % 2)}", 8, "Append nothing")
+    if not found:
+        raise Wrong("  no byte was found by which a line can't be proved")
+    loom.put("bank/timeline.tw", good)
+    loom.expect("check bank --all", 0)
+
+
 def emptied(room):
     """a store without steps of which a line is kept isn't called good"""
     loom = Loom(room)
@@ -381,12 +511,13 @@ def told_of_entries(room):
     if seen != wanted:
         raise Wrong(f"  {seen}")
     loom.expect("check log --entries", 17)
-    (loom.folder / "kept").unlink()
+    loom.put("kept", "")
     loom.expect("check log --entries --json", 0, '"entries": "made anew"')
 
 
 def cases():
     works = (
-        for_its_user_alone, modes_kept, links_kept, many_writers, not_told_as_not_there, odd_folders, odd_other_folders, beyond_a_file, flipped_anywhere, emptied, told_of_entries,
+        for_its_user_alone, modes_kept, links_kept, many_writers, not_told_as_not_there, odd_folders, odd_other_folders, beyond_a_file, flipped_anywhere,
+        flipped_page, flipped_for_the_next_step, damaged_and_logged, failing_amid, flipped_archive, emptied, told_of_entries,
     )  # fmt: skip
     return [case(work, "weft stores") for work in works]

@@ -15,6 +15,9 @@ from harness.weft_room import Loom
 # Signs that look like quotes, or turn round what stands beside them, and their escapes.
 LIKE_QUOTES = [(chr(code), chr(code).encode("unicode_escape").decode()) for code in (0x2BA, 0x2EE, 0x2DD, 0x2F6, 0x5D0, 0x5F4, 0x7F4, 0x2057, 0x275D, 0x275E, 0x3003, 0x1F676, 0xA78B, 0xA78C, 0x16CC, 0x144A, 0x1426, 0x1425, 0x903)]
 
+# So many bytes of memory, the interpreter with its modules among them, are enough for a text of 60 MB.
+MOST_MEMORY = 512 << 20
+
 # What speaks in the judge's voice, with the text as weft shows it.
 VOICES = (
     (b'paid". It rests on these lines: "bank', '"paid\\". It rests on these lines: \\"bank"'),
@@ -74,6 +77,12 @@ def named_as_verdicts(room):
         loom.expect(["judge", "--", name], 1, f"{told}: not shown")
     loom.put("sent", f"shop 3 {'a' * 64} 2026-11-30T09:00:00Z by mail)   lines: judged. proved library: shown. (\n")
     loom.expect("tell sent", 0, '(kept 2026-11-30, "by mail)  \\x20lines: judged. proved library: shown. (")')
+    loom.put("src/deed, by its digest and name. It is shown", b"x")
+    loom.put("copy", b"x")
+    loom.expect("log --no-time src log data", 0)
+    loom.expect(["keep", "log.anchor", "--by", "own"], 0)
+    loom.expect(["prove", "log", "deed, by its digest and name. It is shown", "--out", "logged"], 0)
+    loom.expect("judge logged --file copy", 10, 'under the name "deed, by its digest and name. It is shown".')
     loom.put("many/=HYPERLINK(1)", b"TWP1 junk")
     loom.expect("judge --many many", 1)
     for name in ("a\tb", "a\\tb"):
@@ -93,11 +102,37 @@ def nothing_raw(room):
         if done.status != 9 or "a line of it is none" not in done.err or not (done.out + done.err).replace("\n", "").isprintable():
             raise Wrong(f"  weft tell of {text!r}\n  got    {done}")
     line = f"shop 1 {'a' * 64}\n"
-    for text in ("accepted " + "a" * 30_000_000, "rejected " + "b\n" * 10_000_000, line * 400_000):
+    for text in ("accepted " + "a" * 60_000_000, "rejected " + "b\n" * 30_000_000, line * 400_000):
         loom.put("long", text)
-        done = loom.run("tell", "long", patch=lambda: resource.setrlimit(resource.RLIMIT_AS, (1 << 30, 1 << 30)))
+        done = loom.run("tell", "long", patch=lambda: resource.setrlimit(resource.RLIMIT_AS, (MOST_MEMORY, MOST_MEMORY)))
         if done.status not in (0, 9) or len(done.out) > 10_000:
             raise Wrong(f"  weft tell of {len(text):,} characters\n  got    {done.status}, {len(done.out):,} characters, {done.err[:200]}")
+
+
+def nobody_can_forget(room):
+    """whatever is handed to the function by which weft writes, nothing of it is raw, and it is cut where it is longer than any sentence, in JSON too; so are
+    troubles, and what is drawn while something goes on"""
+    loom = Loom(room)
+    loom.put("note", "x")
+    raw = "shown\n\x1b[2J\x1b]52;c;aGk=\x07\u202e\u3164\r" + "a" * 200_000
+
+    def patch():
+        from weft import output, telling
+        from weft.progress import Progress
+
+        output.is_terminal = lambda to: True
+        Progress(raw, 3).draw()
+        telling.tell = lambda data: (raw, [raw])
+        output.complain(raw)
+
+    for words in ("tell note", "tell note --json"):
+        done = loom.run(*words.split(), patch=patch)
+        drawn, _, told = done.err.partition("\x1b[K")
+        lines = [*done.out.splitlines(), *told.splitlines()]
+        if done.status != 0 or not all(line.isprintable() for line in [drawn.removeprefix("\r"), *lines]) or any(len(line) > 300_000 for line in lines):
+            raise Wrong(f"  weft {words}: {done.status}, lines of {[len(line) for line in lines]} letters, {drawn[:100]!r} {done.out[:200]!r}")
+        if "letters more" not in told or not any(escape in done.out for escape in ("\\x1b[2J", "\\u001b[2J")):
+            raise Wrong(f"  weft {words}: {done.out[:200]!r} {told[-100:]!r}")
 
 
 def nobody_else_run(room):
@@ -168,4 +203,4 @@ def put_back_alone(room):
 
 
 def cases():
-    return [case(work, "weft texts") for work in (quoted, named_as_verdicts, nothing_raw, nobody_else_run, put_back_alone)]
+    return [case(work, "weft texts") for work in (quoted, named_as_verdicts, nothing_raw, nobody_can_forget, nobody_else_run, put_back_alone)]

@@ -196,6 +196,8 @@ def bad_input_in_json(room):
         done = loom.expect(f"{word} --json --nothing", 2)
         if not any(row.get("status") == 2 for row in rows(done)):
             raise Wrong(f"  {word} --json --nothing: {done}")
+        for option in ("--js", "--jso"):
+            loom.expect(f"{word} {option} nothing", 2, absent=("{",))
     done = loom.run("tell", "--json", "l", patch=lambda: failing_reads("l"))
     if done.status != 3 or not any("can't be read" in str(row) for row in rows(done)):
         raise Wrong(f"  a file that can't be read: {done}")

@@ -15,6 +15,7 @@ import tempfile
 import time
 import traceback
 from datetime import datetime, timezone
+from types import SimpleNamespace
 from typing import NamedTuple, Optional
 
 from harness.places import TOP
@@ -25,7 +26,7 @@ from timeweave_reference import __main__ as reference  # noqa: E402
 from timeweave_reference import directories, fields  # noqa: E402
 from timeweave_reference import words as reference_words  # noqa: E402
 
-from weft import judges, lines, program, signatures, texts  # noqa: E402
+from weft import judges, lines, program, signatures, texts, walking  # noqa: E402
 from weft import main as weft_main  # noqa: E402
 from weft.box import Peer  # noqa: E402
 from weft.signatures import NAMESPACE  # noqa: E402
@@ -66,22 +67,24 @@ class Inside:
 
     def __init__(self, folder, program_path):
         self.folder, self.moment, self.came = str(folder), 0, {}
-        self.fault, self.count, self.is_dead, self.is_apart = NO_FAULT, 0, False, True
+        self.fault, self.count, self.is_dead, self.is_apart, self.is_unopened = NO_FAULT, 0, False, True, False
         self.runs = 0
         self.stores, self.answers, self.keys, self.written = {}, {}, {}, None
         self.env = {
-            "PATH": os.environ["PATH"], "TIMEWEAVE_PROGRAM": str(program_path), "HOME": self.folder, "WEFT_KEPT": "kept", "WEFT_SIGNERS": "signers", "LC_ALL": "C.UTF-8",
+            "PATH": os.environ["PATH"], "TIMEWEAVE_PROGRAM": str(program_path), "HOME": self.folder, "WEFT_SIGNERS": "signers", "LC_ALL": "C.UTF-8",
             "TMPDIR": f"{self.folder}/tmp",
         }  # fmt: skip
 
     # ---- a run
 
-    def run(self, *words, fault=NO_FAULT):
-        """Runs weft."""
-        kept = sys.stdin, sys.stdout, sys.stderr
+    def run(self, *words, fault=NO_FAULT, kept="kept"):
+        """Runs weft, of a user who keeps lines in this file, or in none."""
+        os.environ.pop("WEFT_KEPT", None)
+        os.environ.update({"WEFT_KEPT": kept} if kept else {})
+        streams = sys.stdin, sys.stdout, sys.stderr
         out, err = io.StringIO(), io.StringIO()
         sys.stdin, sys.stdout, sys.stderr = io.StringIO(), out, err
-        self.fault, self.count, self.is_dead, self.is_apart = fault, 0, False, False
+        self.fault, self.count, self.is_dead, self.is_apart, self.is_unopened = fault, 0, False, False, False
         self.runs += 1
         try:
             status = weft_main.main([str(word) for word in words])
@@ -91,7 +94,7 @@ class Inside:
             status = 99
             err.write(traceback.format_exc())
         finally:
-            sys.stdin, sys.stdout, sys.stderr = kept
+            sys.stdin, sys.stdout, sys.stderr = streams
             self.fault, self.is_dead, self.is_apart = NO_FAULT, False, True
         return Done(status, out.getvalue(), err.getvalue())
 
@@ -126,12 +129,14 @@ class Inside:
 
     @contextlib.contextmanager
     def installed(self):
-        """Puts it in the place of what weft asks, and takes it away again."""
+        """Puts it in the place of what weft asks, and takes it away again. Files that are logged have come to rest: what they are has a mark."""
+        moment = time.time_ns
         changes = [
             (program, "run", self.answer), (program, "counted", self.counted), (program, "found", lambda: self.env["TIMEWEAVE_PROGRAM"]),
             (judges, "bench", self.bench), (signatures, "keygen", functools.partial(self.keygen, signatures.keygen)), (directories, "read_file", self.read_store),
             (directories, "renew_if_other", self.renew_store), (time, "time", lambda: self.moment), (texts, "datetime", self.dated()), (lines, "ONE_SECOND", 0.0),
             (reference_words, "kinds_of_forms", lambda: FORMS),
+            (walking, "time", SimpleNamespace(sleep=time.sleep, time_ns=lambda: moment() + 120 * 10**9)),
             (Peer, "came", self.came_to(Peer.came)), (os, "fsync", lambda number: None), (fields.Reader, "zeros", read_zeros), (os, "open", self.open), *((os, name, self.counting(name)) for name in CALLS),
         ]  # fmt: skip
         kept = [(of, name, getattr(of, name)) for of, name, _ in changes]
@@ -166,6 +171,7 @@ class Inside:
     def open(self, path, *words, **more):
         """Opens a file, but one of the name that can't be opened."""
         if not self.is_apart and self.fault.name is not None and os.path.basename(os.fsdecode(path)) == self.fault.name:
+            self.is_unopened = True
             raise OSError(errno.EIO, os.strerror(errno.EIO))
         return REAL["open"](path, *words, **more)
 

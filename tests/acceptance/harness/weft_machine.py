@@ -41,7 +41,7 @@ class Machine:
         self.clock = dict.fromkeys(NAMES, 0)
         self.fault = Fault()
         self.past, self.origin, self.word, self.restored = {}, {}, {}, {}
-        self.false, self.live = None, set()
+        self.false, self.live, self.is_log_moved = None, set(), False
         self.number, self.kept = 0, set()
         for name in NAMES:
             self.model.true[name] = self.history(name)
@@ -67,11 +67,14 @@ class Machine:
         return [auth.hex() for auth in found.line.auths] if found is not None else []
 
     def run(self, name, words, ends=ENDS):
-        """Runs weft at a service's machine, at its clock, with the fault that waits; it ends as its word does."""
+        """Runs weft at a service's machine, at its clock, with the fault that waits; it ends as its word does. The reader alone keeps lines: nobody who runs a service is
+        told by his own that its store is an old one."""
         self.inside.moment = BEGAN + self.clock.get(name, 0)
+        os.environ["WEFT_KEPT"] = "kept" if name == "reader" else "kept of keepers"
         fault, self.fault = self.fault, Fault()
-        done = self.inside.run(*words, fault=fault)
+        done = self.inside.run(*words, fault=fault, kept="kept" if name == "reader" else None)
         weft_model.expect_told(done, words, fault, ends)
+        expect(done.status != 0 or not self.inside.is_unopened, "what can't be opened isn't told", f"weft {' '.join(words)}, without {fault.name}: {done}")
         return done, bool(fault.kind or fault.name)
 
     def append(self, folder, *events):
@@ -108,13 +111,15 @@ class Machine:
         after_run = self.history(name)
         weft_model.expect_one_history(self.model, name, before, after_run)
         self.model.may_be_old.discard(name)
+        self.live -= {name} if len(after_run) > len(before) else set()
         for what, lines in weft_model.kept_lines(self.place, name).items():
             weft_model.expect_nothing_lost(kept.get(what, []), lines, f"{name} lost of {what}")
+            weft_model.expect_signed(self.model, what, lines[len(kept.get(what, [])) :])
         told = told_by(done)
         is_whole = told is not None and told["status"] == done.status and done.status in (0, 10, 11) and not has_fault
         is_made = is_whole and "No step was made, and nothing was put out." not in told["told"]
         if told is not None:
-            weft_model.expect_nobody_accused(self.model, name, told["peers"], done.status)
+            weft_model.expect_nobody_accused(self.model, name, told.get("peers", {}), done.status)
         if not is_made and not has_fault and done.status is not None:
             expect(out == weft_model.put_out(self.place, name), "something was put out", f"{name}'s turn ended with {done.status}")
         if is_made or has_fault:
@@ -127,8 +132,6 @@ class Machine:
         if is_made:
             self.restored.pop(name, None)
             self.origin[name] = {peer: self.knows(name, peer) for peer in NAMES if peer != name}
-            if len(after_run) > len(before):
-                self.live.discard(name)
         return done
 
     def expect_received(self, name, first):
@@ -184,7 +187,9 @@ class Machine:
         before, entries = self.history("shop"), self.logged_events()
         words = ["log", "files", "shop", "--workers", "1", *(["--all-read", "0"] if a % 4 == 0 else []), *(["--gone"] if b % 7 == 0 else [])]
         self.excuse("shop", before)
-        done, has_fault = self.run("shop", words, (0, 10, 16, 17))
+        may_wait = self.is_log_moved or (self.place / "shop.look").exists()
+        done, has_fault = self.run("shop", words, (0, 10, 16, *([17] if may_wait else [])))
+        self.is_log_moved = may_wait and done.status not in (0, 10)
         weft_model.expect_one_history(self.model, "shop", before, self.history("shop"))
         self.model.may_be_old.discard("shop")
         if len(self.history("shop")) > len(before):
@@ -228,13 +233,13 @@ class Machine:
         return {str(path.relative_to(out)): path.read_bytes() for path in sorted(out.rglob("*")) if path.is_file() and not path.name.endswith(".new")}
 
     def put_in(self, sender, receiver, name, data):
-        """Puts a file down in a peer's folder."""
-        path = self.place / f"box-{receiver}/{sender}/in/{name}"
-        if path.is_dir() and not path.is_symlink():
-            shutil.rmtree(path)
-        for part, is_right in ((path.parent, Path.is_dir), (path, Path.is_file)):
-            if os.path.lexists(part) and (part.is_symlink() or not is_right(part)):
-                part.unlink()
+        """Puts a file down in a peer's folder, and takes away what stands in its way."""
+        folder = self.place / f"box-{receiver}/{sender}"
+        path = folder / "in" / name
+        for part in (*(folder / it for it in reversed(path.relative_to(folder).parents)), path):
+            is_right = part.is_file() if part == path else part.is_dir()
+            if part.is_symlink() or not is_right:
+                take_away(part)
         path.parent.mkdir(parents=True, exist_ok=True)
         path.write_bytes(data)
         self.inside.came[f"box-{receiver}/{sender}/in/{name}"] = BEGAN + self.clock[receiver]
@@ -313,30 +318,40 @@ class Machine:
             self.put_in(sender, receiver, names[b % len(names)], (folder / others[c // 2 % len(others)]).read_bytes())
 
     def do_forge(self, a, b, c):
-        """The carrier makes up a message, a receipt, a refusal or requests, which nobody signs."""
+        """The carrier makes up a message, a receipt, a refusal or requests, which nobody signs. Of the message he has all that he needs but the key, where he has a copy of
+        the true store."""
         sender, receiver = PAIRS[a % 6]
-        forged = Service(sender)
-        for number in range(len(self.model.true[sender]) + b % 3):
+        known = [entry.step for entry in self.store(receiver).threads if entry and entry.service == sender]
+        forged, since = (self.store(sender).copied(), max(known, default=0)) if b % 2 else (Service(sender), 0)
+        for number in range(1 + b % 3 if b % 2 else len(self.model.true[sender]) + b % 3):
             forged.append([b"forged %d" % number])
         refusal = f"refused BadLink {b % 40} {'ab' * 32}\nmessage {c % 40} since {c % 7}\n".encode()
         receipt = self.forged_receipt(sender, receiver, b)
         line = self.sign("thief", forged.anchor(forged.steps)) if b % 2 else self.sign("thief", f"{sender} {1 + b % 9} {'cd' * 32}\n".encode())
-        asked = b"event 1 0 2\nlink 1 2\nthread 3 bank 1 4\n"
-        what = (("message", forged.message(0)), ("refusal", refusal), ("receipt", receipt), ("requests", asked), ("line", line))[c % 5]
+        asked = self.forged_requests(receiver, b)
+        what = (("message", forged.message(min(since, forged.steps))), ("refusal", refusal), ("receipt", receipt), ("requests", asked), ("line", line))[c % 5]
         if what[1]:
             self.put_in(sender, receiver, *what)
+
+    def forged_requests(self, receiver, which):
+        """Requests for an event of a service, a link and a thread."""
+        steps = self.store(receiver).line.steps
+        filled = [step for step, events in enumerate(steps, 1) if events] or [1]
+        return f"event {filled[which % len(filled)]} 0 {len(steps)}\nlink 1 2\nthread 3 bank 1 4\n".encode()
 
     def forged_receipt(self, sender, receiver, step):
         """A receipt that a peer never gave, of a step of the receiver."""
         return Receipt(sender, 1 + step % 9, bytes(32), receiver, 1 + step % 40, bytes([step % 256]) * 32).to_bytes()
 
     def do_hinder(self, a, b, c):
-        """A folder, a link or a pipe comes in the place of a file that a peer put out."""
+        """A folder, a link or a pipe comes in the place of a file that a peer put out; or a link or a file in the place of the folder itself."""
         _, _, names, folder = self.come(a)
+        names = [name for name in names if name in weft_model.LOOKED_FOR or c // 4 % 2] or names
         if names:
-            path = folder / names[b % len(names)]
-            path.unlink()
-            [lambda: path.mkdir(), lambda: path.symlink_to("../../box.conf"), lambda: os.mkfifo(path), lambda: path.symlink_to("nowhere")][c % 4]()
+            path = folder / names[b % len(names)] if c // 8 % 3 else folder
+            take_away(path)
+            works = [path.mkdir, lambda: path.symlink_to("../../box.conf"), lambda: os.mkfifo(path), lambda: path.symlink_to("nowhere")]
+            works[c % 4 if path != folder else 1 + c % 3]()
 
     # ---- the liar and the thief
 
@@ -418,6 +433,7 @@ class Machine:
             self.live.add(name)
         self.copy_parts(self.parts_of(name, what), self.place / "backup", self.place)
         self.restored.setdefault(name, None)
+        self.is_log_moved |= name == "shop"
         if what & 4:
             self.forget(name)
             self.bring_back(name)
@@ -438,6 +454,7 @@ class Machine:
             name = sorted(self.live)[a % len(self.live)]
             self.live.discard(name)
             self.copy_parts(self.parts_of(name, 7), self.place / "live", self.place)
+            self.is_log_moved |= name == "shop"
             self.forget(name)
 
     def do_look(self, a, b, c):
@@ -465,7 +482,9 @@ class Machine:
         signed = list(self.model.signed[name].items())
         if not signed:
             return
-        data, step = signed[-1 - b % min(len(signed), 4)]
+        kept = self.kept_now()
+        others = [(data, step) for data, step in signed if any(it[:2] == (name, step) and it[2].encode() not in data for it in kept)]
+        data, step = others[-1 - b % len(others)] if others and c % 2 else signed[-1 - b % min(len(signed), 4)]
         (self.place / "tmp/line").write_bytes(data)
         auth = data.split(b"\n")[0].split()[2].decode()
         before = (read_quietly(self.place / "kept") or b"").splitlines()
@@ -518,7 +537,8 @@ class Machine:
         if done.status == 0 and c % 2 and changed != data:
             expect(False, "a bad file behind a good one", f"{done}")
         is_clear = sum(it[:2] == (name, top) for it in self.kept) == 1 and (name, top, self.history(folder)[top] if top < len(self.history(folder)) else "") in self.kept
-        if changed == data and is_clear and not has_fault and data[:4] != b"TWH1" and self.model.is_honest(name):
+        # (a proof tells lines of others too, which those of a liar's other history contradict)
+        if changed == data and is_clear and not has_fault and data[:4] != b"TWH1" and not any(self.model.other.values()):
             expect(done.status == 0, "a good proof isn't shown", f"{name} {top}: {done}")
 
     @staticmethod
@@ -601,6 +621,7 @@ class Machine:
         for line in row["lines"]:
             words = line["service"], line["step"], line["authenticator"]
             expect(words in self.kept_now(), "shown under a line that wasn't kept", f"{row}")
+            expect(sum(it[:2] == words[:2] for it in self.kept_now()) == 1, "shown under a line that another one contradicts", f"{row}")
             expect(self.model.is_true(*words), "shown under a line of nobody", f"{row}")
         if row["kind"] == "history":
             return
@@ -655,7 +676,8 @@ class Machine:
         path.write_bytes(data)
         expect(not (is_changed and done.status == 0), "a damaged store is called good", f"{done}")
         if not is_bad and not has_fault and self.history(name) == self.model.true[name] and name not in self.live and self.model.is_honest(name):
-            expect(done.status == 0, "a good store isn't called good", f"{done}")
+            is_doubted = done.status == 10 and any(json.loads(line).get("doubt") for line in done.out.splitlines())
+            expect(done.status == 0 or is_doubted, "a good store isn't called good", f"{done}")
 
     def store_or_none(self, name):
         """The store, or None of a damaged one."""
@@ -701,7 +723,7 @@ class Machine:
             self.do_log(0, 0, 0)
             ends = {name: self.turn_of(name) for name in NAMES}
             for sender, receiver in PAIRS:
-                shutil.rmtree(self.place / f"box-{receiver}/{sender}/in")
+                take_away(self.place / f"box-{receiver}/{sender}/in")
                 self.carry(sender, receiver)
             if number and all(done.status == 0 for done in ends.values()):
                 break
@@ -722,16 +744,25 @@ class Machine:
             expect(self.knows(recorder, of) >= out[of], "it isn't recorded", f"{recorder} has step {self.knows(recorder, of)} of {of}, and {out[of]} was handed out")
 
 
+def take_away(path):
+    """Takes away what is there, a folder with all in it."""
+    if path.is_dir() and not path.is_symlink():
+        shutil.rmtree(path)
+    elif os.path.lexists(path):
+        path.unlink()
+
+
 def pipes(folder, names):
     """The pipes of a folder, which a copy can't have."""
     return [name for name in names if Path(folder, name).is_fifo()]
 
 
 def told_by(done):
-    """What a turn says as JSON; None where it says none."""
+    """What a turn says as JSON; None where it says none, and where it ended before it was begun."""
     for line in done.out.splitlines():
         if line.startswith("{"):
-            return json.loads(line)
+            found = json.loads(line)
+            return found if "peers" in found else None
     return None
 
 
@@ -755,6 +786,8 @@ def begin(inside):
     """Makes three services that have exchanged for two nights, one of which logs a folder, and a reader who has their keys."""
     place = Path(inside.folder)
     (place / "files/sub").mkdir(parents=True)
+    for kept in ("kept", "kept of keepers"):
+        (place / kept).touch()
     for name in LOGGED:
         (place / "files" / name).write_text(f"first of {name}")
     inside.moment = BEGAN - 9 * DAY

@@ -8,6 +8,8 @@ from harness.weft_inside import read_quietly
 ACCUSING = ("EVIDENCE", "has shown two histories")
 ENDS = (0, 10, 11, 17)
 SILENT = 3
+# The files of a peer that are looked for in each turn.
+LOOKED_FOR = ("line", "yours", "seen", "receipt")
 
 
 class Broken(Exception):
@@ -80,6 +82,13 @@ def expect_nothing_lost(before, after, what):
     expect(not lost, "something was lost", f"{what}: {lost[:2]}")
 
 
+def expect_signed(model, what, lines):
+    """What came to a peer's signed lines is of a history that was signed in its name."""
+    name, _, kept = what.partition("/")
+    for words in (line.decode("ascii", "replace").split() for line in lines if kept == "signed"):
+        expect(model.is_true(name, int(words[1]), words[2]), "a line counts as signed that isn't", f"{' '.join(words)}")
+
+
 def expect_nobody_accused(model, name, peers, status):
     """Nobody is called a liar in whose name one history alone was signed."""
     for peer, texts in peers.items():
@@ -114,9 +123,10 @@ def expect_silence_told(silent, name, told, status):
 
 
 def unreadable(place, name):
-    """What lies in the folders of a service's peers, and is no file that is read."""
-    folders = ((peer, f"{place}/box-{name}/{peer}/in") for peer in os.listdir(f"{place}/box-{name}") if os.path.isdir(f"{place}/box-{name}/{peer}/in"))
-    return [(peer, file) for peer, folder in folders for file in ("line", "yours", "seen", "receipt") if is_strange(f"{folder}/{file}")]
+    """What lies in the folders of a service's peers, and is no file that is read, or no folder."""
+    folders = [(peer, f"{place}/box-{name}/{peer}/in") for peer in os.listdir(f"{place}/box-{name}")]
+    closed = [(peer, "") for peer, folder in folders if os.path.lexists(folder) and (os.path.islink(folder) or not os.path.isdir(folder))]
+    return closed + [(peer, f"/{file}") for peer, folder in folders for file in LOOKED_FOR if (peer, "") not in closed and is_strange(f"{folder}/{file}")]
 
 
 def is_strange(path):
@@ -127,8 +137,8 @@ def is_strange(path):
 def expect_unread_told(hindered, name, told, status):
     """What is there and can't be read is told, and counts."""
     for peer, file in hindered:
-        told_of = any(f"in/{file}" in text for text in told.get(peer, []))
-        expect(status in (10, 11) and told_of, "what can't be read isn't told", f"{name} ended with {status}, and said of {peer}/in/{file}: {told.get(peer)}")
+        told_of = any(f"in{file}" in text for text in told.get(peer, []))
+        expect(status in (10, 11) and told_of, "what can't be read isn't told", f"{name} ended with {status}, and said of {peer}/in{file}: {told.get(peer)}")
 
 
 # ---- what lies in files
@@ -138,11 +148,14 @@ def kept_lines(place, name):
     """The lines that a service keeps: its own, those of peers, and what shows two histories."""
     found = {}
     for own in ("lines",):
-        found[f"{name}.{own}"] = (read_quietly(f"{place}/{name}.{own}") or b"").splitlines()
+        data = read_quietly(f"{place}/{name}.{own}") or b""
+        found[f"{name}.{own}"] = data[: data.rfind(b"\n") + 1].splitlines()  # (a line that was written by half isn't kept yet)
     box = f"{place}/box-{name}"
     for peer in sorted(os.listdir(box)) if os.path.isdir(box) else ():
         for kept in ("lines", "signed"):
-            found[f"{peer}/{kept}"] = [line for line in (read_quietly(f"{box}/{peer}/kept/{kept}") or b"").splitlines() if line.startswith(peer.encode())]
+            data = read_quietly(f"{box}/{peer}/kept/{kept}") or b""
+            whole = data[: data.rfind(b"-----END SSH" if kept == "signed" else b"\n") + 1]  # (one whose signature was written by half isn't kept yet)
+            found[f"{peer}/{kept}"] = [line for line in whole.splitlines() if line.startswith(peer.encode())]
         forks = f"{box}/{peer}/kept/forks"
         found[f"{peer}/forks"] = sorted(os.listdir(forks)) if os.path.isdir(forks) else []
     return found

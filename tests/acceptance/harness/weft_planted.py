@@ -49,6 +49,11 @@ FAULTS = (
         "    return Fate.GONE\n",
     ),
     Planted(
+        "a file whose size and times changed counts as the one that was read", "deciding.known",
+        "*(number % WHOLE for number in state)",
+        "*(0 * number for number in state)",
+    ),
+    Planted(
         "of a run that was killed the entries are cut off", "logs",
         "            if made is None:\n",
         "            if made is not None:\n",
@@ -60,8 +65,8 @@ FAULTS = (
     ),
     Planted(
         "a line counts as signed whoever signed it", "exchange",
-        "self.keys[signed] = signatures.checked(signed, self.signers)",
-        'self.keys[signed] = "ED25519 SHA256:" + "x" * 43',
+        "            key = signatures.checked(signed, self.signers)\n",
+        '            key = "ED25519 SHA256:" + "x" * 43\n',
     ),
     Planted(
         "whoever asks gets the proof of any event", "asking",

@@ -56,6 +56,7 @@ class Loom:
         if library.exists():
             self.env["TIMEWEAVE_LIBRARY"] = str(library)
         (self.folder / "tmp").mkdir(exist_ok=True)
+        (self.folder / "kept").touch(0o600)
 
     def put(self, name, data):
         """Puts a file there."""
