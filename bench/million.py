@@ -45,7 +45,7 @@ def make_files(folder, count):
 
 def environment(program, folder):
     """The environment of the runs."""
-    own = {"TIMEWEAVE_PROGRAM": program, "HOME": str(folder), "WEFT_KEPT": str(folder / "kept")}
+    own = {"TIMEWEAVE_PROGRAM": program, "HOME": str(folder)}
     library = TOP / "lib/libtimeweave.so"
     return {"PATH": os.environ["PATH"], "LC_ALL": "C.UTF-8", **own, **({"TIMEWEAVE_LIBRARY": str(library)} if library.exists() else {})}
 

@@ -57,7 +57,7 @@ class Turn(NamedTuple):
 
 def environment(folder: str, program: str) -> dict[str, str]:
     """The environment of the network's runs."""
-    own = {"HOME": folder, "WEFT_KEPT": f"{folder}/kept", "TMPDIR": f"{folder}/tmp", "TIMEWEAVE_PROGRAM": program, "LC_ALL": "C.UTF-8"}
+    own = {"HOME": folder, "TMPDIR": f"{folder}/tmp", "TIMEWEAVE_PROGRAM": program, "LC_ALL": "C.UTF-8"}
     library = TOP / "lib/libtimeweave.so"
     return {"PATH": os.environ["PATH"], **own, **({"TIMEWEAVE_LIBRARY": str(library)} if library.exists() else {})}
 

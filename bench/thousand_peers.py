@@ -55,7 +55,7 @@ class Maker:
 
     def __init__(self, program, folder):
         self.program, self.folder = program, folder
-        own = {"TIMEWEAVE_PROGRAM": program, "HOME": str(folder), "WEFT_KEPT": str(folder / "kept"), "WEFT_SIGNERS": str(folder / "signers")}
+        own = {"TIMEWEAVE_PROGRAM": program, "HOME": str(folder), "WEFT_SIGNERS": str(folder / "signers")}
         library = TOP / "lib/libtimeweave.so"
         self.env = {"PATH": os.environ["PATH"], "LC_ALL": "C.UTF-8", **own, **({"TIMEWEAVE_LIBRARY": str(library)} if library.exists() else {})}
 

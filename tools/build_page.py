@@ -57,7 +57,7 @@ exec "{clang}" "$@"
 """
 
 # The modules of the script, each behind those that it imports.
-SCRIPTS = ["timeweave.mjs", "page/files.mjs", "page/lines.mjs", "page/words.mjs", "page/picture.mjs", "page/session.mjs", "page/view.mjs", "page/page.mjs"]
+SCRIPTS = ["timeweave.mjs", "page/files.mjs", "page/lines.mjs", "page/sentences.mjs", "page/words.mjs", "page/picture.mjs", "page/opened.mjs", "page/session.mjs", "page/view.mjs", "page/page.mjs"]
 
 
 class Stopped(Exception):

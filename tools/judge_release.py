@@ -6,10 +6,11 @@
 It needs Python 3.9 or later and nothing else. Take it from a copy of the sources that you got another way than the release, at the commit
 that BUILD names: another judge may look for what that release doesn't have. With --signers a signature has to be of a key of that file (of
 ssh-keygen, as docs/releases.md has it); with --line the log's proof has to stand under a line of that file, which its owner gave you
-another way; where what they ask for can't be checked, that is bad. It runs code of the release's source archive: the second
-implementation and the verifier in Perl over the vectors, and what tells of which crates the wrong bodies were tried. Each sentence begins
-with `good`, `BAD` or `not checked`; of a trial, which is no release, that is said first, with what it `lacks`. Status 0: nothing was bad;
-1: something was; 3: nothing was, but it is a trial.
+another way; where what they ask for can't be checked, that is bad. What it says of the log's proof and of the wrong bodies rests on the
+copy of the sources in which it lies: on `reference/timeweave_reference` and `tools/body_trials.py` there, and on nothing of the release.
+It runs code of the release's source archive over the vectors alone: the second implementation and the verifier in Perl. Each sentence
+begins with `good`, `BAD` or `not checked`; of a trial, which is no release, that is said first, with what it `lacks`. Status 0: nothing
+was bad; 1: something was; 3: nothing was, but it is a trial.
 """
 
 from __future__ import annotations
@@ -266,13 +267,20 @@ def lay_out(files: Files, folder: Path) -> None:
         (folder / path).write_bytes(data)
 
 
+OWN = Path(__file__).resolve().parent.parent
+"""The copy of the sources in which this judge lies, which its reader got another way than the release: what judges is of that copy."""
+
+
 def untried(files: Files) -> List[str]:
-    """What tells that not all wrong bodies of these sources were tried, as their own tools/body_trials.py finds by the file that is of them."""
-    if "tools/body_trials.py" not in files:
-        return [f"the sources have no tools/body_trials.py, by which this judge reads {TRIED}; take the judge of the commit that BUILD names"]
+    """What tells that not all wrong bodies of these sources were tried, as tools/body_trials.py beside this judge finds by the file that is of them."""
+    own = OWN / "tools/body_trials.py"
+    if not own.is_file() or own.read_bytes() != files.get("tools/body_trials.py"):
+        told = "the sources have not the tools/body_trials.py that lies beside this judge, by which it reads"
+        return [f"{told} {TRIED}; take the judge of the commit that BUILD names"]
     with tempfile.TemporaryDirectory(prefix="timeweave-judged-") as folder:
         lay_out(files, Path(folder))
-        done = subprocess.run([sys.executable, "-I", "-c", BY_TRIALS, folder], capture_output=True, text=True, check=False)
+        words = [sys.executable, "-I", "-c", BY_TRIALS, folder, str(OWN / "tools")]
+        done = subprocess.run(words, capture_output=True, text=True, check=False)
     if done.returncode:
         return [f"{TRIED} of the sources can't be read: {(done.stderr.strip().splitlines() or ['no reason is told'])[-1][:300]}"]
     return [f"the wrong bodies of {done.stdout.strip()} weren't tried as these crates are"] * bool(done.stdout.strip())
@@ -283,7 +291,7 @@ import sys
 from pathlib import Path
 top = Path(sys.argv[1])
 sys.dont_write_bytecode = True
-sys.path.insert(0, str(top / "tools"))
+sys.path.insert(0, sys.argv[2])
 import body_trials
 paths = [path for part in body_trials.READ for path in (top / part, *(top / part).rglob("*")) if path.is_file()]
 sources = {path.relative_to(top).as_posix(): path.read_bytes() for path in paths}
@@ -699,10 +707,15 @@ class Release:
             if self.options.line is not None:
                 raise Bad("no proof of a log is there that the release was recorded, which --line asks for")
             return self.left("no proof of a log is there that the release was recorded.")
+        reference = OWN / "reference/timeweave_reference"
+        if not (reference / "__main__.py").is_file():
+            if self.options.line is not None:
+                raise Bad("reference/timeweave_reference isn't beside this judge, by which it judges the log's proof, as --line asks")
+            return self.left("the log's proof, since reference/timeweave_reference isn't beside this judge.")
         line = self.options.line or self.folder / "SHA256SUMS.line"
         lines = line.read_text("ascii")
-        judge = [sys.executable, "-I", str(self.room / "reference/timeweave_reference"), "judge"]
-        done = subprocess.run([*judge, str(self.folder / "SHA256SUMS.proof"), str(line), "strict"], capture_output=True, text=True, check=False)
+        words = [sys.executable, "-I", str(reference), "judge", str(self.folder / "SHA256SUMS.proof"), str(line), "strict"]
+        done = subprocess.run(words, capture_output=True, text=True, check=False)
         if done.returncode:
             raise Bad(f"the log's proof isn't accepted under {line}: {done.stdout.strip()}")
         found = one_event(done.stdout, lines)
@@ -711,7 +724,8 @@ class Release:
         if not found.event.startswith(digest(self.file("SHA256SUMS")).encode() + b" "):
             raise Bad("the log's proof is of another SHA256SUMS")
         whose = "the line that you named" if self.options.line else "the line that lies beside it"
-        self.good(f"the log {found.service} recorded this SHA256SUMS in its step {found.step}, under {whose}.")
+        told = f"the log {found.service} recorded this SHA256SUMS in its step {found.step}, under {whose}"
+        self.good(f"{told}, by the second implementation beside this judge, {reference}.")
         if not self.options.line:
             self.left("whose that line is: get it another way from the owner, and name it by --line.")
         return None

@@ -144,7 +144,7 @@ def control(fields, root, version):
         "Package": fields["Package"], "Source": "timeweave", "Version": version, "Architecture": fields.get("Architecture", ARCHITECTURE),
         "Maintainer": MAINTAINER, "Installed-Size": size, "Depends": depends, "Section": fields["Section"], "Priority": "optional",
     }  # fmt: skip
-    said |= {"Multi-Arch": fields["Multi-Arch"]} if "Multi-Arch" in fields else {}
+    said |= {name: fields[name] for name in ("Recommends", "Suggests", "Multi-Arch") if name in fields}
     said["Description"] = fields["Description"]
     if fields["Package"] == "timeweave":
         del said["Source"]

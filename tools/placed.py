@@ -79,6 +79,14 @@ def filled(text, layout):
     return re.sub(r"@([A-Z]+)@", lambda found: known[found[1]], text)
 
 
+def make_folders(folder):
+    """Makes a folder and those above it, which everybody may enter and read, whatever the umask; those that are there stay as they are."""
+    if not folder.is_dir():
+        make_folders(folder.parent)
+        folder.mkdir()
+        folder.chmod(0o755)
+
+
 def copy(chosen, layout, root, files=None):
     """Copies these parts below the folder `root`; `files` are built files that lie elsewhere, by their names in the table. Answers the paths below `root`."""
     made = []
@@ -86,7 +94,7 @@ def copy(chosen, layout, root, files=None):
         if line.part not in chosen:
             continue
         path = Path(root) / layout.of(line.place)
-        path.parent.mkdir(parents=True, exist_ok=True)
+        make_folders(path.parent)
         path.unlink(missing_ok=True)
         if line.mode is None:
             path.symlink_to(os.path.relpath(layout.of(line.source), os.path.dirname(layout.of(line.place))))

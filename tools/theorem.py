@@ -25,7 +25,7 @@ TRUST = TOP / "docs/trust.md"
 MOST_LINES, MOST_COLUMNS, MOST_CHARACTERS = 400, 140, 20_000
 
 # What is named and not shown.
-UNSHOWN = {"hashed_texts"}
+UNSHOWN = {"hashed_texts", "hashed_by_maps", "Spells", "history_layout"}
 
 IMPORT = re.compile(r"^(?:pub )?use Rattle\.([\w.◌]+?)(?:\.\{([^}]*)\})?(?: as (\w+))?$")
 DEFINED = re.compile(r"^( *)((?:(?:pub|abbrev|unfoldable) )*)(data |record )?([^\s:({]+)((?:, [^\s:({]+)*)(?= :| \(| \{)")
@@ -35,9 +35,20 @@ BLOCK = re.compile(r"^ *module _ .* where$")
 # The clauses, each with the file and the function of its contract.
 CLAUSES = {
     "run": ("crates/tw_app/src/ending.rt", "run", "plain"),
+    "line": ("crates/tw_app/src/ending.rt", "run", "plain_line"),
     "judged": ("crates/tw_judge/src/told.rt", "judge", "plain"),
     "once": ("crates/tw_plain/src/laws.rt", "reading_laws", "once"),
 }
+
+# Those of the second part, on maps and on taking over.
+MORE_CLAUSES = {
+    "map": ("crates/tw_app/src/ending.rt", "run", "plain_map"),
+    "judged_map": ("crates/tw_judge/src/maps.rt", "judge_maps", "plain"),
+    "map_once": ("crates/tw_plain/src/laws.rt", "reading_laws", "map_once"),
+    "front_once": ("crates/tw_plain/src/laws.rt", "reading_laws", "front_once"),
+    "adoption": ("crates/tw_app/src/ending.rt", "run", "plain_adoption"),
+}
+ALL_CLAUSES = {**CLAUSES, **MORE_CLAUSES}
 
 # In which order the definitions are shown: a heading, and the modules.
 PARTS = (
@@ -50,6 +61,13 @@ PARTS = (
     ("Which histories are sound", "tw_base/specs/history/Sound tw_base/specs/history/Rules tw_base/specs/history/Limits tw_base/specs/history/Tree tw_base/specs/history/Entries"),
     ("What an authenticator is", "tw_base/specs/history/Auth tw_base/specs/kinds/Levels tw_base/specs/kinds/Texts tw_base/specs/events/EventTree"),
     ("Names, bytes and lists", "tw_base/specs/kinds/Names tw_base/specs/kinds/Bytes tw_base/specs/kinds/Lists"),
+)  # fmt: skip
+
+# The same of the second part, of what the first doesn't show.
+MORE_PARTS = (
+    ("What bounds say by your lines", "tw_plain/specs/Maps tw_tmap/specs/Bounds"),
+    ("The first bytes of LOW, and what is printed", "tw_chain/specs/Proofs tw_skipproof/specs/Codecs tw_base/specs/format/Fields tw_tmap/specs/Texts tw_text/specs/Reports tw_base/specs/history/Reasons"),
+    ("What a history that is taken over says by your lines", "tw_app/specs/PlainAdoptions tw_service/specs/Machine tw_adopt/specs/HistoryFronts tw_base/specs/kinds/Lists"),
 )  # fmt: skip
 
 
@@ -155,6 +173,10 @@ class Closure(NamedTuple):
     constants: Set[Place]
     known: Set[Place]
 
+    def beyond(self, other: "Closure") -> "Closure":
+        """What of it the other one hasn't."""
+        return Closure(*(own - others for own, others in zip(self, other)))
+
 
 def sort_of(place: Place, found: Closure) -> Optional[Set[Place]]:
     """The part of the closure that a name belongs to, where it is no definition of this repository."""
@@ -239,13 +261,14 @@ KIT = {
     "IsTrue": "that a test is true",
     "Ordering": "`Less`, `Equal` or `Greater`",
     "sha256": "SHA-256 of FIPS 180-4",
-    "length, map, flat_map, take, drop, replicate": "what they are called",
+    "length, map, flat_map, take, drop, replicate, max": "what they are called",
     "slice_get, slice_index_or": "the element at a place, counted from 0, or none; or the value given",
     "slice_split": "the parts between the elements that pass a test",
     "before_first, after_first": "what stands before and behind the first element that passes",
     "take_while, list_all": "the front that passes; whether all pass",
     "sum_by": "the sum over a list",
-    "option_and_then, option_map_or, option_to_list, result_unwrap_or": "what is made of a value that is there; or nothing, or the value given",
+    "find": "the first element that passes, or none",
+    "option_and_then, option_map, option_map_or, option_to_list, result_unwrap_or": "what is made of a value that is there; or nothing, or the value given",
     "not, nat_le, nat_lt": "tests",
     "bytes_eq": "whether two lists are the same",
     "nat_cmp, slice_cmp, ordering_then": "the order of numbers; of lists, by the first element that differs; by a first order and then a second",
@@ -253,7 +276,7 @@ KIT = {
     "string_bytes": "those of a word of the command line",
     "decimal, digits_value": "a number below 2^64 in decimal digits, and back",
     "encode_lower, decode_sized": "bytes in hexadecimal digits, and back",
-    "to_be_bytes, w32, w64": "a number in 4 or 8 bytes, the highest first",
+    "to_be_bytes, w32, w64, bytes_high_first": "a number in 4, 8 or so many bytes, the highest first",
     "trailing_zeros": "how many times 2 divides a number",
     "FinMap, get": "a finite map, and what it has under a key",
 }
@@ -315,7 +338,7 @@ def words_in(path: str, text: str) -> List[Place]:
 
 def words_of_clause(name: str) -> List[Place]:
     """What a clause of the page names."""
-    return words_in(CLAUSES[name][0], clause_of(*CLAUSES[name]))
+    return words_in(ALL_CLAUSES[name][0], clause_of(*ALL_CLAUSES[name]))
 
 
 def with_inner(types: Set[Place]) -> List[Place]:
@@ -340,15 +363,26 @@ def inner_type(place: Place, word: str) -> Optional[Place]:
     return (f"{home}.declared.{'.'.join(found[0].relative_to(folder_of(home.split('.')[1]) / 'src').with_suffix('').parts)}.{word}", word)
 
 
-def code(found: Closure) -> Dict[str, List[List[str]]]:
+Parts = Iterable[Tuple[str, str]]
+"""Headings, each with its modules."""
+
+
+def code(found: Closure, headings: Parts = PARTS) -> Dict[str, List[List[str]]]:
     """All that is shown, by its heading."""
-    parts = {heading: [lines for name in names.split() for lines in of_module(name, found)] for heading, names in PARTS}
+    parts = {heading: [lines for name in names.split() for lines in of_module(name, found)] for heading, names in headings}
     listed = sum(map(len, parts.values()))
     if listed != len(found.shown):
         raise SystemExit(f"{len(found.shown) - listed} definitions have no part of the page: {sorted({home for home, _ in found.shown})}")
     types = [part for place in with_inner(found.types) for part in wrapped(type_line(place))]
-    parts["Types and numbers of the code"] = [types, wrapped(", ".join(map(constant, sorted(found.constants))))]
+    constants = wrapped(", ".join(map(constant, sorted(found.constants)))) if found.constants else []
+    parts["Types and numbers of the code"] = [block for block in (types, constants) if block]
     return parts
+
+
+def by_module(found: Closure) -> List[List[str]]:
+    """All that is shown, in no order of the page."""
+    names = sorted({home for home, _ in found.shown})
+    return [block for parts in code(found, [(name, name.removeprefix("Rattle.").replace(".", "/")) for name in names]).values() for block in parts]
 
 
 def size(blocks: Iterable[List[str]]) -> Tuple[int, int, int]:
@@ -366,8 +400,9 @@ digest.*
 Below are the clauses that say so, which the prover shows of the code, and all that their words mean: each definition
 that they use, and each that these use, down to the kit's own functions (the [last list](#what-the-kit-names)). By
 `python3 tools/theorem.py`, from the sources. You need read nothing else, and no code: how a proof is checked isn't part
-of what is said. One thing is named and not shown: `hashed_texts`, the list of texts of which two clash. These are what
-checking the proof hashes, and what the histories hash: whoever has both can write them down, and find the two.
+of what is said. One thing of the first part is named and not shown: `hashed_texts`, the list of texts of which two
+clash. These are what checking the proof hashes, and what the histories hash: whoever has both can write them down, and
+find the two.
 
 `name x = B` defines, a `record` holds where each of its fields does, a line that begins with `--` says in words what
 stands below it. `A × B` is "and", `A ⊎ B` "or", `A → B` "if A, then B", `(x : A) → B` "for each x of A", `(x : A) × B`
@@ -375,24 +410,26 @@ stands below it. `A × B` is "and", `A ⊎ B` "or", `A → B` "if A, then B", `(
 rest, `[]` an empty one, `xs ++ ys` one list behind another, `Unit` what always holds, `⊥` what never does. `dig` is the
 function that hashes (SHA-256), `family` the list of histories: a definition that needs one of them may leave it out
 where it is defined, and has it first where it is used. `old` and `new`, behind an argument's name, are its value before
-the call and behind it; `I.told` is what the inputs tell of files, `S.taken` what the output tells that it has taken.
-*Anchors* are your lines. Only a report of `precedes` has hops.
+the call and behind it, `now` that of one which the call leaves as it is; `I.told` is what the inputs tell of files,
+`S.taken` what the output tells that it has taken. *Anchors* are your lines; a thread is *carried* where no line of
+yours binds it. The program prints hops of `precedes` alone: no clause here says that, and the services of hops are
+named wherever they stand.
 
 ## What it says
 
-Your *lines* are those of the file LINES: each has a service's name, a step's number and an authenticator. Let `verify
-PROOF LINES` or `strict PROOF LINES` end with status 0. Then a report was printed whole. Take any list of histories,
-each of which keeps the rules (is *sound*), whether or not anybody has it. Of a name the first one counts. Let it *have*
-each of your lines of a service that the report *names*, and each thread that it tells as `carried`: its history of that
-service has so many steps, and at that step this authenticator. Then each of these is so of the list, or two texts
-clash:
+Your *lines* are those of the file LINES, or the one of the words NAME STEP HEX: each has a service's name, a step's
+number and an authenticator. Let `verify PROOF LINES`, `strict PROOF LINES` or `verify PROOF NAME STEP HEX` end with
+status 0. Then a report was printed whole. Take any list of histories, each of which keeps the rules (is *sound*),
+whether or not anybody has it. Of a name the first one counts. Let it *have* each of your lines of a service that the
+report *names*, and each thread that it tells as `carried`: its history of that service has so many steps, and at that
+step this authenticator. Then each of these is so of the list, or two texts clash:
 
 | the report | it names | what is so |
 |---|---|---|
 | `exists` | the event's service | the event stands there at that step and index; the step has the time that is told, and none where none is told |
 | `precedes` | both events' services, and both of each hop | both events stand so, and the hops lead from the first one's step to the step before the second one's; without hops both are of one service, the first at an earlier step, and where both have a time, its isn't above the other's |
-| `thread` | the service whose archive it is | it received that thread, with that authenticator, at the step that is told, which isn't above the one named |
-| `absent` | the service whose archive it is | none of its steps up to the one named received a thread of that service and step |
+| `thread` | the service whose archive it is | it received that thread, with that authenticator, at the step that is told, which isn't above the step of that archive |
+| `absent` | the service whose archive it is | none of its steps up to that of the archive received a thread of the other service's step that is told |
 | `link` | the service | at that step it has that authenticator |
 
 Hops *lead* where each is a thread that its receiver received at the step told, with the authenticator that the other
@@ -401,13 +438,13 @@ one. What is printed has one reading: no two reports have one text (`once`).
 
 ## Where it says nothing
 
-- **Where no list of sound histories has all these lines**: since one of yours is a line of no sound history, or a
-  carried one contradicts it or another carried one. (Your own can't contradict each other: a file with two lines of one
-  service, or with one that can't be read, ends with status 9. No clause here says that.) An accepted report isn't a
-  sign that such a list is there.
-- **Where a keeper broke the rules** at the step of your line, or before: then no sound history has that line, but for a
-  clash. A rule broken later changes nothing. Of the services that the report doesn't name nothing is needed: not that
-  of a received thread, nor that of an absent one.
+- **Where no list of sound histories has all these lines**: since one of yours, or a carried one, is a line of no
+  sound history, or a carried one contradicts another or yours. (Your own can't contradict each other: a file with two
+  lines of one service, or with one that can't be read, ends with status 9. No clause here says that.) An accepted
+  report isn't a sign that such a list is there.
+- **Where a keeper broke the rules** at the step of your line, or before, so that it shows in the line: then no sound
+  history has that line, but for a clash. A rule broken later changes nothing. Of the services that the report doesn't
+  name nothing but carried threads is needed: not that of a received thread, nor that of an absent one.
 - **Whose lines they are.** A line is a name and digits. That the service of that name, or anybody, made it, and from
   whom you have it, stands nowhere here. A carried line is told by the service that received it, and by nobody else.
 - **Time.** That hops lead says what stands in what: the later step holds what the earlier one's authenticator stands
@@ -422,6 +459,37 @@ What else is proved is in [claims.md](claims.md), what is trusted in [trust.md](
 """
 
 
+MORE_HEAD = """## Bounds, and histories that are taken over
+
+This second part says the same of what `checkmap` and `adopt` write. It stands on the first, whose definitions aren't
+shown again: the first part has {first} lines of clauses and definitions, this one {more} more. What one clause means,
+down to the kit, is at most 400 lines; those of each are what `python3 tools/theorem.py --check` tells.
+
+**Bounds.** Let `checkmap LOW HIGH LINES` end with status 0. Then the text of three numbers was printed whole: `low`,
+`high`, which may be `none`, and `upto`. It names no service. Which step of which service it is of, and which peer,
+the first bytes of LOW name (`low_map`). Take any list of sound histories that has each of your lines of the service
+or of the peer. Then the service has that step, the peer has a step `upto`; `low` is the greatest step of the peer in
+threads that the service received before that step, or 0; `high` is the least step of the peer up to `upto` that
+received a thread of the service of that step or of a later one, or `none`. Or two texts clash: of `hashed_by_maps`,
+those that the histories and checking both files hash. What is printed has one reading (`map_once`), and LOW names one
+step and peer (`front_once`). HIGH may be of any step of the peer: `upto` tells which.
+
+**Taking over.** Let `adopt HISTORY LINES PROOF..` end with status 0. Then the bytes that were written are the file of
+a sound history, which is the same as that of HISTORY up to its own last step. And in every list of sound histories that
+has the thread of that last step, the history of its name has the same contents, times and archives up to there. Or two
+texts clash, of those that it and the list hash. `Spells history_layout` is named and not shown: that bytes are a
+history's file. A file is of one history (`history_laws` of tw_history: `format`).
+
+`ShowsReceived` says too little by itself: it ties the receiving service `by` to nothing in PROOF, and of a service that
+no line names it says nothing. That each proof's own service received a thread of the history is said by the clause
+`adopted` of `run`, over the proof as the verifier reads it.
+
+Nothing is said of whether the keeper of that name made these steps, or any other: a service may have received a
+thread that its keeper never told. Which service received each thread isn't written by `adopt`; `verify PROOF LINES`
+prints it.
+"""
+
+
 def fenced(lines: Iterable[str]) -> List[str]:
     """Lines as a block of code."""
     return ["```", *lines, "```", ""]
@@ -429,34 +497,43 @@ def fenced(lines: Iterable[str]) -> List[str]:
 
 def contract(name: str) -> List[str]:
     """A clause, under the name of its function."""
-    path, function, _ = CLAUSES[name]
-    lines = [line.strip() if at == 0 else "    " + line.strip() for at, line in enumerate(clause_of(*CLAUSES[name]).split("\n"))]
+    path, function, _ = ALL_CLAUSES[name]
+    lines = [line.strip() if at == 0 else "    " + line.strip() for at, line in enumerate(clause_of(*ALL_CLAUSES[name]).split("\n"))]
     return [f"-- of `{function}` ({path})", *(part for line in lines for part in wrapped(line))]
 
 
-def words_of_all() -> List[Place]:
-    """What the clauses name."""
-    return [place for name in CLAUSES for place in words_of_clause(name)]
+def meant_by(names: Iterable[str]) -> Closure:
+    """What these clauses mean."""
+    return closure([place for name in names for place in words_of_clause(name)], UNSHOWN)
+
+
+def clauses_and_code(names: Iterable[str], blocks_by: Dict[str, List[List[str]]], heads: str) -> List[str]:
+    """Clauses, and definitions under headings of this depth."""
+    lines = [f"{heads} The clauses", "", *fenced(part for name in names for part in [*contract(name), ""])]
+    for heading, blocks in blocks_by.items():
+        if blocks:
+            lines += [f"{heads} {heading}", "", *fenced([line for block in blocks for line in [*block, ""]][:-1])]
+    return lines
+
+
+def lines_of_part(names: Iterable[str], blocks_by: Dict[str, List[List[str]]]) -> int:
+    """How many lines the clauses and definitions of a part are."""
+    return size([*map(contract, names), *(block for blocks in blocks_by.values() for block in blocks)])[0]
 
 
 def page() -> str:
     """The page."""
-    found = closure(words_of_all(), UNSHOWN)
-    lines = [HEAD, "## The clauses", "", *fenced(part for name in CLAUSES for part in [*contract(name), ""])]
-    for heading, blocks in code(found).items():
-        if blocks:
-            lines += [f"## {heading}", "", *fenced([line for block in blocks for line in [*block, ""]][:-1])]
-    lines += ["## What the kit names", "", *textwrap.wrap(kit_names(found), 120, break_long_words=False, break_on_hyphens=False), ""]
+    first, both = meant_by(CLAUSES), meant_by(ALL_CLAUSES)
+    shown_first, shown_more = code(first), code(both.beyond(first), MORE_PARTS)
+    counts = {"first": lines_of_part(CLAUSES, shown_first), "more": lines_of_part(MORE_CLAUSES, shown_more)}
+    lines = [HEAD, *clauses_and_code(CLAUSES, shown_first, "##"), MORE_HEAD.format(**counts), *clauses_and_code(MORE_CLAUSES, shown_more, "###")]
+    lines += ["## What the kit names", "", *textwrap.wrap(kit_names(both), 120, break_long_words=False, break_on_hyphens=False), ""]
     return "\n".join(lines).replace("\n\n```\n", "\n```\n")
 
 
 def sizes() -> Dict[str, Tuple[int, int, int]]:
     """How long what each clause means is: itself, and the definitions that it uses."""
-    found = {}
-    for name in CLAUSES:
-        blocks = [block for part in code(closure(words_of_clause(name), UNSHOWN)).values() for block in part]
-        found[name] = size([contract(name), *blocks])
-    return found
+    return {name: size([contract(name), *by_module(meant_by([name]))]) for name in ALL_CLAUSES}
 
 
 # ---- how much each clause of `run` means
@@ -475,7 +552,7 @@ def clauses_of_run() -> List[str]:
 def meaning(name: str) -> Closure:
     """All that a clause of `run` means."""
     path, function, _ = CLAUSES["run"]
-    return closure(words_in(path, clause_of(path, function, name)), UNSHOWN if name == "plain" else ())
+    return closure(words_in(path, clause_of(path, function, name)), UNSHOWN if name.startswith("plain") else ())
 
 
 def table() -> str:
