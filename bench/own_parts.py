@@ -3,7 +3,9 @@
 import re
 
 NETWORK = "## A network that weaves itself\n"
-HEADINGS = (NETWORK,)
+WEB = "## A network over the web\n"
+TWO_BUILDS = "## Two builds beside each other\n"
+HEADINGS = (NETWORK, WEB, TWO_BUILDS)
 
 
 def part_of(page: str, heading: str) -> str:

@@ -1,33 +1,43 @@
 -- What a run of `adopt` with status 0 says, by the lines of its file alone.
-use Rattle.std.proofs.Common.{◌≡◌, ℕ, ◌≤◌, suc, zero, List, [], ◌∷◌, ◌++◌, length, take, refl, ap, sym, ◌∙◌, subst, inl, inr, arith}
-use Rattle.std.specs.Prelude.{codes, map, Bool, true, false, Option, Some, None, MatchOption, nat_lt, if◌then◌else◌}
+use Rattle.std.proofs.Common.{◌≡◌, ℕ, ◌≤◌, suc, zero, List, [], ◌∷◌, ◌++◌, append_assoc, length, take, refl, ap, sym, ◌∙◌, subst, inl, inr, arith}
+use Rattle.std.specs.Prelude.{codes, map, Bool, true, false, Option, Some, None, IsSome, MatchOption, nat_lt, if◌then◌else◌}
+use Rattle.std.specs.List.{slice_split}
 use Rattle.std.specs.Str.{bytes_eq}
 use Rattle.std.proofs.lemmas.Bool.{ltb-false, ltb-true}
 use Rattle.std.proofs.lemmas.Option.{cond_some, none-some}
 use Rattle.std.proofs.lemmas.Slice.Eq.{bytes_eq-Decides}
 use Rattle.sha2.specs.Sha256.{sha256}
+use Rattle.tw_base.specs.declared.history.thread.Entry.{Entry}
 use Rattle.tw_base.specs.declared.history.thread.Thread.{Thread}
 use Rattle.tw_base.specs.declared.kinds.limits.TheConstants.{LAST_STEP}
-use Rattle.tw_base.specs.format.Codecs.{behind, by_kind, counted, many, number_codec, pair, seen}
+use Rattle.tw_base.specs.format.Codecs.{behind, by_kind, bytes_codec, counted, many, name_codec, number_codec, pair, seen, variant}
+use Rattle.tw_base.specs.format.Fields.{number_bytes}
 use Rattle.tw_base.specs.format.Formats.{Spells}
+use Rattle.tw_base.specs.history.Anchors.{anchor_of, is_at}
 use Rattle.tw_base.specs.history.Auth.{auth}
+use Rattle.tw_base.specs.history.EntryCodec.{entry_codec}
 use Rattle.tw_base.specs.history.Facts.{Facts, TimesRise, WasReceived}
 use Rattle.tw_base.specs.history.Family.{HasHistory, HasThread, family_texts}
 use Rattle.tw_base.specs.history.History.{History}
-use Rattle.tw_base.specs.history.HistoryCodec.{history_bytes, history_codec, history_layout, step_codec}
+use Rattle.tw_base.specs.history.HistoryCodec.{history_bytes, history_codec, history_layout, step_codec, thread_codec}
 use Rattle.tw_base.specs.history.HistoryTexts.{history_texts}
 use Rattle.tw_base.specs.history.Sound.{IsSound}
 use Rattle.tw_base.specs.kinds.Clash.{OrClash}
 use Rattle.tw_base.specs.kinds.Lists.{Each, In}
-use Rattle.tw_base.proofs.lemmas.format.CodecLaws.{spelled-fits, unambiguous}
+use Rattle.tw_base.proofs.lemmas.format.CodecLaws.{spelled-fits, unambiguous, written-as}
+use Rattle.tw_base.proofs.lemmas.history.Anchoring.{anchor_of-is}
 use Rattle.tw_base.proofs.lemmas.history.Families.{sound_of, texts_within}
 use Rattle.tw_base.proofs.lemmas.history.HistoryCodecLaws.{history-lawful}
 use Rattle.tw_base.proofs.lemmas.kinds.Clashes.{Among-left, OrClash-wider, and_then, both_within}
+use Rattle.tw_base.proofs.lemmas.kinds.ListLemmas.{Each-map}
+use Rattle.tw_skipproof.specs.declared.existence.Part.{Part}
+use Rattle.tw_skipproof.specs.Codecs.{part_codec, proof_magic}
 use Rattle.tw_chain.specs.declared.proof.Proof.{Proof}
 use Rattle.tw_chain.specs.declared.proof.Proof.TheVariants.{Absent, Archived, Exists, Linked, Precedes}
 use Rattle.tw_chain.specs.declared.proof.ThreadProof.{ThreadProof}
 use Rattle.tw_chain.specs.Accepting.{IsAccepted, claim_of, report_of}
-use Rattle.tw_chain.specs.Proofs.{proof_layout}
+use Rattle.tw_chain.specs.Proofs.{kind_bytes, kinds_codec, proof_codec, proof_layout, thread_body}
+use Rattle.tw_chain.proofs.ProofCodec.{proof-lawful}
 use Rattle.tw_adopt.specs.declared.adopted.Adopted.{Adopted}
 use Rattle.tw_adopt.specs.declared.receiving.Receiving.{Receiving}
 use Rattle.tw_adopt.specs.Adopting.{AreGood, ShowsReceiving, adopted_by, further, furthest, receiving_of}
@@ -37,10 +47,10 @@ use Rattle.tw_adopt.proofs.WeighingLaws.{within-some}
 use Rattle.tw_disk.specs.Disk.{DiskView}
 use Rattle.tw_disk.specs.Image.{Image}
 use Rattle.tw_filecmd.specs.Showing.{IsHistoryFileOf}
-use Rattle.tw_msg.specs.AnchorsFile.{anchor_on, lines as lines_in}
+use Rattle.tw_msg.specs.AnchorsFile.{anchor_on, is_line_feed, lines as lines_in, lines_of_parts}
 use Rattle.tw_outside.specs.Files.{Files, file_bytes}
 use Rattle.tw_plain.specs.Hashed.{hashed_texts}
-use Rattle.tw_plain.specs.Plain.{IsSoByLines, IsSoInLists, file_lines}
+use Rattle.tw_plain.specs.Plain.{IsReport, IsSoByLines, IsSoInLists, file_lines}
 use Rattle.tw_reachcmd.specs.Adopting.{IsTakenOver}
 use Rattle.tw_reachcmd.specs.Held.{TellAll}
 use Rattle.tw_service.specs.Machine.{last_thread}
@@ -49,7 +59,7 @@ use Rattle.tw_words.specs.declared.command.Command.{Command}
 use Rattle.tw_words.specs.declared.command.Command.TheVariants.{Adopt}
 use Rattle.tw_app.specs.Adoptions.{AsksAdoption, IsAdoptedRun}
 use Rattle.tw_app.specs.Around.{Around}
-use Rattle.tw_app.specs.PlainAdoptions.{IsPlainAdoption, ShowsReceived}
+use Rattle.tw_app.specs.PlainAdoptions.{IsPlainAdoption, ShowsReceived, entry_bytes, proof_of_thread}
 use Rattle.tw_app.specs.Running.{EndsAllowed, work}
 use Rattle.tw_app.proofs.Adoptions.{adopted}
 use Rattle.tw_app.proofs.Endings.{done}
@@ -104,6 +114,94 @@ front-spelled h bytes count spelled =
     (unambiguous history_codec history-lawful).spelled (first_steps h count)
     (front-fits h count (spelled-fits history_codec history-lawful bytes h spelled))
 
+-- ---- the bytes of a proof of a received thread
+
+kind-written : number_bytes 1 3 ≡ 3 ∷ []
+unfolding number_bytes
+kind-written = refl
+
+part-written : (at : Part) → (way : List ℕ) × ((part_codec 0).write at ≡ at.service ++ (number_bytes 8 at.step ++ way))
+unfolding part_codec seen pair name_codec number_codec
+part-written at = (_, refl)
+
+entry-written : (e : Entry) → entry_codec.write e ≡ entry_bytes e
+unfolding entry_codec thread_codec seen pair name_codec number_codec bytes_codec
+entry-written e =
+    append_assoc e.thread.from (number_bytes 8 e.thread.step ++ e.thread.auth) (number_bytes 8 e.archived)
+    ∙ ap (λ t. e.thread.from ++ t) (append_assoc (number_bytes 8 e.thread.step) e.thread.auth (number_bytes 8 e.archived))
+
+-- its parts, one behind another
+abbrev parts_written : (kind at entry shown : List ℕ) → List ℕ
+parts_written kind at entry shown = proof_magic ++ (kind ++ (at ++ (entry ++ shown)))
+
+proof-written : (q : ThreadProof)
+    → (shown : List ℕ) × (proof_codec.write (Archived q) ≡ parts_written (number_bytes 1 3) ((part_codec 0).write q.at) (entry_codec.write q.entry) shown)
+unfolding proof_codec kinds_codec thread_body behind by_kind variant seen pair number_codec
+proof-written q = (_, refl)
+
+moved : (service step way rest : List ℕ) → (service ++ (step ++ way)) ++ rest ≡ service ++ (step ++ (way ++ rest))
+moved service step way rest = append_assoc service (step ++ way) rest ∙ ap (λ t. service ++ t) (append_assoc step way rest)
+
+-- what stands behind the step, and behind the entry
+record IsThreadProof (bytes : List ℕ) (q : ThreadProof) : Type 0 where
+  way : List ℕ
+  shown : List ℕ
+  are : bytes ≡ proof_of_thread q.at.service q.at.step way q.entry shown
+
+thread-bytes : (bytes : List ℕ) (q : ThreadProof) → Spells proof_layout bytes (Archived q) → IsThreadProof bytes q
+thread-bytes bytes q spelled =
+    let written = proof-written q in
+    let part = part-written q.at in
+    let at : List ℕ = q.at.service ++ (number_bytes 8 q.at.step ++ part.0) in
+    let first : bytes ≡ parts_written (number_bytes 1 3) ((part_codec 0).write q.at) (entry_codec.write q.entry) written.0 =
+    written-as proof_codec proof-lawful bytes (Archived q) spelled ∙ written.1 in
+    let second : bytes ≡ parts_written (3 ∷ []) at (entry_bytes q.entry) written.0 =
+    first ∙ (λ k. parts_written (kind-written k) (part.1 k) (entry-written q.entry k) written.0) in
+    let third : bytes ≡ proof_of_thread q.at.service q.at.step part.0 q.entry written.0 =
+    second ∙ ap (λ t. kind_bytes 3 ++ t) (moved q.at.service (number_bytes 8 q.at.step) part.0 (entry_bytes q.entry ++ written.0)) in
+    record { way = part.0; shown = written.0; are = third }
+
+-- ---- a line that was needed
+
+-- each line of a file stands between its line feeds
+lines-among : (parts : List (List ℕ)) → Each (λ (t : Thread). In t (map anchor_on parts)) (map anchor_on (lines_of_parts parts))
+lines-among [] = tt
+lines-among ([] ∷ []) = tt
+lines-among ((b ∷ bs) ∷ []) = (inl refl, tt)
+lines-among (line ∷ next ∷ more) =
+    let rest = lines-among (next ∷ more) in
+    (inl refl, Each-map _ _ (map anchor_on (lines_of_parts (next ∷ more))) (λ t is. inr is) rest)
+
+module _ (P : Thread → Type 0) (service : List ℕ) (step : ℕ) where
+  -- the line that is found is one of them
+  found-is : (held : List Thread) (t : Thread) → Each P held → anchor_of held service step ≡ Some t → P t
+  found-is [] t all found = cc
+  found-is (u ∷ held) t all found = by (is_at service step u) found (λ is. found-is held t all.1 is)
+    where
+      by : (b : Bool) → (if b then Some u else anchor_of held service step) ≡ Some t → (anchor_of held service step ≡ Some t → P t) → P t
+      by true is rest = let same : u ≡ t = cc in subst P same all.0
+      by false is rest = rest is
+
+  line-is : (held : List Thread) → Each P held → IsSome (anchor_of held service step)
+      → (t : Thread) × P t × (t.from ≡ service) × (t.step ≡ step)
+  line-is held all there = by (anchor_of held service step) refl there
+    where
+      by : (o : Option Thread) → anchor_of held service step ≡ o → IsSome o → (t : Thread) × P t × (t.from ≡ service) × (t.step ≡ step)
+      by None is there = cc
+      by (Some t) is there = let names = anchor_of-is held service step t is in (t, found-is held t all is, names.0, names.1)
+
+-- a line of the service, at its step or a later one
+abbrev HasLine : (held : List Thread) → Part → Type 0
+HasLine held at = (t : Thread) × In t held × (t.from ≡ at.service) × (at.step ≤ t.step)
+
+line-held : (file : List ℕ) (q : ThreadProof) → IsAccepted sha256 (map anchor_on (lines_in file)) (Archived q) → HasLine (file_lines file) q.at
+line-held file q accepted =
+    let found = line-is (λ (t : Thread). In t (file_lines file)) q.at.service q.at.top (map anchor_on (lines_in file))
+    (lines-among (slice_split is_line_feed file)) accepted.1.0 in
+    let below : q.at.step ≤ q.at.top = accepted.0 in
+    let at_top = found.3 in
+    (found.0, found.1, found.2, omega (arith, below, at_top))
+
 -- ---- what each proof shows
 
 thread-same : (from other : List ℕ) (step next : ℕ) (one text : List ℕ) → from ≡ other → step ≡ next → one ≡ text
@@ -112,6 +210,7 @@ thread-same from other step next one text a b c = cc
 
 module _ (so : (bytes file : List ℕ) (p : Proof) → Spells proof_layout bytes p → IsAccepted sha256 (map anchor_on (lines_in file)) p
     → IsSoByLines sha256 (file_lines file) (hashed_texts sha256 bytes) (report_of p))
+    (readable : (bytes : List ℕ) (p : Proof) → Spells proof_layout bytes p → IsReport (report_of p))
     (h : History) (lines : List ℕ) where
   abbrev held : List Thread
   held = map anchor_on (lines_in lines)
@@ -122,20 +221,26 @@ module _ (so : (bytes file : List ℕ) (p : Proof) → Spells proof_layout bytes
 
   sooner : (texts : List (List ℕ)) (family : List History) (q : ThreadProof)
       → OrClash sha256 texts (Facts sha256 family (report_of (Archived q)).hops (report_of (Archived q)).claim × TimesRise (report_of (Archived q)).hops (report_of (Archived q)).claim)
-      → OrClash sha256 texts (WasReceived family q.at.service q.entry.archived q.entry)
-  sooner texts family q (inl is) =
-      inl (record { history = is.0.history; has = is.0.has; received = is.0.received; order = omega arith })
+      → OrClash sha256 texts (WasReceived family q.at.service q.at.step q.entry)
+  sooner texts family q (inl is) = inl is.0
   sooner texts family q (inr clash) = inr clash
 
   shown-of : (bytes : List ℕ) (p : Proof) (r : Receiving) → Spells proof_layout bytes p → IsAccepted sha256 held p
       → receiving_of h.name (claim_of p) ≡ Some r → IsShown bytes r.entry.thread
   shown-of bytes (Archived q) r spelled accepted is =
       let parts = cond_some (bytes_eq q.entry.thread.from h.name) (record { by = q.at.service; entry = q.entry }) r is in
+      let written = thread-bytes bytes q spelled in
       subst (λ (s : Receiving). IsShown bytes s.entry.thread) parts.1 (
         record {
           by = q.at.service;
+          step = q.at.step;
           entry = q.entry;
           of = refl;
+          way = written.way;
+          shown = written.shown;
+          of_proof = written.are;
+          readable = (readable bytes (Archived q) spelled).claim;
+          line = line-held lines q accepted;
           so = λ family sound has carries.
               sooner (hashed_texts sha256 bytes family) family q (so bytes lines (Archived q) spelled accepted family sound has tt);
         },
@@ -243,6 +348,7 @@ proofs_of _ = []
 
 module _ (so : (bytes file : List ℕ) (p : Proof) → Spells proof_layout bytes p → IsAccepted sha256 (map anchor_on (lines_in file)) p
     → IsSoByLines sha256 (file_lines file) (hashed_texts sha256 bytes) (report_of p))
+    (readable : (bytes : List ℕ) (p : Proof) → Spells proof_layout bytes p → IsReport (report_of p))
     (same_to : (one other : History) (step : ℕ) → IsSound one → IsSound other → step ≤ length one.steps → step ≤ length other.steps
     → auth sha256 one step ≡ auth sha256 other step → OrClash sha256 (history_texts sha256 one ++ history_texts sha256 other) (Same one other step))
     (fronts : (g : History) (count step : ℕ) → step ≤ count → step ≤ length g.steps
@@ -258,7 +364,7 @@ module _ (so : (bytes file : List ℕ) (p : Proof) → Spells proof_layout bytes
       let binds = over.binds proofs all in
       let kept : IsAdoptedKept sha256 h (adopted_by h r) = subst (λ (a : Adopted). IsAdoptedKept sha256 h a) is.3 binds.0 in
       let last : IsAdoptionShown sha256 h held proofs (adopted_by h r) = subst (λ (a : Adopted). IsAdoptionShown sha256 h held proofs a) is.3 binds.2 in
-      adoption-says so h lines same_to fronts whole bytes proofs r kept (is.0 ∷ is.1) file is.2 (furthest-most is.0 is.1) last
+      adoption-says so readable h lines same_to fronts whole bytes proofs r kept (is.0 ∷ is.1) file is.2 (furthest-most is.0 is.1) last
       (over.file ∙ ap (λ (a : Adopted). history_bytes a.history) is.3)
 
   module _ {D : Type 0} (view : D → DiskView) (a : Around D) (status : ℕ) (run : EndsAllowed view a status) (zeroth : status ≡ 0)

@@ -215,11 +215,13 @@ pub fn run<D: Disk, I: Inputs, S: Sink>(
         → (text : List ℕ) × (S.taken out.new ≡ Some (before ++ text)) × IsPlainMap sha256 low high (file_lines lines) text }
     // Status 0 of `adopt HISTORY LINES PROOF..`, in the words of docs/theorem.md, where the inputs tell the bytes of all files and
     // the sink tells what it has taken: it took the file of a sound history whole, which is the same as the one of HISTORY up to
-    // its own last step. Of each PROOF a thread of it was received, and of one the thread of its last step: in every list of
-    // sound histories that has each of the lines of the file LINES which is of the service that received it, this service did
-    // so; or two different texts, both of bytes, of those that these histories and checking the proof hash, have one SHA-256
-    // digest. And in every list of sound histories that has the thread of its last step, the history of its name is the
-    // same up to there; or two different texts, both of bytes, of it and of these have one.
+    // its own last step. Each PROOF is one of a received thread of it, and one of the thread of its last step: the first bytes
+    // name the service that received it and a step, behind them stands the thread, and a line of the file LINES is of that
+    // service, at that step or a later one. In every list of sound histories that has each of the lines of the file which is
+    // of that service, its history received that thread, with that authenticator, at that step or an earlier one; or two
+    // different texts, both of bytes, of those that these histories and checking the proof hash, have one SHA-256 digest. And
+    // in every list of sound histories that has the thread of its last step, the history of its name is the same up to there;
+    // or two different texts, both of bytes, of it and of these have one.
     ensures plain_adoption { (history_file lines_file proof_file whole lines before : List ℕ) (more_files proofs : List (List ℕ)) → result.status ≡ 0
         → map string_bytes words.now ≡ codes "adopt" ∷ history_file ∷ lines_file ∷ proof_file ∷ more_files
         → file_bytes (I.told inputs.old) history_file ≡ Some whole → file_bytes (I.told inputs.old) lines_file ≡ Some lines

@@ -8,9 +8,10 @@ use Rattle.std.specs.Prelude.{map, option_map, IsSome, Option, Some, None, Resul
 use Rattle.tw_base.specs.declared.history.refusal.Refusal.{Refusal}
 use Rattle.tw_base.specs.declared.history.question.Question.{Question}
 use Rattle.tw_base.specs.history.History.{History}
+use Rattle.tw_base.specs.kinds.Lists.{Each}
 use Rattle.tw_world.specs.Hosts.{Given, GivesReply, GoesOnByReply, HoldsHistory, TakesGiven, own_answer}
 use Rattle.tw_world.specs.OnDisks.{IsFirst}
-use Rattle.tw_world.specs.Players.{AreHostsOf, IsHostOf, IsMessage, PlayerFollows, mail_kept}
+use Rattle.tw_world.specs.Players.{AreHostsOf, IsHostOf, IsMessage, IsProofFile, PlayerFollows, mail_kept}
 use Rattle.tw_world.specs.Runs.{IsMember, Moves, loss_answer}
 use Rattle.tw_world.specs.Worlds.{Mail, Member, World, after_line, numbered, with_member, without_message}
 use Rattle.tw_world.specs.declared.host.Host.{Host}
@@ -24,7 +25,7 @@ use Rattle.tw_world.proofs.Members.{named}
 use Rattle.tw_world.proofs.ToldLines.{numbered-at}
 
 pub later : (p : Player) (w : World) → PlayerFollows p w → PlayerFollows p (after_line w)
-later p w f = record { hosts = f.hosts; messages = f.messages; files = f.files; anchors = f.anchors }
+later p w f = record { hosts = f.hosts; messages = f.messages; files = f.files; proofs = f.proofs; anchors = f.anchors }
 
 -- the service of this name stands here; it is in another state, and all else is as it was
 pub record IsServedAt (old new : Player) (name : List ℕ) (at : ℕ) (host one : Host) : Type 0 where
@@ -98,6 +99,7 @@ module _ (old new : Player) (name : List ℕ) (at : ℕ) (host one : Host) (serv
         (put-host old.hosts.items w.members name at one n f.hosts served.first is same);
     messages = ap (map mail_kept) served.messages ∙ f.messages;
     files = served.files ∙ f.files;
+    proofs = subst (Each IsProofFile) (sym served.files) f.proofs;
     anchors = served.anchors ∙ f.anchors;
   }
 
@@ -108,6 +110,7 @@ module _ (old new : Player) (name : List ℕ) (at : ℕ) (host one : Host) (serv
         (keep-host old.hosts.items w.members at host one f.hosts served.there to);
     messages = ap (map mail_kept) served.messages ∙ f.messages;
     files = served.files ∙ f.files;
+    proofs = subst (Each IsProofFile) (sym served.files) f.proofs;
     anchors = served.anchors ∙ f.anchors;
   }
 

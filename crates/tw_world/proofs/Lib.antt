@@ -18,6 +18,8 @@ pub mod LineMoves
 pub mod ToldLines
 pub mod Follows
 pub mod Filed
+pub mod AskedProofs
+pub mod GivenProofs
 pub mod MadeWorlds
 pub mod PlayedRuns
 pub mod PlayedDisks

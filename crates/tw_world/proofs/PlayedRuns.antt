@@ -45,6 +45,7 @@ use Rattle.tw_world.specs.Worlds.Mail.{Made as MadeMail, Unmade, Dropped}
 use Rattle.tw_world.specs.declared.told.Answer.{Answer}
 use Rattle.tw_world.specs.declared.host.Host.{Host}
 use Rattle.tw_world.specs.declared.told.Told.{Told}
+use Rattle.tw_world.proofs.AskedProofs.{LineAsks, line-asks-proof}
 use Rattle.tw_world.proofs.MadeWorlds.{HasMade, file-there, files-there, free-new, is_there, made-anchor, made-file}
 use Rattle.tw_world.proofs.MadeWorlds.{made-hostile, made-later, made-lost, made-mail, made-member, made-service}
 use Rattle.tw_world.proofs.MadeWorlds.{message-there, nothing-made, service-there}
@@ -131,24 +132,24 @@ module _ (made : Made) (w : World) (o : HasMade made w) where
       (sym (ap (λ (x : Option Message). option_map_or (λ (n : Message). bytes_eq n.thread.from name) x true)
       (message-spelled bytes m spells)) ∙ own)
 
-  line-may : (line : Line) → HasValues line → may_follow made line ≡ true → MayTell w line
+  line-may : (line : Line) → HasValues line → LineAsks line → may_follow made line ≡ true → MayTell w line
   unfolding may_follow
-  line-may (Service name) has may = let new = free-new made w o name may in (has, new.0, new.1)
-  line-may (Hostile name) has may = let new = free-new made w o name may in (has, new.0, new.1)
-  line-may (Append name events) has may = (has, service-there made w o name may)
-  line-may (Send name since) has may = service-there made w o name may
-  line-may (Inject name bytes) has may =
+  line-may (Service name) has asks may = let new = free-new made w o name may in (has, new.0, new.1)
+  line-may (Hostile name) has asks may = let new = free-new made w o name may in (has, new.0, new.1)
+  line-may (Append name events) has asks may = (has, service-there made w o name may)
+  line-may (Send name since) has asks may = service-there made w o name may
+  line-may (Inject name bytes) has asks may =
       let parts = and_parts (is_hostile made name) (is_own_or_none name bytes) may in
       (o.hostile name parts.0, own-name name bytes parts.1)
-  line-may (Deliver number name) has may =
+  line-may (Deliver number name) has asks may =
       let parts = and_parts (is_message made number) (is_service made name) may in
       (message-there made w o number parts.0, service-there made w o name parts.1)
-  line-may (Lose number) has may = message-there made w o number may
-  line-may (Crash name call choice) has may = service-there made w o name may
-  line-may (Prove name asked) has may = service-there made w o name may
-  line-may (Join numbers) has may = (has, files-there made w o numbers may)
-  line-may (Anchor name step) has may = (has, service-there made w o name may)
-  line-may (Verify number) has may = file-there made w o number may
+  line-may (Lose number) has asks may = message-there made w o number may
+  line-may (Crash name call choice) has asks may = service-there made w o name may
+  line-may (Prove name asked) has asks may = (asks, service-there made w o name may)
+  line-may (Join numbers) has asks may = (has, files-there made w o numbers may)
+  line-may (Anchor name step) has asks may = (has, service-there made w o name may)
+  line-may (Verify number) has asks may = file-there made w o number may
 
 -- ---- runs
 
@@ -238,7 +239,7 @@ may-next script i l told w (bytes, read) within at runs =
     at in
     line-may (made_by_all nothing_made (take i script)) w (made-runs sha256 claims_none (take i script) nothing_made
     no_world told w nothing-made runs) l.line
-    (line-has of.text l.line of.line_is) (allowed-at script nothing_made i l is.allowed within at)
+    (line-has of.text l.line of.line_is) (line-asks-proof of.text l.line of.line_is) (allowed-at script nothing_made i l is.allowed within at)
 
 -- and it is asked what a service may be asked
 pub asks-next : (script : List NumberedLine) (i : ℕ) (l : NumberedLine) → AreLinesRead script → i < length script

@@ -48,7 +48,7 @@ numbered-at xs index number is = ap (numbered xs) (sym is ∙ add-one index)
 same-why : (given : Result (List ℕ) Answer) (one other : Answer) → given ≡ Err one → given ≡ Err other → one ≡ other
 same-why given one other is also = cc
 
-not-both-given : (given : Result (List ℕ) Answer) (bytes : List ℕ) (why : Answer) → given ≡ Ok bytes → given ≡ Err why
+pub not-both-given : (given : Result (List ℕ) Answer) (bytes : List ℕ) (why : Answer) → given ≡ Ok bytes → given ≡ Err why
     → ⊥
 not-both-given given bytes why is also = cc
 
@@ -179,10 +179,10 @@ link-cases h step one = by (nat_le step last) refl
           ap (λ b. told b (nat_le 1 last) (nat_le last last)) e,
         )
 
-no-bytes : (bytes : List ℕ) (refusal : Refusal) → OfBytes bytes ≡ Refused refusal → ⊥
+pub no-bytes : (bytes : List ℕ) (refusal : Refusal) → OfBytes bytes ≡ Refused refusal → ⊥
 no-bytes bytes refusal e = cc
 
-same-bytes : (one other : List ℕ) → OfBytes one ≡ OfBytes other → one ≡ other
+pub same-bytes : (one other : List ℕ) → OfBytes one ≡ OfBytes other → one ≡ other
 same-bytes one other e = cc
 
 same-refused : (one other : Refusal) → Refused one ≡ Refused other → one ≡ other

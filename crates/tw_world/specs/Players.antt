@@ -4,10 +4,11 @@ use Rattle.sha2.specs.Sha256.{sha256}
 use Rattle.tw_base.specs.declared.history.refusal.Refusal.{Refusal}
 use Rattle.tw_base.specs.format.Formats.{Spells}
 use Rattle.tw_base.specs.declared.history.question.Question.{Question}
+use Rattle.tw_base.specs.declared.history.question.Question.TheVariants as ask
 use Rattle.tw_base.specs.declared.history.thread.Thread.{Thread}
 use Rattle.tw_base.specs.kinds.Bytes.{AreBytes}
 use Rattle.tw_base.specs.kinds.Lists.{Each, In}
-use Rattle.tw_chain.specs.Proofs.{proof_bytes}
+use Rattle.tw_chain.specs.Proofs.{proof_bytes, proof_layout}
 use Rattle.tw_chain.specs.declared.proof.LinkProof.{LinkProof}
 use Rattle.tw_chain.specs.declared.proof.Proof.{Proof}
 use Rattle.tw_join.specs.Joining.{Joins}
@@ -44,12 +45,22 @@ mail_kept (kept.Made bytes) = Made bytes
 mail_kept kept.Unmade = Unmade
 mail_kept kept.Dropped = Dropped
 
--- what is played is the world: its services' histories are on their disks for good; and messages, files and anchors are the world's. Hostile
--- names, births and the place in the schedule aren't played
+-- the bytes are those of a proof
+abbrev pub IsProofText : (bytes : List ℕ) → Type 0
+IsProofText bytes = (p : Proof) × Spells proof_layout bytes p
+
+-- a file that was made is a proof
+abbrev pub IsProofFile : Option (List ℕ) → Type 0
+IsProofFile None = Unit {0}
+IsProofFile (Some bytes) = IsProofText bytes
+
+-- what is played is the world: its services' histories are on their disks for good; and messages, files and anchors are the world's. Each file
+-- that was made is a proof. Hostile names, births and the place in the schedule aren't played
 pub record PlayerFollows (player : Player) (w : World) : Type 0 where
   pub hosts : AreHostsOf player.hosts.items w.members
   pub messages : map mail_kept player.messages.items ≡ w.messages
   pub files : player.files.items ≡ w.files
+  pub proofs : Each IsProofFile player.files.items
   pub anchors : player.anchors.items ≡ w.anchors
 
 -- the services are as they were
@@ -68,6 +79,14 @@ HasMember w name = IsSome (member_of w.members name)
 abbrev pub IsMessage : World → (number : ℕ) → Type 0
 IsMessage w number = (mail : Mail) × (numbered w.messages number ≡ Some mail) × IsSome (loss_answer mail)
 
+-- what is asked for is a proof
+abbrev pub AsksForProof : Question → Type 0
+AsksForProof (ask.Event step index top) = Unit {0}
+AsksForProof (ask.Thread step key top) = Unit {0}
+AsksForProof (ask.Absent step key top) = Unit {0}
+AsksForProof (ask.Link step top) = Unit {0}
+AsksForProof _ = ⊥
+
 -- what a script's line keeps
 abbrev pub MayTell : World → Line → Type 0
 MayTell w (Service name) = IsNew w name
@@ -78,7 +97,7 @@ MayTell w (Inject name bytes) = In name w.hostile × ((m : Message) → Spells m
 MayTell w (Deliver number name) = IsMessage w number × HasMember w name
 MayTell w (Lose number) = IsMessage w number
 MayTell w (Crash name call choice) = HasMember w name
-MayTell w (Prove name asked) = HasMember w name
+MayTell w (Prove name asked) = AsksForProof asked × HasMember w name
 MayTell w (Join numbers) = (2 ≤ length numbers) × AreFiled w numbers
 MayTell w (Anchor name step) = (1 ≤ step) × HasMember w name
 MayTell w (Verify number) = IsSome (numbered w.files number)

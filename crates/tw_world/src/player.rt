@@ -15,7 +15,7 @@ ghost use Rattle.tw_script.specs.AskedWords.{AsksWell};
 ghost use Rattle.tw_script.specs.declared.line.Line.TheVariants.{Service, Append, Send, Inject, Deliver, Lose, Crash, Prove, Join, Anchor, Verify};
 ghost use Rattle.tw_world.specs.PlayedLines.{AreLinesRead, HasPlayed, TellsNext};
 ghost use Rattle.tw_world.specs.OnDisks.{IsFirst};
-ghost use Rattle.tw_world.specs.Players.{AreFiled, AreProofsOfNumbers, CanPlayLine, FilesJoinTo, KeepsHosts, HasGiven, HasService, PlayerFollows, PlaysLine, ProofsJoinTo, mail_kept, thread_of_link};
+ghost use Rattle.tw_world.specs.Players.{AreFiled, AreProofsOfNumbers, CanPlayLine, FilesJoinTo, KeepsHosts, HasGiven, HasService, IsProofText, PlayerFollows, PlaysLine, ProofsJoinTo, mail_kept, thread_of_link};
 ghost use Rattle.tw_world.specs.Playing.{script_lines};
 ghost use Rattle.tw_world.specs.Runs.{IsFiled, IsNotFiled, loss_answer as loss_answer_of, verdict_answer};
 ghost use Rattle.tw_world.specs.Worlds.{World, after_line, no_world, with_anchor, with_message};
@@ -254,8 +254,9 @@ impl Player {
         Told::Plain(Answer::Done)
     }
 
-    /// Makes the next file of these bytes.
+    /// Makes the next file of these bytes, which are a proof's.
     fn add_file(&mut self, bytes: Bytes) -> Result<Told, NoMemory>
+        requires { IsProofText bytes }
         ensures { IfOk result (λ told. (w : World) → PlayerFollows self.old w → (next : World) × IsFiled w bytes told next × PlayerFollows self.new next × KeepsHosts self.old self.new) }
     {
         self.files.push(Some(bytes))?;
@@ -294,10 +295,10 @@ impl Player {
             let index = index_of(*number, self.files.len());
             match &self.files[index] {
                 None => return Ok(None),
-                Some(bytes) => match read_proof(self.alloc, bytes.as_slice()) {
-                    Ok(proof) => proofs.push(proof)?,
-                    Err(_) => return Err(NoMemory),
-                },
+                Some(bytes) => {
+                    let proof = proof_of(self.alloc, bytes.as_slice())?;
+                    proofs.push(proof)?;
+                }
             }
         }
         Ok(Some(proofs))
@@ -367,6 +368,18 @@ impl Player {
         };
         let answer = judged(self.alloc, bytes.as_slice(), &self.anchors)?;
         Ok(Told::Plain(answer))
+    }
+}
+
+/// The proof that the bytes are.
+fn proof_of(alloc: Global, bytes: &[u8]) -> Result<Proof, NoMemory>
+    requires { IsProofText bytes.now }
+    ensures { IfOk result (λ p. Spells proof_layout bytes.now p) }
+{
+    match read_proof(alloc, bytes) {
+        Ok(proof) => Ok(proof),
+        Err(ReadFault::NoMemory) => Err(NoMemory),
+        Err(ReadFault::Malformed { .. }) => unreachable!(),
     }
 }
 

@@ -1,7 +1,8 @@
 // What a service on a disk in memory does for a line of a script; for a schedule, tw_generate/src/telling.rt has that.
 
-ghost use Rattle.std.specs.Prelude.{◌≡◌, ◌⊎◌, ◌≤◌, true, false, None, Some, Ok, is_some, IfErr, IfOk, IsNone, IsTrue, OnOk};
+ghost use Rattle.std.specs.Prelude.{◌≡◌, ◌⊎◌, ◌↔◌, ◌≤◌, true, false, None, Some, Ok, Err, is_some, IfErr, IfOk, IsErr, IsNone, IsTrue, OnOk};
 ghost use Rattle.sha2.specs.Sha256.{sha256};
+ghost use Rattle.tw_base.specs.declared.history.refusal.Refusal.TheVariants.{DiskFault as OfDisk, NoMemory as OfMemory};
 ghost use Rattle.tw_base.specs.history.History.{History};
 ghost use Rattle.tw_base.specs.history.Questions.{MayAsk};
 ghost use Rattle.tw_disk.specs.Image.{Image};
@@ -26,7 +27,8 @@ use tw_script::CrashChoice;
 /// The service that was made or opened; a fault of the disk comes from want of memory.
 fn service_of(opened: Result<MemService, (MemDisk, StoreFault)>) -> Result<MemService, NoMemory>
     requires { IfErr opened (λ e. e.1 ≡ FailedDisk) }
-    ensures { IfOk result (λ service. opened ≡ Ok service) }
+    ensures service { IfOk result (λ service. opened ≡ Ok service) }
+    ensures memory { IsErr result ↔ IsErr opened }
 {
     match opened {
         Ok(service) => Ok(service),
@@ -145,7 +147,8 @@ fn crash_told(answer: Option<Answer>, steps: u64) -> Told
 
 /// Sees that the disk of a line without an answer is stopped. Where it isn't, the disk's fault came from want of memory.
 fn see_stopped(answer: &Option<Answer>, disk: &MemDisk) -> Result<(), NoMemory>
-    ensures { OnOk result (IsNone answer.now → IsTrue (is_stopped disk.now)) }
+    ensures stopped { OnOk result (IsNone answer.now → IsTrue (is_stopped disk.now)) }
+    ensures memory { IsErr result ↔ (IsNone answer.now × (is_stopped disk.now ≡ false)) }
 {
     if answer.is_none() && !disk.is_stopped() {
         return Err(NoMemory);
@@ -206,7 +209,8 @@ fn end_line(alloc: Global, opened: Opened, answer: Option<Answer>) -> Result<End
 
 /// The answer to a call that was refused; none to a disk fault.
 fn refused(refusal: Refusal) -> Result<Option<Answer>, NoMemory>
-    ensures { IfOk result (AnswersRefusal refusal) }
+    ensures answers { IfOk result (AnswersRefusal refusal) }
+    ensures memory { IsErr result ↔ (refusal ≡ OfMemory) }
 {
     match refusal {
         Refusal::NoMemory => Err(NoMemory),
@@ -245,7 +249,8 @@ fn received(service: &mut MemService, bytes: &[u8]) -> Result<Option<Answer>, No
 
 /// What a reply to a question gives; a fault comes from want of memory.
 fn given(reply: Result<Bytes, Refusal>) -> Result<Result<Bytes, Refusal>, NoMemory>
-    ensures { IfOk result (IsGiven reply) }
+    ensures gives { IfOk result (IsGiven reply) }
+    ensures memory { IsErr result ↔ ((reply ≡ Err OfDisk) ⊎ (reply ≡ Err OfMemory)) }
 {
     match reply {
         Ok(bytes) => Ok(Ok(bytes)),

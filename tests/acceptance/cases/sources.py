@@ -247,7 +247,6 @@ WANTS = {
         tw_generate/src/telling.rt: given, tw_generate/src/telling.rt: service_made, tw_world/src/serving.rt: end_line,
         tw_world/src/serving.rt: given, tw_world/src/serving.rt: see_stopped, tw_world/src/serving.rt: service_of""",
     "such a fault, or that a history's file would be too long": "tw_generate/src/judging.rt: file_given",
-    "what can't come, as a reader of the code sees, and no clause says": "tw_world/src/player.rt: proofs",
 }
 
 # In code: a line that makes want of memory, which is no pattern, type, declaration or clause.
@@ -536,20 +535,34 @@ def heights(program):
     return "\n".join(f"  {name} stands at {at}, at most {MOST_HEIGHT} is allowed" for name, at in wrong.items()) or None
 
 
-# The bodies of a run: its work, which has no sink, and then its text, which has no disk. (A law that a clause is by does nothing.)
+# The bodies of a run, by file: its work, which has no sink, and then its text, which has no disk; and what of the program calls `run`. (A law that a clause
+# is by does nothing.)
 RUN_BODIES = {
-    "run_to_the_end": [
-        "let Followed { outcome, disk } = work(alloc, words, disk, inputs);", "let status = tell(alloc, &outcome, out);", "Ran { status, disk }"],
-    "run": ["plain_laws::<Sha>();", "plain_map_laws::<Sha>();", "same_laws::<Sha>();", "first_steps_laws::<Sha>();", "run_to_the_end(alloc, words, disk, inputs, out)"],
+    "crates/tw_app/src/ending.rt": {
+        "run_to_the_end": [
+            "let Followed { outcome, disk } = work(alloc, words, disk, inputs);", "let status = tell(alloc, &outcome, out);", "Ran { status, disk }"],
+        "run": ["plain_laws::<Sha>();", "plain_map_laws::<Sha>();", "same_laws::<Sha>();", "first_steps_laws::<Sha>();", "run_to_the_end(alloc, words, disk, inputs, out)"],
+    },
+    "crates/timeweave/src/main.rt": {
+        "run_words": [
+            "let words = read_arguments(rt.alloc(), &SystemArguments { rt })?;", "let file = file_of(rt.alloc(), &words)?;",
+            "let disk = FileDisk::new(rt, file.path.as_str(), file.access);", "let mut inputs = HostInputs::new(rt);",
+            "Ok(run(rt.alloc(), &words, disk, &mut inputs, out).status)"],
+        "status_of_run": ["let mut out = HostSink::new(rt);", "let ran = run_words(rt, &mut out);", "status_of(ran, &mut out)"],
+    },
 }
+
+
+def body_of(text, name):
+    """The lines of a function's body that are no comments, or nothing where there is no such function."""
+    body = re.search(rf"\bfn {name}\b.*?\n{{\n(.*?)\n}}", text, re.DOTALL)
+    return [line.strip() for line in body[1].split("\n") if not line.strip().startswith("//")] if body else None
 
 
 def halves_of_a_run(program):
     """The functions of a run that do something else than its work and then its text."""
-    text = (TOP / "crates/tw_app/src/ending.rt").read_text()
-    bodies = {name: re.search(rf"\bfn {name}<.*?\n{{\n(.*?)\n}}", text, re.DOTALL) for name in RUN_BODIES}
-    said = {name: [line.strip() for line in body[1].split("\n") if not line.strip().startswith("//")] if body else None for name, body in bodies.items()}
-    return "\n".join(f"  {name} isn't as it has to be: {said[name]}" for name, lines in RUN_BODIES.items() if said[name] != lines) or None
+    said = [(path, name, lines, body_of((TOP / path).read_text(), name)) for path, bodies in RUN_BODIES.items() for name, lines in bodies.items()]
+    return "\n".join(f"  {path}: {name} isn't as it has to be: {found}" for path, name, lines, found in said if found != lines) or None
 
 
 def what_stands_twice(program):

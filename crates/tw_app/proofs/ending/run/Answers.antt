@@ -70,6 +70,7 @@ pub returns-clause-plain_adoption : goal.returns-clause-plain_adoption
 returns-clause-plain_adoption g c = λ history_file lines_file proof_file whole lines before more_files proofs zeroth asked whole_told lines_told proofs_told taken.
     let run = c.run_to_the_end.ensures in
     let fronts = c.first_steps_laws.ensures in
-    plain_adoption c.plain_laws.ensures.so c.same_laws.ensures.same fronts.same g.D.Disk.view _ _ run zeroth
+    let laws = c.plain_laws.ensures in
+    plain_adoption laws.so laws.readable c.same_laws.ensures.same fronts.same g.D.Disk.view _ _ run zeroth
     history_file lines_file proof_file whole lines before more_files proofs
     g.met.D.Disk.only_now g.met.D.Disk.as_it_reads asked whole_told lines_told proofs_told taken

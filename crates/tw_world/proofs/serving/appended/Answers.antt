@@ -33,7 +33,7 @@ returns-in-Err-clause-does c =
     c.args.service.now c.append.new.self r) c.in-Err.is c.append.ensures in
     if-ok c.refused.result (AnswersRefusal c.in-Err.refusal)
     (DoesGiven (OfEvents c.args.events.now) c.args.service.now c.append.new.self)
-    (λ answer after. (Err c.in-Err.refusal, a, after)) c.refused.ensures
+    (λ answer after. (Err c.in-Err.refusal, a, after)) c.refused.ensures.answers
 
 pub returns-in-Err-clause-answers : goal.returns-in-Err-clause-answers
 returns-in-Err-clause-answers c =
@@ -44,4 +44,4 @@ returns-in-Err-clause-answers c =
     → Answered (OfEvents c.args.events.now) h c.append.new.self answer)
     (λ answer after h served whole. append-answered c.args.service.now c.append.new.self h served whole
     c.args.events.now c.in-Err.refusal answer after a)
-    c.refused.ensures
+    c.refused.ensures.answers

@@ -31,7 +31,7 @@ returns-in-Err-clause-does c =
     c.args.service.now c.receive.new.self r) c.in-Err.is c.receive.ensures in
     if-ok c.refused.result (AnswersRefusal c.in-Err.refusal)
     (DoesGiven (OfBytes c.args.bytes.now) c.args.service.now c.receive.new.self)
-    (λ answer after. (Err c.in-Err.refusal, a, after)) c.refused.ensures
+    (λ answer after. (Err c.in-Err.refusal, a, after)) c.refused.ensures.answers
 
 pub returns-in-Err-clause-answers : goal.returns-in-Err-clause-answers
 returns-in-Err-clause-answers c =
@@ -42,4 +42,4 @@ returns-in-Err-clause-answers c =
     → Answered (OfBytes c.args.bytes.now) h c.receive.new.self answer)
     (λ answer after h served whole. receive-answered c.args.service.now c.receive.new.self h served whole
     c.args.bytes.now c.in-Err.refusal answer after a)
-    c.refused.ensures
+    c.refused.ensures.answers

@@ -34,7 +34,7 @@ returns-clause-gives c h holds =
     let name = name_of c.ask-reply.new.self in (
       gives-reply h c.args.question.now (Serves sha256 mem_disk_view c.ask-reply.new.self) c.ask-reply.result
           c.in_ok-given.given
-          (asks.machine c.in_ok-service.ensures.whole h served) c.in_ok-given.ensures,
+          (asks.machine c.in_ok-service.ensures.whole h served) c.in_ok-given.ensures.gives,
       record {
         named = c.take_disk.ensures.same.0 ∙ holds.named;
         counted = c.take_disk.ensures.same.1 ∙ holds.counted;

@@ -5,7 +5,7 @@ use Rattle.tw_world.proofs.host.Host.make.Goals as goal
 
 pub returns-clause-holds : goal.returns-clause-holds
 returns-clause-holds c =
-    let served = rw c.in_ok-service.ensures at c.init.ensures.served in
+    let served = rw c.in_ok-service.ensures.service at c.init.ensures.served in
     let rests = c.closed-disk.ensures.rests (no_history c.args.name) (served _ refl) in
     record { named = refl; counted = rests.0; stands = rests.1 }
 

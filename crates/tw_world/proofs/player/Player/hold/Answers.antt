@@ -15,6 +15,7 @@ returns c w f =
         hosts = f.hosts;
         messages = f.messages;
         files = f.files;
+        proofs = f.proofs;
         anchors = c.in_ok-push.ensures.items
             ∙ ap (λ (xs : List Thread). xs ++ c.args.anchor ∷ [])
             (kept ∙ ap (filter (λ (a : Thread). not (bytes_eq a.from c.args.anchor.from))) f.anchors);

@@ -6,6 +6,7 @@ use Rattle.tw_world.specs.Worlds.{World}
 use Rattle.tw_world.specs.declared.told.Answer.{Answer}
 use Rattle.tw_world.specs.declared.told.Told.{Told}
 use Rattle.tw_world.proofs.AnsweredCalls.{if-ok}
+use Rattle.tw_world.proofs.GivenProofs.{joined-text}
 use Rattle.tw_world.proofs.ToldLines.{told-filed, told-not_filed}
 use Rattle.tw_world.proofs.player.Player.join.Goals as goal
 
@@ -40,3 +41,10 @@ returns-in-Err c =
     let join = subst (FilesJoinTo w numbers) c.in-Err.is (c.in_ok-bytes.ensures w f may.1) in
     (filed.0, told-not_filed w numbers why told filed.0 may.0 join filed.1, filed.2, filed.3))
     c.add_none.ensures
+
+pub add_file-requires : goal.add_file-requires
+add_file-requires c =
+    let can = c.requires in
+    let numbers = c.args.numbers.now in
+    joined-text can.0 numbers c.in-Ok.bytes
+    (subst (FilesJoinTo can.0 numbers) c.in-Ok.is (c.in_ok-bytes.ensures can.0 can.1 can.2.1))

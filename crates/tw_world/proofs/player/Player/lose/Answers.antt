@@ -19,6 +19,7 @@ returns c w f may =
         hosts = f.hosts;
         messages = message-lost old w index c.args.number f at.1;
         files = f.files;
+        proofs = f.proofs;
         anchors = f.anchors;
       },
       refl,

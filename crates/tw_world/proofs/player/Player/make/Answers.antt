@@ -19,6 +19,7 @@ returns c w f new =
             (record { holds = c.in_ok-host.ensures.holds; waits = ap is_some c.in_ok-host.ensures.waits }));
         messages = f.messages;
         files = f.files;
+        proofs = f.proofs;
         anchors = f.anchors;
       },
       (c.in_ok-host.host, c.in_ok-push.ensures.items, c.in_ok-host.ensures.holds.named, c.in_ok-host.ensures.waits),

@@ -16,7 +16,13 @@ returns-in-Hostile c =
     (λ w f new. (
       after_line (with_hostile w c.in-Hostile.name),
       (new, refl, refl),
-      record { hosts = f.hosts; messages = f.messages; files = f.files; anchors = f.anchors },
+      record {
+        hosts = f.hosts;
+        messages = f.messages;
+        files = f.files;
+        proofs = f.proofs;
+        anchors = f.anchors;
+      },
       refl,
     ))
 

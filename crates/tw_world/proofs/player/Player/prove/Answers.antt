@@ -11,6 +11,7 @@ use Rattle.tw_world.specs.declared.told.Answer.TheVariants as answer
 use Rattle.tw_world.specs.declared.told.Told.{Told}
 use Rattle.tw_world.proofs.AnsweredCalls.{if-ok}
 use Rattle.tw_world.proofs.GivenOn.{asked-still}
+use Rattle.tw_world.proofs.GivenProofs.{proof-given}
 use Rattle.tw_world.proofs.player.Player.prove.Goals as goal
 
 pub returns-in-Ok : goal.returns-in-Ok
@@ -58,3 +59,14 @@ returns-in-Err c =
       asked-still name old.hosts.items mid.hosts.items new.hosts.items given.4 filed.3,
     ))
     c.add_none.ensures
+
+pub ask-requires-clause-there : goal.ask-requires-clause-there
+ask-requires-clause-there c = let can = c.requires.may in (can.0, can.1, can.2.1)
+
+pub add_file-requires : goal.add_file-requires
+add_file-requires c =
+    let can = c.requires.may in
+    let given = c.in_ok-bytes.ensures can.0 can.1 in
+    let gives = subst (λ (r : Result (List ℕ) Refusal). GivesReply given.0.history c.args.asked.now r) c.in-Ok.is given.2
+    in
+    proof-given given.0.history c.args.asked.now c.in-Ok.bytes can.2.0 gives
