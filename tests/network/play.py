@@ -1,39 +1,24 @@
-#!/usr/bin/env python3
-"""A network of services that weave themselves, in earnest: each has a store and a box, records by day and runs `weft exchange` by night, over real files;
-a carrier between the boxes loses, doubles, delays and damages them by a seed, and faults come by a schedule. The truth is kept beside.
+"""The nights of a network, and the end, at which all is held against the truth."""
 
-    python3 bench/network.py PROGRAM [SERVICES [NIGHTS [SEED]]]      else 8 services, 60 nights, seed 1; --help tells more
-
-At the end pairs of events are drawn: of each that the receipts can show `weft chain` makes the proof, `strict` accepts it, and the truth agrees; of the
-others none is shown. No step that was acknowledged is lost, no honest service is accused, and each liar that somebody could have found is found. It ends
-with 0 where all that is so, and tells the figures."""
-
-import argparse
-import contextlib
-import json
+import hashlib
 import os
 import random
 import sys
-import tempfile
 import time
 from collections import Counter
-from concurrent.futures import Executor, ProcessPoolExecutor
+from concurrent.futures import Executor
 from pathlib import Path
-from typing import Optional
+from typing import NamedTuple, Optional
 
-import network_devices as devices
-import network_files as files
-import network_found as found
-import network_told as told
-import network_truth as truth
-import network_turns as turns
-from network_carrier import Link, Load, carry
-from network_faults import KINDS, Fault
-from network_orders import drawn_pairs, orders
-from network_plan import LEAST_NIGHTS, LEAST_SERVICES, Plan, plan_of
-from network_turns import Task, Turn
+from network import devices, files, found, told, truth, turns
+from network.carrier import Link, Load, carry
+from network.faults import KINDS, Fault
+from network.orders import drawn_pairs, orders
+from network.plan import Plan, plan_of
+from network.turns import Task, Turn
+from network.web import CUTTING, Web
 
-from weft import clusters, signatures
+from weft import signatures
 
 FAULTY = 0.05
 MOST_CALL = 60
@@ -42,12 +27,24 @@ CALM_NIGHTS = 2
 PIECES = 16
 
 
+class Ways(NamedTuple):
+    """How files go: to which share of the signed lines a made-up one is appended on the way; which share of the ways is cut in a night, by which nothing comes then; which
+    share of the turns has a fault; over which web server they go, which is hostile where a way is cut, else from folder to folder; and the folder of a network whose
+    keys are taken, else new ones are made."""
+
+    appended: float = 0
+    cut: float = 0
+    faulty: float = FAULTY
+    web: Optional[Web] = None
+    keys: Optional[Path] = None
+
+
 class Network:
     """The network in a folder, and what became of it."""
 
-    def __init__(self, folder: Path, program: str, plan: Plan, seed: int, nights: int, executor: Executor, appended: float = 0):
+    def __init__(self, folder: Path, program: str, plan: Plan, seed: int, nights: int, executor: Executor, ways: Ways = Ways()):
         self.folder, self.program, self.plan, self.seed, self.nights, self.executor = folder, program, plan, seed, nights, executor
-        self.appended = appended
+        self.ways, self.asked, self.memory = ways, 0, 0
         self.truth = truth.Truth()
         self.wrong: list[str] = []
         self.found = found.Found(plan)
@@ -57,7 +54,7 @@ class Network:
         self.processor: list[float] = []
         self.no_devices = devices.hindrance()
         self.kinds = [kind for kind in KINDS if not (self.no_devices and kind.endswith("device"))]
-        files.make(folder, program, plan.peers)
+        files.make(folder, program, plan.peers, ways.web, ways.keys)
 
     # ---- nights
 
@@ -92,16 +89,21 @@ class Network:
         """What the service does in this night. With an old store it exchanges first, which tells it, and so records nothing."""
         drawn, plan, box = random.Random(f"{self.seed} {night} {name}"), self.plan, self.folder / f"box-{name}"
         events = None if plan.is_old(night, name) else (f"night {night} of {name}".encode(),)
-        is_faulty = not is_calm and drawn.random() < FAULTY and name in plan.honest
+        is_faulty = not is_calm and drawn.random() < self.ways.faulty and name in plan.honest
         fault = Fault(drawn.choice(self.kinds), drawn.randrange(1, MOST_CALL)) if is_faulty else None
         known = {peer: self.truth.lines(peer) for peer in plan.peers[name] if not turns.is_accepted(box / peer)}
         despite = tuple(plan.peers[name]) if plan.is_lying(night, name) else ()
-        return Task(str(self.folder), self.program, name, events, fault, known, despite)
+        urls = {peer: self.ways.web.address(f"box-{name}/{peer}/in") for peer in known} if self.ways.web else {}
+        return Task(str(self.folder), self.program, name, events, fault, known, despite, urls)
+
+    def came(self, to: str, sender: str) -> Path:
+        """Where the files lie that a service put out for its peer: in the peer's folder, or where the web server has them."""
+        return self.folder / ("web" if self.ways.web else "") / f"box-{to}/{sender}/in"
 
     def holds_later_line(self, name: str) -> bool:
         """Whether a peer of a service with an old store hands back a later line of it, which wasn't damaged on its way."""
         for peer in self.plan.peers[name]:
-            path = self.folder / f"box-{name}/{peer}/in/yours"
+            path = self.came(name, peer) / "yours"
             signed = signatures.read_signed_line(path.read_bytes()) if path.exists() else None
             if signed and signed.line.step > self.saved[name] and signatures.checked_by(signed, signatures.public_key(self.folder / f"{name}.key.pub")):
                 return True
@@ -111,6 +113,7 @@ class Network:
         """Notes what a turn made, and what it told."""
         self.truth.add(turn.name, night, turn.lines)
         self.processor.append(turn.processor)
+        self.memory = max(self.memory, turn.memory)
         self.wrong += self.found.note(night, turn)
         if turn.fault is not None:
             self.faults[turn.fault.kind if turn.status not in turns.DONE else "without harm"] += 1
@@ -131,7 +134,7 @@ class Network:
                 files.put_back(folder, name, folder / "right")
         for name, begin in plan.liars.items():
             if night == begin:
-                files.begin_lying(folder, name)
+                files.begin_lying(folder, name, plan.peers[name], self.ways.web)
         for name, begin in plan.keepers.items():
             if night == begin:
                 self.found.dropped[name] = files.drop_thread(folder, self.program, name)
@@ -150,29 +153,40 @@ class Network:
         plan = self.plan
         for name, begin in plan.squatted.items():
             if night == begin:
-                files.put(self.folder / f"box-{plan.peers[name][0]}/{name}/in/message", files.forged(self.folder, self.program, name))
+                files.put(self.came(plan.peers[name][0], name) / "message", files.forged(self.folder, self.program, name))
         for name, begin in plan.flooders.items():
             if night == begin:
                 for peer in plan.peers[name]:
-                    files.flood(self.folder / f"box-{peer}/{name}/in")
+                    files.flood(self.came(peer, name), self.ways.web is not None or self.ways.keys is not None)
 
     def carry(self, night: int, is_calm: bool) -> None:
-        """Carries what was put out."""
+        """Carries what was put out; over the web what is fetched in the next night."""
         links = [self.link(night, name, peer) for name in self.plan.names if self.plan.is_at_work(night, name) for peer in self.plan.peers[name]]
+        cut = {} if is_calm else {link: way for link in links if (way := self.cut(night, link)) is not None}
+        if self.ways.web is not None:
+            self.asked = max(self.asked, *Counter(os.path.dirname(it) for it in self.ways.web.asked()).values(), 0)
+            self.ways.web.be_hostile({os.path.relpath(link.web, self.ways.web.root): way for link, way in cut.items()})
+        links = [link for link in links if link not in cut]
         size = len(links) // PIECES + 1
-        late, appended = str(self.folder / "late"), 0 if is_calm else self.appended
+        late, appended = str(self.folder / "late"), 0 if is_calm else self.ways.appended
         loads = [Load(self.seed, night, is_calm, late, links[at : at + size], appended) for at in range(0, len(links), size)]
         for _ in self.executor.map(carry, loads):
             pass
 
+    def cut(self, night: int, link: Link) -> Optional[str]:
+        """In which way the server of a way is hostile in the night after this one, so that nothing comes; None where it isn't."""
+        drawn = random.Random(f"{self.seed} {night} {link.name} cut")
+        return drawn.choice(CUTTING) if drawn.random() < self.ways.cut else None
+
     def link(self, night: int, name: str, peer: str) -> Link:
         """The way from a service to its peer. One that is shown a liar's other history answers that one; of its messages nothing gets there."""
-        out, into = self.folder / f"box-{name}/{peer}/out", self.folder / f"box-{peer}/{name}/in"
+        out, into, only = "", f"box-{peer}/{name}/in", tuple[str, ...]()
         if self.plan.is_shown_other(night, name, peer):
-            out = self.folder / f"false/box-{name}/{peer}/out"
+            out = "false"
         if self.plan.is_shown_other(night, peer, name):
-            return Link(f"{name}-{peer}", str(out), str(self.folder / f"false/box-{peer}/{name}/in"), ("receipt", "refusal", "requests"))
-        return Link(f"{name}-{peer}", str(out), str(into))
+            into, only = f"false/{into}", ("receipt", "refusal", "requests")
+        below = f"www/{name}/peers/{peer}" if self.ways.web else f"box-{name}/{peer}/out"
+        return Link(f"{name}-{peer}", str(self.folder / out / below), str(self.folder / into), only, str(self.folder / "web" / into) if self.ways.web else "")
 
     # ---- the end
 
@@ -200,60 +214,29 @@ class Network:
             len(plan.names), self.nights, self.seed, found_orders.pairs, len(found_orders.shown),
             told.mean([order.hops for order in found_orders.shown]), max((order.hops for order in found_orders.shown), default=0),
             told.mean([order.size for order in found_orders.shown]), spread, told.mean(sizes), told.mean(steps), told.mean(self.seconds),
-            told.mean(self.processor), round(os.getloadavg()[2]), dict(self.faults), counts, self.no_devices,
+            told.mean(self.processor), round(os.getloadavg()[2]), dict(self.faults), counts, self.no_devices, self.ways.web is not None, self.ways.cut, self.asked, self.memory,
         )  # fmt: skip
 
 
-def played(folder: Path, program: str, services: int, nights: int, seed: int, executor: Executor, appended: float = 0) -> tuple[list[str], told.Figures]:
-    """Plays a network over an executor; answers what was wrong, and the figures."""
-    network = Network(folder, os.path.abspath(program), plan_of(services, nights, seed), seed, nights, executor, appended)
+def played(
+    folder: Path, program: str, services: int, nights: int, seed: int, executor: Executor, ways: Ways = Ways(), most_pairs: int = MOST_PAIRS
+) -> tuple[list[str], told.Figures]:
+    """Plays a network over an executor, and draws so many pairs of events at most; answers what was wrong, and the figures."""
+    network = Network(folder, os.path.abspath(program), plan_of(services, nights, seed), seed, nights, executor, ways)
     network.play()
-    return network.wrong, network.check(MOST_PAIRS)
+    return network.wrong, network.check(most_pairs)
 
 
-def read_words() -> argparse.Namespace:
-    """The words of the command line."""
-    words = argparse.ArgumentParser(description=__doc__, formatter_class=argparse.RawDescriptionHelpFormatter)
-    words.add_argument("program", metavar="PROGRAM", help="the built program")
-    for name, default in (("services", 8), ("nights", 60), ("seed", 1)):
-        words.add_argument(name, metavar=name.upper(), nargs="?", type=int, default=default, help=f"else {default}")
-    words.add_argument("--workers", metavar="N", type=int, default=len(os.sched_getaffinity(0)), help="so many processes; else one a processor")
-    words.add_argument("--dask", metavar="ADDRESS", help="over the Dask cluster whose scheduler has this address; then runs of weft aren't killed amid")
-    words.add_argument("--tls", metavar=("CA", "CERT", "KEY"), nargs=3, help="with --dask: files for TLS")
-    words.add_argument("--folder", metavar="FOLDER", help="an empty folder for all files, which stays; of a cluster one that its machines share")
-    words.add_argument("--seconds", metavar="N", type=float, default=float("inf"), help="no night begins after so many seconds, once each part has begun; else none is left out")
-    words.add_argument("--pairs", metavar="N", type=int, default=MOST_PAIRS, help=f"so many pairs of events at most; else {MOST_PAIRS:,}")
-    words.add_argument("--appended", metavar="SHARE", type=float, default=0, help="to this share of the signed lines a made-up one is appended on the way; else none")
-    words.add_argument("--write", action="store_true", help="writes the figures into bench/RESULTS.md, and the picture bench/NETWORK.svg")
-    given = words.parse_args()
-    if given.services < LEAST_SERVICES or given.nights < LEAST_NIGHTS:
-        words.error(f"there are {LEAST_SERVICES} services and {LEAST_NIGHTS} nights at least, so that each has its part")
-    return given
+def finds_of(folder: Path) -> dict[str, str]:
+    """The files by which boxes keep that a peer has two histories, each with its digest; and of each service the file of its last line, which stands for all its
+    steps."""
+    forks = [path for path in folder.glob("box-*/*/kept/forks/*") if not path.name.endswith(".new")]
+    return {path.relative_to(folder).as_posix(): hashlib.sha256(path.read_bytes()).hexdigest() for path in sorted([*forks, *folder.glob("s*.anchor")])}
 
 
-def over(words: argparse.Namespace) -> "contextlib.AbstractContextManager[Executor]":
-    """The executor that the words ask for."""
-    return clusters.executor(words.dask, words.tls) if words.dask else ProcessPoolExecutor(words.workers)
-
-
-def main() -> int:
-    """Plays the network of the command line."""
-    words, began = read_words(), time.monotonic()
-    with contextlib.ExitStack() as stack:
-        executor = stack.enter_context(over(words))
-        folder: Optional[str] = words.folder or stack.enter_context(tempfile.TemporaryDirectory(prefix="network-"))
-        assert folder is not None
-        place = Path(folder).absolute()
-        plan = plan_of(words.services, words.nights, words.seed)
-        network = Network(place, os.path.abspath(words.program), plan, words.seed, words.nights, executor, words.appended)
-        network.play(words.seconds, progress=sys.stderr.isatty() or words.write)
-        figures = network.check(words.pairs)
-    print(json.dumps({**figures.as_json(), "seconds": round(time.monotonic() - began, 1)}))
-    print("\n".join(network.wrong) or "all as it has to be")
-    if words.write and not network.wrong:
-        told.write(figures)
-    return 1 if network.wrong else 0
-
-
-if __name__ == "__main__":
-    sys.exit(main())
+def compare_finds(web: dict[str, str], folders: dict[str, str]) -> list[str]:
+    """Which files of finds over the web aren't there over folders, or have other bytes, and the other way round; and what is wrong where there is nothing to compare."""
+    if not any("/forks/" in name for name in web):
+        return ["nobody keeps that anybody has two histories"]
+    unlike = [name for name in sorted({*web, *folders}) if web.get(name) != folders.get(name)]
+    return [f"{name}: {web.get(name, 'not there')} over the web, {folders.get(name, 'not there')} over folders" for name in unlike]

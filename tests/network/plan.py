@@ -3,7 +3,7 @@
 import random
 from typing import NamedTuple
 
-LEAST_SERVICES, LEAST_NIGHTS = 8, 24
+LEAST_SERVICES, LEAST_NIGHTS = 8, 16
 EACH = 4
 SHOWN_TO_ONE = 6
 MOST_PART = 10

@@ -9,8 +9,8 @@ from concurrent.futures import Executor
 from pathlib import Path
 from typing import NamedTuple
 
-import network_turns as turns
-from network_truth import Event, Reach
+from network import turns
+from network.truth import Event, Reach
 
 from weft import chains, choosing, formats, judges
 from weft.lines import KeptLines

@@ -5,8 +5,8 @@ from collections import defaultdict
 from pathlib import Path
 from typing import Dict, Iterator, NamedTuple, Optional
 
-import network_turns as turns
-from network_files import put
+from network import turns
+from network.files import put
 from timeweave_reference.histories import Step, history_to_bytes, read_history, timeline_of
 
 Histories = Dict[str, list[Step]]

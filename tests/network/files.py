@@ -6,8 +6,9 @@ import subprocess
 from pathlib import Path
 from typing import NamedTuple, Optional
 
-from network_devices import reseal
-from network_turns import run_program
+from network.devices import reseal
+from network.turns import run_program
+from network.web import Web
 from timeweave_reference.archives import Entry
 from timeweave_reference.events_files import events_to_bytes
 from timeweave_reference.histories import Step, read_history
@@ -17,14 +18,32 @@ from timeweave_reference.services import Service
 FLOOD_FILES, FLOOD_BYTES = 300, 1 << 30
 
 
-def make(folder: Path, program: str, peers: dict[str, list[str]]) -> None:
-    """Makes the services with their stores, keys and boxes, each of which knows the keys of its peers."""
+# A server is asked for so many seconds: an honest one answers within them on a busy machine too.
+SECONDS = 120
+
+
+def settings_of(folder: Path, name: str, key: str, others: list[str], web: Optional[Web], front: str = "") -> bytes:
+    """The settings of a box: over the web it publishes, and fetches from where its peers' files are brought."""
+    lines = [f"key = {key}"]
+    if web is not None:
+        (folder / front / "www" / name).mkdir(parents=True, exist_ok=True)
+        lines += [f"publish = {folder / front / 'www' / name}", "open = *", f"seconds = {SECONDS}"]
+        lines += [f"url {peer} = {web.address(f'{front}box-{name}/{peer}/in')}" for peer in others]
+    return "".join(f"{line}\n" for line in lines).encode()
+
+
+def make(folder: Path, program: str, peers: dict[str, list[str]], web: Optional[Web] = None, keys: Optional[Path] = None) -> None:
+    """Makes the services with their stores, keys and boxes, each of which knows the keys of its peers; their files go over the web, or from folder to folder. The
+    keys are those of another network's folder, where it is named: such a key signs the same line by the same bytes."""
     (folder / "tmp").mkdir(exist_ok=True)
     for name in peers:
         (folder / name).mkdir()
         run_program(str(folder), program, "init", name, name)
-        subprocess.run(["ssh-keygen", "-q", "-t", "ecdsa", "-N", "", "-C", name, "-f", folder / f"{name}.key"], check=True)
-        put(folder / f"box-{name}/box.conf", f"key = ../{name}.key\n".encode())
+        for file in (f"{name}.key", f"{name}.key.pub") if keys is not None else ():
+            shutil.copy2(keys / file, folder / file)
+        if keys is None:
+            subprocess.run(["ssh-keygen", "-q", "-t", "ed25519", "-N", "", "-C", name, "-f", folder / f"{name}.key"], check=True)
+        put(folder / f"box-{name}/box.conf", settings_of(folder, name, f"../{name}.key", peers[name], web))
     for name, others in peers.items():
         keys = {peer: (folder / f"{peer}.key.pub").read_text().split() for peer in others}
         signers = "".join(f'{peer} namespaces="timeweave-line" {kind} {key}\n' for peer, (kind, key, *_) in keys.items())
@@ -60,12 +79,15 @@ def put_back(folder: Path, name: str, copied: Path) -> None:
     copy(copied, name, folder)
 
 
-def begin_lying(folder: Path, name: str) -> None:
-    """Copies a service into the folder of the other histories, where it signs by the same key."""
+def begin_lying(folder: Path, name: str, others: list[str], web: Optional[Web] = None) -> None:
+    """Copies a service into the folder of the other histories, where it signs by the same key; over the web what it published goes along, and what is to come to it."""
     copy(folder, name, folder / "false", with_box=True)
+    for place, below in ((folder, f"www/{name}"), (web.root, f"box-{name}")) if web is not None else ():
+        if (place / below).is_dir():
+            shutil.copytree(place / below, place / "false" / below)
     for note in (".turn", ".seal"):
         (folder / f"false/box-{name}" / note).unlink(missing_ok=True)
-    put(folder / f"false/box-{name}/box.conf", f"key = {folder}/{name}.key\n".encode())
+    put(folder / f"false/box-{name}/box.conf", settings_of(folder, name, f"{folder}/{name}.key", others, web, "false/"))
 
 
 def go_on_lying(folder: Path, program: str, name: str, step: int) -> None:
@@ -90,11 +112,12 @@ def forged(folder: Path, program: str, name: str) -> bytes:
     return run_program(str(folder), program, "thread", str(place), "0")[1]
 
 
-def flood(into: Path) -> None:
-    """Fills a folder with files, some of them long."""
+def flood(into: Path, is_compared: bool) -> None:
+    """Fills a folder with files, some of them long. Where a network is held against one over the web, of those that a turn reads each night the message alone is
+    long: a long file isn't fetched, and what came before it stays there, while a carrier puts it in the place of that."""
     for number in range(FLOOD_FILES):
         put(into / f"answers/{number}", b"x" * 100)
-    for name in ("message", "seen", "requests"):
+    for name in ("message",) if is_compared else ("message", "seen", "requests"):
         put(into / name, b"")
         os.truncate(into / name, FLOOD_BYTES)
 

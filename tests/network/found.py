@@ -4,11 +4,11 @@ from collections import defaultdict
 from pathlib import Path
 from typing import NamedTuple, Optional
 
-import network_turns as turns
-from network_files import Dropped
-from network_plan import Plan
-from network_truth import Histories
-from network_turns import Turn
+from network import turns
+from network.files import Dropped
+from network.plan import Plan
+from network.truth import Histories
+from network.turns import Turn
 from timeweave_reference.histories import timeline_of
 
 from weft import formats, judges
@@ -70,7 +70,7 @@ class Found:
         wrong = []
         for name, begin in self.plan.flooders.items():
             if night == begin + 1 and name in self.plan.peers[turn.name] and turn.status in turns.DONE:
-                is_told = any(line.startswith(f"{name}: ") and "wasn't taken" in line for line in turn.told.splitlines())
+                is_told = any(line.startswith(f"{name}: ") and ("wasn't taken" in line or "weren't fetched" in line) for line in turn.told.splitlines())
                 self.floods |= {name} if is_told else set()
                 wrong += [] if is_told else [f"{turn.name} didn't tell the flood of {name}: {turn.told}"]
         return wrong

@@ -6,7 +6,6 @@ import gc
 import io
 import os
 import resource
-import signal
 import subprocess
 import sys
 import tempfile
@@ -14,18 +13,13 @@ import threading
 from pathlib import Path
 from typing import NamedTuple, Optional
 
-TOP = Path(__file__).resolve().parent.parent
-for place in (TOP, TOP / "reference"):
-    if str(place) not in sys.path:
-        sys.path.insert(0, str(place))
+from network import TOP, devices, forked
+from network.faults import Fault, put_in
+from timeweave_reference.events_files import events_to_bytes
+from timeweave_reference.messages import read_message
 
-import network_devices as devices  # noqa: E402
-from network_faults import Fault, put_in  # noqa: E402
-from timeweave_reference.events_files import events_to_bytes  # noqa: E402
-from timeweave_reference.messages import read_message  # noqa: E402
-
-from weft import judges  # noqa: E402
-from weft.main import main as weft_main  # noqa: E402
+from weft import judges
+from weft.main import main as weft_main
 
 LONGEST = 600
 DONE = (0, 10, 11)
@@ -33,7 +27,8 @@ DONE = (0, 10, 11)
 
 class Task(NamedTuple):
     """A service's day and night: the events that it records, or None for no step; the fault; of each peer that it hasn't accepted the true lines, by which it
-    is; whose word it goes on despite."""
+    is; whose word it goes on despite; and by which address
+    each peer publishes that it hasn't accepted, where files go over the web."""
 
     folder: str
     program: str
@@ -42,10 +37,12 @@ class Task(NamedTuple):
     fault: Optional[Fault]
     known: dict[str, frozenset[str]]
     despite: tuple[str, ...] = ()
+    urls: dict[str, str] = {}
 
 
 class Turn(NamedTuple):
-    """What became of it: the status, what was told, the lines that were acknowledged, and the seconds of a processor that it took."""
+    """What became of it: the status, what was told, the lines that were acknowledged, the seconds of a processor that it took, and the most bytes of memory that a process
+    had up to now."""
 
     name: str
     status: int
@@ -53,6 +50,7 @@ class Turn(NamedTuple):
     lines: list[str]
     fault: Optional[Fault]
     processor: float
+    memory: int = 0
 
 
 def environment(folder: str, program: str) -> dict[str, str]:
@@ -82,45 +80,25 @@ def ready(program: str) -> None:
     gc.freeze()
 
 
-def weft(folder: str, program: str, *words: str, fault: Optional[Fault] = None) -> tuple[int, str]:
+def weft(folder: str, program: str, *words: str, fault: Optional[Fault] = None) -> tuple[int, str, str]:
     """Runs weft: forked from this process where it has no other threads, else from nothing, and then without a fault."""
+    own = environment(folder, program)
     if threading.active_count() > 1:
-        env = {**environment(folder, program), "PYTHONPATH": f"{TOP}:{TOP / 'reference'}"}
+        env = {**own, "PYTHONPATH": f"{TOP}:{TOP / 'reference'}"}
         done = subprocess.run([sys.executable, "-m", "weft", *words], cwd=folder, env=env, capture_output=True, text=True, timeout=LONGEST)
-        return done.returncode, done.stdout + done.stderr
+        return done.returncode, done.stdout, done.stderr
     ready(program)
-    with tempfile.TemporaryFile() as out:
-        child = os.fork()
-        if child == 0:
-            os._exit(in_child(folder, program, words, out.fileno(), fault))
-        _, status = os.waitpid(child, 0)
-        out.seek(0)
-        return -os.WTERMSIG(status) if os.WIFSIGNALED(status) else os.WEXITSTATUS(status), out.read().decode("utf-8", "surrogateescape")
+    return forked.run(folder, own, words, functools.partial(prepare, folder, words, fault))
 
 
-def in_child(folder: str, program: str, words: tuple[str, ...], out: int, fault: Optional[Fault]) -> int:
-    """What the forked process does."""
-    try:
-        gc.disable()
-        signal.alarm(LONGEST)
-        os.chdir(folder)
-        os.dup2(os.open(os.devnull, os.O_RDONLY), 0)
-        os.dup2(out, 1)
-        os.dup2(out, 2)
-        sys.stdin, sys.stdout, sys.stderr = open(0, closefd=False), open(1, "w", closefd=False), open(2, "w", closefd=False)
-        own = environment(folder, program)
-        os.environ.clear()
-        os.environ.update(own)
-        tempfile.tempdir = None
-        if fault and fault.kind.endswith("device"):
-            place, left_out = (words[1], "") if fault.kind == "store device" else (words[2], "in")
-            devices.move_to(Path(folder, place), fault.pages, left_out)
-        elif fault:
-            put_in(fault, os.path.getsize(f"{words[1]}/timeline.tw"))
-        return weft_main(list(words))
-    except BaseException as failure:
-        os.write(2, repr(failure).encode())
-        return 99
+def prepare(folder: str, words: tuple[str, ...], fault: Optional[Fault]) -> None:
+    """What the forked process does first."""
+    gc.disable()
+    if fault and fault.kind.endswith("device"):
+        place, left_out = (words[1], "") if fault.kind == "store device" else (words[2], "in")
+        devices.move_to(Path(folder, place), fault.pages, left_out)
+    elif fault:
+        put_in(fault, os.path.getsize(f"{words[1]}/timeline.tw"))
 
 
 # ---- a night
@@ -137,14 +115,16 @@ def turn(task: Task) -> Turn:
         if status == 0:
             lines.append(output.decode().strip())
     for peer, known in task.known.items():
+        if peer in task.urls:
+            weft(task.folder, task.program, "fetch", task.urls[peer], f"box-{task.name}/{peer}")
         accept(task, peer, known)
     more = [word for peer in task.despite for word in ("--despite", peer)]
     if lines and not Path(task.folder, f"{task.name}.lines").exists():
         more += ["--adopt-store", lines[-1]]
-    status, told = weft(task.folder, task.program, "exchange", task.name, f"box-{task.name}", *more, fault=task.fault)
-    last = told.splitlines()[-1:] if status in DONE else []
+    status, out, err = weft(task.folder, task.program, "exchange", task.name, f"box-{task.name}", *more, fault=task.fault)
+    last = out.splitlines()[-1:] if status in DONE else []
     lines += [line for line in last if line.startswith(f"{task.name} ")]
-    return Turn(task.name, status, told, lines, task.fault, processor_time() - began)
+    return Turn(task.name, status, out + err, lines, task.fault, processor_time() - began, resource.getrusage(resource.RUSAGE_CHILDREN).ru_maxrss << 10)
 
 
 def processor_time() -> float:

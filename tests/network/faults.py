@@ -6,10 +6,11 @@ import os
 import resource
 import signal
 import subprocess
+from pathlib import Path
 from types import SimpleNamespace
-from typing import Callable, NamedTuple
+from typing import Callable, NamedTuple, Optional
 
-from network_power import Power
+from network.power import Power
 
 KINDS = ("before", "half", "ENOSPC", "EIO", "program", "full", "power", "store device", "box device")
 CALLS = ("write", "fsync", "replace", "unlink", "mkdir")
@@ -30,15 +31,25 @@ class Fault(NamedTuple):
         return self.at % MOST_PAGES
 
 
-def put_in(fault: Fault, size: int) -> None:
-    """Puts a fault of another kind than a small device into this process; the store's file has this size."""
-    count = [0]
-    power = Power(fault.at) if fault.kind == "power" else None
+class Reached:
+    """Counts the calls of a process, and knows the one of this number; how many there were so far goes to a file, if one is named."""
 
-    def is_here() -> bool:
+    def __init__(self, at: int, counter: Optional[Path]):
+        self.at, self.counter, self.count, self.write = at, counter, 0, os.write
+
+    def __call__(self) -> bool:
         """Whether this call is the one."""
-        count[0] += 1
-        return count[0] == fault.at
+        self.count += 1
+        if self.counter is not None:
+            number = os.open(self.counter, os.O_WRONLY | os.O_CREAT | os.O_TRUNC)
+            self.write(number, str(self.count).encode())
+            os.close(number)
+        return self.count == self.at
+
+
+def put_in(fault: Fault, size: int = 0, counter: Optional[Path] = None) -> None:
+    """Puts a fault of another kind than a small device into this process; the store's file has this size, and the number of calls goes to the file `counter`."""
+    is_here, power = Reached(fault.at, counter), Power(fault.at) if fault.kind == "power" else None
 
     def wrapped(name: str, real: Callable[..., object]) -> Callable[..., object]:
         """A call of the system, with the fault in it."""
@@ -68,6 +79,8 @@ def put_in(fault: Fault, size: int) -> None:
         return
     for name in CALLS:
         setattr(os, name, wrapped(name, getattr(os, name)))
+    if fault.kind == "before":
+        subprocess.run = wrapped("run", subprocess.run)
 
 
 def killing(is_here: Callable[[], bool]) -> Callable[..., object]:

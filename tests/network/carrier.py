@@ -6,20 +6,28 @@ import random
 from pathlib import Path
 from typing import NamedTuple
 
-from network_files import put
+from network.files import put
 
+from weft.deciding.roads import read_index
 from weft.deciding.signatures import BEGIN, END
 
 LOST, LATE, DAMAGED = 0.2, 0.1, 0.02
 
 
 class Link(NamedTuple):
-    """A way from a folder `out` to a folder `in`, on which only these files go where there are any."""
+    """A way from a folder `out`, or from a published one, to a folder `in`, or to where a web server has what is to come there; on it only these files go where there
+    are any."""
 
     name: str
     out: str
     into: str
     only: tuple[str, ...] = ()
+    web: str = ""
+
+    @property
+    def place(self) -> str:
+        """Where files are brought."""
+        return self.web or self.into
 
 
 class Load(NamedTuple):
@@ -39,13 +47,13 @@ def carry(load: Load) -> None:
         drawn = random.Random(f"{load.seed} {load.night} {link.name}")
         late = Path(load.late, link.name)
         for name in names_in(str(late)):
-            os.makedirs(os.path.dirname(os.path.join(link.into, name)), exist_ok=True)
-            os.replace(late / name, os.path.join(link.into, name))
+            os.makedirs(os.path.dirname(os.path.join(link.place, name)), exist_ok=True)
+            os.replace(late / name, os.path.join(link.place, name))
         if not os.path.isdir(os.path.dirname(link.into)):
             continue
-        for name in names_in(link.out):
+        for name, path in sources_of(link):
             if not link.only or name in link.only:
-                carry_file(load, link, name, drawn)
+                carry_file(load, link, name, path, drawn)
 
 
 def names_in(folder: str) -> list[str]:
@@ -58,15 +66,24 @@ def names_in(folder: str) -> list[str]:
     return sorted(found)
 
 
+def sources_of(link: Link) -> list[tuple[str, Path]]:
+    """The files that go on a way, by their names: those of a folder, or what the index of a published one lists."""
+    if not link.web:
+        return [(name, Path(link.out, name)) for name in names_in(link.out)]
+    published = Path(link.out, "index")
+    index = read_index(published.read_bytes()) if published.exists() else None
+    return [(it.name, Path(link.out, it.digest)) for it in index.files] if index is not None else []
+
+
 def made_up_line(data: bytes) -> bytes:
     """A line of the step behind that of a signed line, with the armour of a signature and no signature in it: whoever has no key can make it."""
     name, step, _ = data.split(b"\n")[0].split(b" ")
     return b"%s %d %s\n%s\nAAAA\n%s\n" % (name, int(step) + 1, b"f" * 64, BEGIN, END)
 
 
-def carry_file(load: Load, link: Link, name: str, drawn: random.Random) -> None:
+def carry_file(load: Load, link: Link, name: str, path: Path, drawn: random.Random) -> None:
     """Carries a file, or not."""
-    data, to = Path(link.out, name).read_bytes(), Path(link.into, name)
+    data, to = path.read_bytes(), Path(link.place, name)
     if name == "line" and random.Random(f"{load.seed} {load.night} {link.name} appended").random() < load.appended:
         data += made_up_line(data)
     if not load.is_calm:
